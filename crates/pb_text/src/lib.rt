@@ -1,0 +1,2 @@
+// Tokens of the two formats: where words and symbols stand in a text, and what a word is.
+#![tactic(auto)]
