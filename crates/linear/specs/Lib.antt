@@ -1,0 +1,5 @@
+pub mod Valuation
+pub mod Sum
+pub mod Table
+pub mod Opb
+pub mod Limits

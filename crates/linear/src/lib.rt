@@ -1,2 +1,13 @@
-// Linear 0-1 problems: variables, signed terms and constraints, names, and what satisfies them.
+//! Linear 0-1 problems: variables and their names, signed terms, constraints and objectives, and which
+//! assignments satisfy a problem. No normal form stands here: sums are the plain sums over signed terms.
 #![tactic(auto)]
+
+mod assignment;
+mod constraint;
+mod seq;
+mod term;
+
+pub use assignment::Assignment;
+pub use constraint::{Relation, Signed};
+pub use seq::Seq;
+pub use term::{Lit, Term, Var};

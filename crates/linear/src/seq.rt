@@ -1,0 +1,55 @@
+//! A list that owns its elements, seen by contracts as just that list. It stands for the `Vec` fields of the
+//! public types, whose capacity no contract speaks of.
+
+ghost use Rattle.std.specs.Prelude.{◌≡◌, ◌↔◌, [], IsTrue, length};
+
+use std::marker::Model;
+
+/// A list of values, made from a `Vec` and giving it back without taking memory.
+#[derive(Clone, Debug, Drop)]
+pub struct Seq<T> {
+    items: Vec<T>,
+}
+
+impl<T> Model for Seq<T> {
+    ghost use Rattle.std.specs.Prelude.{List};
+
+    ghost Value = { List T };
+
+    ghost view = { λ s. s.items.items };
+}
+
+impl<T> Seq<T> {
+    /// The list of a vector's elements.
+    pub fn from_vec(items: Vec<T>) -> Self
+        ensures { result ≡ items.items }
+    {
+        Seq { items }
+    }
+
+    /// The elements as a vector.
+    pub fn into_vec(self) -> Vec<T>
+        ensures { result.items ≡ self }
+    {
+        self.items
+    }
+
+    /// The elements, in order.
+    pub fn as_slice(&self) -> &[T]
+        ensures { result.now ≡ self.now }
+    {
+        self.items.as_slice()
+    }
+
+    pub fn len(&self) -> usize
+        ensures { result ≡ length self.now }
+    {
+        self.items.len()
+    }
+
+    pub fn is_empty(&self) -> bool
+        ensures { IsTrue result ↔ (self.now ≡ []) }
+    {
+        self.items.is_empty()
+    }
+}
