@@ -1,1 +1,4 @@
 pub mod Name
+pub mod Word
+pub mod Number
+pub mod Lexeme
