@@ -1,5 +1,6 @@
 // What a token is by its bytes.
 ghost use Rattle.std.specs.Prelude.{◌≡◌};
+ghost use Rattle.std.specs.List.{list_all};
 ghost use Rattle.pb_text.specs.Lexeme as kinds;
 ghost use Rattle.pb_text.specs.Name as names;
 ghost use Rattle.pb_text.specs.Word as words;
@@ -18,23 +19,37 @@ fn continues_name(b: u8) -> bool
     matches!(b, b'A'..=b'Z' | b'a'..=b'z' | b'0'..=b'9' | b'_' | b'[' | b']' | b'{' | b'}' | b'^' | b'-')
 }
 
+fn all_continue_name(text: &[u8]) -> bool
+    ensures { result ≡ list_all names.continues_name text.now }
+{
+    text.iter().all(|b| continues_name(*b))
+}
+
 fn is_digit(b: u8) -> bool
     ensures { result ≡ names.is_digit b }
 {
     matches!(b, b'0'..=b'9')
 }
 
+fn all_digits(text: &[u8]) -> bool
+    ensures { result ≡ list_all names.is_digit text.now }
+{
+    text.iter().all(|b| is_digit(*b))
+}
+
+#[tactic(auto, unfolding(crate::specs::Name::is_name))]
 fn is_name(text: &[u8]) -> bool
     ensures { result ≡ names.is_name text.now }
 {
     match text {
         [first, rest @ ..] => {
-            begins_name(*first) && !rest.is_empty() && rest.iter().all(|b| continues_name(*b))
+            begins_name(*first) && !rest.is_empty() && all_continue_name(rest)
         }
         [] => false,
     }
 }
 
+#[tactic(auto, unfolding(crate::specs::Word::is_integer))]
 fn is_integer(text: &[u8]) -> bool
     ensures { result ≡ words.is_integer text.now }
 {
@@ -42,9 +57,10 @@ fn is_integer(text: &[u8]) -> bool
         [b'+' | b'-', digits @ ..] => digits,
         _ => text,
     };
-    !digits.is_empty() && digits.iter().all(|b| is_digit(*b))
+    !digits.is_empty() && all_digits(digits)
 }
 
+#[tactic(auto, unfolding(crate::specs::Word::is_literal))]
 fn is_literal(text: &[u8]) -> bool
     ensures { result ≡ words.is_literal text.now }
 {
@@ -63,6 +79,7 @@ fn begins_literal(text: &[u8]) -> bool
     }
 }
 
+#[tactic(auto, unfolding(crate::specs::Lexeme::kind_of_word, crate::specs::Word::is_misspelt))]
 fn kind_of_word(text: &[u8]) -> Kind
     ensures { result ≡ kinds.kind_of_word text.now }
 {
@@ -78,6 +95,7 @@ fn kind_of_word(text: &[u8]) -> Kind
 }
 
 /// The kind of a token.
+#[tactic(auto, unfolding(crate::specs::Lexeme::kind_of))]
 pub fn kind_of(text: &[u8]) -> Kind
     ensures { result ≡ kinds.kind_of text.now }
 {

@@ -1,9 +1,8 @@
 // How many bytes a token has.
-ghost use Rattle.std.specs.Prelude.{◌≡◌, ℕ, ◌+◌, ◌<◌, ◌≤◌, false, [], ◌∷◌, length, take, drop};
+ghost use Rattle.std.specs.Prelude.{◌≡◌, ℕ, ◌+◌, ◌<◌, ◌≤◌, false, [], ◌∷◌, true, length, take, drop, MatchOption};
 ghost use Rattle.pb_text.specs.Lexeme as cutting;
 ghost use Rattle.pb_text.specs.Lexeme.{Place, cut, lexemes_from, lexeme_at};
-ghost use Rattle.pb_text.specs.Cutting as steps;
-ghost use Rattle.pb_text.specs.Cutting.{begins_white, behind};
+ghost use Rattle.pb_text.specs.Cutting.{begins_white, begins_word, behind};
 
 /// How many bytes the symbol has with which a text begins, a stray `<` or `>` included; 0 where it begins with none.
 fn symbol_length(text: &[u8]) -> usize
@@ -20,13 +19,24 @@ fn symbol_length(text: &[u8]) -> usize
     }
 }
 
-/// Whether the text begins with a byte of a word: no white space, and no symbol.
-fn begins_word(text: &[u8]) -> bool
-    ensures { result ≡ steps.begins_word text.now }
+/// What follows the byte of a word at the front; `None` where white space, a symbol or the end stands there.
+fn past_word_byte(text: &[u8]) -> Option<&[u8]>
+    ensures {
+        MatchOption
+            result
+            (begins_word text.now ≡ false)
+            (λ rest. (begins_word text.now ≡ true) × (rest.now ≡ drop 1 text.now))
+    }
 {
     match text {
-        [] | [b' ' | b'\t' | b'\r' | b'\n', ..] => false,
-        _ => symbol_length(text) == 0,
+        [] | [b' ' | b'\t' | b'\r' | b'\n', ..] => None,
+        [_, rest @ ..] => {
+            if symbol_length(text) == 0 {
+                Some(rest)
+            } else {
+                None
+            }
+        }
     }
 }
 
@@ -42,8 +52,8 @@ fn word_length(text: &[u8]) -> usize
 {
     let mut rest = text;
     let mut size = 0;
-    while begins_word(rest) {
-        rest = &rest[1..];
+    while let Some(tail) = past_word_byte(rest) {
+        rest = tail;
         size += 1;
     }
     size

@@ -2,7 +2,7 @@
 ghost use Rattle.std.specs.Prelude.{◌≡◌, ◌≢◌, true, MatchOption};
 ghost use Rattle.pb_text.specs.Lexeme as lexeme;
 ghost use Rattle.pb_text.specs.Name as names;
-ghost use Rattle.pb_text.specs.Word.{is_negated, name_of};
+ghost use Rattle.pb_text.specs.Word.{is_literal, is_negated, name_of};
 
 use crate::kind::Kind;
 
@@ -30,23 +30,33 @@ pub struct Literal<'a> {
     pub ghost name_is: { names.is_name name.now ≡ true },
 }
 
+#[tactic(auto, unfolding(crate::specs::Word::is_literal))]
+fn literal_word(text: &[u8]) -> Literal<'_>
+    requires { is_literal text.now ≡ true }
+    ensures negated { result.negated ≡ is_negated text.now }
+    ensures name { result.name.now ≡ name_of text.now }
+{
+    match text {
+        [b'~', name @ ..] => Literal {
+            negated: true,
+            name,
+        },
+        name => Literal {
+            negated: false,
+            name,
+        },
+    }
+}
+
 /// What a literal's token says, and `None` exactly where the token is no literal.
+#[tactic(auto, using(crate::proofs::KindTests::literal_kind))]
 pub fn as_literal(t: Token<'_>) -> Option<Literal<'_>>
     ensures cases { MatchOption result (t.entry.kind ≢ Kind.Literal) (λ l. t.entry.kind ≡ Kind.Literal) }
     ensures negated { MatchOption result (Unit {0}) (λ l. l.negated ≡ is_negated t.entry.text.now) }
     ensures name { MatchOption result (Unit {0}) (λ l. l.name.now ≡ name_of t.entry.text.now) }
 {
-    match t.kind {
-        Kind::Literal => Some(match t.text {
-            [b'~', name @ ..] => Literal {
-                negated: true,
-                name,
-            },
-            name => Literal {
-                negated: false,
-                name,
-            },
-        }),
-        _ => None,
-    }
+    let Kind::Literal = t.kind else {
+        return None;
+    };
+    Some(literal_word(t.text))
 }

@@ -33,6 +33,7 @@ impl<'a> Tokens<'a> {
     /// gives no token. `;`, `:`, `>=`, `<=`, `=` and `->` are symbols, `->` only where no `=` follows. A `<` or `>` that
     /// belongs to no symbol is a token by itself. A word is a longest run of other bytes. (The OPB format of Roussel and
     /// Manquinho and the proof format of VeriPB 2.0, with white space before symbols left free.)
+    #[tactic(auto, unfolding(crate::specs::Lexeme::lexemes))]
     pub fn new(text: &'a [u8]) -> Self
         ensures { result ≡ lexemes text.now }
     {
@@ -49,6 +50,7 @@ impl<'a> Tokens<'a> {
     /// The next token, and `None` at the end of the text, then as often as it is asked for.
     ///
     /// Its kind is the kind of its bytes.
+    #[tactic(auto, using(crate::proofs::Cutting::end_empty))]
     pub fn next(&mut self) -> Option<Token<'a>>
         ensures tokens { MatchOption result ((self.old ≡ []) × (self.new ≡ [])) (λ t. self.old ≡ lexeme_of t ∷ self.new) }
         ensures kind { MatchOption result (Unit {0}) (λ t. t.kind ≡ kind_of t.text.now) }
