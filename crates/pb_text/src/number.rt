@@ -28,7 +28,7 @@ fn size_of_digits(digits: &[u8]) -> Option<u128>
 {
     let mut rest = digits;
     let mut value: u128 = 0;
-    while let [b, tail @ ..] = rest {
+    while let Some((b, tail)) = rest.split_first() {
         value = value * 10 + u128::from(*b - b'0');
         if value > LIMIT {
             return None;

@@ -4,12 +4,12 @@ use Rattle.pb_text.specs.Name.{is_digit}
 use Rattle.pb_text.specs.Number.{digits_value}
 use Rattle.pb_text.proofs.number.size_of_digits.Given as goal
 
-abbrev pub invariant-loop-rest : goal.invariant-loop-rest
-invariant-loop-rest l = record {
+abbrev pub invariant-loop-b : goal.invariant-loop-b
+invariant-loop-b l = record {
   digits : list_all is_digit l.rest ≡ true;
   value : l.value * 10 ^ length l.rest + digits_value l.rest ≡ digits_value l.digits;
   small : l.value ≤ 2 ^ 120
 }
 
-abbrev pub decreases-loop-rest : goal.decreases-loop-rest
-decreases-loop-rest l = length l.rest
+abbrev pub decreases-loop-b : goal.decreases-loop-b
+decreases-loop-b l = length l.rest
