@@ -1,0 +1,5 @@
+pub mod Accepted
+pub mod Claim
+pub mod Expression
+pub mod Fault
+pub mod State
