@@ -8,6 +8,8 @@ mod laws;
 mod number;
 mod size;
 mod spot;
+#[cfg(test)]
+mod tests;
 mod token;
 mod tokens;
 
