@@ -4,7 +4,9 @@
 
 mod accepted;
 mod conclusion;
+mod evaluation;
 mod fault;
+mod stack;
 mod step;
 
 pub use accepted::Accepted;
