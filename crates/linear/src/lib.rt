@@ -4,10 +4,15 @@
 
 mod assignment;
 mod constraint;
+mod names;
+mod problem;
 mod seq;
+mod sums;
 mod term;
 
 pub use assignment::Assignment;
 pub use constraint::{Relation, Signed};
+pub use names::Names;
+pub use problem::Problem;
 pub use seq::Seq;
 pub use term::{Lit, Term, Var};

@@ -1,0 +1,137 @@
+//! Problems within the limits, what satisfies them and what an assignment is worth.
+
+ghost use Rattle.std.specs.Prelude.{◌≡◌, ◌↔◌, length, IsTrue, IfOk};
+ghost use Rattle.std.specs.Option.{option_copied};
+
+use super::assignment::Assignment;
+use super::constraint::Signed;
+use super::names::Names;
+use super::seq::Seq;
+use super::sums::{meets, sum};
+use super::term::Term;
+use std::alloc::{AllocError, Global};
+use std::marker::Model;
+
+/// A linear 0-1 problem: names, an objective to be minimised or none, and constraints. Integers are at most
+/// 2^62 in size; a statement has at most 2^20 terms, and there are at most 2^20 variables and constraints.
+#[derive(Drop)]
+pub struct Problem {
+    names: Names,
+    objective: Option<Seq<Term>>,
+    constraints: Vec<Signed>,
+}
+
+impl Model for Problem {
+    ghost use Rattle.linear.specs.Opb.{Opb};
+    ghost use Rattle.linear.specs.Limits.{IsWithin};
+
+    ghost Value = { Opb };
+
+    ghost view = { λ p. record { names = p.names; objective = p.objective; constraints = p.constraints.items } };
+
+    ghost invariant = { λ p. IsWithin (record { names = p.names; objective = p.objective; constraints = p.constraints.items }) };
+}
+
+impl Problem {
+    ghost use Rattle.linear.specs.Opb.{Opb, Satisfies, value_of};
+    ghost use Rattle.linear.specs.Limits.{IsWithin};
+    ghost use Rattle.linear.specs.Valuation.{valuation_of};
+
+    /// The problem of these parts, which are within the limits.
+    pub fn new(names: Names, objective: Option<Seq<Term>>, constraints: Vec<Signed>) -> Self
+        requires { IsWithin (record { names = names; objective = objective; constraints = constraints.items }) }
+        ensures { result ≡ record { names = names; objective = objective; constraints = constraints.items } }
+    {
+        Problem {
+            names,
+            objective,
+            constraints,
+        }
+    }
+
+    /// The names, by the numbers of the variables.
+    pub fn names(&self) -> &Names
+        ensures names { result.now ≡ self.now.names }
+        ensures within { IsWithin self.now }
+    {
+        &self.names
+    }
+
+    /// The terms of the objective, if there is one.
+    pub fn objective(&self) -> Option<&Seq<Term>>
+        ensures { option_copied result ≡ self.now.objective }
+    {
+        self.objective.as_ref()
+    }
+
+    /// The constraints, in order.
+    pub fn constraints(&self) -> &[Signed]
+        ensures constraints { result.now ≡ self.now.constraints }
+        ensures within { IsWithin self.now }
+    {
+        self.constraints.as_slice()
+    }
+
+    /// Another problem that is the same.
+    pub fn copy(&self, alloc: Global) -> Result<Problem, AllocError>
+        ensures { IfOk result (λ p. p ≡ self.now) }
+    {
+        let names = self.names.copy(alloc)?;
+        let objective = copied_objective(&self.objective)?;
+        let constraints = copied_constraints(alloc, self.constraints.as_slice())?;
+        Ok(Problem {
+            names,
+            objective,
+            constraints,
+        })
+    }
+
+    /// Whether an assignment, one value for each name, meets every constraint.
+    pub fn satisfied(&self, assignment: &Assignment) -> bool
+        requires { length assignment.now ≡ length self.now.names }
+        ensures { IsTrue result ↔ Satisfies (valuation_of assignment.now) self.now }
+    {
+        for constraint in &self.constraints {
+            if !meets(assignment, constraint) {
+                return false;
+            }
+        }
+        true
+    }
+
+    /// What the objective is worth under an assignment, one value for each name; 0 where there is no objective.
+    pub fn value(&self, assignment: &Assignment) -> i128
+        requires { length assignment.now ≡ length self.now.names }
+        ensures { result ≡ value_of (valuation_of assignment.now) self.now }
+    {
+        match &self.objective {
+            None => 0,
+            Some(terms) => sum(assignment, terms.as_slice()),
+        }
+    }
+}
+
+fn copied_objective(objective: &Option<Seq<Term>>) -> Result<Option<Seq<Term>>, AllocError>
+    ensures { IfOk result (λ copy. copy ≡ objective.now) }
+{
+    match objective {
+        None => Ok(None),
+        Some(terms) => Ok(Some(terms.clone()?)),
+    }
+}
+
+fn copied_constraints(alloc: Global, constraints: &[Signed]) -> Result<Vec<Signed>, AllocError>
+    ensures { IfOk result (λ copy. copy.items ≡ constraints.now) }
+{
+    let mut copy = Vec::with_capacity(alloc, constraints.len())?;
+    for constraint in constraints {
+        copy.push(copied(constraint)?)?;
+    }
+    Ok(copy)
+}
+
+fn copied(constraint: &Signed) -> Result<Signed, AllocError>
+    ensures { IfOk result (λ copy. copy ≡ constraint.now) }
+{
+    constraint.clone()
+}

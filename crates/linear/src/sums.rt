@@ -1,0 +1,50 @@
+//! Sums of signed terms under an assignment.
+
+ghost use Rattle.std.specs.Prelude.{◌≡◌, ◌↔◌, ◌<◌, length, IsTrue};
+ghost use Rattle.linear.specs.Limits.{IsSumWithin, IsConstraintWithin};
+ghost use Rattle.linear.specs.Sum.{worth, sum_of, Meets};
+ghost use Rattle.linear.specs.Valuation.{valuation_of};
+
+use super::assignment::Assignment;
+use super::constraint::{Relation, Signed};
+use super::term::{Lit, Term};
+
+/// What a term adds to a sum: its coefficient where its literal is true.
+fn worth(assignment: &Assignment, term: Term) -> i128
+    requires { term.var.0 < length assignment.now }
+    ensures { result ≡ worth (valuation_of assignment.now) term }
+{
+    let lit = Lit {
+        var: term.var,
+        negated: term.negated,
+    };
+    if assignment.is_true(lit) {
+        term.coef
+    } else {
+        0
+    }
+}
+
+/// The sum of the terms whose literals are true.
+pub fn sum(assignment: &Assignment, terms: &[Term]) -> i128
+    requires { IsSumWithin (length assignment.now) terms.now }
+    ensures { result ≡ sum_of (valuation_of assignment.now) terms.now }
+{
+    let mut sum = 0;
+    for term in terms {
+        sum += worth(assignment, *term);
+    }
+    sum
+}
+
+/// Whether an assignment meets a constraint.
+pub fn meets(assignment: &Assignment, constraint: &Signed) -> bool
+    requires { IsConstraintWithin (length assignment.now) constraint.now }
+    ensures { IsTrue result ↔ Meets (valuation_of assignment.now) constraint.now }
+{
+    let sum = sum(assignment, constraint.terms.as_slice());
+    match constraint.relation {
+        Relation::AtLeast => sum >= constraint.right,
+        Relation::Equal => sum == constraint.right,
+    }
+}

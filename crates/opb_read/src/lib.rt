@@ -1,0 +1,2 @@
+//! Reads linear OPB problem files.
+#![tactic(auto)]
