@@ -6,10 +6,13 @@ mod accepted;
 mod conclusion;
 mod evaluation;
 mod fault;
+mod file;
+mod kernel;
 mod stack;
 mod step;
 
 pub use accepted::Accepted;
 pub use conclusion::{Conclusion, Lower, Upper};
 pub use fault::StepFault;
+pub use kernel::{Applied, Kernel};
 pub use step::{Item, Step};

@@ -64,6 +64,7 @@ impl<'a> Stack<'a> {
     /// Puts the live constraint at a place on top.
     pub(crate) fn push_live(&mut self, place: usize) -> Result<(), AllocError>
         requires { place < length self.old.live }
+        ensures live { self.new.live ≡ self.old.live }
         ensures ok { OnOk result (self.new ≡ record { live = self.old.live; stack = slice_index_or self.old.live place no_constraint ∷ self.old.stack }) }
     {
         self.operands.push(Operand::Live(place))?;
@@ -73,6 +74,7 @@ impl<'a> Stack<'a> {
     /// Puts a result on top.
     pub(crate) fn push(&mut self, constraint: Normal) -> Result<(), AllocError>
         requires { Follows self.old.live constraint }
+        ensures live { self.new.live ≡ self.old.live }
         ensures ok { OnOk result (self.new ≡ record { live = self.old.live; stack = constraint ∷ self.old.stack }) }
     {
         self.operands.push(Operand::Made(constraint))?;
