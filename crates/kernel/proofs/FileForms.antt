@@ -1,13 +1,12 @@
 -- The normal constraints of a file.
 use Rattle.std.proofs.Common.{◌≡◌, ℕ, ◌+◌, ◌*◌, ◌^◌, ◌<◌, ◌≤◌, List, [], ◌∷◌, ◌++◌, length, get_or, take, All, unsigned_abs, refl, sym, ap, subst, ◌∙◌, append_assoc, arith}
 use Rattle.std.proofs.lemmas.List.{append-nil, take_more, length-append}
-use Rattle.std.proofs.lemmas.List.Elements.{All-get_or, All-head, All-tail, All-append}
+use Rattle.std.proofs.lemmas.List.Elements.{All-cons, All-get_or, All-head, All-tail, All-append}
 use Rattle.linear.specs.declared.term.Term.{Term}
 use Rattle.linear.specs.declared.constraint.Signed.{Signed}
-use Rattle.linear.specs.Valuation.{Valuation}
 use Rattle.linear.specs.Sum.{Meets}
-use Rattle.linear.specs.Opb.{Opb, Satisfies}
-use Rattle.linear.specs.Limits.{IsTermWithin, IsSumWithin, IsConstraintWithin, IsWithin}
+use Rattle.linear.specs.Opb.{Opb}
+use Rattle.linear.specs.Limits.{IsTermWithin, IsConstraintWithin}
 use Rattle.normal_form.specs.Normal.{NormalConstraint, Holds, largest_sum}
 use Rattle.normal_form.specs.NormalOf.{size_sum}
 use Rattle.kernel.specs.State.{AreFormsOf, AreFormsOfAll, AddsForms, IsImplied}
@@ -44,10 +43,17 @@ pub implied_more : (p : Opb) (i : ℕ) (d : Signed) (old new : List NormalConstr
     → IsImplied p old → IsImplied p new
 implied_more p i d old new h adds before a satisfies =
     subst (All (Holds a)) (sym adds.1)
-      (All-append (Holds a) old adds.0 (before a satisfies) (adds.4 a (All-get_or (Meets a) p.constraints i d h satisfies)))
+    (All-append (Holds a) old adds.0 (before a satisfies) (adds.4 a (All-get_or (Meets a) p.constraints i d h satisfies)))
 
 pub few_more : (c : Signed) (i : ℕ) (old new : List NormalConstraint) → AddsForms c old new → length old ≤ 2 * i → length new ≤ 2 * (i + 1)
 few_more c i old new adds few =
     let long : length new ≡ length old + length adds.0 = ap length adds.1 ∙ length-append old adds.0 in
     let two = adds.3 in
     omega (arith, long, two)
+
+pub All-two : (P : NormalConstraint → Type 0) (n m : NormalConstraint) → P n → P m → All P (n ∷ m ∷ [])
+All-two P n m p q = All-cons P n (m ∷ []) p (All-cons P m [] q (λ k d h. absurd (omega (arith, h))))
+
+-- the constraint that was read is the one at its place
+pub read_constraint : (cs shown : List Signed) (c : Signed) (i : ℕ) → shown ≡ cs → c ≡ get_or shown i c → c ≡ get_or cs i c
+read_constraint cs shown c i same e = e ∙ ap (λ xs. get_or xs i c) same

@@ -1,8 +1,7 @@
 -- What stands on the stack is what the items so far write.
 use Rattle.std.proofs.Common.{◌≡◌, ℕ, ◌+◌, ◌<◌, List, [], ◌∷◌, ◌++◌, length, get_or, take, refl, sym, ap, subst, ◌∙◌, append_assoc}
 use Rattle.std.proofs.lemmas.List.{take_more}
-use Rattle.normal_form.specs.Normal.{NormalConstraint, Fits}
-use Rattle.cut_rules.specs.Rules.{IsSum, IsMultiple, IsQuotient, IsSaturation, IsWeakening, IsAxiom}
+use Rattle.normal_form.specs.Normal.{NormalConstraint}
 use Rattle.kernel.specs.declared.step.Item.{Item}
 use Rattle.kernel.specs.declared.step.Item.TheVariants as items
 use Rattle.kernel.specs.Expression.{Expression, cited, axiom_of, sum, multiple, quotient, saturated, weakened, postfix, HasValue, IsPolish, IsWritten, Steps}
@@ -32,8 +31,8 @@ IsWritten-push live written items.Add old new s before =
     let w = subst (IsWritten live written) s.4 before in
     let v = w.4 in
     let text : written ++ items.Add ∷ [] ≡ v.0 ++ postfix (sum v.1 w.1) =
-      ap (λ t. t ++ items.Add ∷ []) (w.2 ∙ ap (λ t. t ++ postfix w.1) v.2 ∙ append_assoc v.0 (postfix v.1) (postfix w.1))
-      ∙ append_assoc v.0 (postfix v.1 ++ postfix w.1) (items.Add ∷ []) in
+    ap (λ t. t ++ items.Add ∷ []) (w.2 ∙ ap (λ t. t ++ postfix w.1) v.2 ∙ append_assoc v.0 (postfix v.1) (postfix w.1))
+    ∙ append_assoc v.0 (postfix v.1 ++ postfix w.1) (items.Add ∷ []) in
     subst (IsWritten live (written ++ items.Add ∷ [])) (sym s.7) (v.0, sum v.1 w.1, text, (s.0, s.1, v.3, w.3, s.5, s.6), v.4)
 IsWritten-push live written (items.Multiply k) old new s before =
     replaced live written (items.Multiply k) s.0 s.1 s.2 old new (λ e h. (multiple k e, refl, (s.0, s.4, h, s.5, s.6))) s.3 s.7 before

@@ -1,5 +1,5 @@
 -- A live constraint that no assignment meets: no assignment satisfies the problem.
-use Rattle.std.proofs.Common.{◌≡◌, List, ◌∷◌, [], ◌++◌, All, Any, get_or, subst}
+use Rattle.std.proofs.Common.{List, ◌∷◌, [], ◌++◌, Any, subst}
 use Rattle.std.proofs.lemmas.List.Elements.{All-get_or, All-push}
 use Rattle.linear.specs.Opb.{Opb}
 use Rattle.normal_form.specs.Normal.{NormalConstraint, Holds}

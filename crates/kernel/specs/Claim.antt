@@ -1,6 +1,6 @@
 -- What a conclusion claims of a problem, in the words of assignments and the problem's own signed sums alone: no
 -- normal form, id or step of a proof stands here.
-use Rattle.std.specs.Prelude.{◌≡◌, ℕ, ℤ, ◌≤ℤ◌, List, Bool, Option, length, IfSome, IsSome, IsSomeAnd, ⊤}
+use Rattle.std.specs.Prelude.{◌≡◌, ◌≤ℤ◌, List, Bool, Option, length, IfSome, IsSome, IsSomeAnd, ⊤}
 use Rattle.linear.specs.Valuation.{Valuation, valuation_of}
 use Rattle.linear.specs.Opb.{Opb, Satisfies, value_of}
 use Rattle.kernel.specs.declared.conclusion.Lower.{Lower}

@@ -1,6 +1,6 @@
 -- The expressions of cutting planes that a `pol` step writes in postfix: constraints cited by their ids, axioms, and
 -- the rules on them; what the postfix text of one is, and what its value is.
-use Rattle.std.specs.Prelude.{◌≡◌, ℕ, zero, suc, ◌+◌, ◌-◌, ◌<◌, ℤ, pos, negsuc, ◌<ℤ◌, List, [], ◌∷◌, ◌++◌, Option, Some, None, length, option_and_then, slice_get, nat_lt, if◌then◌else◌, unsigned_abs}
+use Rattle.std.specs.Prelude.{◌≡◌, ℕ, zero, suc, ◌+◌, ◌-◌, ℤ, pos, negsuc, ◌<ℤ◌, List, [], ◌∷◌, ◌++◌, Option, Some, None, length, option_and_then, slice_get, nat_lt, if◌then◌else◌, unsigned_abs}
 use Rattle.linear.specs.declared.term.Lit.{Lit}
 use Rattle.linear.specs.declared.term.Var.{Var}
 use Rattle.normal_form.specs.Normal.{NormalConstraint, Fits}
@@ -65,16 +65,16 @@ Steps live (items.Id id) old new = (n : NormalConstraint) × (constraint_of live
 Steps live (items.Axiom l) old new = (n : NormalConstraint) × IsAxiom l n × (new ≡ n ∷ old)
 Steps live items.Add old new =
     (d : NormalConstraint) × (g : NormalConstraint) × (n : NormalConstraint) × (rest : List NormalConstraint)
-        × (old ≡ g ∷ d ∷ rest) × IsSum d g n × Fits n × (new ≡ n ∷ rest)
+    × (old ≡ g ∷ d ∷ rest) × IsSum d g n × Fits n × (new ≡ n ∷ rest)
 Steps live (items.Multiply k) old new =
     (d : NormalConstraint) × (n : NormalConstraint) × (rest : List NormalConstraint)
-        × (old ≡ d ∷ rest) × (pos 0 <ℤ k) × IsMultiple (unsigned_abs k) d n × Fits n × (new ≡ n ∷ rest)
+    × (old ≡ d ∷ rest) × (pos 0 <ℤ k) × IsMultiple (unsigned_abs k) d n × Fits n × (new ≡ n ∷ rest)
 Steps live (items.Divide k) old new =
     (d : NormalConstraint) × (n : NormalConstraint) × (rest : List NormalConstraint)
-        × (old ≡ d ∷ rest) × (pos 0 <ℤ k) × IsQuotient (unsigned_abs k) d n × (new ≡ n ∷ rest)
+    × (old ≡ d ∷ rest) × (pos 0 <ℤ k) × IsQuotient (unsigned_abs k) d n × (new ≡ n ∷ rest)
 Steps live items.Saturate old new =
     (d : NormalConstraint) × (n : NormalConstraint) × (rest : List NormalConstraint)
-        × (old ≡ d ∷ rest) × IsSaturation d n × (new ≡ n ∷ rest)
+    × (old ≡ d ∷ rest) × IsSaturation d n × (new ≡ n ∷ rest)
 Steps live (items.Weaken x) old new =
     (d : NormalConstraint) × (n : NormalConstraint) × (rest : List NormalConstraint)
-        × (old ≡ d ∷ rest) × IsWeakening (x.0) d n × (new ≡ n ∷ rest)
+    × (old ≡ d ∷ rest) × IsWeakening (x.0) d n × (new ≡ n ∷ rest)

@@ -1,5 +1,5 @@
 -- The stack of a `pol` step, its top first.
-use Rattle.std.specs.Prelude.{◌≡◌, ℕ, ◌<◌, List, [], ◌∷◌, All, length, map, reverse, slice_index_or, ⊤}
+use Rattle.std.specs.Prelude.{◌<◌, List, [], All, length, map, reverse, slice_index_or, ⊤}
 use Rattle.linear.specs.Valuation.{Valuation}
 use Rattle.normal_form.specs.Normal.{NormalConstraint, Holds}
 use Rattle.kernel.specs.declared.stack.Operand.{Operand}

@@ -1,5 +1,5 @@
 -- The state of a kernel: the problem, and the constraints given so far.
-use Rattle.std.specs.Prelude.{◌≡◌, ℕ, ◌+◌, ◌<◌, ◌≤◌, ◌^◌, List, [], ◌∷◌, ◌++◌, All, Any, length, ⊤}
+use Rattle.std.specs.Prelude.{◌≡◌, ◌<◌, ◌≤◌, ◌^◌, List, [], ◌∷◌, ◌++◌, All, Any, length, ⊤}
 use Rattle.linear.specs.declared.constraint.Signed.{Signed}
 use Rattle.linear.specs.declared.constraint.Relation.{Relation}
 use Rattle.linear.specs.declared.constraint.Relation.TheVariants as relations
@@ -9,7 +9,6 @@ use Rattle.linear.specs.Opb.{Opb, Satisfies}
 use Rattle.linear.specs.Limits.{IsWithin}
 use Rattle.normal_form.specs.Normal.{NormalConstraint, Holds}
 use Rattle.normal_form.specs.NormalOf.{IsNormalOf, IsBothOf}
-
 use Rattle.kernel.specs.declared.step.Step.{Step}
 use Rattle.kernel.specs.declared.step.Step.TheVariants as steps
 use Rattle.kernel.specs.declared.conclusion.Conclusion.{Conclusion}
@@ -40,7 +39,7 @@ AreFormsOfAll (c ∷ cs) ns =
 abbrev pub AddsForms : Signed → List NormalConstraint → List NormalConstraint → Type 0
 AddsForms c old new =
     (here : List NormalConstraint) × (new ≡ old ++ here) × AreFormsOf c here × (length here ≤ 2)
-        × ((a : Valuation) → Meets a c → All (Holds a) here)
+    × ((a : Valuation) → Meets a c → All (Holds a) here)
 
 -- the state of a problem's file, before the first step
 pub record IsStart (p : Opb) (s : State) : Type 0 where

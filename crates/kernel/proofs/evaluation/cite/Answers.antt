@@ -1,4 +1,4 @@
-use Rattle.std.proofs.Common.{◌≡◌, length, ℤ, Some, FitsSigned, get_or, to_z, of_z, sym, ap, ◌∙◌, rules}
+use Rattle.std.proofs.Common.{◌≡◌, length, ℤ, Some, FitsSigned, get_or, sym, ap, ◌∙◌, rules}
 use Rattle.std.proofs.lemmas.Int.{to_z-of_z}
 use mir.Syntax.{w128}
 use Rattle.kernel.specs.Expression.{place_of}
@@ -12,5 +12,5 @@ returns-clause-ok c =
     let id : ℤ = c.args.id in
     let fits : FitsSigned w128 id = search rules in
     let e : place_of (length live) id ≡ Some c.in-Some.place =
-      ap (λ n. place_of n id) (sym c.count.ensures) ∙ ap (place_of c.count.result) (sym (to_z-of_z w128 id fits)) ∙ sym c.place_of_id.ensures ∙ c.in-Some.is in
+    ap (λ n. place_of n id) (sym c.count.ensures) ∙ ap (place_of c.count.result) (sym (to_z-of_z w128 id fits)) ∙ sym c.place_of_id.ensures ∙ c.in-Some.is in
     (get_or live c.in-Some.place no_constraint, constraint_of-place live id c.in-Some.place e, ap (λ s. s.stack) c.in_ok-push_live.ensures.ok)
