@@ -1,0 +1,5 @@
+pub mod Kinds
+pub mod Pieces
+pub mod Forms
+pub mod Spells
+pub mod Faults
