@@ -1,2 +1,19 @@
-//! Normal constraints of cutting planes: each variable at most once, coefficients above 0, a degree.
+//! Normal constraints of cutting planes: each variable at most once, coefficients above 0, a degree. How a
+//! signed constraint is put into that form, its negation, and where it holds.
 #![tactic(auto)]
+
+mod builder;
+mod conversion;
+mod fault;
+mod negation;
+mod normal;
+mod term;
+mod truth;
+
+pub use builder::NormalBuilder;
+pub use conversion::{both, normalize};
+pub use fault::CutFault;
+pub use negation::negate;
+pub use normal::Normal;
+pub use term::NormalTerm;
+pub use truth::{holds, is_contradiction};

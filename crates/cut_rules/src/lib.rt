@@ -1,0 +1,16 @@
+//! The rules of cutting planes (Cook, Coullard and Turán) on normal constraints.
+#![tactic(auto)]
+
+mod addition;
+mod axioms;
+mod division;
+mod multiplication;
+mod saturation;
+mod weakening;
+
+pub use addition::add;
+pub use axioms::axiom;
+pub use division::divide;
+pub use multiplication::multiply;
+pub use saturation::saturate;
+pub use weakening::weaken;

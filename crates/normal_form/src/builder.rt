@@ -1,0 +1,79 @@
+//! Making a normal constraint term by term, in one pass.
+
+ghost use Rattle.std.specs.Prelude.{◌≡◌, ◌+◌, ◌<◌, ◌≤◌, ◌↔◌, ◌++◌, ◌∷◌, [], IfOk, OnOk, OnErr, IsErrOf};
+ghost use Rattle.normal_form.specs.Normal.{variable_bound, IsNormal, Fits};
+
+use super::fault::CutFault;
+use super::normal::Normal;
+use super::term::NormalTerm;
+use std::alloc::{AllocError, Global};
+use std::marker::Model;
+
+/// The terms so far of a normal constraint that is being made. The coefficients may add up to any number:
+/// only `finish` asks whether the sum is within the limit.
+#[derive(Debug, Drop)]
+pub struct NormalBuilder {
+    terms: Vec<NormalTerm>,
+    capped_sum: u128,
+}
+
+impl Model for NormalBuilder {
+    ghost use Rattle.std.specs.Prelude.{◌≡◌, ◌-◌, ◌^◌, min, List};
+    ghost use Rattle.normal_form.specs.declared.term.NormalTerm.{NormalTerm};
+    ghost use Rattle.normal_form.specs.Normal.{Rises, total};
+
+    ghost Value = { List NormalTerm };
+
+    ghost view = { λ b. b.terms.items };
+
+    ghost invariant = {
+        λ b. Rises 0 b.terms.items × (b.capped_sum ≡ min (total b.terms.items) (2 ^ 128 - 1))
+    };
+}
+
+impl NormalBuilder {
+    /// No terms yet.
+    pub fn new(alloc: Global) -> Self
+        ensures { result ≡ [] }
+    {
+        NormalBuilder {
+            terms: Vec::new(alloc),
+            capped_sum: 0,
+        }
+    }
+
+    /// No terms yet, and room for so many.
+    pub fn with_capacity(alloc: Global, count: usize) -> Result<Self, AllocError>
+        ensures { IfOk result (λ b. b ≡ []) }
+    {
+        Ok(NormalBuilder {
+            terms: Vec::with_capacity(alloc, count)?,
+            capped_sum: 0,
+        })
+    }
+
+    /// Puts a term at the end: its coefficient is above 0, and its variable above all so far.
+    pub fn push(&mut self, term: NormalTerm) -> Result<(), AllocError>
+        requires coefficient { 0 < term.coef }
+        requires variable { variable_bound self.old ≤ term.var.0 }
+        ensures ok { OnOk result (self.new ≡ self.old ++ term ∷ []) }
+        ensures bound { OnOk result (variable_bound self.new ≡ term.var.0 + 1) }
+        ensures err { OnErr result (self.new ≡ self.old) }
+    {
+        self.terms.push(term)?;
+        self.capped_sum = self.capped_sum.saturating_add(term.coef);
+        Ok(())
+    }
+
+    /// The constraint of these terms with this degree. `TooLarge` comes exactly where their sum or the
+    /// degree is above `2^120`. No memory is taken.
+    pub fn finish(self, degree: u128) -> Result<Normal, CutFault>
+        ensures terms { IfOk result (λ n. n.terms ≡ self) }
+        ensures degree { IfOk result (λ n. n.degree ≡ degree) }
+        ensures normal { IfOk result IsNormal }
+        ensures too_large { IsErrOf result CutFault.TooLarge ↔ (Fits (record { terms = self; degree = degree }) → ⊥) }
+        ensures others { OnErr result (IsErrOf result CutFault.TooLarge) }
+    {
+        Normal::from_parts(self.terms, self.capped_sum, degree)
+    }
+}

@@ -1,0 +1,24 @@
+//! The negation of a normal constraint.
+
+ghost use Rattle.std.specs.Prelude.{◌≡◌, ◌↔◌, IfOk, IsErrOf, OnOk};
+ghost use Rattle.linear.specs.Valuation.{Valuation};
+ghost use Rattle.normal_form.specs.Normal.{IsNormal, Holds, total, largest_sum};
+ghost use Rattle.normal_form.specs.Negation.{IsNegation};
+
+use super::fault::CutFault;
+use super::normal::Normal;
+use std::alloc::Global;
+
+/// The constraint that holds exactly where this one does not: the opposite literals with the same
+/// coefficients, and degree `T - A + 1`, or 0 where that is below 0 (T the coefficient sum, A the degree).
+/// `TooLarge` comes exactly for degree 0 with sum `2^120`, whose negation has degree `2^120 + 1`.
+pub fn negate(alloc: Global, constraint: &Normal) -> Result<Normal, CutFault>
+    ensures form { IfOk result (IsNegation constraint.now) }
+    ensures normal { IfOk result IsNormal }
+    ensures opposite { IfOk result (λ n. (a : Valuation) → Holds a n ↔ (Holds a constraint.now → ⊥)) }
+    ensures too_large { IsErrOf result CutFault.TooLarge → (constraint.now.degree ≡ 0) × (total constraint.now.terms ≡ largest_sum) }
+    ensures within { OnOk result ((constraint.now.degree ≡ 0) × (total constraint.now.terms ≡ largest_sum) → ⊥) }
+    ensures factor { IsErrOf result CutFault.BadFactor → ⊥ }
+{
+    Err(CutFault::OutOfMemory)
+}

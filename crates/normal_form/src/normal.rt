@@ -1,0 +1,119 @@
+//! Normal constraints. How the terms are kept is private: they are read one at a time, by value.
+
+ghost use Rattle.std.specs.Prelude.{◌≡◌, ◌<◌, ◌-◌, ◌^◌, ◌↔◌, min, IfOk, IsErrOf, OnErr, length, slice_index_or, []};
+ghost use Rattle.normal_form.specs.Normal.{IsNormal, Rises, Fits, total};
+
+use super::fault::CutFault;
+use super::term::NormalTerm;
+use std::alloc::{AllocError, Global};
+use std::default::MadeWith;
+use std::marker::Model;
+
+/// The limit of coefficient sums and of degrees.
+pub(crate) const LARGEST: u128 = 1 << 120;
+
+/// A normal constraint: a degree, and terms with coefficients above 0 in strictly rising order of their
+/// variables. Its coefficient sum and its degree are at most `2^120`.
+#[derive(Debug, Drop)]
+pub struct Normal {
+    terms: Vec<NormalTerm>,
+    coefficient_sum: u128,
+    bound: u128,
+}
+
+impl Model for Normal {
+    ghost use Rattle.std.specs.Prelude.{◌≡◌};
+    ghost use Rattle.normal_form.specs.Normal.{NormalConstraint, IsNormal, total};
+
+    ghost Value = { NormalConstraint };
+
+    ghost view = { λ n. record { terms = n.terms.items; degree = n.bound } };
+
+    ghost invariant = {
+        λ n. IsNormal (record { terms = n.terms.items; degree = n.bound }) × (n.coefficient_sum ≡ total n.terms.items)
+    };
+}
+
+impl Normal {
+    /// The constraint of these terms with this degree, where it is within the limits.
+    pub(crate) fn from_parts(
+        terms: Vec<NormalTerm>,
+        capped_sum: u128,
+        degree: u128,
+    ) -> Result<Normal, CutFault>
+        requires rises { Rises 0 terms.items }
+        requires sum { capped_sum ≡ min (total terms.items) (2 ^ 128 - 1) }
+        ensures terms { IfOk result (λ n. n.terms ≡ terms.items) }
+        ensures degree { IfOk result (λ n. n.degree ≡ degree) }
+        ensures normal { IfOk result IsNormal }
+        ensures too_large { IsErrOf result CutFault.TooLarge ↔ (Fits (record { terms = terms.items; degree = degree }) → ⊥) }
+        ensures others { OnErr result (IsErrOf result CutFault.TooLarge) }
+    {
+        if capped_sum > LARGEST || degree > LARGEST {
+            return Err(CutFault::TooLarge);
+        }
+        Ok(Normal {
+            terms,
+            coefficient_sum: capped_sum,
+            bound: degree,
+        })
+    }
+
+    /// How many terms it has: as many as variables occur.
+    pub fn len(&self) -> usize
+        ensures value { result ≡ length self.now.terms }
+        ensures normal { IsNormal self.now }
+    {
+        self.terms.len()
+    }
+
+    /// The term at a place, in rising order of variables.
+    pub fn term(&self, place: usize) -> NormalTerm
+        requires { place < length self.now.terms }
+        ensures value { result ≡ slice_index_or self.now.terms place result }
+    {
+        self.terms[place]
+    }
+
+    /// The degree: what the true literals must add up to at least.
+    pub fn degree(&self) -> u128
+        ensures value { result ≡ self.now.degree }
+        ensures normal { IsNormal self.now }
+    {
+        self.bound
+    }
+
+    /// The sum of all coefficients. It is kept, not added up at each call.
+    pub fn sum(&self) -> u128
+        ensures value { result ≡ total self.now.terms }
+        ensures normal { IsNormal self.now }
+    {
+        self.coefficient_sum
+    }
+
+    /// Another constraint that is the same.
+    pub fn copy(&self, alloc: Global) -> Result<Normal, AllocError>
+        ensures value { IfOk result (λ n. n ≡ self.now) }
+    {
+        Ok(Normal {
+            terms: Vec::from_slice(alloc, self.terms.as_slice())?,
+            coefficient_sum: self.coefficient_sum,
+            bound: self.bound,
+        })
+    }
+}
+
+impl MadeWith<Global> for Normal {
+    ghost use Rattle.std.specs.Prelude.{◌≡◌, []};
+
+    ghost is_made_with = { λ n. (n.terms ≡ []) × (n.degree ≡ 0) };
+
+    /// The constraint without terms, of degree 0, which holds everywhere.
+    fn made_with(alloc: Global) -> Normal {
+        Normal {
+            terms: Vec::new(alloc),
+            coefficient_sum: 0,
+            bound: 0,
+        }
+    }
+}
