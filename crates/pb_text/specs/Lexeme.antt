@@ -12,7 +12,15 @@ pub record Lexeme : Type 0 where
   pub start : ℕ
   pub text : List ℕ
 
--- the kind of a token, by its bytes
+-- the kind of a word
+unfoldable pub kind_of_word : List ℕ → Kind
+kind_of_word word =
+    if is_integer word then kinds.Integer
+    else if is_literal word then kinds.Literal
+    else if is_misspelt word then kinds.Misspelt
+    else kinds.Other
+
+-- the kind of a token, by its bytes: a symbol, a stray byte or a word
 unfoldable pub kind_of : List ℕ → Kind
 kind_of text =
     if bytes_eq text (codes ";") then kinds.Symbol symbols.Semicolon
@@ -22,10 +30,7 @@ kind_of text =
     else if bytes_eq text (codes "=") then kinds.Symbol symbols.Equals
     else if bytes_eq text (codes "->") then kinds.Symbol symbols.Arrow
     else if bytes_eq text (codes "<") || bytes_eq text (codes ">") then kinds.Stray
-    else if is_integer text then kinds.Integer
-    else if is_literal text then kinds.Literal
-    else if is_misspelt text then kinds.Misspelt
-    else kinds.Other
+    else kind_of_word text
 
 -- space, tab, CR and LF
 abbrev pub is_white : ℕ → Bool
@@ -50,9 +55,9 @@ begins_arrow_head (b ∷ rest) = (b == 62) && not (begins 61 rest)
 abbrev pub symbol_length : List ℕ → ℕ
 symbol_length [] = 0
 symbol_length (b ∷ rest) =
-    if (b == 59) || (b == 58) || (b == 61) then 1                         -- `;`, `:`, `=`
-    else if (b == 60) || (b == 62) then (if begins 61 rest then 2 else 1) -- `<=`, `>=`, `<`, `>`
-    else if (b == 45) && begins_arrow_head rest then 2                    -- `->`, but not before `=`
+    if (b == 59) || (b == 58) || (b == 61) then 1  -- `;`, `:`, `=`
+    else if (b == 60) || (b == 62) then (if begins 61 rest then 2 else 1)  -- `<=`, `>=`, `<`, `>`
+    else if (b == 45) && begins_arrow_head rest then 2  -- `->`, but not before `=`
     else 0
 
 -- a place in a text: how many bytes stand before it, its line, and whether that line is a comment

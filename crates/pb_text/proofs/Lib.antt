@@ -1,0 +1,4 @@
+pub mod Cutting
+pub mod Comment
+pub mod KindTests
+pub mod Digits

@@ -1,0 +1,82 @@
+// The number of an integer word.
+ghost use Rattle.std.specs.Prelude.{◌≡◌, ◌≢◌, ◌^◌, ◌<◌, ◌≤◌, if◌then◌else◌, true, pos, neg_ℤ, IfOk, SomeIff};
+ghost use Rattle.std.specs.Result.{IsErrOf};
+ghost use Rattle.std.specs.List.{list_all};
+ghost use Rattle.pb_text.specs.Name.{is_digit};
+ghost use Rattle.pb_text.specs.Number.{digits_value, integer_size, integer_value, is_negative};
+ghost use Rattle.pb_text.specs.Word.{without_sign};
+
+use crate::kind::Kind;
+use crate::token::Token;
+
+/// Why a token gives no number.
+#[derive(Clone, Copy, Debug, PartialEq, Eq)]
+pub enum NumFault {
+    /// The token is no integer.
+    NotNumber,
+    /// The integer is above 2^120 in size.
+    NumberTooLarge,
+}
+
+/// The greatest size of an integer.
+const LIMIT: u128 = 1 << 120;
+
+/// The number that digits write, where it is at most 2^120.
+fn size_of_digits(digits: &[u8]) -> Option<u128>
+    requires { list_all is_digit digits.now ≡ true }
+    ensures { SomeIff result (digits_value digits.now ≤ 2 ^ 120) (digits_value digits.now) }
+{
+    let mut rest = digits;
+    let mut value: u128 = 0;
+    while let Some((b, tail)) = rest.split_first() {
+        value = value * 10 + u128::from(*b - b'0');
+        if value > LIMIT {
+            return None;
+        }
+        rest = tail;
+    }
+    Some(value)
+}
+
+/// The digits of a word: what follows its sign, if it has one.
+fn digits_of(text: &[u8]) -> &[u8]
+    ensures { result.now ≡ without_sign text.now }
+{
+    match text {
+        [b'+' | b'-', digits @ ..] => digits,
+        _ => text,
+    }
+}
+
+/// A size with the sign of its word.
+fn signed(text: &[u8], size: u128) -> i128
+    requires { size ≤ 2 ^ 120 }
+    ensures { result ≡ (if is_negative text.now then neg_ℤ (pos size) else pos size) }
+{
+    match text {
+        [b'-', ..] => -(size as i128),
+        _ => size as i128,
+    }
+}
+
+/// The number of an integer token: `+`, `-` or no sign, then digits in decimal; leading zeros count nothing, and `-0`
+/// is 0. A number of any length is read; its size may be at most 2^120.
+///
+/// Errors: `NotNumber` exactly where the token is no integer, `NumberTooLarge` exactly where it is one above 2^120 in
+/// size.
+#[tactic(auto, using(crate::proofs::KindTests::integer_digits), unfolding(crate::specs::Number::integer_size, crate::specs::Number::integer_value))]
+pub fn integer(t: Token<'_>) -> Result<i128, NumFault>
+    ensures value { IfOk result (λ n. n ≡ integer_value t.entry.text.now) }
+    ensures ok { IfOk result (λ _. (t.entry.kind ≡ Kind.Integer) × (integer_size t.entry.text.now ≤ 2 ^ 120)) }
+    ensures not_number { IsErrOf result NumFault.NotNumber → t.entry.kind ≢ Kind.Integer }
+    ensures too_large { IsErrOf result NumFault.NumberTooLarge →
+        (t.entry.kind ≡ Kind.Integer) × (2 ^ 120 < integer_size t.entry.text.now) }
+{
+    let Kind::Integer = t.kind else {
+        return Err(NumFault::NotNumber);
+    };
+    match size_of_digits(digits_of(t.text)) {
+        Some(size) => Ok(signed(t.text, size)),
+        None => Err(NumFault::NumberTooLarge),
+    }
+}

@@ -1,0 +1,77 @@
+// The tokens of a text, one after another.
+use crate::classify::kind_of;
+use crate::cursor::past_gaps;
+use crate::size::token_length;
+use crate::spot::{Cursor, Spot};
+use crate::token::Token;
+use std::marker::Model;
+
+/// The tokens of a text that are still to come. One pass over the text gives them all, and nothing is copied.
+#[derive(Drop)]
+pub struct Tokens<'a> {
+    at: Cursor<'a>,
+}
+
+impl<'a> Model for Tokens<'a> {
+    ghost use Rattle.std.specs.Prelude.{List};
+    ghost use Rattle.pb_text.specs.Lexeme.{Lexeme};
+    ghost use Rattle.pb_text.specs.Cursor.{ahead};
+
+    ghost Value = { List Lexeme };
+
+    ghost view = { λ t. ahead t.at };
+}
+
+impl<'a> Tokens<'a> {
+    ghost use Rattle.std.specs.Prelude.{◌≡◌, [], ◌∷◌, MatchOption};
+    ghost use Rattle.pb_text.specs.Lexeme.{lexemes, kind_of};
+    ghost use Rattle.pb_text.specs.Token.{lexeme_of};
+
+    /// All tokens of a text.
+    ///
+    /// White space is space, tab, CR and LF. A line whose first byte other than space and tab is `*` is a comment and
+    /// gives no token. `;`, `:`, `>=`, `<=`, `=` and `->` are symbols, `->` only where no `=` follows. A `<` or `>` that
+    /// belongs to no symbol is a token by itself. A word is a longest run of other bytes. (The OPB format of Roussel and
+    /// Manquinho and the proof format of VeriPB 2.0, with white space before symbols left free.)
+    #[tactic(auto, unfolding(crate::specs::Lexeme::lexemes))]
+    pub fn new(text: &'a [u8]) -> Self
+        ensures { result ≡ lexemes text.now }
+    {
+        Tokens {
+            at: Cursor {
+                rest: text,
+                start: 0,
+                breaks: 0,
+                spot: Spot::Front,
+            },
+        }
+    }
+
+    /// The next token, and `None` at the end of the text, then as often as it is asked for.
+    ///
+    /// Its kind is the kind of its bytes.
+    #[tactic(auto, using(crate::proofs::Cutting::end_empty))]
+    pub fn next(&mut self) -> Option<Token<'a>>
+        ensures tokens { MatchOption result ((self.old ≡ []) × (self.new ≡ [])) (λ t. self.old ≡ lexeme_of t ∷ self.new) }
+        ensures kind { MatchOption result (Unit {0}) (λ t. t.kind ≡ kind_of t.text.now) }
+    {
+        let here = past_gaps(self.at);
+        let size = token_length(here.rest);
+        self.at = Cursor {
+            rest: &here.rest[size..],
+            start: here.start + size,
+            breaks: here.breaks,
+            spot: Spot::Within,
+        };
+        if size == 0 {
+            return None;
+        }
+        let text = &here.rest[..size];
+        Some(Token {
+            kind: kind_of(text),
+            line: here.breaks + 1,
+            start: here.start,
+            text,
+        })
+    }
+}
