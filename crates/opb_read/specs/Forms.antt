@@ -1,5 +1,5 @@
 -- What the pieces of a text say: sums of terms, objectives and constraints. `names` numbers the variables.
-use Rattle.std.specs.Prelude.{ℕ, ℤ, ◌&&◌, Bool, true, false, if◌then◌else◌, Option, Some, None, List, [], ◌∷◌}
+use Rattle.std.specs.Prelude.{ℕ, ℤ, ◌&&◌, Bool, if◌then◌else◌, Option, Some, None, List, [], ◌∷◌}
 use Rattle.std.specs.Option.{option_map}
 use Rattle.pb_text.specs.Lexeme.{Lexeme}
 use Rattle.pb_text.specs.Word.{is_negated, name_of}
@@ -57,8 +57,7 @@ constraint_of names piece =
 
 -- a constraint in each piece, and nothing in the last one, behind the last `;`
 abbrev pub constraints_of : List (List ℕ) → List Lexeme → List (List Lexeme) → Option (List Signed)
-constraints_of names [] [] = Some []
-constraints_of names (a ∷ rest) [] = None
+constraints_of names piece [] = elim piece [ [] ↦ Some [] | a ∷ rest ↦ None ]
 constraints_of names piece (next ∷ others) =
     elim (constraint_of names piece) [
       | None ↦ None

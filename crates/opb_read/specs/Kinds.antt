@@ -1,5 +1,5 @@
 -- What may stand where in a problem file, by the kind of a token.
-use Rattle.std.specs.Prelude.{ℕ, ◌&&◌, Bool, true, false, Option, Some, None, List, [], ◌∷◌, codes, bytes_eq}
+use Rattle.std.specs.Prelude.{◌&&◌, Bool, true, false, Option, Some, None, List, [], ◌∷◌, codes, bytes_eq}
 use Rattle.pb_text.specs.Lexeme.{Lexeme}
 use Rattle.pb_text.specs.declared.kind.Kind.{Kind}
 use Rattle.pb_text.specs.declared.kind.Kind.TheVariants.{Integer, Literal, Symbol}

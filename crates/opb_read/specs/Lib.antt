@@ -3,3 +3,5 @@ pub mod Pieces
 pub mod Forms
 pub mod Spells
 pub mod Faults
+pub mod Ahead
+pub mod Denial

@@ -2,7 +2,6 @@
 use Rattle.std.specs.Prelude.{◌≡◌, ℕ, if◌then◌else◌, Option, Some, None, List, [], ◌∷◌, drop}
 use Rattle.std.specs.Option.{option_map}
 use Rattle.pb_text.specs.Lexeme.{Lexeme, lexemes}
-use Rattle.linear.specs.declared.constraint.Signed.{Signed}
 use Rattle.linear.specs.Opb.{Opb}
 use Rattle.opb_read.specs.Kinds.{begins_objective}
 use Rattle.opb_read.specs.Pieces.{Pieces, pieces}
