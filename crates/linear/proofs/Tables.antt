@@ -1,8 +1,8 @@
 -- Tables of names: what the keys of the index set say of the names, and that a table stays one.
-use Rattle.std.proofs.Common.{◌≡◌, ℕ, ◌+◌, ◌<◌, ◌^◌, Bool, true, false, not, cond, ◌||◌, List, [], ◌∷◌, ◌++◌, map, length, take, if◌then◌else◌, ltb, Option, Some, None, is_some, All, nat_eq, refl, sym, ap, subst, ◌∙◌, arith, lit<}
+use Rattle.std.proofs.Common.{◌≡◌, ℕ, ◌+◌, ◌<◌, ◌^◌, Bool, true, false, not, cond, ◌||◌, List, [], ◌∷◌, ◌++◌, map, length, take, if◌then◌else◌, ltb, get_or, zero, suc, Option, Some, None, is_some, All, nat_eq, refl, sym, ap, subst, ◌∙◌, arith, lit<}
 use Rattle.std.specs.List.{list_any, position_or_len, position, IsDistinct, AllByRecursion}
 use Rattle.std.specs.Cmp.Lexicographic.{pointwise, nat_list_eq_equiv}
-use Rattle.std.proofs.lemmas.List.{length-append, length-take, map-append}
+use Rattle.std.proofs.lemmas.List.{length-append, length-take, map-append, take_more, get_or-map, length-map}
 use Rattle.std.proofs.lemmas.List.Elements.{All-push, All-take}
 use Rattle.std.proofs.lemmas.Bool.{true≢false}
 use Rattle.indexmap.proofs.MapLemmas.{distinct-take}
@@ -65,6 +65,7 @@ distinct-push (n ∷ ns) name h d = by (same_name name n) refl (distinct-push ns
     pushed : (ms : List (List ℕ)) → same_name n name ≡ false → AllByRecursion (λ y. same_name n y ≡ false) ms → AllByRecursion (λ y. same_name n y ≡ false) (ms ++ name ∷ [])
     pushed [] e a = (e, tt)
     pushed (m ∷ ms) e a = (a.0, pushed ms e a.1)
+
     by : (b : Bool) → same_name name n ≡ b → (has_name ns name ≡ false → IsDistinct same_name ns → IsDistinct same_name (ns ++ name ∷ [])) → IsDistinct same_name ((n ∷ ns) ++ name ∷ [])
     by true e rest = absurd (true≢false (sym (ap (λ b. b || has_name ns name) e) ∙ h))
     by false e rest = (pushed ns (nat_list_eq_equiv.symm n name ∙ e) d.0, rest (sym (ap (λ b. b || has_name ns name) e) ∙ h) d.1)
@@ -86,3 +87,39 @@ IsTable-take n names t = record {
   distinct = distinct-take nat_list_eq_equiv n names t.distinct;
   numbered = let short = t.numbered in omega (arith, length-take n names);
 }
+
+-- a name of a table is not among those before it
+pub fresh_name : (names : List (List ℕ)) (i : ℕ) (d : List ℕ) → IsDistinct same_name names → i < length names → has_name (take i names) (get_or names i d) ≡ false
+unfolding IsDistinct
+fresh_name [] i d distinct h = absurd (omega (arith, h))
+fresh_name (n ∷ ns) zero d distinct h = refl
+fresh_name (n ∷ ns) (suc i) d distinct h =
+    let in_rest : i < length ns = omega (arith, h) in
+    let apart : (ms : List (List ℕ)) (j : ℕ) → AllByRecursion (λ y. same_name n y ≡ false) ms → j < length ms → same_name n (get_or ms j d) ≡ false = AllByRecursion-get_or n d in
+    ap (λ b. b || has_name (take i ns) (get_or ns i d)) (nat_list_eq_equiv.symm (get_or ns i d) n ∙ apart ns i distinct.0 in_rest) ∙ fresh_name ns i d distinct.1 in_rest
+  where
+    AllByRecursion-get_or : (n : List ℕ) (d : List ℕ) (ms : List (List ℕ)) (j : ℕ) → AllByRecursion (λ y. same_name n y ≡ false) ms → j < length ms → same_name n (get_or ms j d) ≡ false
+    AllByRecursion-get_or n d [] j a h = absurd (omega (arith, h))
+    AllByRecursion-get_or n d (m ∷ ms) zero a h = a.0
+    AllByRecursion-get_or n d (m ∷ ms) (suc j) a h = AllByRecursion-get_or n d ms j a.1 (omega (arith, h))
+
+-- the table of the names up to place i, with the name there, is that up to the next place
+pub with_name-take : (names : List (List ℕ)) (i : ℕ) (d : List ℕ) → IsDistinct same_name names → i < length names → with_name (take i names) (get_or names i d) ≡ take (i + 1) names
+with_name-take names i d distinct h =
+    ap (λ b. if b then take i names else take i names ++ get_or names i d ∷ []) (fresh_name names i d distinct h) ∙ sym (take_more names i d h)
+
+-- the name that was read as an element of the keys, in the table that shows the keys
+pub record IsNameAt (names : List (List ℕ)) (i : ℕ) (name : List ℕ) : Type 0 where
+  pub within : i < length names
+  pub name_is : name ≡ get_or names i name
+
+pub name_at : {X : Type 0} (f : X → List ℕ) (keys items : List X) (names : List (List ℕ)) (x : X) (name : List ℕ) (i : ℕ)
+    → map f keys ≡ names → items ≡ keys → i < length items → x ≡ get_or items i x → name ≡ f x → IsNameAt names i name
+name_at f keys items names x name i seen same h e is =
+    let within_keys : i < length keys = subst (λ xs. i < length xs) same h in
+    let at : x ≡ get_or keys i x = e ∙ ap (λ xs. get_or xs i x) same in
+    let long : length names ≡ length keys = sym (ap length seen) ∙ length-map keys f in
+    record {
+      within = omega arith;
+      name_is = is ∙ ap f at ∙ sym (get_or-map f keys i x name within_keys) ∙ ap (λ ns. get_or ns i name) seen;
+    }

@@ -18,6 +18,7 @@ worth_small a n t h = by (literal_true a (t.var.0) t.negated)
   where
     within : unsigned_abs t.coef ≤ 2 ^ 62
     within = h.coefficient
+
     by : (b : Bool) → (neg_ℤ (pos (2 ^ 62)) ≤ℤ (if b then t.coef else pos 0)) × ((if b then t.coef else pos 0) ≤ℤ pos (2 ^ 62))
     by true = (omega (arith, ints, within), omega (arith, ints, within))
     by false = (omega (arith, ints), omega (arith, ints))

@@ -33,7 +33,9 @@ impl Names {
     pub fn new(alloc: Global) -> Self
         ensures { result ≡ [] }
     {
-        Names { set: IndexSet::new(alloc) }
+        Names {
+            set: IndexSet::new(alloc),
+        }
     }
 
     /// How many names there are.
@@ -95,5 +97,16 @@ impl Names {
         ensures { self.new ≡ take len self.old }
     {
         self.set.truncate(len);
+    }
+
+    /// Another table of the same names.
+    pub fn copy(&self, alloc: Global) -> Result<Names, AllocError>
+        ensures { IfOk result (λ n. n ≡ self.now) }
+    {
+        let mut copy = Names::new(alloc);
+        for name in self.set.as_slice() {
+            copy.intern(name.as_slice())?;
+        }
+        Ok(copy)
     }
 }

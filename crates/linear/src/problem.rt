@@ -1,6 +1,6 @@
 //! Problems within the limits, what satisfies them and what an assignment is worth.
 
-ghost use Rattle.std.specs.Prelude.{◌≡◌, ◌↔◌, length, IsTrue};
+ghost use Rattle.std.specs.Prelude.{◌≡◌, ◌↔◌, length, IsTrue, IfOk};
 ghost use Rattle.std.specs.Option.{option_copied};
 
 use super::assignment::Assignment;
@@ -9,6 +9,7 @@ use super::names::Names;
 use super::seq::Seq;
 use super::sums::{meets, sum};
 use super::term::Term;
+use std::alloc::{AllocError, Global};
 use std::marker::Model;
 
 /// A linear 0-1 problem: names, an objective to be minimised or none, and constraints. Integers are at most
@@ -41,7 +42,11 @@ impl Problem {
         requires { IsWithin (record { names = names; objective = objective; constraints = constraints.items }) }
         ensures { result ≡ record { names = names; objective = objective; constraints = constraints.items } }
     {
-        Problem { names, objective, constraints }
+        Problem {
+            names,
+            objective,
+            constraints,
+        }
     }
 
     /// The names, by the numbers of the variables.
@@ -67,6 +72,20 @@ impl Problem {
         self.constraints.as_slice()
     }
 
+    /// Another problem that is the same.
+    pub fn copy(&self, alloc: Global) -> Result<Problem, AllocError>
+        ensures { IfOk result (λ p. p ≡ self.now) }
+    {
+        let names = self.names.copy(alloc)?;
+        let objective = copied_objective(&self.objective)?;
+        let constraints = copied_constraints(alloc, self.constraints.as_slice())?;
+        Ok(Problem {
+            names,
+            objective,
+            constraints,
+        })
+    }
+
     /// Whether an assignment, one value for each name, meets every constraint.
     pub fn satisfied(&self, assignment: &Assignment) -> bool
         requires { length assignment.now ≡ length self.now.names }
@@ -90,4 +109,29 @@ impl Problem {
             Some(terms) => sum(assignment, terms.as_slice()),
         }
     }
+}
+
+fn copied_objective(objective: &Option<Seq<Term>>) -> Result<Option<Seq<Term>>, AllocError>
+    ensures { IfOk result (λ copy. copy ≡ objective.now) }
+{
+    match objective {
+        None => Ok(None),
+        Some(terms) => Ok(Some(terms.clone()?)),
+    }
+}
+
+fn copied_constraints(alloc: Global, constraints: &[Signed]) -> Result<Vec<Signed>, AllocError>
+    ensures { IfOk result (λ copy. copy.items ≡ constraints.now) }
+{
+    let mut copy = Vec::with_capacity(alloc, constraints.len())?;
+    for constraint in constraints {
+        copy.push(copied(constraint)?)?;
+    }
+    Ok(copy)
+}
+
+fn copied(constraint: &Signed) -> Result<Signed, AllocError>
+    ensures { IfOk result (λ copy. copy ≡ constraint.now) }
+{
+    constraint.clone()
 }

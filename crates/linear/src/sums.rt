@@ -14,8 +14,15 @@ fn worth(assignment: &Assignment, term: Term) -> i128
     requires { term.var.0 < length assignment.now }
     ensures { result ≡ worth (valuation_of assignment.now) term }
 {
-    let lit = Lit { var: term.var, negated: term.negated };
-    if assignment.is_true(lit) { term.coef } else { 0 }
+    let lit = Lit {
+        var: term.var,
+        negated: term.negated,
+    };
+    if assignment.is_true(lit) {
+        term.coef
+    } else {
+        0
+    }
 }
 
 /// The sum of the terms whose literals are true.

@@ -1,1 +1,10 @@
 pub mod Sums
+pub mod OneForm
+pub mod Merge
+pub mod Insertion
+pub mod NormalForm
+pub mod Opposite
+pub mod Runs
+pub mod Reorder
+pub mod Floors
+pub mod Results

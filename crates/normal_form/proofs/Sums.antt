@@ -47,3 +47,19 @@ bound_push ts t = max_push variable_bound (λ t. t.var.0 + 1) refl (λ _ _. refl
 pub rises_push : (low : ℕ) (ts : List NormalTerm) (t : NormalTerm) → Rises low ts → low ≤ t.var.0 → variable_bound ts ≤ t.var.0 → 0 < t.coef → Rises low (ts ++ t ∷ [])
 rises_push low [] t r l b p = (l, p, tt)
 rises_push low (x ∷ xs) t r l b p = (r.0, r.1, rises_push (x.var.0 + 1) xs t r.2 (omega (arith, b)) (omega (arith, b)) p)
+
+pub rises_at : (low : ℕ) (ts : List NormalTerm) (i : ℕ) (d : NormalTerm) → Rises low ts → i < length ts → 0 < (get_or ts i d).coef
+rises_at low (t ∷ ts) zero d r h = r.1
+rises_at low (t ∷ ts) (suc i) d r h = rises_at (t.var.0 + 1) ts i d r.2 (omega (arith, h))
+rises_at low [] i d r h = absurd (omega (arith, h))
+
+low_at : (low : ℕ) (ts : List NormalTerm) (i : ℕ) (d : NormalTerm) → Rises low ts → i < length ts → low ≤ (get_or ts i d).var.0
+low_at low (t ∷ ts) zero d r h = r.0
+low_at low (t ∷ ts) (suc i) d r h = omega (arith, r.0, low_at (t.var.0 + 1) ts i d r.2 (omega (arith, h)))
+low_at low [] i d r h = absurd (omega (arith, h))
+
+-- the terms before a place have variables below that of the place
+pub bound_take : (low : ℕ) (ts : List NormalTerm) (i : ℕ) (d : NormalTerm) → Rises low ts → i < length ts → variable_bound (take i ts) ≤ (get_or ts i d).var.0
+bound_take low (t ∷ ts) zero d r h = omega arith
+bound_take low (t ∷ ts) (suc i) d r h = omega (arith, low_at (t.var.0 + 1) ts i d r.2 (omega (arith, h)), bound_take (t.var.0 + 1) ts i d r.2 (omega (arith, h)))
+bound_take low [] i d r h = absurd (omega (arith, h))

@@ -1,3 +1,4 @@
 pub mod Normal
 pub mod NormalOf
 pub mod Negation
+pub mod Balance

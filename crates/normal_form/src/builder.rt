@@ -1,7 +1,7 @@
 //! Making a normal constraint term by term, in one pass.
 
 ghost use Rattle.std.specs.Prelude.{◌≡◌, ◌+◌, ◌<◌, ◌≤◌, ◌↔◌, ◌++◌, ◌∷◌, [], IfOk, OnOk, OnErr, IsErrOf};
-ghost use Rattle.normal_form.specs.Normal.{variable_bound, IsNormal, Fits};
+ghost use Rattle.normal_form.specs.Normal.{variable_bound, IsNormal, Rises, Fits};
 
 use super::fault::CutFault;
 use super::normal::Normal;
@@ -63,6 +63,14 @@ impl NormalBuilder {
         self.terms.push(term)?;
         self.capped_sum = self.capped_sum.saturating_add(term.coef);
         Ok(())
+    }
+
+    /// The terms so far.
+    pub(crate) fn terms(&self) -> &[NormalTerm]
+        ensures value { result.now ≡ self.now }
+        ensures rises { Rises 0 self.now }
+    {
+        self.terms.as_slice()
     }
 
     /// The constraint of these terms with this degree. `TooLarge` comes exactly where their sum or the

@@ -1,15 +1,54 @@
 //! The normal form of signed constraints.
 
-ghost use Rattle.std.specs.Prelude.{◌≡◌, ◌+◌, ◌≤◌, ◌↔◌, ◌⊎◌, IfOk, IsErrOf, OnOk, unsigned_abs};
+ghost use Rattle.std.specs.Prelude.{◌≡◌, ◌+◌, ◌≤◌, ◌↔◌, ◌⊎◌, map, IfOk, IsErrOf, OnOk, OnErr, unsigned_abs};
 ghost use Rattle.linear.specs.Valuation.{Valuation};
 ghost use Rattle.linear.specs.Sum.{Meets};
 ghost use Rattle.normal_form.specs.Normal.{IsNormal, Holds, largest_sum};
-ghost use Rattle.normal_form.specs.NormalOf.{IsNormalOf, IsBothOf, IsTooLarge, opposite, size_sum};
+ghost use Rattle.normal_form.specs.NormalOf.{IsNormalOf, IsBothOf, IsTooLarge, opposite, opposite_term, size_sum};
+ghost use Rattle.normal_form.specs.Balance.{Balances};
 
+use super::builder::NormalBuilder;
+use super::degrees::{least_degree, most_degree};
 use super::fault::CutFault;
+use super::merging::{merge, sizes_fit};
 use super::normal::Normal;
+use super::opposites::flip;
 use linear::{Relation, Signed};
 use std::alloc::Global;
+
+// The form of a constraint read as `>=`, of its merged terms.
+fn least(merged: NormalBuilder, constraint: &Signed) -> Result<Normal, CutFault>
+    requires sizes { size_sum constraint.now.terms ≤ largest_sum }
+    requires balance { Balances constraint.now.terms merged }
+    ensures form { IfOk result (IsNormalOf constraint.now) }
+    ensures normal { IfOk result IsNormal }
+    ensures within { OnOk result (IsTooLarge constraint.now → ⊥) }
+    ensures too_large { OnErr result (IsTooLarge constraint.now × IsErrOf result CutFault.TooLarge) }
+{
+    let degree = least_degree(
+        constraint.right,
+        constraint.terms.as_slice(),
+        merged.terms(),
+    );
+    merged.finish(degree)
+}
+
+// The form of a constraint with all signs changed read as `>=`, of its merged terms.
+fn most(merged: NormalBuilder, constraint: &Signed) -> Result<Normal, CutFault>
+    requires sizes { size_sum constraint.now.terms ≤ largest_sum }
+    requires balance { Balances (map opposite_term constraint.now.terms) merged }
+    ensures form { IfOk result (IsNormalOf (opposite constraint.now)) }
+    ensures normal { IfOk result IsNormal }
+    ensures within { OnOk result (IsTooLarge (opposite constraint.now) → ⊥) }
+    ensures too_large { OnErr result (IsTooLarge (opposite constraint.now) × IsErrOf result CutFault.TooLarge) }
+{
+    let degree = most_degree(
+        constraint.right,
+        constraint.terms.as_slice(),
+        merged.terms(),
+    );
+    merged.finish(degree)
+}
 
 /// The normal form of a constraint with `>=`. `TooLarge` comes exactly where the sizes of its coefficients
 /// add up to more than `2^120`, or the form's sum or degree is above `2^120`; so it does not come where the
@@ -24,7 +63,11 @@ pub fn normalize(alloc: Global, constraint: &Signed) -> Result<Normal, CutFault>
     ensures small { size_sum constraint.now.terms + unsigned_abs constraint.now.right ≤ largest_sum → IsErrOf result CutFault.TooLarge → ⊥ }
     ensures factor { IsErrOf result CutFault.BadFactor → ⊥ }
 {
-    Err(CutFault::OutOfMemory)
+    let terms = constraint.terms.as_slice();
+    if !sizes_fit(terms) {
+        return Err(CutFault::TooLarge);
+    }
+    least(merge(alloc, terms)?, constraint)
 }
 
 /// The two normal forms of an equality: that of the constraint with `>=`, then that of the same with all
@@ -40,5 +83,11 @@ pub fn both(alloc: Global, constraint: &Signed) -> Result<(Normal, Normal), CutF
     ensures small { size_sum constraint.now.terms + unsigned_abs constraint.now.right ≤ largest_sum → IsErrOf result CutFault.TooLarge → ⊥ }
     ensures factor { IsErrOf result CutFault.BadFactor → ⊥ }
 {
-    Err(CutFault::OutOfMemory)
+    let terms = constraint.terms.as_slice();
+    if !sizes_fit(terms) {
+        return Err(CutFault::TooLarge);
+    }
+    let merged = merge(alloc, terms)?;
+    let opposite = flip(alloc, merged.terms())?;
+    Ok((least(merged, constraint)?, most(opposite, constraint)?))
 }

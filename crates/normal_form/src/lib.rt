@@ -4,9 +4,12 @@
 
 mod builder;
 mod conversion;
+mod degrees;
 mod fault;
+mod merging;
 mod negation;
 mod normal;
+mod opposites;
 mod term;
 mod truth;
 

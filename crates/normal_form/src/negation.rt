@@ -7,6 +7,7 @@ ghost use Rattle.normal_form.specs.Negation.{IsNegation};
 
 use super::fault::CutFault;
 use super::normal::Normal;
+use super::opposites::flip;
 use std::alloc::Global;
 
 /// The constraint that holds exactly where this one does not: the opposite literals with the same
@@ -20,5 +21,6 @@ pub fn negate(alloc: Global, constraint: &Normal) -> Result<Normal, CutFault>
     ensures within { OnOk result ((constraint.now.degree ≡ 0) × (total constraint.now.terms ≡ largest_sum) → ⊥) }
     ensures factor { IsErrOf result CutFault.BadFactor → ⊥ }
 {
-    Err(CutFault::OutOfMemory)
+    let opposite = flip(alloc, constraint.terms())?;
+    opposite.finish((constraint.sum() + 1).saturating_sub(constraint.degree()))
 }

@@ -75,6 +75,14 @@ impl Normal {
         self.terms[place]
     }
 
+    /// The terms, in rising order of variables.
+    pub(crate) fn terms(&self) -> &[NormalTerm]
+        ensures value { result.now ≡ self.now.terms }
+        ensures normal { IsNormal self.now }
+    {
+        self.terms.as_slice()
+    }
+
     /// The degree: what the true literals must add up to at least.
     pub fn degree(&self) -> u128
         ensures value { result ≡ self.now.degree }

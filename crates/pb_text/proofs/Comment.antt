@@ -1,8 +1,8 @@
 -- The bytes of a comment line give no token.
-use Rattle.std.proofs.Common.{◌≡◌, ℕ, suc, ◌+◌, ◌<◌, ◌==◌, Bool, true, false, not, cond, ◌||◌, List, [], ◌∷◌, length, drop, refl, ap, sym, ◌∙◌, arith}
+use Rattle.std.proofs.Common.{◌≡◌, ℕ, suc, ◌+◌, ◌<◌, ◌==◌, Bool, true, false, not, cond, ◌||◌, List, [], ◌∷◌, drop, refl, ap, sym, ◌∙◌, arith}
 use Rattle.std.specs.List.{position_or_len}
 use Rattle.std.proofs.lemmas.Bool.Decides.{Decides-eqb}
-use Rattle.pb_text.specs.Lexeme.{Place, cut, past, is_white, all_tokens, begins_comment, lexemes_from}
+use Rattle.pb_text.specs.Lexeme.{Place, past, begins_comment, lexemes_from}
 use Rattle.pb_text.specs.Cutting.{behind}
 use Rattle.pb_text.proofs.Cutting.{past_plain, white_passed, end_empty}
 
@@ -37,22 +37,24 @@ comment_passed p [] h = end_empty p [] refl ∙ sym (end_empty _ [] refl)
 comment_passed p (b ∷ rest) h =
     let n : ℕ = position_or_len (λ b. b == 10) rest in
     let one : lexemes_from p (b ∷ rest) ≡ lexemes_from (past p b rest) rest = white_passed p b rest (or_true p.comment _ h) in
-    elim (b == 10) as (λ (t : Bool). (b == 10) ≡ t → lexemes_from p (b ∷ rest) ≡ lexemes_from (plain (cond (not t) (1 + n) 0) p) (drop (cond (not t) (1 + n) 0) (b ∷ rest)))
-    [ true ↦ λ e. at_end p b rest e h
-    | false ↦ λ e.
-        let same : past p b rest ≡ behind 1 p = past_plain p b rest e in
-        let far : p.start + 1 + n ≡ p.start + (1 + n) = omega arith in
-        let next : 1 + n ≡ suc n = omega arith in
-        one
-        ∙ ap (λ (q : Place). lexemes_from q rest) same
-        ∙ comment_passed (behind 1 p) rest h
-        ∙ ap (λ (k : ℕ). lexemes_from (record { start = k; line = p.line; comment = false }) (drop n rest)) far
-        ∙ ap (λ (k : ℕ). lexemes_from (plain (1 + n) p) (drop k (b ∷ rest))) (sym next) ] refl
+    elim (b == 10) as (λ (t : Bool). (b == 10) ≡ t → lexemes_from p (b ∷ rest) ≡ lexemes_from (plain (cond (not t) (1 + n) 0) p) (drop (cond (not t) (1 + n) 0) (b ∷ rest))) [
+      | true ↦ λ e. at_end p b rest e h
+      | false ↦ λ e.
+          let same : past p b rest ≡ behind 1 p = past_plain p b rest e in
+          let far : p.start + 1 + n ≡ p.start + (1 + n) = omega arith in
+          let next : 1 + n ≡ suc n = omega arith in
+          one
+          ∙ ap (λ (q : Place). lexemes_from q rest) same
+          ∙ comment_passed (behind 1 p) rest h
+          ∙ ap (λ (k : ℕ). lexemes_from (record { start = k; line = p.line; comment = false }) (drop n rest)) far
+          ∙ ap (λ (k : ℕ). lexemes_from (plain (1 + n) p) (drop k (b ∷ rest))) (sym next)
+    ] refl
 
 -- a comment does not begin with its line's end
 pub comment_begun : (text : List ℕ) → begins_comment text ≡ true → 0 < position_or_len (λ b. b == 10) text
 comment_begun [] h = absurd (cc h)
 comment_begun (b ∷ rest) h =
-    elim (b == 10) as (λ (t : Bool). (b == 10) ≡ t → 0 < cond (not t) (1 + position_or_len (λ b. b == 10) rest) 0)
-    [ true ↦ λ e. no_comment_at_end b rest ((Decides-eqb b 10).0 e) h
-    | false ↦ λ e. omega arith ] refl
+    elim (b == 10) as (λ (t : Bool). (b == 10) ≡ t → 0 < cond (not t) (1 + position_or_len (λ b. b == 10) rest) 0) [
+      | true ↦ λ e. no_comment_at_end b rest ((Decides-eqb b 10).0 e) h
+      | false ↦ λ e. omega arith
+    ] refl

@@ -1,5 +1,5 @@
 -- How a text is cut: byte by byte within a word, at a symbol, and at white space.
-use Rattle.std.proofs.Common.{◌≡◌, ℕ, zero, suc, ◌+◌, ◌-◌, ◌<◌, ◌≤◌, ◌==◌, Bool, true, false, not, ◌&&◌, ◌||◌, ◌⊎◌, inl, inr, List, [], ◌∷◌, ◌++◌, length, take, drop, get_or, refl, ap, subst, sym, ◌∙◌, arith, append_assoc}
+use Rattle.std.proofs.Common.{◌≡◌, ℕ, zero, suc, ◌+◌, ◌-◌, ◌<◌, ◌==◌, Bool, true, false, not, ◌&&◌, ◌||◌, ◌⊎◌, inl, inr, List, [], ◌∷◌, ◌++◌, length, take, drop, refl, ap, subst, sym, ◌∙◌, arith, append_assoc}
 use Rattle.std.proofs.lemmas.List.{append-nil}
 use Rattle.std.proofs.lemmas.Bool.Decides.{Decides-eqb}
 use Rattle.std.specs.Prelude.{if◌then◌else◌}
@@ -81,7 +81,7 @@ cut_no_word p [] plain h = refl
 cut_no_word p (b ∷ rest) plain h =
     no_word_of_three (p.comment || is_white b) (symbol_length (b ∷ rest) == 0) p _ _ _ _ (drop_false p.comment (is_white b) _ plain h)
 
-take_next : (n : ℕ) (text : List ℕ) (b : ℕ) (rest : List ℕ) → b ∷ rest ≡ drop n text → take (n + 1) text ≡ take n text ++ b ∷ []
+pub take_next : (n : ℕ) (text : List ℕ) (b : ℕ) (rest : List ℕ) → b ∷ rest ≡ drop n text → take (n + 1) text ≡ take n text ++ b ∷ []
 take_next zero [] b rest h = absurd (cc h)
 take_next zero (a ∷ text) b rest h = let e : b ≡ a = cc in ap (λ (x : ℕ). x ∷ []) (sym e)
 take_next (suc n) [] b rest h = absurd (cc h)
@@ -103,7 +103,7 @@ word_grows p n text (b ∷ rest) plain e h so_far =
     ∙ ap (λ (c : Cut). let d : Cut = record { word = take n text ++ c.word; tokens = c.tokens } in d) one
     ∙ ap (λ (q : Place). let d : Cut = record { word = take n text ++ (b ∷ (cut q rest).word); tokens = (cut q rest).tokens } in d) (behind_more n p)
     ∙ ap (λ (w : List ℕ). let d : Cut = record { word = w; tokens = (cut (behind (n + 1) p) rest).tokens } in d)
-        (rw more (sym (append_assoc (take n text) (b ∷ []) _)))
+    (rw more (sym (append_assoc (take n text) (b ∷ []) _)))
 
 -- a word's front is the word where no byte of a word follows
 pub word_ends : (p : Place) (n : ℕ) (text rest : List ℕ) → p.comment ≡ false → rest ≡ drop n text → begins_word rest ≡ false →
@@ -136,7 +136,7 @@ unfolding lexemes_from
 symbol_cut p b rest plain w s =
     ap (all_tokens p) (third_of_three (p.comment || is_white b) (symbol_length (b ∷ rest) == 0) _ _ _ (or_false _ _ plain w) s)
     ∙ ap (λ (q : Place). lexeme_at p (take (symbol_length (b ∷ rest)) (b ∷ rest)) ∷ drop (symbol_length (b ∷ rest) - 1) (all_tokens q (cut q rest)))
-        (past_plain p b rest (last_false _ (b == 10) w))
+    (past_plain p b rest (last_false _ (b == 10) w))
 
 -- the same, the symbol having so many bytes
 sized_cut : (n : ℕ) (p : Place) (b : ℕ) (rest : List ℕ) → p.comment ≡ false → is_white b ≡ false → symbol_length (b ∷ rest) ≡ n → (n == 0) ≡ false →
@@ -200,15 +200,16 @@ after_arrow (c ∷ more) h =
 
 second_byte : (b : ℕ) (rest : List ℕ) → symbol_length (b ∷ rest) ≡ 2 → IsSecond rest
 second_byte b rest h =
-    elim (two_bytes ((b == 59) || (b == 58) || (b == 61)) ((b == 60) || (b == 62)) (begins 61 rest) ((b == 45) && begins_arrow_head rest) h)
-    [ inl e ↦ after_equals rest e
-    | inr a ↦ after_arrow rest ((both_true (b == 45) (begins_arrow_head rest) a).1) ]
+    elim (two_bytes ((b == 59) || (b == 58) || (b == 61)) ((b == 60) || (b == 62)) (begins 61 rest) ((b == 45) && begins_arrow_head rest) h) [
+      | inl e ↦ after_equals rest e
+      | inr a ↦ after_arrow rest ((both_true (b == 45) (begins_arrow_head rest) a).1)
+    ]
 
 two_byte_token : (p : Place) (b : ℕ) (rest : List ℕ) → p.comment ≡ false → is_white b ≡ false → symbol_length (b ∷ rest) ≡ 2 → IsSecond rest →
     lexemes_from p (b ∷ rest) ≡ lexeme_at p (take 2 (b ∷ rest)) ∷ lexemes_from (behind 2 p) (drop 2 (b ∷ rest))
 two_byte_token p b rest plain w s second =
     let inner : lexemes_from (behind 1 p) (second.byte ∷ second.more) ≡ lexeme_at (behind 1 p) (second.byte ∷ []) ∷ lexemes_from (behind 1 (behind 1 p)) second.more =
-        sized_cut 1 (behind 1 p) second.byte second.more plain second.dense second.single refl in
+    sized_cut 1 (behind 1 p) second.byte second.more plain second.dense second.single refl in
     let place : behind 1 (behind 1 p) ≡ behind 2 p = behind_more 1 p in
     sized_cut 2 p b rest plain w s refl
     ∙ ap (λ (xs : List Lexeme). lexeme_at p (take 2 (b ∷ rest)) ∷ drop 1 xs) (ap (lexemes_from (behind 1 p)) second.is ∙ inner)
@@ -221,6 +222,7 @@ pub symbol_first : (p : Place) (text : List ℕ) → p.comment ≡ false → beg
 symbol_first p [] plain w s = absurd (omega (arith, s))
 symbol_first p (b ∷ rest) plain w s =
     let Goal : ℕ → Type 0 = λ n. lexemes_from p (b ∷ rest) ≡ lexeme_at p (take n (b ∷ rest)) ∷ lexemes_from (behind n p) (drop n (b ∷ rest)) in
-    elim (one_or_two ((b == 59) || (b == 58) || (b == 61)) ((b == 60) || (b == 62)) (begins 61 rest) ((b == 45) && begins_arrow_head rest) s)
-    [ inl one ↦ subst Goal (sym one) (sized_cut 1 p b rest plain w one refl)
-    | inr two ↦ subst Goal (sym two) (two_byte_token p b rest plain w two (second_byte b rest two)) ]
+    elim (one_or_two ((b == 59) || (b == 58) || (b == 61)) ((b == 60) || (b == 62)) (begins 61 rest) ((b == 45) && begins_arrow_head rest) s) [
+      | inl one ↦ subst Goal (sym one) (sized_cut 1 p b rest plain w one refl)
+      | inr two ↦ subst Goal (sym two) (two_byte_token p b rest plain w two (second_byte b rest two))
+    ]

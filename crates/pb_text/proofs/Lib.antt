@@ -2,3 +2,5 @@ pub mod Cutting
 pub mod Comment
 pub mod KindTests
 pub mod Digits
+pub mod Spans
+pub mod Examples

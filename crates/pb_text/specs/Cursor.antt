@@ -1,5 +1,5 @@
 -- What a cursor of the code stands for: a place in the text, and the tokens from there on.
-use Rattle.std.specs.Prelude.{◌≡◌, ℕ, ◌+◌, Bool, false, List, [], ◌∷◌}
+use Rattle.std.specs.Prelude.{◌≡◌, ℕ, ◌+◌, Bool, false, List}
 use Rattle.pb_text.specs.Lexeme.{Lexeme, Place, begins_comment, lexemes_from}
 use Rattle.pb_text.specs.Cutting.{begins_white}
 use Rattle.pb_text.specs.declared.spot.Spot.{Spot}

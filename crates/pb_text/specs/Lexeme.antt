@@ -1,5 +1,5 @@
 -- The tokens of a text: where its words and symbols stand. White space and comment lines part them and give none.
-use Rattle.std.specs.Prelude.{ℕ, ◌+◌, ◌-◌, ◌==◌, Bool, true, false, ◌&&◌, ◌||◌, not, if◌then◌else◌, List, [], ◌∷◌, take, drop, codes, bytes_eq}
+use Rattle.std.specs.Prelude.{ℕ, ◌+◌, ◌-◌, ◌==◌, Bool, false, ◌&&◌, ◌||◌, not, if◌then◌else◌, List, [], ◌∷◌, take, drop, codes, bytes_eq}
 use Rattle.pb_text.specs.Word.{is_integer, is_literal, is_misspelt}
 use Rattle.pb_text.specs.declared.kind.Kind.{Kind}
 use Rattle.pb_text.specs.declared.kind.Kind.TheVariants as kinds

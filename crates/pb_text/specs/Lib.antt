@@ -5,4 +5,4 @@ pub mod Lexeme
 pub mod Token
 pub mod Cutting
 pub mod Cursor
-pub mod Source
+pub mod Span

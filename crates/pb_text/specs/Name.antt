@@ -1,6 +1,6 @@
 -- Names of variables: a letter or `_`, and then one or more letters, digits, `_ [ ] { } ^ -`. So a name has
 -- two bytes at least. Names are compared as texts.
-use Rattle.std.specs.Prelude.{ℕ, ◌==◌, ◌&&◌, ◌||◌, nat_le, nat_lt, Bool, true, false, List, [], ◌∷◌, length}
+use Rattle.std.specs.Prelude.{ℕ, ◌==◌, ◌&&◌, ◌||◌, nat_le, nat_lt, Bool, false, List, [], ◌∷◌, length}
 use Rattle.std.specs.List.{list_all}
 
 abbrev pub is_letter : ℕ → Bool

@@ -1,5 +1,4 @@
 -- What a token of the code is among the tokens of a text.
-use Rattle.std.specs.Prelude.{List, ℕ}
 use Rattle.pb_text.specs.Lexeme.{Lexeme}
 use Rattle.pb_text.specs.declared.token.Token.{Token}
 

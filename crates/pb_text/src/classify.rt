@@ -42,9 +42,7 @@ fn is_name(text: &[u8]) -> bool
     ensures { result ≡ names.is_name text.now }
 {
     match text {
-        [first, rest @ ..] => {
-            begins_name(*first) && !rest.is_empty() && all_continue_name(rest)
-        }
+        [first, rest @ ..] => { begins_name(*first) && !rest.is_empty() && all_continue_name(rest) }
         [] => false,
     }
 }

@@ -4,13 +4,17 @@
 mod classify;
 mod cursor;
 mod kind;
+mod laws;
 mod number;
 mod size;
 mod spot;
+#[cfg(test)]
+mod tests;
 mod token;
 mod tokens;
 
 pub use kind::{Kind, Symbol};
+pub use laws::{kinds_of_words, tokens_in_order, tokens_stand_in_text};
 pub use number::{NumFault, integer};
 pub use token::{Literal, Token, as_literal};
-pub use tokens::Tokens;
+pub use tokens::{Tokens, end_line};

@@ -21,12 +21,10 @@ fn symbol_length(text: &[u8]) -> usize
 
 /// What follows the byte of a word at the front; `None` where white space, a symbol or the end stands there.
 fn past_word_byte(text: &[u8]) -> Option<&[u8]>
-    ensures {
-        MatchOption
-            result
-            (begins_word text.now ≡ false)
-            (λ rest. (begins_word text.now ≡ true) × (rest.now ≡ drop 1 text.now))
-    }
+    ensures { MatchOption
+        result
+        (begins_word text.now ≡ false)
+        (λ rest. (begins_word text.now ≡ true) × (rest.now ≡ drop 1 text.now)) }
 {
     match text {
         [] | [b' ' | b'\t' | b'\r' | b'\n', ..] => None,

@@ -1,4 +1,7 @@
 // The tokens of a text, one after another.
+ghost use Rattle.std.specs.Prelude.{◌≡◌, ◌-◌, ◌^◌, length, min};
+ghost use Rattle.pb_text.specs.Span.{line_of};
+
 use crate::classify::kind_of;
 use crate::cursor::past_gaps;
 use crate::size::token_length;
@@ -74,4 +77,13 @@ impl<'a> Tokens<'a> {
             text,
         })
     }
+}
+
+/// The line of a text's end: 1 and the number of LF bytes in the text. (It stops at the greatest `u64`, which no text in
+/// memory reaches.)
+pub fn end_line(text: &[u8]) -> u64
+    ensures { result ≡ min (2 ^ 64 - 1) (line_of text.now (length text.now)) }
+{
+    let breaks = text.iter().filter(|b| **b == b'\n').count() as u64;
+    breaks.saturating_add(1)
 }

@@ -27,7 +27,7 @@ loop-term-preserved c =
     let s : ℤ = to_z w128 c.loop-term.sum-bits in
     let w : ℤ = c.worth-sum.result in
     let next = more (valuation_of c.args.assignment.now) (length c.args.assignment.now) c.args.terms.now c.loop-term.term-index (record { coef = pos 0; var = record { 0 = 0 }; negated = false }) s
-        c.requires c.loop-term-test.true c.loop-term.invariant.so_far c.loop-term.invariant.low c.loop-term.invariant.high in
+    c.requires c.loop-term-test.true c.loop-term.invariant.so_far c.loop-term.invariant.low c.loop-term.invariant.high in
     let few : c.loop-term.term-index < 2 ^ 20 = omega (arith, c.requires.count, c.loop-term-test.true) in
     let is : w ≡ worth (valuation_of c.args.assignment.now) (get_or c.args.terms.now c.loop-term.term-index (record { coef = pos 0; var = record { 0 = 0 }; negated = false })) = c.worth-sum.ensures in
     let fits : FitsSigned w128 w = search rules in

@@ -1,4 +1,4 @@
-use Rattle.std.proofs.Common.{ℕ, sym, ◌==◌, ◌≡◌, ◌<◌, true, arith, refl, length, ◌∙◌}
+use Rattle.std.proofs.Common.{ℕ, sym, ◌==◌, ◌≡◌, arith, refl, length, ◌∙◌}
 use Rattle.std.proofs.lemmas.List.Sums.{position_or_len_is}
 use Rattle.pb_text.proofs.cursor.line_length.Goals as goal
 

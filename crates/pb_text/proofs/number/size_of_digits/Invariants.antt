@@ -8,7 +8,7 @@ abbrev pub invariant-loop-b : goal.invariant-loop-b
 invariant-loop-b l = record {
   digits : list_all is_digit l.rest ≡ true;
   value : l.value * 10 ^ length l.rest + digits_value l.rest ≡ digits_value l.digits;
-  small : l.value ≤ 2 ^ 120
+  small : l.value ≤ 2 ^ 120;
 }
 
 abbrev pub decreases-loop-b : goal.decreases-loop-b

@@ -1,6 +1,6 @@
-use Rattle.std.proofs.Common.{◌≡◌, ◌<◌, ◌∙◌, ap, sym, arith, false, [], length, take, refl}
+use Rattle.std.proofs.Common.{◌≡◌, ◌<◌, ◌∙◌, ap, arith, false, length, take, refl}
 use Rattle.std.proofs.lemmas.List.{length-take-le}
-use Rattle.pb_text.specs.Lexeme.{Place, Cut, cut, symbol_length}
+use Rattle.pb_text.specs.Lexeme.{Place, Cut, symbol_length}
 use Rattle.pb_text.proofs.Cutting.{symbol_first, word_first, empty_word}
 use Rattle.pb_text.proofs.size.token_length.Goals as goal
 

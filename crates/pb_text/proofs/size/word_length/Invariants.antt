@@ -1,4 +1,4 @@
-use Rattle.std.proofs.Common.{◌≡◌, ◌+◌, ◌≤◌, ◌++◌, false, length, take, drop}
+use Rattle.std.proofs.Common.{◌≡◌, ◌+◌, ◌++◌, false, length, take, drop}
 use Rattle.pb_text.specs.Lexeme.{Place, cut}
 use Rattle.pb_text.specs.Cutting.{behind}
 use Rattle.pb_text.proofs.size.word_length.Given as goal
@@ -8,11 +8,11 @@ invariant-loop-tail l = record {
   within : l.size + length l.rest ≡ length l.text;
   rest : l.rest ≡ drop l.size l.text;
   word :
-    (p : Place) → p.comment ≡ false →
-    cut p l.text ≡ record {
-      word = take l.size l.text ++ (cut (behind l.size p) l.rest).word;
-      tokens = (cut (behind l.size p) l.rest).tokens
-    }
+      (p : Place) → p.comment ≡ false →
+      cut p l.text ≡ record {
+        word = take l.size l.text ++ (cut (behind l.size p) l.rest).word;
+        tokens = (cut (behind l.size p) l.rest).tokens;
+      };
 }
 
 abbrev pub decreases-loop-tail : goal.decreases-loop-tail

@@ -1,0 +1,4 @@
+pub mod FileForms
+pub mod Places
+pub mod Polish
+pub mod Unsatisfiable

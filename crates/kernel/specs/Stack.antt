@@ -1,0 +1,38 @@
+-- The stack of a `pol` step, its top first.
+use Rattle.std.specs.Prelude.{◌<◌, List, [], All, length, map, reverse, slice_index_or, ⊤}
+use Rattle.linear.specs.Valuation.{Valuation}
+use Rattle.normal_form.specs.Normal.{NormalConstraint, Holds}
+use Rattle.kernel.specs.declared.stack.Operand.{Operand}
+use Rattle.kernel.specs.declared.stack.Operand.TheVariants as operands
+
+-- the live constraints, and those on the stack
+pub record Evaluation : Type 0 where
+  pub live : List NormalConstraint
+  pub stack : List NormalConstraint
+
+-- the constraint without terms
+abbrev pub no_constraint : NormalConstraint
+no_constraint = record { terms = []; degree = 0 }
+
+-- what an operand stands for
+abbrev pub operand_value : List NormalConstraint → Operand → NormalConstraint
+operand_value live (operands.Live place) = slice_index_or live place no_constraint
+operand_value live (operands.Made n) = n
+
+-- an operand names a constraint that is there
+abbrev pub IsThere : List NormalConstraint → Operand → Type 0
+IsThere live (operands.Live place) = place < length live
+IsThere live (operands.Made n) = ⊤
+
+-- a constraint holds wherever all live ones do
+abbrev pub Follows : List NormalConstraint → NormalConstraint → Type 0
+Follows live n = (a : Valuation) → All (Holds a) live → Holds a n
+
+-- the values of the operands, the last one first
+abbrev pub stack_of : List NormalConstraint → List Operand → List NormalConstraint
+stack_of live ops = reverse (map (operand_value live) ops)
+
+-- what every evaluation keeps
+pub record IsSound (live : List NormalConstraint) (ops : List Operand) : Type 0 where
+  pub there : All (IsThere live) ops
+  pub follows : All (λ o. Follows live (operand_value live o)) ops

@@ -1,0 +1,16 @@
+-- What the form means, and that a form is not too large and within the limits, are laws.
+use Rattle.std.proofs.Common.{rules, ◌≡◌, ◌+◌, ◌≤◌, ◌↔◌, IfOk, OnOk, IsErrOf, unsigned_abs, arith}
+use Rattle.linear.specs.Valuation.{Valuation}
+use Rattle.linear.specs.Sum.{Meets}
+use Rattle.normal_form.specs.declared.fault.CutFault.TheVariants as CutFault
+use Rattle.normal_form.specs.Normal.{NormalConstraint, Holds, IsNormal, largest_sum}
+use Rattle.normal_form.specs.NormalOf.{IsNormalOf, IsTooLarge, size_sum}
+use Rattle.normal_form.proofs.NormalForm.{form_meaning, small_never}
+use Rattle.normal_form.proofs.Results.{if_ok_from, on_err_at}
+use Rattle.normal_form.proofs.conversion.normalize.Goals as goal
+
+pub returns-clause-same : goal.returns-clause-same
+returns-clause-same c = if_ok_from c.least.result (IsNormalOf c.args.constraint.now) IsNormal IsNormal (λ n. (a : Valuation) → Holds a n ↔ Meets a c.args.constraint.now) (λ n f _ _. form_meaning c.args.constraint.now n c.requires f) c.least.ensures.form c.least.ensures.normal c.least.ensures.normal
+
+pub returns-clause-small : goal.returns-clause-small
+returns-clause-small c small e = small_never c.args.constraint.now small ((on_err_at (IsTooLarge c.args.constraint.now × IsErrOf c.least.result CutFault.TooLarge) c.least.result CutFault.TooLarge e c.least.ensures.too_large).0)

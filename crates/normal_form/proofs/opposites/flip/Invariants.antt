@@ -1,0 +1,7 @@
+-- What is made so far is the terms before this one with the opposite literals.
+use Rattle.std.proofs.Common.{◌≡◌, take}
+use Rattle.normal_form.specs.Balance.{flipped}
+use Rattle.normal_form.proofs.opposites.flip.Given as goal
+
+abbrev pub invariant-loop-term : goal.invariant-loop-term
+invariant-loop-term l = l.opposite ≡ flipped (take l.term-index l.terms)

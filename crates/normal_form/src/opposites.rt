@@ -1,0 +1,25 @@
+//! The opposite literals of a list of terms.
+
+ghost use Rattle.std.specs.Prelude.{◌≡◌, IfOk};
+ghost use Rattle.normal_form.specs.Normal.{Rises};
+ghost use Rattle.normal_form.specs.Balance.{flipped};
+
+use super::builder::NormalBuilder;
+use super::term::NormalTerm;
+use std::alloc::{AllocError, Global};
+
+/// The same coefficients at the opposite literals.
+pub(crate) fn flip(alloc: Global, terms: &[NormalTerm]) -> Result<NormalBuilder, AllocError>
+    requires { Rises 0 terms.now }
+    ensures { IfOk result (λ b. b ≡ flipped terms.now) }
+{
+    let mut opposite = NormalBuilder::with_capacity(alloc, terms.len())?;
+    for term in terms {
+        opposite.push(NormalTerm {
+            coef: term.coef,
+            var: term.var,
+            negated: !term.negated,
+        })?;
+    }
+    Ok(opposite)
+}

@@ -1,0 +1,2 @@
+//! Reads and writes the lines of proofs.
+#![tactic(auto)]
