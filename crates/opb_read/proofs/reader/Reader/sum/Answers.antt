@@ -1,0 +1,68 @@
+use Rattle.std.proofs.Common.{◌≡◌, ◌≤◌, ◌<◌, ◌+◌, ℕ, length, List, [], ◌∷◌, ◌++◌, sym, ap, subst, ◌∙◌, arith, rules, append_assoc, length-append}
+use Rattle.std.specs.Prelude.{All}
+use Rattle.std.proofs.lemmas.Grind.{common_steps}
+use Rattle.std.proofs.lemmas.Result.{err_from_is_err_and}
+use Rattle.std.proofs.lemmas.List.Elements.{All-push}
+use Rattle.pb_text.specs.Lexeme.{Lexeme}
+use Rattle.linear.specs.declared.term.Term.{Term}
+use Rattle.linear.specs.Limits.{most_terms, IsTermWithin}
+use Rattle.opb_read.specs.Forms.{terms_of, names_in}
+use Rattle.opb_read.specs.Denial.{DeniesSum}
+use Rattle.opb_read.proofs.Sums.{denied_whole}
+use Rattle.opb_read.proofs.reader.Reader.sum.Goals as goal
+
+pub returns-in_err-term-clause-denies : goal.returns-in_err-term-clause-denies
+returns-in_err-term-clause-denies c =
+    let whole = c.args.self.now.left in
+    let names = names_in c.args.self.now.variables whole in
+    let l = c.loop-coefficient in
+    let code = c.in_err-term.field-0.0 in
+    let count : c.len.result ≡ length l.terms.items = search rules in
+    let here : DeniesSum code names c.len.result l.self.left = subst (λ n. DeniesSum code n c.len.result l.self.left) l.invariant.2 c.in_err-term.ensures.denies in
+    let p = err_from_is_err_and c.from_residual.result c.from_residual.ensures.1 in
+    rw (p.1, p.2) (denied_whole code names l.terms.items l.self.left whole l.invariant.0 l.invariant.1 (subst (λ n. DeniesSum code names n l.self.left) count here))
+
+pub returns-then-is_err-clause-denies : goal.returns-then-is_err-clause-denies
+unfolding DeniesSum
+returns-then-is_err-clause-denies c = tt
+
+-- one more term, read
+record Next (names : List (List ℕ)) (done : List Term) (left whole : List Lexeme) : Type 0 where
+  terms : done ++ terms_of names left ≡ terms_of names whole
+  few : length done ≤ most_terms
+  each : All (IsTermWithin (length names)) done
+
+next : (names : List (List ℕ)) (done more : List Term) (t : Term) (before left whole : List Lexeme) → more ≡ done ++ t ∷ [] → done ++ terms_of names before ≡ terms_of names whole
+    → terms_of names before ≡ t ∷ terms_of names left → length done < most_terms → All (IsTermWithin (length names)) done → IsTermWithin (length names) t
+    → Next names more left whole
+next names done more t before left whole e h g room each w = record {
+  terms = ap (λ x. x ++ terms_of names left) e ∙ append_assoc done (t ∷ []) (terms_of names left) ∙ ap (λ x. done ++ x) (sym g) ∙ h;
+  few = let n : length more ≡ length done + 1 = ap length e ∙ length-append done (t ∷ []) in omega (arith, n, room);
+  each = subst (All (IsTermWithin (length names))) (sym e) (All-push (IsTermWithin (length names)) done t each w);
+}
+
+pub loop-coefficient-preserved : goal.loop-coefficient-preserved
+loop-coefficient-preserved c =
+    let whole = c.args.self.now.left in
+    let names = names_in c.args.self.now.variables whole in
+    let l = c.loop-coefficient in
+    let t = c.in_ok-term.term in
+    let items : c.push.new.self.items ≡ l.terms.items ++ t ∷ [] = grind (arith, common_steps) in
+    let count : c.len.result ≡ length l.terms.items = search rules in
+    let room : length l.terms.items < most_terms = omega (arith, count, c.in_ok-term.ensures.room) in
+    let n =
+    next
+    names
+    l.terms.items
+    c.push.new.self.items
+    t
+    l.self.left
+    c.term.new.self.left
+    whole
+    items
+    l.invariant.0
+    (subst (λ n. terms_of n l.self.left ≡ t ∷ terms_of n c.term.new.self.left) l.invariant.2 c.in_ok-term.ensures.term)
+    room
+    l.invariant.4
+    (subst (λ n. IsTermWithin (length n) t) l.invariant.2 c.in_ok-term.ensures.within) in
+    (n.terms, sym c.in_ok-term.ensures.behind ∙ l.invariant.1, sym c.in_ok-term.ensures.names ∙ l.invariant.2, n.few, n.each)

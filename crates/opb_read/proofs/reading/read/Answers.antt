@@ -1,0 +1,16 @@
+use Rattle.std.proofs.Common.{ap, subst, ◌∙◌}
+use Rattle.linear.specs.Opb.{Opb}
+use Rattle.opb_read.specs.Denial.{DeniesProblem}
+use Rattle.opb_read.proofs.Spelled.{denied_text, spells_text}
+use Rattle.opb_read.proofs.reading.read.Goals as goal
+
+pub returns-in-Ok-clause-spells : goal.returns-in-Ok-clause-spells
+returns-in-Ok-clause-spells c =
+    let o = c.in-Ok.objective in
+    let cs = c.in-Ok.constraints.items in
+    let same = c.new.ensures ∙ ap (λ n. let r : Opb = record { names = n; objective = o; constraints = cs } in r) c.into_names-names.ensures.names in
+    spells_text c.args.text.now c.new-reader.result.left _ c.new.result c.new-reader.ensures.left c.in-Ok.ensures.problem same
+
+pub returns-in-Err-clause-denies : goal.returns-in-Err-clause-denies
+returns-in-Err-clause-denies c =
+    denied_text c.in-Err.code c.args.text.now (subst (DeniesProblem c.in-Err.code) c.new-reader.ensures.left c.in-Err.ensures.denies)

@@ -1,0 +1,36 @@
+-- What may stand where in a problem file, by the kind of a token.
+use Rattle.std.specs.Prelude.{◌&&◌, Bool, true, false, Option, Some, None, List, [], ◌∷◌, codes, bytes_eq}
+use Rattle.pb_text.specs.Lexeme.{Lexeme}
+use Rattle.pb_text.specs.declared.kind.Kind.{Kind}
+use Rattle.pb_text.specs.declared.kind.Kind.TheVariants.{Integer, Literal, Symbol}
+use Rattle.pb_text.specs.declared.kind.Symbol.TheVariants.{Semicolon, Colon, AtLeast, Equals}
+use Rattle.linear.specs.declared.constraint.Relation.{Relation}
+use Rattle.linear.specs.declared.constraint.Relation.TheVariants as relations
+
+abbrev pub is_integer : Kind → Bool
+is_integer Integer = true
+is_integer _ = false
+
+abbrev pub is_literal : Kind → Bool
+is_literal Literal = true
+is_literal _ = false
+
+abbrev pub is_semicolon : Kind → Bool
+is_semicolon (Symbol Semicolon) = true
+is_semicolon _ = false
+
+abbrev pub is_colon : Kind → Bool
+is_colon (Symbol Colon) = true
+is_colon _ = false
+
+-- `>=` or `=`
+abbrev pub relation_of : Kind → Option Relation
+relation_of (Symbol AtLeast) = Some relations.AtLeast
+relation_of (Symbol Equals) = Some relations.Equal
+relation_of _ = None
+
+-- `min` and `:`, with which an objective begins
+abbrev pub begins_objective : List Lexeme → Bool
+begins_objective [] = false
+begins_objective (a ∷ []) = false
+begins_objective (a ∷ b ∷ rest) = bytes_eq a.text (codes "min") && is_colon b.kind

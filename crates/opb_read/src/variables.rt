@@ -1,0 +1,75 @@
+//! The variables of a text, at most 2^20.
+
+use crate::fault::OpbCode;
+use linear::{Names, Var};
+use std::alloc::Global;
+use std::marker::Model;
+
+/// How many variables a text may have.
+const MOST_VARIABLES: usize = 1 << 20;
+
+/// The names so far, in order of first occurrence.
+#[derive(Drop)]
+pub struct Variables {
+    names: Names,
+}
+
+impl Model for Variables {
+    ghost use Rattle.std.specs.Prelude.{ℕ, List, ◌≤◌, length};
+    ghost use Rattle.linear.specs.Table.{IsTable};
+    ghost use Rattle.linear.specs.Limits.{most_variables};
+
+    ghost Value = { List (List ℕ) };
+
+    ghost view = { λ v. v.names };
+
+    ghost invariant = { λ v. (IsTable v.names) × (length v.names ≤ most_variables) };
+}
+
+impl Variables {
+    ghost use Rattle.std.specs.Prelude.{◌≡◌, ◌<◌, ◌≤◌, true, [], length, IfOk, IfErr, OnOk, OnErr};
+    ghost use Rattle.linear.specs.Limits.{most_variables};
+    ghost use Rattle.linear.specs.Table.{place_of, with_name, IsTable};
+    ghost use Rattle.pb_text.specs.Name.{is_name};
+    ghost use Rattle.opb_read.specs.Denial.{IsTooManyOr};
+
+    /// No variables yet.
+    pub fn new(alloc: Global) -> Self
+        ensures { result ≡ [] }
+    {
+        Variables {
+            names: Names::new(alloc),
+        }
+    }
+
+    /// The variable of a name, a new one where the name is new.
+    ///
+    /// `TooMany` comes where the name would be one too many.
+    pub fn number(&mut self, name: &[u8]) -> Result<Var, OpbCode>
+        requires { is_name name.now ≡ true }
+        ensures ok { OnOk result (self.new ≡ with_name self.old name.now) }
+        ensures number { IfOk result (λ v. v.0 ≡ place_of self.old name.now) }
+        ensures err { OnErr result (self.new ≡ self.old) }
+        ensures refused { IfErr result (IsTooManyOr (most_variables < length (with_name self.old name.now))) }
+    {
+        if self.names.len() < MOST_VARIABLES {
+            return match self.names.intern(name) {
+                Ok(var) => Ok(var),
+                Err(_) => Err(OpbCode::OutOfMemory),
+            };
+        }
+        match self.names.find(name) {
+            Some(var) => Ok(var),
+            None => Err(OpbCode::TooMany),
+        }
+    }
+
+    /// The names, by the variables' numbers.
+    pub fn into_names(self) -> Names
+        ensures names { result ≡ self }
+        ensures table { IsTable self }
+        ensures few { length self ≤ most_variables }
+    {
+        self.names
+    }
+}
