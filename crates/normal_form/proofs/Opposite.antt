@@ -148,3 +148,10 @@ not_fitting n ts degree normal e d h =
   elim (cases_lt (2 ^ 120) degree) [
       inl k ↦ (omega (arith, k, d, normal.fits.sum), omega (arith, k, d, normal.fits.sum))
     | inr k ↦ absurd (h (record { sum = sum; degree = k })) ]
+
+pub negation : NormalConstraint → NormalConstraint
+negation n = record { terms = flipped n.terms; degree = (total n.terms + 1) - n.degree }
+
+pub negation_is : (n : NormalConstraint) → Rises 0 n.terms → IsNegation n (negation n)
+unfolding negation
+negation_is n r = negation_from n (negation n) r refl refl

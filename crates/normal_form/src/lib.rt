@@ -6,6 +6,7 @@ mod builder;
 mod conversion;
 mod degrees;
 mod fault;
+pub mod laws;
 mod merging;
 mod negation;
 mod normal;
