@@ -12,6 +12,8 @@ mod negation;
 mod normal;
 mod opposites;
 mod term;
+#[cfg(test)]
+mod tests;
 mod truth;
 
 pub use builder::NormalBuilder;
