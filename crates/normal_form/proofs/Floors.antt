@@ -1,8 +1,7 @@
 -- Numbers put to 0 where they are below, and to the largest where they are above it.
-use Rattle.std.proofs.Common.{◌≡◌, ℕ, ◌+◌, ◌-◌, ◌^◌, ◌<◌, ◌≤◌, min, zero, suc, refl, ap, sym, ◌∙◌, arith}
-use Rattle.std.specs.Prelude.{ℤ, pos, negsuc, ◌+ℤ◌, ◌-ℤ◌, neg_ℤ, unsigned_abs}
+use Rattle.std.proofs.Common.{◌≡◌, ℕ, ◌-◌, ◌^◌, min, refl, ap, ◌∙◌, arith}
+use Rattle.std.specs.Prelude.{ℤ, pos, negsuc}
 use Rattle.std.specs.Int.{saturate_to_bits}
-use Rattle.std.proofs.lemmas.Int.{ints}
 use Rattle.normal_form.specs.NormalOf.{at_least_zero}
 
 -- a number that is kept within the type differs only above it

@@ -1,15 +1,15 @@
 -- A list of terms that balances given signed terms, by putting in one after another: so each signed constraint has
 -- a normal form.
-use Rattle.std.proofs.Common.{◌≡◌, ℕ, zero, suc, ◌+◌, ◌<◌, ◌≤◌, Bool, true, false, cond, not, eqb, ltb, ◌==◌, ◌&&◌, List, [], ◌∷◌, refl, ap, sym, subst, ◌∙◌, arith, inl, inr, ◌⊎◌}
-use Rattle.std.specs.Prelude.{ℤ, pos, negsuc, ◌+ℤ◌, ◌-ℤ◌, neg_ℤ, ◌≤ℤ◌, unsigned_abs}
-use Rattle.std.proofs.lemmas.Bool.{ltb-true, ltb-false, eqb-true, eqb-false}
+use Rattle.std.proofs.Common.{◌≡◌, ℕ, zero, suc, ◌+◌, ◌≤◌, Bool, true, false, cond, eqb, ltb, List, [], ◌∷◌, refl, ap, ◌∙◌, arith}
+use Rattle.std.specs.Prelude.{ℤ, pos, negsuc, ◌+ℤ◌, neg_ℤ, ◌≤ℤ◌, unsigned_abs}
+use Rattle.std.proofs.lemmas.Bool.{ltb-true, eqb-true}
 use Rattle.std.proofs.lemmas.Bool.Decides.{nat_tests}
 use Rattle.std.proofs.lemmas.Int.{ints}
 use Rattle.linear.specs.declared.term.Term.{Term}
 use Rattle.normal_form.specs.declared.term.NormalTerm.{NormalTerm}
 use Rattle.normal_form.specs.Normal.{sum_over, total, Rises}
 use Rattle.normal_form.specs.NormalOf.{at_least_zero, slope, negated_sum, size_sum}
-use Rattle.normal_form.specs.Balance.{slopes, rise_of, rises_of, Balances}
+use Rattle.normal_form.specs.Balance.{rise_of, rises_of, Balances}
 
 -- a net coefficient at the front, as a term where it is not 0
 abbrev pub with_net : ℕ → ℤ → List NormalTerm → List NormalTerm
@@ -47,9 +47,9 @@ both_given false z w u = omega (arith, ints)
 pub inserted_gives : (set : ℕ → Bool) (v : ℕ) (z : ℤ) (ts : List NormalTerm) → rises_of set (inserted v z ts) ≡ cond (set v) z (pos 0) +ℤ rises_of set ts
 inserted_gives set v z [] = with_net_gives set v z []
 inserted_gives set v z (t ∷ ts) = chosen (λ us. rises_of set us ≡ cond (set v) z (pos 0) +ℤ rises_of set (t ∷ ts)) (ltb v (t.var.0)) (eqb v (t.var.0)) (with_net v z (t ∷ ts)) (with_net v (z +ℤ rise_of t) ts) (t ∷ inserted v z ts)
-  (λ b. with_net_gives set v z (t ∷ ts))
-  (λ d. with_net_gives set v (z +ℤ rise_of t) ts ∙ both_given (set v) z (rise_of t) (rises_of set ts) ∙ ap (λ (x : ℕ). cond (set v) z (pos 0) +ℤ (cond (set x) (rise_of t) (pos 0) +ℤ rises_of set ts)) (eqb-true v (t.var.0) d))
-  (λ b d. omega (arith, ints, inserted_gives set v z ts))
+    (λ b. with_net_gives set v z (t ∷ ts))
+    (λ d. with_net_gives set v (z +ℤ rise_of t) ts ∙ both_given (set v) z (rise_of t) (rises_of set ts) ∙ ap (λ (x : ℕ). cond (set v) z (pos 0) +ℤ (cond (set x) (rise_of t) (pos 0) +ℤ rises_of set ts)) (eqb-true v (t.var.0) d))
+    (λ b d. omega (arith, ints, inserted_gives set v z ts))
 
 pub formed_balances : (ts : List Term) → Balances ts (formed ts)
 formed_balances [] set = refl
@@ -70,9 +70,9 @@ past v w b d = grind (arith, nat_tests)
 inserted_rises : (low v : ℕ) (z : ℤ) (ts : List NormalTerm) → low ≤ v → Rises low ts → Rises low (inserted v z ts)
 inserted_rises low v z [] h r = with_net_rises low v z [] h tt
 inserted_rises low v z (t ∷ ts) h r = chosen (λ us. Rises low us) (ltb v (t.var.0)) (eqb v (t.var.0)) (with_net v z (t ∷ ts)) (with_net v (z +ℤ rise_of t) ts) (t ∷ inserted v z ts)
-  (λ b. with_net_rises low v z (t ∷ ts) h (omega (arith, ltb-true v (t.var.0) b), r.1, r.2))
-  (λ d. with_net_rises low v (z +ℤ rise_of t) ts h (rises_lower (v + 1) (t.var.0 + 1) ts (omega (arith, eqb-true v (t.var.0) d)) r.2))
-  (λ b d. (r.0, r.1, inserted_rises (t.var.0 + 1) v z ts (past v (t.var.0) b d) r.2))
+    (λ b. with_net_rises low v z (t ∷ ts) h (omega (arith, ltb-true v (t.var.0) b), r.1, r.2))
+    (λ d. with_net_rises low v (z +ℤ rise_of t) ts h (rises_lower (v + 1) (t.var.0 + 1) ts (omega (arith, eqb-true v (t.var.0) d)) r.2))
+    (λ b d. (r.0, r.1, inserted_rises (t.var.0 + 1) v z ts (past v (t.var.0) b d) r.2))
 
 pub formed_rises : (ts : List Term) → Rises 0 (formed ts)
 formed_rises [] = tt
@@ -91,9 +91,9 @@ merged_size false c z = omega (arith, ints)
 inserted_total : (v : ℕ) (z : ℤ) (ts : List NormalTerm) → total (inserted v z ts) ≤ unsigned_abs z + total ts
 inserted_total v z [] = omega (arith, with_net_total v z [])
 inserted_total v z (t ∷ ts) = chosen (λ us. total us ≤ unsigned_abs z + total (t ∷ ts)) (ltb v (t.var.0)) (eqb v (t.var.0)) (with_net v z (t ∷ ts)) (with_net v (z +ℤ rise_of t) ts) (t ∷ inserted v z ts)
-  (λ b. omega (arith, with_net_total v z (t ∷ ts)))
-  (λ d. omega (arith, with_net_total v (z +ℤ rise_of t) ts, merged_size t.negated t.coef z))
-  (λ b d. omega (arith, inserted_total v z ts))
+    (λ b. omega (arith, with_net_total v z (t ∷ ts)))
+    (λ d. omega (arith, with_net_total v (z +ℤ rise_of t) ts, merged_size t.negated t.coef z))
+    (λ b d. omega (arith, inserted_total v z ts))
 
 slope_size : (s : Bool) (z : ℤ) → unsigned_abs (cond s (neg_ℤ z) z) ≡ unsigned_abs z
 slope_size true z = omega (arith, ints)
@@ -127,9 +127,9 @@ merged_negated false c z = floor_least (neg_ℤ (z +ℤ pos c)) (at_least_zero (
 inserted_negated : (v : ℕ) (z : ℤ) (ts : List NormalTerm) → negated_part (inserted v z ts) ≤ at_least_zero (neg_ℤ z) + negated_part ts
 inserted_negated v z [] = omega (arith, with_net_negated v z [])
 inserted_negated v z (t ∷ ts) = chosen (λ us. negated_part us ≤ at_least_zero (neg_ℤ z) + negated_part (t ∷ ts)) (ltb v (t.var.0)) (eqb v (t.var.0)) (with_net v z (t ∷ ts)) (with_net v (z +ℤ rise_of t) ts) (t ∷ inserted v z ts)
-  (λ b. omega (arith, with_net_negated v z (t ∷ ts)))
-  (λ d. omega (arith, with_net_negated v (z +ℤ rise_of t) ts, merged_negated t.negated t.coef z))
-  (λ b d. omega (arith, inserted_negated v z ts))
+    (λ b. omega (arith, with_net_negated v z (t ∷ ts)))
+    (λ d. omega (arith, with_net_negated v (z +ℤ rise_of t) ts, merged_negated t.negated t.coef z))
+    (λ b d. omega (arith, inserted_negated v z ts))
 
 slope_negated : (s : Bool) (z : ℤ) → (pos (at_least_zero (neg_ℤ (cond s (neg_ℤ z) z)))) ≤ℤ (cond s z (pos 0) +ℤ pos (unsigned_abs z))
 slope_negated true (pos n) = omega (arith, ints, floor_least (neg_ℤ (neg_ℤ (pos n))) n (omega (arith, ints)))

@@ -1,16 +1,16 @@
 -- Merged terms that balance are those of the normal form, and hold where the signed terms meet their right side.
-use Rattle.std.proofs.Common.{◌≡◌, ℕ, zero, suc, ◌+◌, ◌<◌, ◌≤◌, Bool, true, false, cond, not, eqb, ◌==◌, ◌&&◌, List, [], ◌∷◌, refl, ap, sym, ◌∙◌, arith, inl, inr, ◌⊎◌}
+use Rattle.std.proofs.Common.{◌≡◌, ℕ, zero, suc, ◌+◌, ◌≤◌, Bool, true, false, cond, not, ◌==◌, ◌&&◌, List, [], ◌∷◌, refl, ap, sym, ◌∙◌, arith, inl, inr, ◌⊎◌}
 use Rattle.std.specs.Prelude.{ℤ, pos, negsuc, ◌+ℤ◌, ◌-ℤ◌, neg_ℤ, ◌≤ℤ◌}
 use Rattle.std.proofs.lemmas.Bool.{cases_eq}
 use Rattle.std.proofs.lemmas.Bool.Decides.{nat_tests}
 use Rattle.std.proofs.lemmas.Int.{ints}
 use Rattle.linear.specs.declared.term.Term.{Term}
 use Rattle.linear.specs.Valuation.{Valuation, literal_true}
-use Rattle.linear.specs.Sum.{worth, sum_of}
+use Rattle.linear.specs.Sum.{sum_of}
 use Rattle.normal_form.specs.declared.term.NormalTerm.{NormalTerm}
-use Rattle.normal_form.specs.Normal.{NormalConstraint, Holds, sum_over, same_sign, only, coefficient, Rises}
-use Rattle.normal_form.specs.NormalOf.{at_least_zero, slope, net, negated_sum, negated_total}
-use Rattle.normal_form.specs.Balance.{slopes, rise_of, rises_of, Balances}
+use Rattle.normal_form.specs.Normal.{NormalConstraint, Holds, sum_over, only, Rises}
+use Rattle.normal_form.specs.NormalOf.{at_least_zero, slope, net, negated_sum}
+use Rattle.normal_form.specs.Balance.{slopes, rises_of, Balances}
 use Rattle.normal_form.proofs.OneForm.{absent}
 
 -- the net coefficient of a variable is that of the set with it alone
@@ -41,12 +41,15 @@ passed_over w v c s h = grind (arith, nat_tests)
 pub one_side : (low : ℕ) (ts : List NormalTerm) → Rises low ts → (v : ℕ) → (sum_over (only v false) ts ≡ 0) ⊎ (sum_over (only v true) ts ≡ 0)
 one_side low [] r v = inl refl
 one_side low (t ∷ ts) r v = elim (cases_eq (t.var.0) v) [
-    inl h ↦ elim (one_sign (t.var.0 == v) t.negated t.coef) [
-        inl k ↦ inl (omega (arith, k, absent (t.var.0 + 1) ts r.2 v false (omega (arith, h))))
-      | inr k ↦ inr (omega (arith, k, absent (t.var.0 + 1) ts r.2 v true (omega (arith, h)))) ]
+  | inl h ↦ elim (one_sign (t.var.0 == v) t.negated t.coef) [
+    | inl k ↦ inl (omega (arith, k, absent (t.var.0 + 1) ts r.2 v false (omega (arith, h))))
+    | inr k ↦ inr (omega (arith, k, absent (t.var.0 + 1) ts r.2 v true (omega (arith, h))))
+  ]
   | inr h ↦ elim (one_side (t.var.0 + 1) ts r.2 v) [
-        inl k ↦ inl (omega (arith, k, passed_over (t.var.0) v t.coef (not t.negated) h))
-      | inr k ↦ inr (omega (arith, k, passed_over (t.var.0) v t.coef t.negated h)) ] ]
+    | inl k ↦ inl (omega (arith, k, passed_over (t.var.0) v t.coef (not t.negated) h))
+    | inr k ↦ inr (omega (arith, k, passed_over (t.var.0) v t.coef t.negated h))
+  ]
+]
 
 -- the two coefficients of a variable, from their difference
 parted : (a b : ℕ) (z : ℤ) → pos a ≡ pos b +ℤ z → (a ≡ 0) ⊎ (b ≡ 0) → (a ≡ at_least_zero z) × (b ≡ at_least_zero (neg_ℤ z))
@@ -81,8 +84,8 @@ weight_is a (t ∷ ts) = omega (arith, ints, weight_term (a (t.var.0)) t.negated
 -- the coefficients of merged terms that balance
 pub coefficients_from : (terms : List Term) (ts : List NormalTerm) → Rises 0 ts → Balances terms ts → (v : ℕ) → (sum_over (only v false) ts ≡ at_least_zero (net terms v)) × (sum_over (only v true) ts ≡ at_least_zero (neg_ℤ (net terms v)))
 coefficients_from terms ts r b v =
-  let z : pos (sum_over (only v false) ts) ≡ pos (sum_over (only v true) ts) +ℤ net terms v = split_at v ts ∙ ap (λ (z : ℤ). pos (sum_over (only v true) ts) +ℤ z) (b (λ x. x == v) ∙ sym (net_is v terms)) in
-  parted (sum_over (only v false) ts) (sum_over (only v true) ts) (net terms v) z (one_side 0 ts r v)
+    let z : pos (sum_over (only v false) ts) ≡ pos (sum_over (only v true) ts) +ℤ net terms v = split_at v ts ∙ ap (λ (z : ℤ). pos (sum_over (only v true) ts) +ℤ z) (b (λ x. x == v) ∙ sym (net_is v terms)) in
+    parted (sum_over (only v false) ts) (sum_over (only v true) ts) (net terms v) z (one_side 0 ts r v)
 
 -- max(0, z) is at most a natural number where z is
 floor_up : (z : ℤ) (w : ℕ) → at_least_zero z ≤ w → z ≤ℤ pos w
@@ -99,10 +102,10 @@ raised right terms ts = (right -ℤ negated_sum terms) +ℤ pos (sum_over (λ _ 
 
 pub holds_from : (right : ℤ) (terms : List Term) (n : NormalConstraint) → Balances terms n.terms → n.degree ≡ at_least_zero (raised right terms n.terms) → (a : Valuation) → Holds a n → right ≤ℤ sum_of a terms
 holds_from right terms n b d a h =
-  let up : raised right terms n.terms ≤ℤ (pos (sum_over (literal_true a) n.terms)) = floor_up (raised right terms n.terms) (sum_over (literal_true a) n.terms) (omega (arith, d, h)) in
-  omega (arith, ints, up, weight_is a n.terms, sum_is a terms, b a)
+    let up : raised right terms n.terms ≤ℤ (pos (sum_over (literal_true a) n.terms)) = floor_up (raised right terms n.terms) (sum_over (literal_true a) n.terms) (omega (arith, d, h)) in
+    omega (arith, ints, up, weight_is a n.terms, sum_is a terms, b a)
 
 pub meets_from : (right : ℤ) (terms : List Term) (n : NormalConstraint) → Balances terms n.terms → n.degree ≡ at_least_zero (raised right terms n.terms) → (a : Valuation) → right ≤ℤ sum_of a terms → Holds a n
 meets_from right terms n b d a h =
-  let down : at_least_zero (raised right terms n.terms) ≤ sum_over (literal_true a) n.terms = floor_down (raised right terms n.terms) (sum_over (literal_true a) n.terms) (omega (arith, ints, h, weight_is a n.terms, sum_is a terms, b a)) in
-  omega (arith, d, down)
+    let down : at_least_zero (raised right terms n.terms) ≤ sum_over (literal_true a) n.terms = floor_down (raised right terms n.terms) (sum_over (literal_true a) n.terms) (omega (arith, ints, h, weight_is a n.terms, sum_is a terms, b a)) in
+    omega (arith, d, down)

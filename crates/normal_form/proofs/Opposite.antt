@@ -1,23 +1,22 @@
 -- All signs changed: terms, their sums, and merged terms.
-use Rattle.std.proofs.Common.{◌≡◌, ℕ, ◌+◌, ◌-◌, ◌^◌, ◌<◌, ◌≤◌, Bool, true, false, cond, not, ◌==◌, ◌&&◌, List, [], ◌∷◌, ◌++◌, map, length, take, get_or, refl, ap, sym, subst, ◌∙◌, arith, inl, inr, ◌⊎◌}
-use Rattle.std.specs.Prelude.{ℤ, pos, negsuc, ◌+ℤ◌, ◌-ℤ◌, neg_ℤ, ◌≤ℤ◌, unsigned_abs, ◌↔◌}
+use Rattle.std.proofs.Common.{◌≡◌, ℕ, ◌+◌, ◌-◌, ◌^◌, ◌<◌, ◌≤◌, Bool, true, false, cond, not, ◌==◌, ◌&&◌, List, [], ◌∷◌, ◌++◌, map, length, take, get_or, refl, ap, sym, subst, ◌∙◌, arith, inl, inr}
+use Rattle.std.specs.Prelude.{ℤ, pos, neg_ℤ, ◌≤ℤ◌, unsigned_abs, ◌↔◌}
 use Rattle.std.proofs.lemmas.Bool.{cases_lt}
 use Rattle.std.proofs.lemmas.Int.{ints}
 use Rattle.std.proofs.lemmas.List.{take_more}
 use Rattle.linear.specs.declared.term.Term.{Term}
 use Rattle.linear.specs.declared.constraint.Relation.{Relation}
-use Rattle.linear.specs.declared.constraint.Relation.TheVariants.{AtLeast, Equal}
+use Rattle.linear.specs.declared.constraint.Relation.TheVariants.{Equal}
 use Rattle.linear.specs.declared.constraint.Signed.{Signed}
 use Rattle.linear.specs.Valuation.{Valuation, literal_true}
-use Rattle.linear.specs.Sum.{worth, sum_of, Relates, Meets}
+use Rattle.linear.specs.Sum.{sum_of, Relates, Meets}
 use Rattle.normal_form.specs.declared.term.NormalTerm.{NormalTerm}
-use Rattle.normal_form.specs.Normal.{NormalConstraint, Holds, same_sign, sum_over, only, total, coefficient, Rises, variable_bound, Fits, IsNormal, largest_sum}
-use Rattle.normal_form.specs.NormalOf.{IsNormalOf, IsBothOf, IsTooLarge, opposite_term, opposite, slope, negated_sum, size_sum}
+use Rattle.normal_form.specs.Normal.{NormalConstraint, Holds, same_sign, sum_over, only, total, Rises, variable_bound, Fits, IsNormal, largest_sum}
+use Rattle.normal_form.specs.NormalOf.{IsBothOf, IsTooLarge, opposite_term, opposite, negated_sum, size_sum}
 use Rattle.normal_form.specs.Negation.{IsNegation}
-use Rattle.normal_form.specs.Balance.{Balances, rise_of, rises_of, slopes, flipped_term, flipped}
-use Rattle.normal_form.proofs.Sums.{sum_over_below}
+use Rattle.normal_form.specs.Balance.{Balances, rises_of, slopes, flipped_term, flipped}
 use Rattle.normal_form.proofs.OneForm.{one_list, same_constraint}
-use Rattle.normal_form.proofs.Merge.{raised, holds_from, meets_from}
+use Rattle.normal_form.proofs.Merge.{holds_from, meets_from}
 use Rattle.normal_form.proofs.NormalForm.{form_balances, small_never}
 
 opposite_worth : (b : Bool) (z : ℤ) → cond b (neg_ℤ z) (pos 0) ≡ neg_ℤ (cond b z (pos 0))
@@ -94,7 +93,7 @@ pub negation_from : (n m : NormalConstraint) → Rises 0 n.terms → m.terms ≡
 negation_from n m r e d = record {
   coefficients = λ v s. ap (λ (ts : List NormalTerm). sum_over (only v s) ts) e ∙ flipped_coefficient v s n.terms;
   degree = d;
-  rises = subst (λ (ts : List NormalTerm). Rises 0 ts) (sym e) (flipped_rises 0 n.terms r)
+  rises = subst (λ (ts : List NormalTerm). Rises 0 ts) (sym e) (flipped_rises 0 n.terms r);
 }
 
 pub negation_terms : (n m : NormalConstraint) → Rises 0 n.terms → IsNegation n m → m.terms ≡ flipped n.terms
@@ -108,23 +107,25 @@ lighter n m a w d h = elim (cases_lt (sum_over (literal_true a) n.terms) n.degre
 
 pub negation_meaning : (n m : NormalConstraint) → Rises 0 n.terms → IsNegation n m → (a : Valuation) → Holds a m ↔ (Holds a n → ⊥)
 negation_meaning n m r g a =
-  let w : sum_over (literal_true a) m.terms + sum_over (literal_true a) n.terms ≡ total n.terms = ap (λ (ts : List NormalTerm). sum_over (literal_true a) ts + sum_over (literal_true a) n.terms) (negation_terms n m r g) ∙ flipped_weight a n.terms in
-  (λ h k. omega (arith, g.degree, w, h, k), λ h. lighter n m a w g.degree h)
+    let w : sum_over (literal_true a) m.terms + sum_over (literal_true a) n.terms ≡ total n.terms = ap (λ (ts : List NormalTerm). sum_over (literal_true a) ts + sum_over (literal_true a) n.terms) (negation_terms n m r g) ∙ flipped_weight a n.terms in
+    (λ h k. omega (arith, g.degree, w, h, k), λ h. lighter n m a w g.degree h)
 
 equals : (r : Relation) (sum right : ℤ) → r ≡ Equal → (sum ≡ right) ↔ Relates r sum right
 equals r sum right e = subst (λ (x : Relation). (sum ≡ right) ↔ Relates x sum right) (sym e) (λ h. h, λ h. h)
 
 pub both_meaning : (c : Signed) (n m : NormalConstraint) → c.relation ≡ Equal → IsBothOf c n m → (a : Valuation) → (Holds a n × Holds a m) ↔ Meets a c
 both_meaning c n m e f a =
-  let way : (sum_of a c.terms ≡ c.right) ↔ Meets a c = equals c.relation (sum_of a c.terms) c.right e in
-  (λ h.
-    let up : c.right ≤ℤ sum_of a c.terms = holds_from c.right c.terms n (form_balances c n f.least) f.least.degree a h.0 in
-    let down : neg_ℤ c.right ≤ℤ sum_of a (map opposite_term c.terms) = holds_from (neg_ℤ c.right) (map opposite_term c.terms) m (form_balances (opposite c) m f.most) f.most.degree a h.1 in
-    way.0 (omega (arith, ints, up, down, opposite_sum a c.terms)),
-   λ h.
-    let is : sum_of a c.terms ≡ c.right = way.1 h in
-    (meets_from c.right c.terms n (form_balances c n f.least) f.least.degree a (omega (arith, ints, is)),
-     meets_from (neg_ℤ c.right) (map opposite_term c.terms) m (form_balances (opposite c) m f.most) f.most.degree a (omega (arith, ints, is, opposite_sum a c.terms))))
+    let way : (sum_of a c.terms ≡ c.right) ↔ Meets a c = equals c.relation (sum_of a c.terms) c.right e in (
+      λ h.
+          let up : c.right ≤ℤ sum_of a c.terms = holds_from c.right c.terms n (form_balances c n f.least) f.least.degree a h.0 in
+          let down : neg_ℤ c.right ≤ℤ sum_of a (map opposite_term c.terms) = holds_from (neg_ℤ c.right) (map opposite_term c.terms) m (form_balances (opposite c) m f.most) f.most.degree a h.1 in
+          way.0 (omega (arith, ints, up, down, opposite_sum a c.terms)),
+      λ h.
+          let is : sum_of a c.terms ≡ c.right = way.1 h in (
+            meets_from c.right c.terms n (form_balances c n f.least) f.least.degree a (omega (arith, ints, is)),
+            meets_from (neg_ℤ c.right) (map opposite_term c.terms) m (form_balances (opposite c) m f.most) f.most.degree a (omega (arith, ints, is, opposite_sum a c.terms)),
+          ),
+    )
 
 pub flipped_bound : (ts : List NormalTerm) → variable_bound (flipped ts) ≡ variable_bound ts
 flipped_bound [] = refl
@@ -144,7 +145,15 @@ opposite_never c small = small_never (opposite c) (omega (arith, opposite_sizes 
 -- where the negation does not fit, the degree is 0 and the coefficient sum the limit
 pub not_fitting : (n : NormalConstraint) (ts : List NormalTerm) (degree : ℕ) → IsNormal n → ts ≡ flipped n.terms → degree ≡ (total n.terms + 1) - n.degree → (Fits (record { terms = ts; degree = degree }) → ⊥) → (n.degree ≡ 0) × (total n.terms ≡ largest_sum)
 not_fitting n ts degree normal e d h =
-  let sum : total ts ≤ 2 ^ 120 = omega (arith, normal.fits.sum, ap total e, flipped_total n.terms) in
-  elim (cases_lt (2 ^ 120) degree) [
-      inl k ↦ (omega (arith, k, d, normal.fits.sum), omega (arith, k, d, normal.fits.sum))
-    | inr k ↦ absurd (h (record { sum = sum; degree = k })) ]
+    let sum : total ts ≤ 2 ^ 120 = omega (arith, normal.fits.sum, ap total e, flipped_total n.terms) in
+    elim (cases_lt (2 ^ 120) degree) [
+      | inl k ↦ (omega (arith, k, d, normal.fits.sum), omega (arith, k, d, normal.fits.sum))
+      | inr k ↦ absurd (h (record { sum = sum; degree = k }))
+    ]
+
+pub negation : NormalConstraint → NormalConstraint
+negation n = record { terms = flipped n.terms; degree = (total n.terms + 1) - n.degree }
+
+pub negation_is : (n : NormalConstraint) → Rises 0 n.terms → IsNegation n (negation n)
+unfolding negation
+negation_is n r = negation_from n (negation n) r refl refl

@@ -1,11 +1,10 @@
 -- Sums over lists of terms, their variables' bound, and lists whose variables rise.
-use Rattle.std.proofs.Common.{◌≡◌, ℕ, zero, suc, ◌+◌, ◌<◌, ◌≤◌, max, Bool, true, false, cond, List, [], ◌∷◌, ◌++◌, length, get_or, take, arith, rules, refl, ap, sym, ◌∙◌, add-one}
-use Rattle.std.proofs.lemmas.Grind.{common_steps}
-use Rattle.std.proofs.lemmas.List.{take_more, take_all}
+use Rattle.std.proofs.Common.{◌≡◌, ℕ, zero, suc, ◌+◌, ◌<◌, ◌≤◌, max, Bool, true, false, cond, List, [], ◌∷◌, ◌++◌, length, get_or, take, arith, refl, ap, ◌∙◌}
+use Rattle.std.proofs.lemmas.List.{take_more}
 use Rattle.std.proofs.lemmas.List.Recursion.{max_push, max_bounds}
 use Rattle.linear.specs.Valuation.{Valuation, literal_true}
 use Rattle.normal_form.specs.declared.term.NormalTerm.{NormalTerm}
-use Rattle.normal_form.specs.Normal.{Literals, NormalConstraint, sum_over, total, weight, Holds, Rises, variable_bound}
+use Rattle.normal_form.specs.Normal.{Literals, NormalConstraint, sum_over, total, Holds, Rises, variable_bound}
 
 -- what a term adds to the sum over a set
 abbrev pub counted : Literals → NormalTerm → ℕ

@@ -2,3 +2,4 @@ pub mod Normal
 pub mod NormalOf
 pub mod Negation
 pub mod Balance
+pub mod Cases

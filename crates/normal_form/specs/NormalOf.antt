@@ -1,6 +1,6 @@
 -- The normal form of a signed constraint: it comes from the net coefficient of each variable, from
 -- `x = 1 - ~x`, and from putting a degree below 0 to 0. Numbers here have no bound.
-use Rattle.std.specs.Prelude.{◌≡◌, ℕ, ◌+◌, ◌<◌, ◌≤◌, ◌⊎◌, Bool, true, false, ℤ, pos, negsuc, ◌+ℤ◌, ◌-ℤ◌, neg_ℤ, unsigned_abs, List, [], ◌∷◌, map, ◌==◌, if◌then◌else◌}
+use Rattle.std.specs.Prelude.{◌≡◌, ℕ, ◌+◌, ◌<◌, ◌⊎◌, true, false, ℤ, pos, negsuc, ◌+ℤ◌, ◌-ℤ◌, neg_ℤ, unsigned_abs, List, [], ◌∷◌, map, ◌==◌, if◌then◌else◌}
 use Rattle.linear.specs.declared.term.Term.{Term}
 use Rattle.linear.specs.declared.constraint.Signed.{Signed}
 use Rattle.normal_form.specs.Normal.{NormalConstraint, coefficient, sum_over, Rises, Fits, largest_sum}

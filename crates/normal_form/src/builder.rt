@@ -26,9 +26,7 @@ impl Model for NormalBuilder {
 
     ghost view = { λ b. b.terms.items };
 
-    ghost invariant = {
-        λ b. Rises 0 b.terms.items × (b.capped_sum ≡ min (total b.terms.items) (2 ^ 128 - 1))
-    };
+    ghost invariant = { λ b. Rises 0 b.terms.items × (b.capped_sum ≡ min (total b.terms.items) (2 ^ 128 - 1)) };
 }
 
 impl NormalBuilder {

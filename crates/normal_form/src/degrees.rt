@@ -59,9 +59,7 @@ fn at_least_zero(number: i128) -> u128
 pub(crate) fn least_degree(right: i128, terms: &[Term], merged: &[NormalTerm]) -> u128
     requires sizes { size_sum terms.now ≤ largest_sum }
     requires sum { total merged.now ≤ largest_sum }
-    ensures {
-        result ≡ min (at_least_zero ((right -ℤ negated_sum terms.now) +ℤ pos (sum_over (λ _ negated. negated) merged.now))) (2 ^ 127 - 1)
-    }
+    ensures { result ≡ min (at_least_zero ((right -ℤ negated_sum terms.now) +ℤ pos (sum_over (λ _ negated. negated) merged.now))) (2 ^ 127 - 1) }
 {
     let lift = negated_total(merged) - negated_sum(terms);
     at_least_zero(right.saturating_add(lift))
@@ -71,9 +69,7 @@ pub(crate) fn least_degree(right: i128, terms: &[Term], merged: &[NormalTerm]) -
 pub(crate) fn most_degree(right: i128, terms: &[Term], merged: &[NormalTerm]) -> u128
     requires sizes { size_sum terms.now ≤ largest_sum }
     requires sum { total merged.now ≤ largest_sum }
-    ensures {
-        result ≡ min (at_least_zero ((neg_ℤ right -ℤ negated_sum (map opposite_term terms.now)) +ℤ pos (sum_over (λ _ negated. negated) merged.now))) (2 ^ 127 - 1)
-    }
+    ensures { result ≡ min (at_least_zero ((neg_ℤ right -ℤ negated_sum (map opposite_term terms.now)) +ℤ pos (sum_over (λ _ negated. negated) merged.now))) (2 ^ 127 - 1) }
 {
     let lift = negated_total(merged) + negated_sum(terms);
     at_least_zero(lift.saturating_sub(right))

@@ -6,11 +6,14 @@ mod builder;
 mod conversion;
 mod degrees;
 mod fault;
+pub mod laws;
 mod merging;
 mod negation;
 mod normal;
 mod opposites;
 mod term;
+#[cfg(test)]
+mod tests;
 mod truth;
 
 pub use builder::NormalBuilder;

@@ -29,9 +29,7 @@ impl Model for Normal {
 
     ghost view = { λ n. record { terms = n.terms.items; degree = n.bound } };
 
-    ghost invariant = {
-        λ n. IsNormal (record { terms = n.terms.items; degree = n.bound }) × (n.coefficient_sum ≡ total n.terms.items)
-    };
+    ghost invariant = { λ n. IsNormal (record { terms = n.terms.items; degree = n.bound }) × (n.coefficient_sum ≡ total n.terms.items) };
 }
 
 impl Normal {

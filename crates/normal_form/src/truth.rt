@@ -23,17 +23,19 @@ pub fn holds(constraint: &Normal, assignment: &Assignment) -> bool
 fn counted(constraint: &Normal, assignment: &Assignment, place: usize) -> u128
     requires place { place < length constraint.now.terms }
     requires values { variable_bound constraint.now.terms ≤ length assignment.now }
-    ensures {
-        sum_over (literal_true (valuation_of assignment.now)) (take (place + 1) constraint.now.terms)
-            ≡ sum_over (literal_true (valuation_of assignment.now)) (take place constraint.now.terms) + result
-    }
+    ensures { sum_over (literal_true (valuation_of assignment.now)) (take (place + 1) constraint.now.terms)
+        ≡ sum_over (literal_true (valuation_of assignment.now)) (take place constraint.now.terms) + result }
 {
     let term = constraint.term(place);
     let literal = Lit {
         var: term.var,
         negated: term.negated,
     };
-    if assignment.is_true(literal) { term.coef } else { 0 }
+    if assignment.is_true(literal) {
+        term.coef
+    } else {
+        0
+    }
 }
 
 /// Whether the degree exceeds the coefficient sum, so that the constraint holds nowhere. It takes one step.

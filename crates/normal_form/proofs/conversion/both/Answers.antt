@@ -1,14 +1,8 @@
 -- What the forms mean, and that they are not too large and within the limits, are laws.
-use Rattle.std.proofs.Common.{rules, ◌≡◌, ◌+◌, ◌≤◌, ◌↔◌, ◌⊎◌, inl, inr, List, ap, subst, sym, ◌∙◌, IfOk, OnOk, IsErrOf, unsigned_abs, map, arith}
-use Rattle.std.specs.Prelude.{ℤ}
-use Rattle.std.proofs.lemmas.Int.{ints}
+use Rattle.std.proofs.Common.{◌≡◌, inl, inr, List, ap, subst, sym, ◌∙◌, map}
 use Rattle.linear.specs.declared.term.Term.{Term}
-use Rattle.linear.specs.declared.constraint.Signed.{Signed}
-use Rattle.linear.specs.Valuation.{Valuation}
-use Rattle.linear.specs.Sum.{Meets}
 use Rattle.normal_form.specs.declared.term.NormalTerm.{NormalTerm}
-use Rattle.normal_form.specs.Normal.{NormalConstraint, Holds, IsNormal, largest_sum}
-use Rattle.normal_form.specs.NormalOf.{IsNormalOf, IsTooLarge, opposite, opposite_term, size_sum}
+use Rattle.normal_form.specs.NormalOf.{opposite_term}
 use Rattle.normal_form.specs.Balance.{Balances, flipped}
 use Rattle.normal_form.proofs.NormalForm.{small_never}
 use Rattle.normal_form.proofs.Opposite.{both_meaning, flipped_balances, opposite_never}
@@ -19,7 +13,7 @@ returns-in_err-least-clause-small c small e = small_never c.args.constraint.now 
 
 turned : (terms read : List Term) (merged seen made : List NormalTerm) → read ≡ terms → seen ≡ merged → Balances read merged → made ≡ flipped seen → Balances (map opposite_term terms) made
 turned terms read merged seen made r s b m =
-  subst (λ (us : List NormalTerm). Balances (map opposite_term terms) us) (ap flipped (sym s) ∙ sym m) (flipped_balances terms merged (subst (λ (ts : List Term). Balances ts merged) r b))
+    subst (λ (us : List NormalTerm). Balances (map opposite_term terms) us) (ap flipped (sym s) ∙ sym m) (flipped_balances terms merged (subst (λ (ts : List Term). Balances ts merged) r b))
 
 pub most-requires-clause-balance : goal.most-requires-clause-balance
 most-requires-clause-balance c = turned c.args.constraint.now.terms c.as_slice-terms.result.now c.in_ok-merged.merged c.terms.result.now c.in_ok-opposite.opposite c.as_slice-terms.ensures c.terms.ensures.value c.in_ok-merged.ensures c.in_ok-opposite.ensures

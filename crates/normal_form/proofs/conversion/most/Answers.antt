@@ -1,13 +1,11 @@
 -- What fits is the form, and where it does not fit the form does not.
-use Rattle.std.proofs.Common.{rules, ◌≡◌, ◌≤◌, ◌-◌, ◌^◌, min, IfOk, OnErr, IsErrOf, ap, subst, sym, ◌∙◌, List, ℤ, neg_ℤ, map, FitsSigned, to_z, of_z, arith}
+use Rattle.std.proofs.Common.{rules, ◌≡◌, ◌≤◌, ◌-◌, ◌^◌, min, ap, subst, sym, List, neg_ℤ, map, FitsSigned, to_z, of_z, arith}
 use mir.Syntax.{w128}
 use Rattle.std.proofs.lemmas.Int.{to_z-of_z}
 use Rattle.linear.specs.declared.term.Term.{Term}
-use Rattle.linear.specs.declared.constraint.Signed.{Signed}
 use Rattle.normal_form.specs.declared.term.NormalTerm.{NormalTerm}
-use Rattle.normal_form.specs.Normal.{NormalConstraint, IsNormal, Rises, total, largest_sum}
-use Rattle.normal_form.specs.NormalOf.{IsNormalOf, IsTooLarge, at_least_zero, size_sum, opposite, opposite_term}
-use Rattle.normal_form.specs.Balance.{Balances}
+use Rattle.normal_form.specs.Normal.{IsNormal, total, largest_sum}
+use Rattle.normal_form.specs.NormalOf.{IsNormalOf, IsTooLarge, at_least_zero, opposite, opposite_term}
 use Rattle.normal_form.proofs.Merge.{raised}
 use Rattle.normal_form.proofs.NormalForm.{not_too_large}
 use Rattle.normal_form.proofs.Opposite.{opposite_sizes}
@@ -19,9 +17,9 @@ most_degree-degree-requires-clause-sum c = subst (λ (ts : List NormalTerm). tot
 
 degree_is : (c : goal.After-finish) → c.most_degree-degree.result ≡ min (at_least_zero (raised (opposite c.args.constraint.now).right (opposite c.args.constraint.now).terms c.args.merged)) (2 ^ 127 - 1)
 degree_is c =
-  let fits : FitsSigned w128 c.args.constraint.now.right = search rules in
-  let back : to_z w128 (of_z w128 c.args.constraint.now.right) ≡ c.args.constraint.now.right = to_z-of_z w128 c.args.constraint.now.right fits in
-  degree_same (neg_ℤ (to_z w128 (of_z w128 c.args.constraint.now.right))) (neg_ℤ c.args.constraint.now.right) (map opposite_term c.as_slice.result.now) (map opposite_term c.args.constraint.now.terms) c.terms.result.now c.args.merged c.most_degree-degree.result (ap neg_ℤ back) (ap (λ (ts : List Term). map opposite_term ts) c.as_slice.ensures) c.terms.ensures.value c.most_degree-degree.ensures
+    let fits : FitsSigned w128 c.args.constraint.now.right = search rules in
+    let back : to_z w128 (of_z w128 c.args.constraint.now.right) ≡ c.args.constraint.now.right = to_z-of_z w128 c.args.constraint.now.right fits in
+    degree_same (neg_ℤ (to_z w128 (of_z w128 c.args.constraint.now.right))) (neg_ℤ c.args.constraint.now.right) (map opposite_term c.as_slice.result.now) (map opposite_term c.args.constraint.now.terms) c.terms.result.now c.args.merged c.most_degree-degree.result (ap neg_ℤ back) (ap (λ (ts : List Term). map opposite_term ts) c.as_slice.ensures) c.terms.ensures.value c.most_degree-degree.ensures
 
 pub returns-clause-form : goal.returns-clause-form
 returns-clause-form c = if_ok_from c.finish.result (λ n. n.terms ≡ c.args.merged) (λ n. n.degree ≡ c.most_degree-degree.result) IsNormal (IsNormalOf (opposite c.args.constraint.now)) (λ n t d normal. result_form (opposite c.args.constraint.now) n c.args.merged c.most_degree-degree.result c.requires.balance (degree_is c) t d normal) c.finish.ensures.terms c.finish.ensures.degree c.finish.ensures.normal

@@ -1,10 +1,10 @@
 -- What the form means, and that a form is not too large and within the limits, are laws.
-use Rattle.std.proofs.Common.{rules, ◌≡◌, ◌+◌, ◌≤◌, ◌↔◌, IfOk, OnOk, IsErrOf, unsigned_abs, arith}
+use Rattle.std.proofs.Common.{◌↔◌, IsErrOf}
 use Rattle.linear.specs.Valuation.{Valuation}
 use Rattle.linear.specs.Sum.{Meets}
 use Rattle.normal_form.specs.declared.fault.CutFault.TheVariants as CutFault
-use Rattle.normal_form.specs.Normal.{NormalConstraint, Holds, IsNormal, largest_sum}
-use Rattle.normal_form.specs.NormalOf.{IsNormalOf, IsTooLarge, size_sum}
+use Rattle.normal_form.specs.Normal.{Holds, IsNormal}
+use Rattle.normal_form.specs.NormalOf.{IsNormalOf, IsTooLarge}
 use Rattle.normal_form.proofs.NormalForm.{form_meaning, small_never}
 use Rattle.normal_form.proofs.Results.{if_ok_from, on_err_at}
 use Rattle.normal_form.proofs.conversion.normalize.Goals as goal

@@ -1,5 +1,5 @@
 -- The sum is kept within the type, which changes it only above the limit.
-use Rattle.std.proofs.Common.{rules, map, neg_ℤ, ◌≡◌, ◌<◌, ◌≤◌, ℤ, ◌+ℤ◌, ◌-ℤ◌, pos, unsigned_abs, to_z, of_z, ap, ◌∙◌, FitsSigned, arith}
+use Rattle.std.proofs.Common.{rules, map, neg_ℤ, ◌≡◌, ◌≤◌, ℤ, ◌+ℤ◌, ◌-ℤ◌, pos, unsigned_abs, to_z, of_z, ap, ◌∙◌, FitsSigned, arith}
 use mir.Syntax.{w128}
 use Rattle.std.proofs.lemmas.Int.{ints, to_z-of_z, fits_signed_from_abs}
 use Rattle.normal_form.specs.Normal.{sum_over, largest_sum}
@@ -13,10 +13,10 @@ lift_fits t n h k = fits_signed_from_abs w128 (t +ℤ n) (omega (arith, ints, h,
 
 pub returns : goal.returns
 returns c =
-  let r : to_z w128 (of_z w128 c.args.right) ≡ c.args.right = to_z-of_z w128 c.args.right c.ranges.right in
-  let t : to_z w128 (of_z w128 c.negated_total.result) ≡ c.negated_total.result = to_z-of_z w128 c.negated_total.result (search rules) in
-  let n : to_z w128 (of_z w128 c.negated_sum.result) ≡ c.negated_sum.result = to_z-of_z w128 c.negated_sum.result (search rules) in
-  let fits : FitsSigned w128 (to_z w128 (of_z w128 c.negated_total.result) +ℤ to_z w128 (of_z w128 c.negated_sum.result)) = lift_fits (to_z w128 (of_z w128 c.negated_total.result)) (to_z w128 (of_z w128 c.negated_sum.result)) (omega (arith, ints, t, c.negated_total.ensures.size)) (omega (arith, ints, n, c.negated_sum.ensures.size)) in
-  let lift : to_z w128 (of_z w128 (to_z w128 (of_z w128 c.negated_total.result) +ℤ to_z w128 (of_z w128 c.negated_sum.result))) ≡ to_z w128 (of_z w128 c.negated_total.result) +ℤ to_z w128 (of_z w128 c.negated_sum.result) = to_z-of_z w128 (to_z w128 (of_z w128 c.negated_total.result) +ℤ to_z w128 (of_z w128 c.negated_sum.result)) fits in
-  let s : to_z w128 (of_z w128 c.saturating_sub.result) ≡ c.saturating_sub.result = to_z-of_z w128 c.saturating_sub.result (search rules) in
-  floor_of (to_z w128 (of_z w128 (to_z w128 (of_z w128 c.negated_total.result) +ℤ to_z w128 (of_z w128 c.negated_sum.result))) -ℤ to_z w128 (of_z w128 c.args.right)) ((neg_ℤ c.args.right -ℤ negated_sum (map opposite_term c.args.terms.now)) +ℤ pos (sum_over (λ _ negated. negated) c.args.merged.now)) c.at_least_zero.result (omega (arith, ints, r, t, n, lift, c.negated_total.ensures.value, c.negated_sum.ensures.value, opposite_negated c.args.terms.now)) (c.at_least_zero.ensures ∙ ap at_least_zero (s ∙ c.saturating_sub.ensures))
+    let r : to_z w128 (of_z w128 c.args.right) ≡ c.args.right = to_z-of_z w128 c.args.right c.ranges.right in
+    let t : to_z w128 (of_z w128 c.negated_total.result) ≡ c.negated_total.result = to_z-of_z w128 c.negated_total.result (search rules) in
+    let n : to_z w128 (of_z w128 c.negated_sum.result) ≡ c.negated_sum.result = to_z-of_z w128 c.negated_sum.result (search rules) in
+    let fits : FitsSigned w128 (to_z w128 (of_z w128 c.negated_total.result) +ℤ to_z w128 (of_z w128 c.negated_sum.result)) = lift_fits (to_z w128 (of_z w128 c.negated_total.result)) (to_z w128 (of_z w128 c.negated_sum.result)) (omega (arith, ints, t, c.negated_total.ensures.size)) (omega (arith, ints, n, c.negated_sum.ensures.size)) in
+    let lift : to_z w128 (of_z w128 (to_z w128 (of_z w128 c.negated_total.result) +ℤ to_z w128 (of_z w128 c.negated_sum.result))) ≡ to_z w128 (of_z w128 c.negated_total.result) +ℤ to_z w128 (of_z w128 c.negated_sum.result) = to_z-of_z w128 (to_z w128 (of_z w128 c.negated_total.result) +ℤ to_z w128 (of_z w128 c.negated_sum.result)) fits in
+    let s : to_z w128 (of_z w128 c.saturating_sub.result) ≡ c.saturating_sub.result = to_z-of_z w128 c.saturating_sub.result (search rules) in
+    floor_of (to_z w128 (of_z w128 (to_z w128 (of_z w128 c.negated_total.result) +ℤ to_z w128 (of_z w128 c.negated_sum.result))) -ℤ to_z w128 (of_z w128 c.args.right)) ((neg_ℤ c.args.right -ℤ negated_sum (map opposite_term c.args.terms.now)) +ℤ pos (sum_over (λ _ negated. negated) c.args.merged.now)) c.at_least_zero.result (omega (arith, ints, r, t, n, lift, c.negated_total.ensures.value, c.negated_sum.ensures.value, opposite_negated c.args.terms.now)) (c.at_least_zero.ensures ∙ ap at_least_zero (s ∙ c.saturating_sub.ensures))

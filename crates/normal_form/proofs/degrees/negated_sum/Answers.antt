@@ -1,5 +1,5 @@
 -- The sum so far is in size at most the sum of all sizes, which is within the limit.
-use Rattle.std.proofs.Common.{rules, ◌≡◌, ℕ, ◌+◌, ◌<◌, ◌≤◌, ℤ, pos, ◌+ℤ◌, false, unsigned_abs, length, take, get_or, cond, ap, ◌∙◌, List, FitsSigned, to_z, of_z, arith}
+use Rattle.std.proofs.Common.{rules, ◌≡◌, ℕ, ◌+◌, ◌<◌, ◌≤◌, ℤ, pos, ◌+ℤ◌, false, unsigned_abs, length, take, get_or, cond, ◌∙◌, List, FitsSigned, to_z, of_z, arith}
 use mir.Syntax.{w128}
 use Rattle.std.proofs.lemmas.Int.{ints, to_z-of_z, fits_signed_from_abs}
 use Rattle.linear.specs.declared.term.Term.{Term}

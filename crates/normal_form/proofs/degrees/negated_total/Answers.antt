@@ -1,5 +1,5 @@
 -- The sum so far is at most that of all coefficients, which is within the limit.
-use Rattle.std.proofs.Common.{rules, ◌≡◌, ℕ, ◌+◌, ◌^◌, ◌<◌, ◌≤◌, pos, false, unsigned_abs, length, take, get_or, cond, ap, ◌∙◌, List, Fits, FitsSigned, to_z, arith}
+use Rattle.std.proofs.Common.{◌≡◌, ℕ, ◌+◌, ◌^◌, ◌<◌, ◌≤◌, pos, false, length, take, get_or, cond, ap, ◌∙◌, List, to_z, arith}
 use mir.Syntax.{w128}
 use Rattle.std.proofs.lemmas.Int.{ints, to_z_pos, fits_signed_from_abs}
 use Rattle.std.proofs.lemmas.List.{take_all}
@@ -20,26 +20,26 @@ bounded ts i sum s h = omega (arith, sum_over_take (λ _ negated. negated) i ts,
 
 pub overflow_add-sum : goal.overflow_add-sum
 overflow_add-sum c =
-  let small : c.loop-term.sum + c.negated_coefficient-sum.result ≤ 2 ^ 120 = bounded c.args.terms.now (c.loop-term.term-index + 1) _ (one_more c.args.terms.now c.loop-term.term-index c.loop-term.sum c.negated_coefficient-sum.result c.loop-term-test.true c.loop-term.invariant c.negated_coefficient-sum.ensures) c.requires in
-  record { fits = omega (arith, small) }
+    let small : c.loop-term.sum + c.negated_coefficient-sum.result ≤ 2 ^ 120 = bounded c.args.terms.now (c.loop-term.term-index + 1) _ (one_more c.args.terms.now c.loop-term.term-index c.loop-term.sum c.negated_coefficient-sum.result c.loop-term-test.true c.loop-term.invariant c.negated_coefficient-sum.ensures) c.requires in
+    record { fits = omega (arith, small) }
 
 pub loop-term-preserved : goal.loop-term-preserved
 loop-term-preserved c = one_more c.args.terms.now c.loop-term.term-index c.loop-term.sum c.negated_coefficient-sum.result c.loop-term-test.true c.loop-term.invariant c.negated_coefficient-sum.ensures
 
 pub overflow_cast-result : goal.overflow_cast-result
 overflow_cast-result c = let small : c.loop-term.sum ≤ 2 ^ 120 = bounded c.args.terms.now c.loop-term.term-index c.loop-term.sum c.loop-term.invariant c.requires in
-  fits_signed_from_abs w128 (pos c.loop-term.sum) (omega (arith, small))
+    fits_signed_from_abs w128 (pos c.loop-term.sum) (omega (arith, small))
 
 is_pos : (ts : List NormalTerm) (i sum : ℕ) → sum ≡ sum_over (λ _ negated. negated) (take i ts) → total ts ≤ largest_sum → to_z w128 sum ≡ pos sum
 is_pos ts i sum s h = let small : sum ≤ 2 ^ 120 = bounded ts i sum s h in to_z_pos w128 sum (omega (arith, small))
 
 pub returns-clause-value : goal.returns-clause-value
 returns-clause-value c =
-  is_pos c.args.terms.now c.loop-term.term-index c.loop-term.sum c.loop-term.invariant c.requires
+    is_pos c.args.terms.now c.loop-term.term-index c.loop-term.sum c.loop-term.invariant c.requires
     ∙ ap pos (c.loop-term.invariant ∙ ap (sum_over (λ _ negated. negated)) (take_all c.loop-term.term-index c.args.terms.now c.loop-term-test.false))
 
 pub returns-clause-size : goal.returns-clause-size
 returns-clause-size c =
-  let is : to_z w128 c.loop-term.sum ≡ pos c.loop-term.sum = is_pos c.args.terms.now c.loop-term.term-index c.loop-term.sum c.loop-term.invariant c.requires in
-  let small : c.loop-term.sum ≤ 2 ^ 120 = bounded c.args.terms.now c.loop-term.term-index c.loop-term.sum c.loop-term.invariant c.requires in
-  omega (arith, ints, is, small)
+    let is : to_z w128 c.loop-term.sum ≡ pos c.loop-term.sum = is_pos c.args.terms.now c.loop-term.term-index c.loop-term.sum c.loop-term.invariant c.requires in
+    let small : c.loop-term.sum ≤ 2 ^ 120 = bounded c.args.terms.now c.loop-term.term-index c.loop-term.sum c.loop-term.invariant c.requires in
+    omega (arith, ints, is, small)

@@ -1,9 +1,8 @@
-use Rattle.std.proofs.Common.{rules, ◌≡◌, ℕ, ◌≤◌, List, IfOk, length, subst, sym, arith}
-use Rattle.std.specs.List.Sorted.{IsNonDecreasingBy, IsPermutation}
+use Rattle.std.proofs.Common.{rules, ◌≡◌, List, subst, sym, arith}
+use Rattle.std.specs.List.Sorted.{IsPermutation}
 use Rattle.std.proofs.lemmas.List.Sorted.{IsNonDecreasingBy-from_sort_by_key}
 use Rattle.std.proofs.lemmas.Result.{IfOk-weaker}
 use Rattle.linear.specs.declared.term.Term.{Term}
-use Rattle.normal_form.specs.NormalOf.{size_sum}
 use Rattle.normal_form.specs.Balance.{Balances}
 use Rattle.normal_form.proofs.Reorder.{same_sizes, same_balance}
 use Rattle.normal_form.proofs.merging.merge.Goals as goal
@@ -14,8 +13,8 @@ merge_runs-requires-clause-order c = rw c.as_slice.ensures.value (IsNonDecreasin
 -- what is passed on is what was given, in another order
 moved : (c : goal.After-as_slice) → IsPermutation c.args.terms.now c.as_slice.result.now
 moved c =
-  let copied : c.in_ok-sorted.sorted.items ≡ c.args.terms.now = c.in_ok-sorted.ensures.items in
-  subst (λ (ts : List Term). IsPermutation ts c.as_slice.result.now) copied (subst (λ (us : List Term). IsPermutation c.in_ok-sorted.sorted.items us) (sym c.as_slice.ensures.value) c.sort_by_key.ensures.permutation)
+    let copied : c.in_ok-sorted.sorted.items ≡ c.args.terms.now = c.in_ok-sorted.ensures.items in
+    subst (λ (ts : List Term). IsPermutation ts c.as_slice.result.now) copied (subst (λ (us : List Term). IsPermutation c.in_ok-sorted.sorted.items us) (sym c.as_slice.ensures.value) c.sort_by_key.ensures.permutation)
 
 pub merge_runs-requires-clause-sizes : goal.merge_runs-requires-clause-sizes
 merge_runs-requires-clause-sizes c = omega (arith, same_sizes c.args.terms.now c.as_slice.result.now (moved c), c.requires)

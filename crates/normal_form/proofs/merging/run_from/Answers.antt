@@ -17,8 +17,8 @@ none = record { coef = pos 0; var = record { 0 = 0 }; negated = false }
 -- the run of one term
 first_net : (set : ℕ → Bool) (ts : List Term) (i : ℕ) (d : Term) (z : ℤ) → i < length ts → z ≡ slope (get_or ts i none) → slopes set (take (i + 1) ts) ≡ slopes set (take i ts) +ℤ cond (set ((get_or ts i d).var.0)) z (pos 0)
 first_net set ts i d z h e =
-  let same : slope (get_or ts i d) ≡ z = ap slope (get_or_default ts i d none h) ∙ sym e in
-  slopes_more set ts i d h ∙ ap (λ (x : ℤ). slopes set (take i ts) +ℤ cond (set ((get_or ts i d).var.0)) x (pos 0)) same
+    let same : slope (get_or ts i d) ≡ z = ap slope (get_or_default ts i d none h) ∙ sym e in
+    slopes_more set ts i d h ∙ ap (λ (x : ℤ). slopes set (take i ts) +ℤ cond (set ((get_or ts i d).var.0)) x (pos 0)) same
 
 first_size : (ts : List Term) (i : ℕ) (z : ℤ) → i < length ts → z ≡ slope (get_or ts i none) → unsigned_abs z ≤ size_sum (take (i + 1) ts)
 first_size ts i z h e = omega (arith, ints, size_more ts i none h, slope_size (get_or ts i none).negated (get_or ts i none).coef, e)
@@ -26,8 +26,8 @@ first_size ts i z h e = omega (arith, ints, size_more ts i none h, slope_size (g
 -- one more term of the same variable
 next_net : (set : ℕ → Bool) (ts : List Term) (i j : ℕ) (d : Term) (net sum : ℤ) → i < length ts → j < length ts → (get_or ts j none).var.0 ≡ (get_or ts i none).var.0 → slopes set (take j ts) ≡ slopes set (take i ts) +ℤ cond (set ((get_or ts i d).var.0)) net (pos 0) → sum ≡ net +ℤ slope (get_or ts j none) → slopes set (take (j + 1) ts) ≡ slopes set (take i ts) +ℤ cond (set ((get_or ts i d).var.0)) sum (pos 0)
 next_net set ts i j d net sum h k v e s =
-  let var : (get_or ts j none).var.0 ≡ (get_or ts i d).var.0 = v ∙ ap (λ (t : Term). t.var.0) (get_or_default ts i none d h) in
-  run_more (set ((get_or ts i d).var.0)) (slopes set (take j ts)) (slopes set (take i ts)) (slopes set (take (j + 1) ts)) net (slope (get_or ts j none)) sum e (slopes_more set ts j none k ∙ ap (λ (x : ℕ). slopes set (take j ts) +ℤ cond (set x) (slope (get_or ts j none)) (pos 0)) var) s
+    let var : (get_or ts j none).var.0 ≡ (get_or ts i d).var.0 = v ∙ ap (λ (t : Term). t.var.0) (get_or_default ts i none d h) in
+    run_more (set ((get_or ts i d).var.0)) (slopes set (take j ts)) (slopes set (take i ts)) (slopes set (take (j + 1) ts)) net (slope (get_or ts j none)) sum e (slopes_more set ts j none k ∙ ap (λ (x : ℕ). slopes set (take j ts) +ℤ cond (set x) (slope (get_or ts j none)) (pos 0)) var) s
 
 next_size : (ts : List Term) (j : ℕ) (net sum : ℤ) → j < length ts → unsigned_abs net ≤ size_sum (take j ts) → sum ≡ net +ℤ slope (get_or ts j none) → unsigned_abs sum ≤ size_sum (take (j + 1) ts)
 next_size ts j net sum h e s = run_size (get_or ts j none) net sum (size_sum (take j ts)) (size_sum (take (j + 1) ts)) e (size_more ts j none h) s
@@ -47,7 +47,7 @@ loop-end-init c = record {
   after = omega arith;
   within = omega (arith, c.requires.place);
   net = λ set d. first_net set c.args.sorted.now c.args.start d _ c.requires.place (first_is c);
-  size = first_size c.args.sorted.now c.args.start _ c.requires.place (first_is c)
+  size = first_size c.args.sorted.now c.args.start _ c.requires.place (first_is c);
 }
 
 pub slope-net-requires-in-loop-end : goal.slope-net-requires-in-loop-end
@@ -55,8 +55,8 @@ slope-net-requires-in-loop-end c = omega (arith, size_at c.args.sorted.now c.loo
 
 added_is : (c : goal.After-slope-net-in-loop-end) → to_z w128 c.loop-end.net-bits +ℤ to_z w128 (of_z w128 c.slope-net-in-loop-end.result) ≡ to_z w128 c.loop-end.net-bits +ℤ slope (get_or c.args.sorted.now c.loop-end.end none)
 added_is c =
-  let back : to_z w128 (of_z w128 c.slope-net-in-loop-end.result) ≡ c.slope-net-in-loop-end.result = to_z-of_z w128 c.slope-net-in-loop-end.result (search rules) in
-  omega (arith, ints, back, c.slope-net-in-loop-end.ensures)
+    let back : to_z w128 (of_z w128 c.slope-net-in-loop-end.result) ≡ c.slope-net-in-loop-end.result = to_z-of_z w128 c.slope-net-in-loop-end.result (search rules) in
+    omega (arith, ints, back, c.slope-net-in-loop-end.ensures)
 
 pub overflow_add-net : goal.overflow_add-net
 overflow_add-net c = sum_fits c.args.sorted.now c.loop-end.end _ (next_size c.args.sorted.now c.loop-end.end (to_z w128 c.loop-end.net-bits) _ c.loop-end-test.true c.loop-end.invariant.size (added_is c)) c.requires.sizes
@@ -69,5 +69,5 @@ loop-end-preserved c = record {
   after = omega (arith, c.loop-end.invariant.after);
   within = omega (arith, c.loop-end-test.true);
   net = λ set d. next_net set c.args.sorted.now c.args.start c.loop-end.end d (to_z w128 c.loop-end.net-bits) _ c.requires.place c.loop-end-test.true c.if-sorted-end.true (c.loop-end.invariant.net set d) (next_is c);
-  size = next_size c.args.sorted.now c.loop-end.end (to_z w128 c.loop-end.net-bits) _ c.loop-end-test.true c.loop-end.invariant.size (next_is c)
+  size = next_size c.args.sorted.now c.loop-end.end (to_z w128 c.loop-end.net-bits) _ c.loop-end-test.true c.loop-end.invariant.size (next_is c);
 }

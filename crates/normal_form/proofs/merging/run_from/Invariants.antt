@@ -10,7 +10,7 @@ invariant-loop-end l = record {
   after : l.start < l.end;
   within : l.end ≤ length l.sorted;
   net : (set : ℕ → Bool) → (d : Term) → slopes set (take l.end l.sorted) ≡ slopes set (take l.start l.sorted) +ℤ cond (set ((get_or l.sorted l.start d).var.0)) l.net (pos 0);
-  size : unsigned_abs l.net ≤ size_sum (take l.end l.sorted)
+  size : unsigned_abs l.net ≤ size_sum (take l.end l.sorted);
 }
 
 abbrev pub decreases-loop-end : goal.decreases-loop-end

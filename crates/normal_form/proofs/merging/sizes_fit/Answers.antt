@@ -1,5 +1,5 @@
 -- One more size, added without wrapping.
-use Rattle.std.proofs.Common.{◌≡◌, ℕ, ◌+◌, ◌-◌, ◌^◌, ◌<◌, min, List, length, take, get_or, arith, rules, ℤ, pos, unsigned_abs, false}
+use Rattle.std.proofs.Common.{◌≡◌, ℕ, ◌+◌, ◌-◌, ◌^◌, ◌<◌, min, List, length, take, get_or, arith, pos, unsigned_abs, false}
 use Rattle.std.proofs.lemmas.Int.{ints}
 use Rattle.linear.specs.declared.term.Term.{Term}
 use Rattle.normal_form.specs.NormalOf.{size_sum}
@@ -15,5 +15,5 @@ one_more ts i d before size after h b s a = omega (arith, size_more ts i d h, b,
 
 pub loop-term-preserved : goal.loop-term-preserved
 loop-term-preserved c =
-  let size : c.unsigned_abs.result ≡ unsigned_abs (get_or c.args.terms.now c.loop-term.term-index none).coef = grind (arith, ints, c.unsigned_abs.ensures.value) in
-  one_more c.args.terms.now c.loop-term.term-index none c.loop-term.sum c.unsigned_abs.result c.saturating_add-sum.result c.loop-term-test.true c.loop-term.invariant size c.saturating_add-sum.ensures
+    let size : c.unsigned_abs.result ≡ unsigned_abs (get_or c.args.terms.now c.loop-term.term-index none).coef = grind (arith, ints, c.unsigned_abs.ensures.value) in
+    one_more c.args.terms.now c.loop-term.term-index none c.loop-term.sum c.unsigned_abs.result c.saturating_add-sum.result c.loop-term-test.true c.loop-term.invariant size c.saturating_add-sum.ensures

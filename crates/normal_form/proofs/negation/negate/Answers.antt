@@ -1,8 +1,7 @@
 -- The flipped terms with this degree are the negation, whose meaning is a law.
-use Rattle.std.proofs.Common.{rules, ◌≡◌, ◌+◌, ◌-◌, ◌≤◌, ◌↔◌, List, IfOk, OnOk, IsErrOf, ap, ◌∙◌, arith}
+use Rattle.std.proofs.Common.{◌≡◌, ◌+◌, ◌-◌, ◌↔◌, ap, ◌∙◌, arith}
 use Rattle.linear.specs.Valuation.{Valuation}
-use Rattle.normal_form.specs.declared.term.NormalTerm.{NormalTerm}
-use Rattle.normal_form.specs.Normal.{NormalConstraint, Holds, IsNormal, total, largest_sum, Fits}
+use Rattle.normal_form.specs.Normal.{NormalConstraint, Holds, IsNormal, total}
 use Rattle.normal_form.specs.Negation.{IsNegation}
 use Rattle.normal_form.specs.Balance.{flipped}
 use Rattle.normal_form.proofs.Opposite.{negation_from, negation_meaning, not_fitting}

@@ -1,7 +1,6 @@
 -- A term's variable has a value, and its coefficient counts where its literal is true.
-use Rattle.std.proofs.Common.{◌≡◌, ◌+◌, ◌<◌, ◌≤◌, length, take, arith, rules}
+use Rattle.std.proofs.Common.{arith}
 use Rattle.linear.specs.Valuation.{valuation_of, literal_true}
-use Rattle.normal_form.specs.Normal.{sum_over, variable_bound}
 use Rattle.normal_form.proofs.Sums.{bound_at, sum_over_more}
 use Rattle.normal_form.proofs.truth.counted.Goals as goal
 

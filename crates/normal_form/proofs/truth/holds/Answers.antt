@@ -1,7 +1,6 @@
 -- The weight so far is at most the sum of all coefficients, which is at most 2^120.
-use Rattle.std.proofs.Common.{◌≡◌, ◌+◌, ◌≤◌, take, Fits, arith, rules}
+use Rattle.std.proofs.Common.{◌+◌, arith}
 use Rattle.linear.specs.Valuation.{valuation_of, literal_true}
-use Rattle.normal_form.specs.Normal.{sum_over}
 use Rattle.normal_form.proofs.Sums.{sum_over_take}
 use Rattle.normal_form.proofs.truth.holds.Goals as goal
 

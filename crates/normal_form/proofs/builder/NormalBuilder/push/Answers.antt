@@ -1,5 +1,5 @@
 -- One more term at the end: the variables still rise, and the capped sum is that of all.
-use Rattle.std.proofs.Common.{◌≡◌, ◌+◌, ◌-◌, ◌^◌, ◌≤◌, ◌<◌, ◌++◌, ◌∷◌, [], true, List, ℕ, min, max, arith, rules}
+use Rattle.std.proofs.Common.{◌≡◌, ◌+◌, ◌-◌, ◌^◌, ◌≤◌, ◌<◌, ◌++◌, ◌∷◌, [], true, List, ℕ, min, arith, rules}
 use Rattle.normal_form.specs.declared.term.NormalTerm.{NormalTerm}
 use Rattle.normal_form.specs.Normal.{variable_bound, total, Rises}
 use Rattle.normal_form.proofs.Sums.{rises_push, bound_push, sum_over_push}

@@ -1,0 +1,6 @@
+-- The coefficients determine a list that rises.
+use Rattle.normal_form.proofs.OneForm as forms
+use Rattle.normal_form.proofs.laws.one_constraint.Goals as goal
+
+pub returns : goal.returns
+returns _ n m r q e d = forms.one_constraint n m r q e d

@@ -1,0 +1,6 @@
+-- A list that rises has each variable once.
+use Rattle.normal_form.proofs.Merge.{one_side}
+use Rattle.normal_form.proofs.laws.one_sign.Goals as goal
+
+pub returns : goal.returns
+returns _ n r v = one_side 0 n.terms r v
