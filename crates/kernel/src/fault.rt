@@ -69,6 +69,60 @@ pub enum StepFault {
     TooManyIds,
 }
 
+impl StepFault {
+    /// The number that stands for the fault in printed verdicts.
+    pub fn number(self) -> u8 {
+        match self {
+            StepFault::DeadId => 10,
+            StepFault::StackShape => 11,
+            StepFault::BadFactor => 12,
+            StepFault::TooLarge => 13,
+            StepFault::NotShown => 14,
+            StepFault::GoalOpen(_) => 15,
+            StepFault::GoalOpenSelf => 16,
+            StepFault::GoalOpenObjective => 17,
+            StepFault::SolutionFalse => 18,
+            StepFault::SolutionPartial => 19,
+            StepFault::SolutionConflict => 20,
+            StepFault::NotImproving => 21,
+            StepFault::NoObjective => 22,
+            StepFault::FileConstraint => 23,
+            StepFault::LowerNotShown => 24,
+            StepFault::LowerAboveBest => 25,
+            StepFault::UpperNotLogged => 26,
+            StepFault::SolutionLogged => 27,
+            StepFault::OutOfMemory => 28,
+            StepFault::TooManyIds => 29,
+        }
+    }
+
+    /// The name that stands beside the number.
+    pub fn name(self) -> &'static str {
+        match self {
+            StepFault::DeadId => "DeadId",
+            StepFault::StackShape => "StackShape",
+            StepFault::BadFactor => "BadFactor",
+            StepFault::TooLarge => "TooLarge",
+            StepFault::NotShown => "NotShown",
+            StepFault::GoalOpen(_) => "GoalOpen",
+            StepFault::GoalOpenSelf => "GoalOpenSelf",
+            StepFault::GoalOpenObjective => "GoalOpenObjective",
+            StepFault::SolutionFalse => "SolutionFalse",
+            StepFault::SolutionPartial => "SolutionPartial",
+            StepFault::SolutionConflict => "SolutionConflict",
+            StepFault::NotImproving => "NotImproving",
+            StepFault::NoObjective => "NoObjective",
+            StepFault::FileConstraint => "FileConstraint",
+            StepFault::LowerNotShown => "LowerNotShown",
+            StepFault::LowerAboveBest => "LowerAboveBest",
+            StepFault::UpperNotLogged => "UpperNotLogged",
+            StepFault::SolutionLogged => "SolutionLogged",
+            StepFault::OutOfMemory => "OutOfMemory",
+            StepFault::TooManyIds => "TooManyIds",
+        }
+    }
+}
+
 impl From<AllocError> for StepFault {
     ghost use Rattle.std.specs.Prelude.{◌≡◌};
     ghost use Rattle.kernel.specs.declared.fault.StepFault.TheVariants.{OutOfMemory};

@@ -1,5 +1,8 @@
 //! The conclusion line. `SAT` and `BOUNDS` are not judged yet.
 
+ghost use Rattle.std.specs.Prelude.{IfOk};
+ghost use Rattle.proof_text.specs.Read.{IsJudgedLine};
+
 use super::fault::ProofFault;
 use super::frame::{closes, is_semicolon, takes_word};
 use super::line::Line;
@@ -7,7 +10,9 @@ use kernel::Conclusion;
 use pb_text::{Kind, NumFault, Symbol, Token, Tokens, integer};
 
 /// `conclusion ..`
-pub(crate) fn read_conclusion(mut tokens: Tokens<'_>) -> Result<Line, ProofFault> {
+pub(crate) fn read_conclusion(mut tokens: Tokens<'_>) -> Result<Line, ProofFault>
+    ensures { IfOk result IsJudgedLine }
+{
     if !takes_word(&mut tokens, b"conclusion".as_slice()) {
         return Err(ProofFault::BadLine);
     }

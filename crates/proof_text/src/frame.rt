@@ -1,5 +1,8 @@
 //! The lines around the steps: header, count, output and end, and the `;` that may close any line.
 
+ghost use Rattle.std.specs.Prelude.{IfOk};
+ghost use Rattle.proof_text.specs.Read.{IsJudgedLine};
+
 use super::fault::ProofFault;
 use super::line::Line;
 use pb_text::{Kind, Symbol, Token, Tokens, integer};
@@ -28,7 +31,9 @@ pub(crate) fn is_semicolon(token: Token<'_>) -> bool {
 }
 
 /// `pseudo-Boolean proof version 2.0`
-pub(crate) fn read_header(mut tokens: Tokens<'_>) -> Result<Line, ProofFault> {
+pub(crate) fn read_header(mut tokens: Tokens<'_>) -> Result<Line, ProofFault>
+    ensures { IfOk result IsJudgedLine }
+{
     let is_header = takes_word(&mut tokens, b"pseudo-Boolean".as_slice())
         && takes_word(&mut tokens, b"proof".as_slice())
         && takes_word(&mut tokens, b"version".as_slice())
@@ -42,7 +47,9 @@ pub(crate) fn read_header(mut tokens: Tokens<'_>) -> Result<Line, ProofFault> {
 }
 
 /// `f N`
-pub(crate) fn read_count(mut tokens: Tokens<'_>) -> Result<Line, ProofFault> {
+pub(crate) fn read_count(mut tokens: Tokens<'_>) -> Result<Line, ProofFault>
+    ensures { IfOk result IsJudgedLine }
+{
     if !takes_word(&mut tokens, b"f".as_slice()) {
         return Err(ProofFault::BadCount);
     }
@@ -56,7 +63,9 @@ pub(crate) fn read_count(mut tokens: Tokens<'_>) -> Result<Line, ProofFault> {
 }
 
 /// What follows `output`.
-pub(crate) fn read_output(mut tokens: Tokens<'_>) -> Result<Line, ProofFault> {
+pub(crate) fn read_output(mut tokens: Tokens<'_>) -> Result<Line, ProofFault>
+    ensures { IfOk result IsJudgedLine }
+{
     let Some(token) = tokens.next() else {
         return Err(ProofFault::BadLine);
     };
@@ -74,7 +83,9 @@ pub(crate) fn read_output(mut tokens: Tokens<'_>) -> Result<Line, ProofFault> {
 }
 
 /// `end pseudo-Boolean proof`
-pub(crate) fn read_end(mut tokens: Tokens<'_>) -> Result<Line, ProofFault> {
+pub(crate) fn read_end(mut tokens: Tokens<'_>) -> Result<Line, ProofFault>
+    ensures { IfOk result IsJudgedLine }
+{
     let is_end = takes_word(&mut tokens, b"end".as_slice())
         && takes_word(&mut tokens, b"pseudo-Boolean".as_slice())
         && takes_word(&mut tokens, b"proof".as_slice())

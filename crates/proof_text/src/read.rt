@@ -1,7 +1,8 @@
 //! What a line says at its place.
 
-ghost use Rattle.std.specs.Prelude.{◌≡◌, OnErr};
+ghost use Rattle.std.specs.Prelude.{◌≡◌, IfOk, OnErr};
 ghost use Rattle.proof_text.specs.Growth.{Extends};
+ghost use Rattle.proof_text.specs.Read.{IsJudgedLine};
 
 use super::conclude::read_conclusion;
 use super::fault::ProofFault;
@@ -20,6 +21,7 @@ pub fn read_line(
     line: &[u8],
     names: &mut Names,
 ) -> Result<Line, ProofFault>
+    ensures judged { IfOk result IsJudgedLine }
     ensures grows { Extends names.old names.new }
     ensures err { OnErr result (names.new ≡ names.old) }
 {
@@ -47,7 +49,8 @@ fn read_step_line(
     mut tokens: Tokens<'_>,
     names: &mut Names,
 ) -> Result<Line, ProofFault>
-    ensures { Extends names.old names.new }
+    ensures judged { IfOk result IsJudgedLine }
+    ensures grows { Extends names.old names.new }
 {
     let Some(rule) = tokens.next() else {
         return Err(ProofFault::BadLine);

@@ -1,8 +1,7 @@
 //! The lines of a proof that count, with their numbers.
 
-ghost use Rattle.std.specs.Prelude.{◌<◌, length};
-
 use memchr::memchr;
+use std::marker::Model;
 
 /// A line that counts: neither blank nor a comment.
 #[derive(Clone, Copy, Debug)]
@@ -20,17 +19,31 @@ pub struct ProofReader<'a> {
     number: u64,
 }
 
+impl<'a> Model for ProofReader<'a> {
+    ghost use Rattle.std.specs.Prelude.{ℕ, List};
+
+    ghost Value = { List ℕ };
+
+    ghost view = { λ r. r.rest.now };
+}
+
 impl<'a> ProofReader<'a> {
-    /// All lines of a proof.
-    pub fn new(proof: &'a [u8]) -> Self {
+    ghost use Rattle.std.specs.Prelude.{◌≡◌, ◌<◌, [], length, MatchOption};
+
+    /// All lines of a proof. Contracts see the bytes that are left.
+    pub fn new(proof: &'a [u8]) -> Self
+        ensures { result ≡ proof.now }
+    {
         ProofReader {
             rest: proof,
             number: 1,
         }
     }
 
-    /// The next line that counts.
-    pub fn next(&mut self) -> Option<NumberedLine<'a>> {
+    /// The next line that counts; none at the end of the text.
+    pub fn next(&mut self) -> Option<NumberedLine<'a>>
+        ensures left { MatchOption result (self.new ≡ []) (λ l. length self.new < length self.old) }
+    {
         while !self.rest.is_empty() {
             let line = self.take_line();
             if counts(line.text) {
@@ -47,8 +60,8 @@ impl<'a> ProofReader<'a> {
 
     /// The first line, whichever it is.
     fn take_line(&mut self) -> NumberedLine<'a>
-        requires { 0 < length self.old.rest.now }
-        ensures { length self.new.rest.now < length self.old.rest.now }
+        requires { 0 < length self.old }
+        ensures { length self.new < length self.old }
     {
         let number = self.number;
         match memchr(b'\n', self.rest) {

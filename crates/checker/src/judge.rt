@@ -1,0 +1,151 @@
+//! Judging a proof line by line: each line is read and then judged, so the first line with a fault decides.
+
+ghost use Rattle.std.specs.Prelude.{◌≡◌, ◌<◌, IfOk, OnOk, length};
+ghost use Rattle.kernel.specs.Claim.{Claim};
+ghost use Rattle.kernel.specs.State.{IsPol};
+ghost use Rattle.proof_text.specs.Read.{IsJudgedLine};
+
+use super::verdict::Code;
+use kernel::{Accepted, Kernel, Step, StepFault};
+use linear::{Names, Problem};
+use proof_text::{Line, Place, ProofFault, ProofReader, read_line};
+use std::alloc::{AllocError, Global};
+
+/// Why judging stops before the end.
+#[derive(Clone, Copy, Debug)]
+pub(crate) enum Stop {
+    Refused(u64, Code),
+    NoMemory,
+}
+
+impl From<AllocError> for Stop {
+    fn from(_e: AllocError) -> Stop {
+        Stop::NoMemory
+    }
+}
+
+fn stop_reading(number: u64, fault: ProofFault) -> Stop {
+    match fault {
+        ProofFault::OutOfMemory => Stop::NoMemory,
+        fault => Stop::Refused(number, Code::Reading(fault)),
+    }
+}
+
+fn stop_judging(number: u64, fault: StepFault) -> Stop {
+    match fault {
+        StepFault::OutOfMemory => Stop::NoMemory,
+        fault => Stop::Refused(number, Code::Judging(fault)),
+    }
+}
+
+/// A line that was read, and its number.
+#[derive(Drop)]
+struct Read {
+    number: u64,
+    line: Line,
+}
+
+/// The lines that are left, and the names so far.
+#[derive(Drop)]
+struct Lines<'a> {
+    alloc: Global,
+    reader: ProofReader<'a>,
+    names: Names,
+}
+
+impl<'a> Lines<'a> {
+    /// The next line that counts, as what it says at its place.
+    fn next(&mut self, place: Place) -> Result<Read, Stop>
+        ensures judged { IfOk result (λ read. IsJudgedLine read.line) }
+        ensures left { OnOk result (length self.new.reader < length self.old.reader) }
+    {
+        let Some(line) = self.reader.next() else {
+            let end = self.reader.end_number();
+            return Err(stop_reading(end, ProofFault::Truncated));
+        };
+        match read_line(self.alloc, place, line.text, &mut self.names) {
+            Ok(read) => Ok(Read {
+                number: line.number,
+                line: read,
+            }),
+            Err(fault) => Err(stop_reading(line.number, fault)),
+        }
+    }
+
+    /// Nothing that counts is left.
+    fn end(&mut self) -> Result<(), Stop> {
+        match self.reader.next() {
+            None => Ok(()),
+            Some(line) => Err(stop_reading(line.number, ProofFault::TextAfterEnd)),
+        }
+    }
+}
+
+/// Judges a proof of a problem. What is accepted is true of the problem, whoever wrote the proof.
+pub(crate) fn judge(alloc: Global, problem: &Problem, proof: &[u8]) -> Result<Accepted, Stop>
+    ensures { IfOk result (λ accepted. Claim problem.now accepted.conclusion accepted.best) }
+{
+    let mut kernel = match Kernel::new(alloc, problem) {
+        Ok(kernel) => kernel,
+        Err(_) => return Err(Stop::NoMemory),
+    };
+    let mut lines = Lines {
+        alloc,
+        reader: ProofReader::new(proof),
+        names: problem.names().copy(alloc)?,
+    };
+    lines.next(Place::Header)?;
+    judge_count(&mut lines, &kernel)?;
+    judge_steps(&mut lines, &mut kernel)?;
+    let accepted = judge_conclusion(&mut lines, &mut kernel)?;
+    lines.next(Place::End)?;
+    lines.end()?;
+    Ok(accepted)
+}
+
+/// The count line gives the number of the file's constraints, an equality counted twice.
+fn judge_count(lines: &mut Lines<'_>, kernel: &Kernel) -> Result<(), Stop> {
+    let Read { number, line } = lines.next(Place::Count)?;
+    match line {
+        Line::Count(count) if count == kernel.given() as i128 => Ok(()),
+        _ => Err(stop_reading(number, ProofFault::BadCount)),
+    }
+}
+
+/// The steps, up to the output line.
+fn judge_steps(lines: &mut Lines<'_>, kernel: &mut Kernel) -> Result<(), Stop>
+    ensures { kernel.new.problem ≡ kernel.old.problem }
+{
+    loop {
+        let Read { number, line } = lines.next(Place::Step)?;
+        match line {
+            Line::Step(step) => judge_step(kernel, &step, number)?,
+            Line::Output => return Ok(()),
+            _ => return Err(stop_reading(number, ProofFault::BadLine)),
+        }
+    }
+}
+
+fn judge_step(kernel: &mut Kernel, step: &Step, number: u64) -> Result<(), Stop>
+    requires { IsPol step.now }
+    ensures { kernel.new.problem ≡ kernel.old.problem }
+{
+    match kernel.apply(step) {
+        Ok(_) => Ok(()),
+        Err(fault) => Err(stop_judging(number, fault)),
+    }
+}
+
+/// The conclusion.
+fn judge_conclusion(lines: &mut Lines<'_>, kernel: &mut Kernel) -> Result<Accepted, Stop>
+    ensures { IfOk result (λ accepted. Claim kernel.old.problem accepted.conclusion accepted.best) }
+{
+    let Read { number, line } = lines.next(Place::Conclusion)?;
+    match line {
+        Line::Conclusion(conclusion) => match kernel.conclude(&conclusion) {
+            Ok(accepted) => Ok(accepted),
+            Err(fault) => Err(stop_judging(number, fault)),
+        },
+        _ => Err(stop_reading(number, ProofFault::BadLine)),
+    }
+}

@@ -1,0 +1,11 @@
+//! From the bytes of a problem and of a proof to the verdict.
+#![tactic(auto)]
+
+mod checking;
+mod judge;
+mod text;
+mod verdict;
+
+pub use checking::check;
+pub use text::verdict_text;
+pub use verdict::{Code, Verdict, verdict_status};
