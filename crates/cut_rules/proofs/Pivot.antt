@@ -21,8 +21,9 @@ pub none_above : (m n : ℕ) (f : ℕ → ℕ) → n ≤ m → ((v : ℕ) → n 
 none_above zero zero f h z = refl
 none_above zero (suc n) f h z = absurd (omega (arith, h))
 none_above (suc m) n f h z = elim (cases_eq (suc m) n) [
-    inl e ↦ ap (λ (x : ℕ). sum_below x f) e
-  | inr e ↦ omega (arith, z m (omega (arith, h, e)), none_above m n f (omega (arith, h, e)) z) ]
+  | inl e ↦ ap (λ (x : ℕ). sum_below x f) e
+  | inr e ↦ omega (arith, z m (omega (arith, h, e)), none_above m n f (omega (arith, h, e)) z)
+]
 
 off : (w v c : ℕ) → (w ≡ v → ⊥) → cond (w == v) c 0 ≡ 0
 off w v c h = grind (arith, nat_tests)
@@ -41,8 +42,9 @@ single_none w c (suc n) h = omega (arith, off w n c (λ e. omega (arith, e, h)),
 single_sum : (w c n : ℕ) → w < n → sum_below n (single w c) ≡ c
 single_sum w c zero h = absurd (omega (arith, h))
 single_sum w c (suc n) h = elim (cases_eq w n) [
-    inl e ↦ omega (arith, on w n c e, single_none w c n (omega (arith, e)))
-  | inr e ↦ omega (arith, off w n c e, single_sum w c n (omega (arith, h, e))) ]
+  | inl e ↦ omega (arith, on w n c e, single_none w c n (omega (arith, e)))
+  | inr e ↦ omega (arith, off w n c e, single_sum w c n (omega (arith, h, e)))
+]
 
 -- what the literals of a variable in a set have
 abbrev pub told : Literals → List NormalTerm → ℕ → ℕ
@@ -74,22 +76,23 @@ chosen set v false = refl
 
 moved : (set : Literals) (w v c : ℕ) (n : Bool) → cond (w == v) (cond (cond n (set v true) (set v false)) c 0) 0 ≡ cond (w == v) (cond (set w n) c 0) 0
 moved set w v c n = elim (cases_eq w v) [
-    inl h ↦ ap (λ (b : Bool). cond (w == v) (cond b c 0) 0) (chosen set v n ∙ ap (λ (x : ℕ). set x n) (sym h))
-  | inr h ↦ off w v (cond (cond n (set v true) (set v false)) c 0) h ∙ sym (off w v (cond (set w n) c 0) h) ]
+  | inl h ↦ ap (λ (b : Bool). cond (w == v) (cond b c 0) 0) (chosen set v n ∙ ap (λ (x : ℕ). set x n) (sym h))
+  | inr h ↦ off w v (cond (cond n (set v true) (set v false)) c 0) h ∙ sym (off w v (cond (set w n) c 0) h)
+]
 
 told_cons : (set : Literals) (t : NormalTerm) (ts : List NormalTerm) (v : ℕ) → told set (t ∷ ts) v ≡ single (t.var.0) (counted set t) v + told set ts v
 told_cons set t ts v =
-  told_more (t.var.0 == v) (set v false) (set v true) t.negated t.coef (sum_over (only v false) ts) (sum_over (only v true) ts)
-  ∙ ap (λ (x : ℕ). x + told set ts v) (moved set (t.var.0) v t.coef t.negated)
+    told_more (t.var.0 == v) (set v false) (set v true) t.negated t.coef (sum_over (only v false) ts) (sum_over (only v true) ts)
+    ∙ ap (λ (x : ℕ). x + told set ts v) (moved set (t.var.0) v t.coef t.negated)
 
 -- a sum over a set of literals is the sum over all variables of what their literals in the set have
 pub pivot : (set : Literals) (ts : List NormalTerm) (n : ℕ) → variable_bound ts ≤ n → sum_over set ts ≡ sum_below n (told set ts)
 pivot set [] n h = sym (all_zero n (told set []) (λ v. told_nil (set v false) (set v true)))
 pivot set (t ∷ ts) n h =
-  let below : t.var.0 < n = omega (arith, h) in
-  let rest : sum_over set ts ≡ sum_below n (told set ts) = pivot set ts n (omega (arith, h)) in
-  let sums : sum_below n (told set (t ∷ ts)) + sum_below n (λ _. 0) ≡ sum_below n (single (t.var.0) (counted set t)) + sum_below n (told set ts) = add_up n (told set (t ∷ ts)) (λ _. 0) (single (t.var.0) (counted set t)) (told set ts) (λ v. omega (arith, told_cons set t ts v)) in
-  omega (arith, rest, sums, all_zero n (λ _. 0) (λ _. refl), single_sum (t.var.0) (counted set t) n below)
+    let below : t.var.0 < n = omega (arith, h) in
+    let rest : sum_over set ts ≡ sum_below n (told set ts) = pivot set ts n (omega (arith, h)) in
+    let sums : sum_below n (told set (t ∷ ts)) + sum_below n (λ _. 0) ≡ sum_below n (single (t.var.0) (counted set t)) + sum_below n (told set ts) = add_up n (told set (t ∷ ts)) (λ _. 0) (single (t.var.0) (counted set t)) (told set ts) (λ v. omega (arith, told_cons set t ts v)) in
+    omega (arith, rest, sums, all_zero n (λ _. 0) (λ _. refl), single_sum (t.var.0) (counted set t) n below)
 
 other : (w v c : ℕ) (s : Bool) → w < v → cond ((w == v) && s) c 0 ≡ 0
 other w v c s h = grind (arith, nat_tests)
