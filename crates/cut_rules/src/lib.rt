@@ -4,6 +4,7 @@
 mod addition;
 mod axioms;
 mod division;
+mod merging;
 mod multiplication;
 mod saturation;
 mod weakening;
