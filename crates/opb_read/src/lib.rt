@@ -17,3 +17,6 @@ mod variables;
 pub use fault::{OpbCode, OpbFault};
 pub use laws::one_problem;
 pub use reading::read;
+
+#[cfg(test)]
+mod tests;
