@@ -2,9 +2,9 @@ use Rattle.std.proofs.Common.{◌≡◌, length}
 use Rattle.checker.proofs.judge.judge_steps.Given as goal
 
 -- the problem stays
-abbrev pub invariant-loop : goal.invariant-loop
-invariant-loop l = l.kernel.problem ≡ l.fn.kernel.problem
+abbrev pub invariant-loop-number : goal.invariant-loop-number
+invariant-loop-number l = l.kernel.problem ≡ l.fn.kernel.problem
 
 -- the bytes that are left
-abbrev pub decreases-loop : goal.decreases-loop
-decreases-loop l = length l.lines.reader
+abbrev pub decreases-loop-number : goal.decreases-loop-number
+decreases-loop-number l = length l.lines.reader

@@ -1,0 +1,16 @@
+use Rattle.std.proofs.Common.{◌≡◌}
+use Rattle.linear.specs.Opb.{Opb}
+use Rattle.opb_read.proofs.Spelled.{one_problem}
+use Rattle.checker.proofs.checking.check.Goals as goal
+
+pub returns-in-Ok-judge : goal.returns-in-Ok-judge
+returns-in-Ok-judge c =
+    let p : Opb = c.in-Ok.problem in
+    record {
+      sound = record {
+        problem = p;
+        spelled = c.in-Ok.ensures.spells;
+        alone = λ other spells. one_problem c.args.opb.now other p spells c.in-Ok.ensures.spells;
+        claim = c.in-Ok-judge.ensures;
+      };
+    }
