@@ -1,3 +1,5 @@
 pub mod Pivot
 pub mod Sum
 pub mod Steps
+pub mod Changed
+pub mod OneOperand

@@ -3,6 +3,7 @@
 
 mod addition;
 mod axioms;
+mod changes;
 mod division;
 mod merging;
 mod multiplication;
