@@ -3,3 +3,4 @@ pub mod Sum
 pub mod Steps
 pub mod Changed
 pub mod OneOperand
+pub mod Meaning

@@ -8,9 +8,9 @@ use Rattle.linear.specs.Valuation.{Valuation, literal_true}
 use Rattle.normal_form.specs.declared.term.NormalTerm.{NormalTerm}
 use Rattle.normal_form.specs.Normal.{NormalConstraint, Literals, sum_over, total, only, coefficient, Holds, Rises, Fits, largest_sum, largest_degree}
 use Rattle.normal_form.proofs.Sums.{counted, sum_over_more, sum_over_take}
-use Rattle.normal_form.proofs.OneForm.{one_constraint}
 use Rattle.cut_rules.specs.Rules.{IsSaturation, IsWeakening, IsMultiple, IsCeiling, IsQuotient, IsTooLarge}
 use Rattle.cut_rules.specs.Steps.{changed, less, times, parts}
+use Rattle.cut_rules.proofs.Meaning.{one_multiple}
 use Rattle.cut_rules.proofs.Changed.{changed_rises, changed_sum, changed_coefficient, changed_total, no_weight}
 
 rises_as : (f : ℕ → ℕ → ℕ) (ts us : List NormalTerm) → Rises 0 ts → us ≡ changed f ts → Rises 0 us
@@ -119,9 +119,6 @@ multiple_from k d r ts degree up e g t f = record {
   degree = f ∙ g;
   rises = rises_as (times k) d.terms r.terms up (t ∙ e);
 }
-
-pub one_multiple : (k : ℕ) (d r q : NormalConstraint) → IsMultiple k d r → IsMultiple k d q → r ≡ q
-one_multiple k d r q g h = one_constraint r q g.rises h.rises (λ v s. g.coefficients v s ∙ sym (h.coefficients v s)) (g.degree ∙ sym h.degree)
 
 pub multiple_within : (k : ℕ) (d r : NormalConstraint) → IsMultiple k d r → Fits r → (q : NormalConstraint) → IsMultiple k d q → Fits q
 multiple_within k d r g f q h = subst Fits (one_multiple k d r q g h) f
