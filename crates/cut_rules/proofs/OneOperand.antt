@@ -4,9 +4,8 @@ use Rattle.std.specs.Int.{div_ceil}
 use Rattle.std.proofs.lemmas.Bool.{cases_lt}
 use Rattle.std.proofs.lemmas.Grind.{div_ceil_times}
 use Rattle.std.proofs.Math.Nat.{mul_comm, mul-add, mul-suc, mul-le-mul_left}
-use Rattle.linear.specs.Valuation.{Valuation, literal_true}
 use Rattle.normal_form.specs.declared.term.NormalTerm.{NormalTerm}
-use Rattle.normal_form.specs.Normal.{NormalConstraint, Literals, sum_over, total, only, coefficient, Holds, Rises, Fits, largest_sum, largest_degree}
+use Rattle.normal_form.specs.Normal.{NormalConstraint, Literals, sum_over, total, only, coefficient, Rises, Fits, largest_sum, largest_degree}
 use Rattle.normal_form.proofs.Sums.{counted, sum_over_more, sum_over_take}
 use Rattle.cut_rules.specs.Rules.{IsSaturation, IsWeakening, IsMultiple, IsCeiling, IsQuotient, IsTooLarge}
 use Rattle.cut_rules.specs.Steps.{changed, less, times, parts}
@@ -27,18 +26,6 @@ saturation_from d r ts cap up e k t g = record {
   degree = g ∙ k;
   rises = rises_as (λ _ c. min c cap) d.terms r.terms up (t ∙ e);
 }
-
-cap_step : (b : Bool) (c cap x y : ℕ) → min x cap ≤ y → min (cond b c 0 + x) cap ≤ cond b (min c cap) 0 + y
-cap_step true c cap x y h = omega (arith, h)
-cap_step false c cap x y h = omega (arith, h)
-
--- what is left reaches the cap wherever all did
-cap_sum : (set : Literals) (cap : ℕ) (ts : List NormalTerm) → min (sum_over set ts) cap ≤ sum_over set (changed (λ _ c. min c cap) ts)
-cap_sum set cap [] = omega arith
-cap_sum set cap (t ∷ ts) = omega (arith, changed_sum set (λ _ c. min c cap) t ts, cap_step (set (t.var.0) t.negated) t.coef cap (sum_over set ts) (sum_over set (changed (λ _ c. min c cap) ts)) (cap_sum set cap ts))
-
-pub saturation_keeps : (d r : NormalConstraint) (ts : List NormalTerm) (cap : ℕ) → ts ≡ changed (λ _ c. min c cap) d.terms → cap ≡ d.degree → r.terms ≡ ts → r.degree ≡ cap → (a : Valuation) → Holds a d → Holds a r
-saturation_keeps d r ts cap e k t g a h = omega (arith, cap_sum (literal_true a) cap d.terms, ap (sum_over (literal_true a)) (t ∙ e), k, g, h)
 
 -- terms that do not grow, with a degree that does not, are within the limits
 pub fits_from : (f : ℕ → ℕ → ℕ) → ((v c : ℕ) → f v c ≤ c) → (d : NormalConstraint) (ts : List NormalTerm) (degree : ℕ) → Fits d → ts ≡ changed f d.terms → degree ≤ d.degree → Fits (record { terms = ts; degree = degree })
@@ -67,19 +54,6 @@ weakening_from x d r ts degree gone up e w k t g =
       degree = falls;
       rises = rises_as (less x) d.terms r.terms up (t ∙ e);
     }
-
-less_step : (p q n : Bool) (c : ℕ) → cond p c 0 ≤ cond p (cond q 0 c) 0 + (cond (q && not n) c 0 + cond (q && n) c 0)
-less_step true true true c = omega arith
-less_step true true false c = omega arith
-less_step true false n c = omega arith
-less_step false q n c = omega arith
-
-less_sum : (set : Literals) (x : ℕ) (ts : List NormalTerm) → sum_over set ts ≤ sum_over set (changed (less x) ts) + (sum_over (only x false) ts + sum_over (only x true) ts)
-less_sum set x [] = omega arith
-less_sum set x (t ∷ ts) = omega (arith, changed_sum set (less x) t ts, less_step (set (t.var.0) t.negated) (t.var.0 == x) t.negated t.coef, less_sum set x ts)
-
-pub weakening_keeps : (x : ℕ) (d r : NormalConstraint) (ts : List NormalTerm) (degree gone : ℕ) → ts ≡ changed (less x) d.terms → gone ≡ coefficient d x false + coefficient d x true → degree ≡ d.degree - gone → r.terms ≡ ts → r.degree ≡ degree → (a : Valuation) → Holds a d → Holds a r
-weakening_keeps x d r ts degree gone e w k t g a h = omega (arith, less_sum (literal_true a) x d.terms, ap (sum_over (literal_true a)) (t ∙ e), w, k, g, h)
 
 gone_term : (q n : Bool) (c : ℕ) → cond (q && not n) c 0 + cond (q && n) c 0 ≡ c - cond q 0 c
 gone_term true true c = omega arith
@@ -122,11 +96,6 @@ multiple_from k d r ts degree up e g t f = record {
 
 pub multiple_within : (k : ℕ) (d r : NormalConstraint) → IsMultiple k d r → Fits r → (q : NormalConstraint) → IsMultiple k d q → Fits q
 multiple_within k d r g f q h = subst Fits (one_multiple k d r q g h) f
-
-pub multiple_keeps : (k : ℕ) (d r : NormalConstraint) (ts : List NormalTerm) (degree : ℕ) → ts ≡ changed (times k) d.terms → degree ≡ k * d.degree → r.terms ≡ ts → r.degree ≡ degree → (a : Valuation) → Holds a d → Holds a r
-multiple_keeps k d r ts degree e g t f a h =
-    let more : k * d.degree ≤ k * sum_over (literal_true a) d.terms = mul-le-mul_left k h in
-    omega (arith, more, times_sum (literal_true a) k d.terms, ap (sum_over (literal_true a)) (t ∙ e), g, f)
 
 multiple_of : ℕ → NormalConstraint → NormalConstraint
 multiple_of k d = record { terms = changed (times k) d.terms; degree = k * d.degree }
@@ -189,24 +158,3 @@ quotient_from k d r ts degree h up e g t f = record {
   degree = subst (IsCeiling k d.degree) (sym (f ∙ g)) (ceiling k d.degree h);
   rises = rises_as (parts k) d.terms r.terms up (t ∙ e);
 }
-
-parts_step : (b : Bool) (k c q x y : ℕ) → c ≤ k * q → x ≤ k * y → cond b c 0 + x ≤ k * (cond b q 0 + y)
-parts_step true k c q x y h l = omega (arith, h, l, mul-add k q y)
-parts_step false k c q x y h l =
-    let plus : y ≡ 0 + y = omega arith in
-    omega (arith, l, ap (λ (z : ℕ). k * z) plus)
-
--- k times what is left is at least what was
-parts_sum : (set : Literals) (k : ℕ) → 0 < k → (ts : List NormalTerm) → sum_over set ts ≤ k * sum_over set (changed (parts k) ts)
-parts_sum set k h [] = omega arith
-parts_sum set k h (t ∷ ts) =
-    let step : cond (set (t.var.0) t.negated) t.coef 0 + sum_over set ts ≤ k * (cond (set (t.var.0) t.negated) (div_ceil t.coef k) 0 + sum_over set (changed (parts k) ts)) = parts_step (set (t.var.0) t.negated) k t.coef (div_ceil t.coef k) (sum_over set ts) (sum_over set (changed (parts k) ts)) (ceiling k t.coef h).enough (parts_sum set k h ts) in
-    subst (λ (x : ℕ). sum_over set (t ∷ ts) ≤ k * x) (sym (changed_sum set (parts k) t ts)) step
-
-pub quotient_keeps : (k : ℕ) (d r : NormalConstraint) (ts : List NormalTerm) (degree : ℕ) → 0 < k → ts ≡ changed (parts k) d.terms → degree ≡ div_ceil d.degree k → r.terms ≡ ts → r.degree ≡ degree → (a : Valuation) → Holds a d → Holds a r
-quotient_keeps k d r ts degree h e g t f a holds =
-    let reached : d.degree ≤ k * sum_over (literal_true a) (changed (parts k) d.terms) = omega (arith, holds, parts_sum (literal_true a) k h d.terms) in
-    let low : div_ceil d.degree k ≤ sum_over (literal_true a) (changed (parts k) d.terms) = (ceiling k d.degree h).least (sum_over (literal_true a) (changed (parts k) d.terms)) reached in
-    let same : sum_over (literal_true a) r.terms ≡ sum_over (literal_true a) (changed (parts k) d.terms) = ap (sum_over (literal_true a)) (t ∙ e) in
-    let is : r.degree ≡ div_ceil d.degree k = f ∙ g in
-    subst (λ (x : ℕ). x ≤ sum_over (literal_true a) r.terms) (sym is) (subst (λ (x : ℕ). div_ceil d.degree k ≤ x) (sym same) low)

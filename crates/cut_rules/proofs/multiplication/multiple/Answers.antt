@@ -1,11 +1,13 @@
 -- The scaled terms with the scaled degree are the multiple.
 use Rattle.std.proofs.Common.{rules, ◌≡◌, ℕ, ◌≤◌, ◌*◌, true, false, ap}
 use Rattle.std.specs.Prelude.{IsTrue}
+use Rattle.std.proofs.lemmas.Result.{IfOk-weaker}
 use Rattle.linear.specs.Valuation.{Valuation}
 use Rattle.normal_form.specs.Normal.{NormalConstraint, IsNormal, Fits, Holds, total, largest_sum, largest_degree}
 use Rattle.normal_form.proofs.Results.{if_ok_from}
 use Rattle.cut_rules.specs.Rules.{IsMultiple}
-use Rattle.cut_rules.proofs.OneOperand.{multiple_from, multiple_keeps, multiple_within, multiple_too_large, multiple_fits}
+use Rattle.cut_rules.proofs.Meaning.{multiple_law}
+use Rattle.cut_rules.proofs.OneOperand.{multiple_from, multiple_within, multiple_too_large, multiple_fits}
 use Rattle.cut_rules.proofs.multiplication.multiple.Goals as goal
 
 never : IsTrue false → ⊥
@@ -28,7 +30,7 @@ pub returns-clause-multiple : goal.returns-clause-multiple
 returns-clause-multiple c = if_ok_from c.finish.result (λ r. r.terms ≡ c.in_ok-terms.terms) (λ r. r.degree ≡ c.args.factor * c.degree.result) IsNormal (IsMultiple c.args.factor c.args.constraint.now) (λ r t d normal. multiple_of c r t d) c.finish.ensures.terms c.finish.ensures.degree c.finish.ensures.normal
 
 pub returns-clause-keeps : goal.returns-clause-keeps
-returns-clause-keeps c = if_ok_from c.finish.result (λ r. r.terms ≡ c.in_ok-terms.terms) (λ r. r.degree ≡ c.args.factor * c.degree.result) IsNormal (λ r. (a : Valuation) → Holds a c.args.constraint.now → Holds a r) (λ r t d normal. multiple_keeps c.args.factor c.args.constraint.now r c.in_ok-terms.terms (c.args.factor * c.degree.result) c.in_ok-terms.ensures (degree_is c) t d) c.finish.ensures.terms c.finish.ensures.degree c.finish.ensures.normal
+returns-clause-keeps c = IfOk-weaker c.finish.result (IsMultiple c.args.factor c.args.constraint.now) (λ r. (a : Valuation) → Holds a c.args.constraint.now → Holds a r) (multiple_law c.args.factor c.args.constraint.now) (returns-clause-multiple c)
 
 pub returns-clause-too_large : goal.returns-clause-too_large
 returns-clause-too_large c e =
