@@ -1,5 +1,5 @@
 -- Sums over lists of terms, told by variable: what stands at each variable below a bound, added up.
-use Rattle.std.proofs.Common.{◌≡◌, ℕ, zero, suc, ◌+◌, ◌<◌, ◌≤◌, max, Bool, true, false, cond, not, ◌==◌, ◌&&◌, List, [], ◌∷◌, refl, ap, sym, ◌∙◌, arith, inl, inr, ◌⊎◌}
+use Rattle.std.proofs.Common.{◌≡◌, ℕ, zero, suc, ◌+◌, ◌<◌, ◌≤◌, Bool, true, false, cond, not, ◌==◌, ◌&&◌, List, [], ◌∷◌, refl, ap, sym, ◌∙◌, arith, inl, inr}
 use Rattle.std.proofs.lemmas.Bool.{cases_eq}
 use Rattle.std.proofs.lemmas.Bool.Decides.{nat_tests}
 use Rattle.normal_form.specs.declared.term.NormalTerm.{NormalTerm}
@@ -39,7 +39,7 @@ single_none : (w c n : ℕ) → n ≤ w → sum_below n (single w c) ≡ 0
 single_none w c zero h = refl
 single_none w c (suc n) h = omega (arith, off w n c (λ e. omega (arith, e, h)), single_none w c n (omega (arith, h)))
 
-single_sum : (w c n : ℕ) → w < n → sum_below n (single w c) ≡ c
+pub single_sum : (w c n : ℕ) → w < n → sum_below n (single w c) ≡ c
 single_sum w c zero h = absurd (omega (arith, h))
 single_sum w c (suc n) h = elim (cases_eq w n) [
   | inl e ↦ omega (arith, on w n c e, single_none w c n (omega (arith, e)))

@@ -1,5 +1,5 @@
 -- The sum of two constraints: coefficients from the balance, totals, weights, and that there is one sum.
-use Rattle.std.proofs.Common.{◌≡◌, ℕ, ◌+◌, ◌-◌, ◌<◌, ◌≤◌, ◌^◌, min, max, Bool, true, false, cond, not, ◌==◌, List, refl, ap, sym, subst, ◌∙◌, arith, inl, inr, ◌⊎◌}
+use Rattle.std.proofs.Common.{◌≡◌, ℕ, ◌+◌, ◌-◌, min, max, Bool, true, false, cond, not, ◌==◌, List, refl, sym, subst, ◌∙◌, arith, inl, inr, ◌⊎◌}
 use Rattle.std.specs.Prelude.{ℤ, pos, ◌+ℤ◌}
 use Rattle.std.proofs.lemmas.Int.{ints}
 use Rattle.linear.specs.Valuation.{Valuation, literal_true}

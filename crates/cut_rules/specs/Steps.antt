@@ -1,5 +1,7 @@
--- What the private functions speak of: merging the terms of two constraints, variable by variable.
-use Rattle.std.specs.Prelude.{◌≡◌, ℕ, Bool, ◌^◌, pos, ◌+ℤ◌, List, [], ◌∷◌}
+-- What the private functions speak of: merging the terms of two constraints variable by variable, and terms with
+-- other coefficients.
+use Rattle.std.specs.Prelude.{◌≡◌, ℕ, zero, suc, Bool, ◌*◌, ◌^◌, ◌+ℤ◌, List, [], ◌∷◌, ◌++◌, ◌==◌, if◌then◌else◌}
+use Rattle.std.specs.Int.{div_ceil}
 use Rattle.normal_form.specs.declared.term.NormalTerm.{NormalTerm}
 use Rattle.normal_form.specs.Balance.{rises_of}
 
@@ -11,3 +13,25 @@ first_variable (t ∷ ts) = t.var.0
 -- the terms of r give each set of variables what those of d and e give together
 abbrev pub SumBalances : List NormalTerm → List NormalTerm → List NormalTerm → Type 0
 SumBalances d e r = (set : ℕ → Bool) → rises_of set r ≡ rises_of set d +ℤ rises_of set e
+
+-- a term with another coefficient, or none where that is 0
+abbrev pub kept : NormalTerm → ℕ → List NormalTerm
+kept t zero = []
+kept t (suc c) = (record t { coef = suc c }) ∷ []
+
+-- the terms with coefficients that a function gives, of the variable and the coefficient before
+abbrev pub changed : (ℕ → ℕ → ℕ) → List NormalTerm → List NormalTerm
+changed f [] = []
+changed f (t ∷ ts) = kept t (f (t.var.0) t.coef) ++ changed f ts
+
+-- a coefficient where the variable x goes
+abbrev pub less : ℕ → ℕ → ℕ → ℕ
+less x v c = if v == x then 0 else c
+
+-- a coefficient times k
+abbrev pub times : ℕ → ℕ → ℕ → ℕ
+times k v c = k * c
+
+-- a coefficient divided by k, rounded up
+abbrev pub parts : ℕ → ℕ → ℕ → ℕ
+parts k v c = div_ceil c k

@@ -6,7 +6,7 @@ ghost use Rattle.normal_form.specs.Normal.{IsNormal, Holds};
 ghost use Rattle.cut_rules.specs.Rules.{IsAxiom};
 
 use linear::Lit;
-use normal_form::{CutFault, Normal};
+use normal_form::{CutFault, Normal, NormalBuilder, NormalTerm};
 use std::alloc::Global;
 
 /// The constraint `1 l >= 0`, which holds everywhere.
@@ -16,5 +16,11 @@ pub fn axiom(alloc: Global, literal: Lit) -> Result<Normal, CutFault>
     ensures keeps { IfOk result (λ r. (a : Valuation) → Holds a r) }
     ensures others { OnErr result (IsErrOf result CutFault.OutOfMemory) }
 {
-    Err(CutFault::OutOfMemory)
+    let mut terms = NormalBuilder::new(alloc);
+    terms.push(NormalTerm {
+        coef: 1,
+        var: literal.var,
+        negated: literal.negated,
+    })?;
+    terms.finish(0)
 }

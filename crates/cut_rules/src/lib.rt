@@ -3,7 +3,9 @@
 
 mod addition;
 mod axioms;
+mod changes;
 mod division;
+mod laws;
 mod merging;
 mod multiplication;
 mod saturation;
@@ -12,6 +14,10 @@ mod weakening;
 pub use addition::add;
 pub use axioms::axiom;
 pub use division::divide;
+pub use laws::{
+    axiom_holds, multiple_holds, one_result, quotient_holds, saturation_holds, sum_holds,
+    weakening_holds,
+};
 pub use multiplication::multiply;
 pub use saturation::saturate;
 pub use weakening::weaken;

@@ -1,12 +1,26 @@
 //! Saturation: a coefficient above the degree says no more than the degree.
 
-ghost use Rattle.std.specs.Prelude.{◌≡◌, IfOk, OnErr, IsErrOf};
+ghost use Rattle.std.specs.Prelude.{◌≡◌, min, IfOk, OnErr, IsErrOf};
 ghost use Rattle.linear.specs.Valuation.{Valuation};
 ghost use Rattle.normal_form.specs.Normal.{IsNormal, Holds};
 ghost use Rattle.cut_rules.specs.Rules.{IsSaturation};
+ghost use Rattle.cut_rules.specs.Steps.{changed};
 
-use normal_form::{CutFault, Normal};
-use std::alloc::Global;
+use super::changes::push_kept;
+use normal_form::{CutFault, Normal, NormalBuilder};
+use std::alloc::{AllocError, Global};
+
+// The terms, each coefficient at most the cap.
+fn capped(alloc: Global, constraint: &Normal, cap: u128) -> Result<NormalBuilder, AllocError>
+    ensures { IfOk result (λ b. b ≡ changed (λ _ c. min c cap) constraint.now.terms) }
+{
+    let mut terms = NormalBuilder::with_capacity(alloc, constraint.len())?;
+    for place in 0..constraint.len() {
+        let term = constraint.term(place);
+        push_kept(&mut terms, term, term.coef.min(cap))?;
+    }
+    Ok(terms)
+}
 
 /// Each coefficient becomes the less of itself and the degree; terms that become 0 go. The result is always
 /// within the limits.
@@ -16,5 +30,7 @@ pub fn saturate(alloc: Global, constraint: &Normal) -> Result<Normal, CutFault>
     ensures keeps { IfOk result (λ r. (a : Valuation) → Holds a constraint.now → Holds a r) }
     ensures others { OnErr result (IsErrOf result CutFault.OutOfMemory) }
 {
-    Err(CutFault::OutOfMemory)
+    let degree = constraint.degree();
+    let terms = capped(alloc, constraint, degree)?;
+    terms.finish(degree)
 }

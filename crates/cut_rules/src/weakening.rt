@@ -1,13 +1,45 @@
 //! Weakening: a variable goes, at the price of its coefficient.
 
-ghost use Rattle.std.specs.Prelude.{◌≡◌, IfOk, OnErr, IsErrOf};
+ghost use Rattle.std.specs.Prelude.{◌≡◌, ◌+◌, false, true, IfOk, OnErr, IsErrOf};
 ghost use Rattle.linear.specs.Valuation.{Valuation};
-ghost use Rattle.normal_form.specs.Normal.{IsNormal, Holds};
+ghost use Rattle.normal_form.specs.Normal.{IsNormal, Holds, coefficient};
 ghost use Rattle.cut_rules.specs.Rules.{IsWeakening};
+ghost use Rattle.cut_rules.specs.Steps.{changed, less};
 
+use super::changes::push_kept;
 use linear::Var;
-use normal_form::{CutFault, Normal};
-use std::alloc::Global;
+use normal_form::{CutFault, Normal, NormalBuilder, NormalTerm};
+use std::alloc::{AllocError, Global};
+
+// The terms without a variable, and the coefficient that went.
+#[derive(Drop)]
+struct Weakened {
+    terms: NormalBuilder,
+    gone: u128,
+}
+
+// The coefficient that a term keeps.
+fn kept_coefficient(term: NormalTerm, var: Var) -> u128
+    ensures { result ≡ less (var.0) (term.var.0) term.coef }
+{
+    if term.var.0 == var.0 { 0 } else { term.coef }
+}
+
+// Leaves out the term of a variable.
+fn without(alloc: Global, constraint: &Normal, var: Var) -> Result<Weakened, AllocError>
+    ensures terms { IfOk result (λ w. w.terms ≡ changed (less (var.0)) constraint.now.terms) }
+    ensures gone { IfOk result (λ w. w.gone ≡ coefficient constraint.now (var.0) false + coefficient constraint.now (var.0) true) }
+{
+    let mut terms = NormalBuilder::with_capacity(alloc, constraint.len())?;
+    let mut gone: u128 = 0;
+    for place in 0..constraint.len() {
+        let term = constraint.term(place);
+        let coef = kept_coefficient(term, var);
+        push_kept(&mut terms, term, coef)?;
+        gone += term.coef - coef;
+    }
+    Ok(Weakened { terms, gone })
+}
 
 /// The term of a variable goes, and the degree falls by its coefficient, not below 0; a constraint without the
 /// variable stays as it is. The result is always within the limits.
@@ -17,5 +49,7 @@ pub fn weaken(alloc: Global, constraint: &Normal, var: Var) -> Result<Normal, Cu
     ensures keeps { IfOk result (λ r. (a : Valuation) → Holds a constraint.now → Holds a r) }
     ensures others { OnErr result (IsErrOf result CutFault.OutOfMemory) }
 {
-    Err(CutFault::OutOfMemory)
+    let weakened = without(alloc, constraint, var)?;
+    let degree = constraint.degree().saturating_sub(weakened.gone);
+    weakened.terms.finish(degree)
 }

@@ -1,10 +1,9 @@
 -- Each step reads the terms of the least variable on both sides.
-use Rattle.std.proofs.Common.{rules, ◌≡◌, ℕ, Bool, ◌+◌, ◌^◌, ◌≤◌, ◌<◌, min, pos, ◌+ℤ◌, unsigned_abs, drop, [], List, ℤ, FitsSigned, to_z, of_z, arith, ap, ◌∙◌}
+use Rattle.std.proofs.Common.{◌≡◌, ℕ, ◌+◌, ◌≤◌, ◌+ℤ◌, unsigned_abs, drop, ℤ, to_z, of_z, arith, ap}
 use mir.Syntax.{w128}
-use Rattle.std.proofs.lemmas.Int.{to_z-of_z, ints}
-use Rattle.normal_form.specs.Normal.{largest_sum, total, variable_bound, Rises}
-use Rattle.normal_form.specs.Balance.{rise_of, rises_of}
-use Rattle.cut_rules.specs.Steps.{first_variable, SumBalances}
+use Rattle.std.proofs.lemmas.Int.{ints}
+use Rattle.normal_form.specs.Normal.{largest_sum, total}
+use Rattle.normal_form.specs.Balance.{rises_of}
 use Rattle.cut_rules.proofs.Steps.{rises_from, first_above, balance_step, within_step}
 use Rattle.cut_rules.proofs.merging.merge.Goals as goal
 

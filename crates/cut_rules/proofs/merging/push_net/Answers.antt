@@ -6,7 +6,7 @@ use Rattle.std.proofs.lemmas.Result.{on_ok_weaker}
 use Rattle.std.proofs.lemmas.Int.{to_z-of_z}
 use Rattle.normal_form.specs.declared.term.NormalTerm.{NormalTerm}
 use Rattle.normal_form.specs.Normal.{total, Rises, variable_bound}
-use Rattle.normal_form.specs.Balance.{rise_of, rises_of}
+use Rattle.normal_form.specs.Balance.{rises_of}
 use Rattle.normal_form.proofs.Runs.{rises_of_push, rise_of_net}
 use Rattle.normal_form.proofs.Sums.{sum_over_push, rises_push}
 use Rattle.cut_rules.proofs.merging.push_net.Goals as goal

@@ -1,9 +1,8 @@
 -- A coefficient is at most the sum of all.
-use Rattle.std.proofs.Common.{rules, ◌≡◌, ◌≤◌, arith, FitsSigned, to_z, of_z, ap, ◌∙◌}
+use Rattle.std.proofs.Common.{rules, ◌≡◌, arith, FitsSigned, to_z, of_z, ap}
 use mir.Syntax.{w128}
-use Rattle.std.specs.Prelude.{ℤ, unsigned_abs}
+use Rattle.std.specs.Prelude.{unsigned_abs}
 use Rattle.std.proofs.lemmas.Int.{to_z-of_z}
-use Rattle.normal_form.specs.Normal.{largest_sum, total}
 use Rattle.cut_rules.proofs.Steps.{coefficient_at}
 use Rattle.cut_rules.proofs.merging.read_part.Goals as goal
 
