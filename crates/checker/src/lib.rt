@@ -3,6 +3,8 @@
 
 mod checking;
 mod judge;
+#[cfg(test)]
+mod tests;
 mod text;
 mod verdict;
 

@@ -78,7 +78,8 @@ fn read_item(token: Token<'_>, behind: Behind, names: &mut Names) -> Result<Item
     match token.kind {
         Kind::Integer => read_number(token, behind),
         Kind::Literal => read_literal(token, behind, names),
-        Kind::Other => read_operation(token),
+        // `s` begins with a letter and is no name, so its kind is that of a misspelt one.
+        Kind::Other | Kind::Misspelt => read_operation(token),
         _ => Err(ProofFault::BadLine),
     }
 }

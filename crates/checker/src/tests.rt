@@ -1,0 +1,153 @@
+//! Worked cases from bytes to the printed verdict and the exit status. The expected texts are those of the formats.
+
+use super::{check, verdict_status, verdict_text};
+use std::process::Abort;
+use std::test::Fail;
+
+/// A problem, the lines of its proof between the count and the output, and what is printed for it.
+#[derive(Drop)]
+struct Case<'a> {
+    opb: &'a str,
+    proof: &'a str,
+    text: &'a str,
+    status: u8,
+}
+
+fn run<R: Abort + AllocGlobal>(rt: &R, case: &Case<'_>) -> Result<(), Fail> {
+    let verdict = check(rt.alloc(), case.opb.as_bytes(), case.proof.as_bytes());
+    let text = verdict_text(rt.alloc(), case.opb.as_bytes(), &verdict)?;
+    assert_eq!(rt; text.as_slice(), case.text.as_bytes(), "for {}", case.proof);
+    assert_eq!(rt; verdict_status(&verdict), case.status);
+    Ok(())
+}
+
+const PIGEONS: &str =
+    "1 x1 1 x2 >= 1 ; 1 x3 1 x4 >= 1 ; 1 x5 1 x6 >= 1 ; -1 x1 -1 x3 -1 x5 >= -1 ; -1 x2 -1 x4 -1 x6 >= -1 ;";
+
+#[test]
+fn three_pigeons_two_holes(rt: HostRuntime) -> Result<(), Fail> {
+    run(
+        &rt,
+        &Case {
+            opb: PIGEONS,
+            proof: "pseudo-Boolean proof version 2.0\nf 5\npol 1 2 + 3 + 4 + 5 +\noutput NONE\nconclusion UNSAT\nend pseudo-Boolean proof\n",
+            text: "accepted UNSAT\n",
+            status: 0,
+        },
+    )?;
+    run(
+        &rt,
+        &Case {
+            opb: PIGEONS,
+            proof: "pseudo-Boolean proof version 2.0\nf 5\npol 1 2 +\noutput NONE\nconclusion UNSAT\nend pseudo-Boolean proof\n",
+            text: "refused line 5 code 24 LowerNotShown\n",
+            status: 1,
+        },
+    )?;
+    run(
+        &rt,
+        &Case {
+            opb: PIGEONS,
+            proof: "pseudo-Boolean proof version 2.0\nf 5\npol 1 2 + 3 + 4 + 5 +\noutput NONE\n",
+            text: "refused line 5 code 6 Truncated\n",
+            status: 1,
+        },
+    )?;
+    run(
+        &rt,
+        &Case {
+            opb: PIGEONS,
+            proof: "pseudo-Boolean proof version 2.0\nf 4\npol 1 2 + 3 + 4 + 5 +\n",
+            text: "refused line 2 code 2 BadCount\n",
+            status: 1,
+        },
+    )
+}
+
+#[test]
+fn all_rules_and_an_equality(rt: HostRuntime) -> Result<(), Fail> {
+    run(
+        &rt,
+        &Case {
+            opb: "5 x1 2 x2 >= 3 ; -1 x1 >= 0 ;",
+            proof: "pseudo-Boolean proof version 2.0\nf 2\npol 1 s x2 w 3 d 2 +\noutput NONE\nconclusion UNSAT\nend pseudo-Boolean proof",
+            text: "accepted UNSAT\n",
+            status: 0,
+        },
+    )?;
+    run(
+        &rt,
+        &Case {
+            opb: "2 x1 2 x2 = 1 ;",
+            proof: "pseudo-Boolean proof version 2.0\nf 2\npol 1 2 d 2 2 d +\noutput NONE\nconclusion UNSAT\nend pseudo-Boolean proof\n",
+            text: "accepted UNSAT\n",
+            status: 0,
+        },
+    )?;
+    run(
+        &rt,
+        &Case {
+            opb: "1 x1 1 x2 >= 1",
+            proof: "",
+            text: "bad problem line 1 code 3 NoSemicolon\n",
+            status: 2,
+        },
+    )
+}
+
+/// Line 3 of a proof of `1 x1 1 x2 >= 1 ;` that concludes nothing, and the fault that is printed, or none.
+fn third_line<R: Abort + AllocGlobal>(
+    rt: &R,
+    line: &str,
+    text: &str,
+    status: u8,
+) -> Result<(), Fail> {
+    let mut proof = String::from_str(rt.alloc(), "pseudo-Boolean proof version 2.0\nf 1\n")?;
+    proof.push_str(line)?;
+    proof.push_str("\noutput NONE\nconclusion NONE\nend pseudo-Boolean proof\n")?;
+    run(
+        rt,
+        &Case {
+            opb: "1 x1 1 x2 >= 1 ;",
+            proof: proof.as_str(),
+            text,
+            status,
+        },
+    )
+}
+
+#[test]
+fn steps_and_their_faults(rt: HostRuntime) -> Result<(), Fail> {
+    third_line(&rt, "pol 1 -1 +", "accepted NONE\n", 0)?;
+    third_line(&rt, "pol 2", "refused line 3 code 10 DeadId\n", 1)?;
+    third_line(&rt, "pol 0", "refused line 3 code 10 DeadId\n", 1)?;
+    third_line(&rt, "pol 1 +", "refused line 3 code 11 StackShape\n", 1)?;
+    third_line(&rt, "pol 1 1", "refused line 3 code 11 StackShape\n", 1)?;
+    third_line(&rt, "pol 1 0 d", "refused line 3 code 12 BadFactor\n", 1)?;
+    third_line(
+        &rt,
+        "pol 1 664613997892457936451903530140172288 *",
+        "accepted NONE\n",
+        0,
+    )?;
+    third_line(
+        &rt,
+        "pol 1 664613997892457936451903530140172289 *",
+        "refused line 3 code 13 TooLarge\n",
+        1,
+    )
+}
+
+#[test]
+fn lines_that_are_not_read(rt: HostRuntime) -> Result<(), Fail> {
+    third_line(
+        &rt,
+        "pol 1 1329227995784915872903807060280344577 *",
+        "refused line 3 code 8 IntegerTooLarge\n",
+        1,
+    )?;
+    third_line(&rt, "pol s d", "refused line 3 code 5 BadLine\n", 1)?;
+    third_line(&rt, "foo 1", "refused line 3 code 3 UnknownRule\n", 1)?;
+    third_line(&rt, "solx x1", "refused line 3 code 4 RuleLeftOut\n", 1)?;
+    third_line(&rt, "f 1", "refused line 3 code 5 BadLine\n", 1)
+}
