@@ -1,6 +1,6 @@
 # The door for people. `make` builds the programs into bin/, from nothing too; `make test` runs the gate: every proof from
 # nothing, the edits that must fail, and the tests; `make demo` runs the checker on three pigeons in two holes.
-.PHONY: all test demo check
+.PHONY: all test demo check refused-growths
 
 all: bin/pbcheck
 
@@ -19,3 +19,8 @@ demo: bin/pbcheck
 # What is quick while one works: every crate, over what earlier runs kept.
 check:
 	rt all check
+
+# Refuses each growth of a run in turn: the answer stays the ample one, or is `no memory`. Beside the gate: it wants a C compiler.
+refused-growths: bin/pbcheck
+	scripts/refused-growths examples/pigeons.opb examples/pigeons.pbp "accepted UNSAT"
+	scripts/refused-growths examples/pigeons.opb examples/pigeons-too-short.pbp "refused line 5 code 24 LowerNotShown"

@@ -1,12 +1,11 @@
 //! Judging a proof line by line: each line is read and then judged, so the first line with a fault decides.
 
-ghost use Rattle.std.specs.Prelude.{◌≡◌, ◌<◌, IfOk, OnOk, length};
+ghost use Rattle.std.specs.Prelude.{◌≡◌, ◌<◌, IfOk, OnOk, IsTrue, length};
 ghost use Rattle.kernel.specs.Claim.{Claim};
-ghost use Rattle.kernel.specs.State.{IsPol};
-ghost use Rattle.proof_text.specs.Read.{IsJudgedLine};
+ghost use Rattle.kernel.specs.Held.{IsPol, IsJudged};
 
 use super::verdict::Code;
-use kernel::{Accepted, Kernel, Step, StepFault};
+use kernel::{Accepted, Conclusion, Kernel, Step, StepFault};
 use linear::{Names, Problem};
 use proof_text::{Line, Place, ProofFault, ProofReader, read_line};
 use std::alloc::{AllocError, Global};
@@ -56,8 +55,7 @@ struct Lines<'a> {
 impl<'a> Lines<'a> {
     /// The next line that counts, as what it says at its place.
     fn next(&mut self, place: Place) -> Result<Read, Stop>
-        ensures judged { IfOk result (λ read. IsJudgedLine read.line) }
-        ensures left { OnOk result (length self.new.reader < length self.old.reader) }
+        ensures left { OnOk result (length self.new.reader.lines < length self.old.reader.lines) }
     {
         let Some(line) = self.reader.next() else {
             let end = self.reader.end_number();
@@ -126,13 +124,36 @@ fn judge_steps(lines: &mut Lines<'_>, kernel: &mut Kernel) -> Result<(), Stop>
     }
 }
 
+/// Judges a step. What reads well and is not judged yet is left out.
 fn judge_step(kernel: &mut Kernel, step: &Step, number: u64) -> Result<(), Stop>
-    requires { IsPol step.now }
     ensures { kernel.new.problem ≡ kernel.old.problem }
 {
+    if !is_judged_step(step) {
+        return Err(stop_reading(number, ProofFault::RuleLeftOut));
+    }
     match kernel.apply(step) {
         Ok(_) => Ok(()),
         Err(fault) => Err(stop_judging(number, fault)),
+    }
+}
+
+/// Whether the kernel judges steps of this kind so far.
+fn is_judged_step(step: &Step) -> bool
+    ensures { IsTrue result → IsPol step.now }
+{
+    match step {
+        Step::Pol(_) => true,
+        _ => false,
+    }
+}
+
+/// Whether the kernel judges conclusions of this kind so far.
+fn is_judged_conclusion(conclusion: &Conclusion) -> bool
+    ensures { IsTrue result → IsJudged conclusion.now }
+{
+    match conclusion {
+        Conclusion::Nothing | Conclusion::Unsat => true,
+        _ => false,
     }
 }
 
@@ -142,10 +163,15 @@ fn judge_conclusion(lines: &mut Lines<'_>, kernel: &mut Kernel) -> Result<Accept
 {
     let Read { number, line } = lines.next(Place::Conclusion)?;
     match line {
-        Line::Conclusion(conclusion) => match kernel.conclude(&conclusion) {
-            Ok(accepted) => Ok(accepted),
-            Err(fault) => Err(stop_judging(number, fault)),
-        },
+        Line::Conclusion(conclusion) => {
+            if !is_judged_conclusion(&conclusion) {
+                return Err(stop_reading(number, ProofFault::RuleLeftOut));
+            }
+            match kernel.conclude(&conclusion) {
+                Ok(accepted) => Ok(accepted),
+                Err(fault) => Err(stop_judging(number, fault)),
+            }
+        }
         _ => Err(stop_reading(number, ProofFault::BadLine)),
     }
 }

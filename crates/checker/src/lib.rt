@@ -2,6 +2,8 @@
 #![tactic(auto)]
 
 mod checking;
+#[cfg(test)]
+mod damaged_tests;
 mod judge;
 #[cfg(test)]
 mod tests;

@@ -95,6 +95,100 @@ fn all_rules_and_an_equality(rt: HostRuntime) -> Result<(), Fail> {
     )
 }
 
+/// Line 3 of a proof of `1 x1 1 x2 >= 1 ; 1 ~x1 1 ~x2 >= 1 ;` that concludes nothing, and what is printed.
+fn third_line_of_two<R: Abort + AllocGlobal>(
+    rt: &R,
+    line: &str,
+    text: &str,
+    status: u8,
+) -> Result<(), Fail> {
+    let proof = format!(in rt.alloc(); "pseudo-Boolean proof version 2.0\nf 2\n{line}\noutput NONE\nconclusion NONE\nend pseudo-Boolean proof\n")?;
+    run(
+        rt,
+        &Case {
+            opb: "1 x1 1 x2 >= 1 ; 1 ~x1 1 ~x2 >= 1 ;",
+            proof: proof.as_str(),
+            text,
+            status,
+        },
+    )
+}
+
+/// Half of 2^120 is 664613997892457936451903530140172288: twice that much cancels before the limit is asked, and what does
+/// not cancel is above it.
+#[test]
+fn rules_at_the_limits(rt: HostRuntime) -> Result<(), Fail> {
+    third_line_of_two(
+        &rt,
+        "pol 1 664613997892457936451903530140172288 * 2 664613997892457936451903530140172288 * +",
+        "accepted NONE\n",
+        0,
+    )?;
+    third_line_of_two(
+        &rt,
+        "pol 1 664613997892457936451903530140172288 * 1 +",
+        "refused line 3 code 13 TooLarge\n",
+        1,
+    )?;
+    third_line_of_two(&rt, "pol 1 3 * 2 d", "accepted NONE\n", 0)?;
+    third_line_of_two(
+        &rt,
+        "pol 1 -1 *",
+        "refused line 3 code 12 BadFactor\n",
+        1,
+    )?;
+    third_line_of_two(&rt, "p 1 ~x1 + ;", "accepted NONE\n", 0)?;
+    third_line_of_two(&rt, "pol 1 2", "refused line 3 code 11 StackShape\n", 1)
+}
+
+/// Items are judged from left to right, and for one item a dead id comes first, then too few constraints, then a factor.
+#[test]
+fn the_first_fault_decides(rt: HostRuntime) -> Result<(), Fail> {
+    third_line_of_two(&rt, "pol 3 +", "refused line 3 code 10 DeadId\n", 1)?;
+    third_line_of_two(&rt, "pol 1 + 3", "refused line 3 code 11 StackShape\n", 1)?;
+    third_line_of_two(&rt, "pol 0 *", "refused line 3 code 11 StackShape\n", 1)?;
+    third_line_of_two(&rt, "pol 1 0 * 7", "refused line 3 code 12 BadFactor\n", 1)?;
+    third_line_of_two(&rt, "pol 1 7 0 *", "refused line 3 code 10 DeadId\n", 1)?;
+    third_line_of_two(&rt, "pol -3", "refused line 3 code 10 DeadId\n", 1)?;
+    third_line_of_two(&rt, "pol", "refused line 3 code 11 StackShape\n", 1)
+}
+
+/// An equality takes two ids, the `>=` direction first, and is counted twice.
+#[test]
+fn an_equality_takes_two_ids(rt: HostRuntime) -> Result<(), Fail> {
+    let opb = "1 x1 1 x2 = 1 ; 1 x1 1 x2 >= 2 ;";
+    let proof = "pseudo-Boolean proof version 2.0\nf 3\npol 2 3 +\noutput NONE\nconclusion UNSAT\nend pseudo-Boolean proof\n";
+    let with_the_first = "pseudo-Boolean proof version 2.0\nf 3\npol 1 3 +\noutput NONE\nconclusion UNSAT\nend pseudo-Boolean proof\n";
+    let counted_once = "pseudo-Boolean proof version 2.0\nf 2\n";
+    run(
+        &rt,
+        &Case {
+            opb,
+            proof,
+            text: "accepted UNSAT\n",
+            status: 0,
+        },
+    )?;
+    run(
+        &rt,
+        &Case {
+            opb,
+            proof: with_the_first,
+            text: "refused line 5 code 24 LowerNotShown\n",
+            status: 1,
+        },
+    )?;
+    run(
+        &rt,
+        &Case {
+            opb,
+            proof: counted_once,
+            text: "refused line 2 code 2 BadCount\n",
+            status: 1,
+        },
+    )
+}
+
 /// Line 3 of a proof of `1 x1 1 x2 >= 1 ;` that concludes nothing, and the fault that is printed, or none.
 fn third_line<R: Abort + AllocGlobal>(
     rt: &R,
@@ -123,6 +217,7 @@ fn steps_and_their_faults(rt: HostRuntime) -> Result<(), Fail> {
     third_line(&rt, "pol 0", "refused line 3 code 10 DeadId\n", 1)?;
     third_line(&rt, "pol 1 +", "refused line 3 code 11 StackShape\n", 1)?;
     third_line(&rt, "pol 1 1", "refused line 3 code 11 StackShape\n", 1)?;
+    third_line(&rt, "pol 1 d", "refused line 3 code 11 StackShape\n", 1)?;
     third_line(&rt, "pol 1 0 d", "refused line 3 code 12 BadFactor\n", 1)?;
     third_line(
         &rt,

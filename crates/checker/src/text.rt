@@ -1,32 +1,47 @@
 //! What is printed for a verdict.
 
+ghost use Rattle.std.specs.Prelude.{◌≡◌, ℕ, List, ◌++◌, IfOk, OnOk};
+ghost use Rattle.checker.specs.Printed.{IsPrinted, IsAcceptedText, with_fault, with_conclusion, with_lower, with_upper};
+
 use super::verdict::Verdict;
 use itoa::Buffer;
 use kernel::{Accepted, Conclusion, Lower, Upper};
 use linear::{Assignment, Var};
-use opb_read::read;
+use opb_read::{OpbCode, read};
 use std::alloc::{AllocError, Global};
 
 /// The text of a verdict, each line ended by LF: `accepted ..` and the `v` line of the best assignment where there is one,
 /// `refused line L code C Name`, `bad problem line L code C Name`, or `no memory`.
-pub fn verdict_text(alloc: Global, opb: &[u8], verdict: &Verdict) -> Result<Vec<u8>, AllocError> {
-    let mut out = Vec::new(alloc);
+pub fn verdict_text(alloc: Global, opb: &[u8], verdict: &Verdict) -> Result<Vec<u8>, AllocError>
+    ensures { IfOk result (λ text. IsPrinted verdict.now text.items) }
+{
     match verdict {
-        Verdict::Accepted(accepted) => write_accepted(alloc, &mut out, opb, accepted)?,
+        Verdict::Accepted(accepted) => accepted_text(alloc, opb, accepted),
         Verdict::Refused { line, code } => {
-            out.extend_from_slice(b"refused")?;
-            write_fault(&mut out, *line, code.number(), code.name())?;
+            fault_text(alloc, b"refused", *line, code.number(), code.name())
         }
-        Verdict::BadProblem(fault) => {
-            out.extend_from_slice(b"bad problem")?;
-            write_fault(&mut out, fault.line, fault.code.number(), fault.name())?;
-        }
-        Verdict::NoMemory => out.extend_from_slice(b"no memory\n")?,
+        Verdict::BadProblem(fault) => fault_text(
+            alloc,
+            b"bad problem",
+            fault.line,
+            fault.code.number(),
+            fault.name(),
+        ),
+        Verdict::NoMemory => Vec::from_slice(alloc, b"no memory\n"),
     }
-    Ok(out)
 }
 
-fn write_fault(out: &mut Vec<u8>, line: u64, number: u8, name: &str) -> Result<(), AllocError> {
+/// A line of what is wrong, and where.
+fn fault_text(
+    alloc: Global,
+    what: &[u8],
+    line: u64,
+    number: u8,
+    name: &str,
+) -> Result<Vec<u8>, AllocError>
+    ensures { IfOk result (λ text. text.items ≡ with_fault what.now line number name.now) }
+{
+    let mut out = Vec::from_slice(alloc, what)?;
     let mut buffer = Buffer::new();
     out.extend_from_slice(b" line ")?;
     out.extend_from_slice(buffer.format(line).as_bytes())?;
@@ -34,35 +49,42 @@ fn write_fault(out: &mut Vec<u8>, line: u64, number: u8, name: &str) -> Result<(
     out.extend_from_slice(buffer.format(number).as_bytes())?;
     out.extend_from_slice(b" ")?;
     out.extend_from_slice(name.as_bytes())?;
-    out.extend_from_slice(b"\n")
+    out.extend_from_slice(b"\n")?;
+    Ok(out)
 }
 
-fn write_accepted(
-    alloc: Global,
-    out: &mut Vec<u8>,
-    opb: &[u8],
-    accepted: &Accepted,
-) -> Result<(), AllocError> {
-    out.extend_from_slice(b"accepted ")?;
-    match accepted.conclusion() {
-        Conclusion::Nothing => out.extend_from_slice(b"NONE")?,
-        Conclusion::Sat(_) => out.extend_from_slice(b"SAT")?,
-        Conclusion::Unsat => out.extend_from_slice(b"UNSAT")?,
+/// The conclusion, and the `v` line of the best assignment where there is one.
+fn accepted_text(alloc: Global, opb: &[u8], accepted: &Accepted) -> Result<Vec<u8>, AllocError>
+    ensures { IfOk result (λ text. IsAcceptedText accepted.now text.items) }
+{
+    let mut out = Vec::from_slice(alloc, b"accepted ")?;
+    write_conclusion(&mut out, accepted.conclusion())?;
+    out.extend_from_slice(b"\n")?;
+    if let Some(best) = accepted.best() {
+        write_best(alloc, &mut out, opb, best)?;
+    }
+    Ok(out)
+}
+
+fn write_conclusion(out: &mut Vec<u8>, conclusion: &Conclusion) -> Result<(), AllocError>
+    ensures { OnOk result (out.new.items ≡ with_conclusion out.old.items conclusion.now) }
+{
+    match conclusion {
+        Conclusion::Nothing => out.extend_from_slice(b"NONE"),
+        Conclusion::Sat(_) => out.extend_from_slice(b"SAT"),
+        Conclusion::Unsat => out.extend_from_slice(b"UNSAT"),
         Conclusion::Bounds(lower, upper, _) => {
             out.extend_from_slice(b"BOUNDS ")?;
             write_lower(out, *lower)?;
             out.extend_from_slice(b" ")?;
-            write_upper(out, *upper)?;
+            write_upper(out, *upper)
         }
-    }
-    out.extend_from_slice(b"\n")?;
-    match accepted.best() {
-        Some(best) => write_best(alloc, out, opb, best),
-        None => Ok(()),
     }
 }
 
-fn write_lower(out: &mut Vec<u8>, lower: Lower) -> Result<(), AllocError> {
+fn write_lower(out: &mut Vec<u8>, lower: Lower) -> Result<(), AllocError>
+    ensures { OnOk result (out.new.items ≡ with_lower out.old.items lower) }
+{
     match lower {
         Lower::MinusInf => out.extend_from_slice(b"-INF"),
         Lower::At(bound) => {
@@ -73,7 +95,9 @@ fn write_lower(out: &mut Vec<u8>, lower: Lower) -> Result<(), AllocError> {
     }
 }
 
-fn write_upper(out: &mut Vec<u8>, upper: Upper) -> Result<(), AllocError> {
+fn write_upper(out: &mut Vec<u8>, upper: Upper) -> Result<(), AllocError>
+    ensures { OnOk result (out.new.items ≡ with_upper out.old.items upper) }
+{
     match upper {
         Upper::At(bound) => {
             let mut buffer = Buffer::new();
@@ -90,9 +114,13 @@ fn write_best(
     out: &mut Vec<u8>,
     opb: &[u8],
     best: &Assignment,
-) -> Result<(), AllocError> {
-    let Ok(problem) = read(alloc, opb) else {
-        return Ok(());
+) -> Result<(), AllocError>
+    ensures { OnOk result ((more : List ℕ) × (out.new.items ≡ out.old.items ++ more)) }
+{
+    let problem = match read(alloc, opb) {
+        Ok(problem) => problem,
+        Err(fault) if fault.code == OpbCode::OutOfMemory => return Err(AllocError),
+        Err(_) => return Ok(()),
     };
     if problem.names().len() != best.len() {
         return Ok(());
@@ -100,15 +128,21 @@ fn write_best(
     out.extend_from_slice(b"v")?;
     let mut number: u32 = 0;
     for value in best.as_slice() {
-        out.extend_from_slice(if *value {
-            b" ".as_slice()
-        } else {
-            b" -".as_slice()
-        })?;
-        if let Some(name) = problem.names().get(Var(number)) {
-            out.extend_from_slice(name)?;
-        }
+        write_value(out, *value, problem.names().get(Var(number)))?;
         number = number.saturating_add(1);
     }
     out.extend_from_slice(b"\n")
+}
+
+/// A variable's name, with `-` before it where the variable is false.
+fn write_value(out: &mut Vec<u8>, value: bool, name: Option<&[u8]>) -> Result<(), AllocError>
+    ensures { OnOk result ((more : List ℕ) × (out.new.items ≡ out.old.items ++ more)) }
+{
+    let sign = if value {
+        b" ".as_slice()
+    } else {
+        b" -".as_slice()
+    };
+    out.extend_from_slice(sign)?;
+    out.extend_from_slice(name.unwrap_or(&[]))
 }

@@ -1,5 +1,8 @@
 //! What the checker answers.
 
+ghost use Rattle.std.specs.Prelude.{◌≡◌};
+ghost use Rattle.checker.specs.Printed.{status_of};
+
 use kernel::{Accepted, StepFault};
 use opb_read::OpbFault;
 use proof_text::ProofFault;
@@ -12,8 +15,13 @@ pub enum Code {
 }
 
 impl Code {
+    ghost use Rattle.std.specs.Prelude.{◌≡◌};
+    ghost use Rattle.checker.specs.Printed.{number_of, name_of};
+
     /// The number that is printed.
-    pub fn number(self) -> u8 {
+    pub fn number(self) -> u8
+        ensures { result ≡ number_of self }
+    {
         match self {
             Code::Reading(fault) => fault.number(),
             Code::Judging(fault) => fault.number(),
@@ -21,7 +29,9 @@ impl Code {
     }
 
     /// The name that is printed.
-    pub fn name(self) -> &'static str {
+    pub fn name(self) -> &'static str
+        ensures { result.now ≡ name_of self }
+    {
         match self {
             Code::Reading(fault) => fault.name(),
             Code::Judging(fault) => fault.name(),
@@ -43,7 +53,9 @@ pub enum Verdict {
 }
 
 /// The exit status that stands for a verdict: 0 accepted, 1 refused, 2 bad problem, 4 want of memory.
-pub fn verdict_status(verdict: &Verdict) -> u8 {
+pub fn verdict_status(verdict: &Verdict) -> u8
+    ensures { result ≡ status_of verdict.now }
+{
     match verdict {
         Verdict::Accepted(_) => 0,
         Verdict::Refused { line: _, code: _ } => 1,

@@ -1,15 +1,25 @@
 -- The normal constraints of a file.
 use Rattle.std.proofs.Common.{◌≡◌, ℕ, ◌+◌, ◌*◌, ◌^◌, ◌<◌, ◌≤◌, List, [], ◌∷◌, ◌++◌, length, get_or, take, All, unsigned_abs, refl, sym, ap, subst, ◌∙◌, append_assoc, arith}
+use Rattle.std.proofs.lemmas.Int.{ints}
 use Rattle.std.proofs.lemmas.List.{append-nil, take_more, length-append}
-use Rattle.std.proofs.lemmas.List.Elements.{All-cons, All-get_or, All-head, All-tail, All-append}
+use Rattle.std.proofs.lemmas.List.Elements.{All-nil, All-cons, All-head, All-tail, All-append}
 use Rattle.linear.specs.declared.term.Term.{Term}
+use Rattle.linear.specs.declared.constraint.Relation.{Relation}
+use Rattle.linear.specs.declared.constraint.Relation.TheVariants as relations
 use Rattle.linear.specs.declared.constraint.Signed.{Signed}
+use Rattle.linear.specs.Valuation.{Valuation}
 use Rattle.linear.specs.Sum.{Meets}
 use Rattle.linear.specs.Opb.{Opb}
 use Rattle.linear.specs.Limits.{IsTermWithin, IsConstraintWithin}
-use Rattle.normal_form.specs.Normal.{NormalConstraint, Holds, largest_sum}
+use Rattle.normal_form.specs.Normal.{NormalConstraint, Holds, Rises, largest_sum}
 use Rattle.normal_form.specs.NormalOf.{size_sum}
-use Rattle.kernel.specs.State.{AreFormsOf, AreFormsOfAll, AddsForms, IsImplied}
+use Rattle.normal_form.proofs.NormalForm.{form_meaning}
+use Rattle.normal_form.proofs.Opposite.{both_meaning}
+use Rattle.kernel.specs.Claim.{IsSolution}
+use Rattle.kernel.specs.Forms.{AreFormsAs, AreFormsOf, AreFormsOfAll, AddsForms, ids_as, file_ids}
+use Rattle.kernel.specs.Preserved.{IsPreserved, AreNormal}
+use Rattle.kernel.specs.State.{State, IsStart}
+use Rattle.kernel.proofs.LiveConstraints.{All-numbered}
 
 -- terms within the limits have small sizes
 size_sum_small : (n : ℕ) (ts : List Term) → All (IsTermWithin n) ts → size_sum ts ≤ length ts * 2 ^ 62
@@ -39,20 +49,64 @@ forms_more cs i d old new h adds before =
     let all = AreFormsOfAll-push (take i cs) (get_or cs i d) old adds.0 before adds.2 in
     subst (λ xs. AreFormsOfAll xs new) (sym (take_more cs i d h)) (subst (AreFormsOfAll (take i cs ++ get_or cs i d ∷ [])) (sym adds.1) all)
 
-pub implied_more : (p : Opb) (i : ℕ) (d : Signed) (old new : List NormalConstraint) → i < length p.constraints → AddsForms (get_or p.constraints i d) old new
-    → IsImplied p old → IsImplied p new
-implied_more p i d old new h adds before a satisfies =
-    subst (All (Holds a)) (sym adds.1)
-    (All-append (Holds a) old adds.0 (before a satisfies) (adds.4 a (All-get_or (Meets a) p.constraints i d h satisfies)))
+-- the file's ids are those of its constraints
+forms_count : (r : Relation) (c : Signed) (ns : List NormalConstraint) → AreFormsAs r c ns → length ns ≡ ids_as r
+forms_count relations.AtLeast c ns (n, is, form) = ap length is
+forms_count relations.Equal c ns (n, m, is, form) = ap length is
 
-pub few_more : (c : Signed) (i : ℕ) (old new : List NormalConstraint) → AddsForms c old new → length old ≤ 2 * i → length new ≤ 2 * (i + 1)
-few_more c i old new adds few =
-    let long : length new ≡ length old + length adds.0 = ap length adds.1 ∙ length-append old adds.0 in
-    let two = adds.3 in
-    omega (arith, long, two)
+pub all_count : (cs : List Signed) (ns : List NormalConstraint) → AreFormsOfAll cs ns → length ns ≡ file_ids cs
+all_count [] ns empty = ap length empty
+all_count (c ∷ cs) ns (here, rest, is, form, forms) =
+    let two = forms_count c.relation c here form in
+    let more = all_count cs rest forms in
+    omega (arith, ap length is, length-append here rest, two, more)
 
-pub All-two : (P : NormalConstraint → Type 0) (n m : NormalConstraint) → P n → P m → All P (n ∷ m ∷ [])
-All-two P n m p q = All-cons P n (m ∷ []) p (All-cons P m [] q (λ k d h. absurd (omega (arith, h))))
+-- at most two for each constraint
+ids_few : (r : Relation) → ids_as r ≤ 2
+ids_few relations.AtLeast = omega arith
+ids_few relations.Equal = omega arith
+
+pub few_ids : (cs : List Signed) → file_ids cs ≤ 2 * length cs
+few_ids [] = omega arith
+few_ids (c ∷ cs) = omega (arith, ids_few c.relation, few_ids cs)
+
+All-one : (P : NormalConstraint → Type 0) (n : NormalConstraint) → P n → All P (n ∷ [])
+All-one P n p = All-cons P n [] p (All-nil P)
+
+-- the normal constraints of one that is met hold
+form_holds : (a : Valuation) (r : Relation) (c : Signed) (ns : List NormalConstraint) → c.relation ≡ r → AreFormsAs r c ns → Meets a c → All (Holds a) ns
+form_holds a relations.AtLeast c ns same (n, is, form) meets =
+    subst (All (Holds a)) (sym is) (All-one (Holds a) n ((form_meaning c n same form a).1 meets))
+form_holds a relations.Equal c ns same (n, m, is, forms) meets =
+    let both = (both_meaning c n m same forms a).1 meets in
+    subst (All (Holds a)) (sym is) (All-cons (Holds a) n (m ∷ []) both.0 (All-one (Holds a) m both.1))
+
+pub all_hold : (a : Valuation) (cs : List Signed) (ns : List NormalConstraint) → AreFormsOfAll cs ns → All (Meets a) cs → All (Holds a) ns
+all_hold a [] ns empty meets = subst (All (Holds a)) (sym empty) (All-nil (Holds a))
+all_hold a (c ∷ cs) ns (here, rest, is, form, forms) meets =
+    subst (All (Holds a)) (sym is)
+    (All-append (Holds a) here rest (form_holds a c.relation c here refl form (All-head (Meets a) c cs meets)) (all_hold a cs rest forms (All-tail (Meets a) c cs meets)))
+
+form_rises : (r : Relation) (c : Signed) (ns : List NormalConstraint) → AreFormsAs r c ns → All (λ n. Rises 0 n.terms) ns
+form_rises relations.AtLeast c ns (n, is, form) = subst (All (λ n. Rises 0 n.terms)) (sym is) (All-one (λ n. Rises 0 n.terms) n form.rises)
+form_rises relations.Equal c ns (n, m, is, forms) =
+    subst (All (λ n. Rises 0 n.terms)) (sym is) (All-cons (λ n. Rises 0 n.terms) n (m ∷ []) forms.least.rises (All-one (λ n. Rises 0 n.terms) m forms.most.rises))
+
+pub all_rise : (cs : List Signed) (ns : List NormalConstraint) → AreFormsOfAll cs ns → All (λ n. Rises 0 n.terms) ns
+all_rise [] ns empty = subst (All (λ n. Rises 0 n.terms)) (sym empty) (All-nil (λ n. Rises 0 n.terms))
+all_rise (c ∷ cs) ns (here, rest, is, form, forms) =
+    subst (All (λ n. Rises 0 n.terms)) (sym is) (All-append (λ n. Rises 0 n.terms) here rest (form_rises c.relation c here form) (all_rise cs rest forms))
+
+-- the state of a file has an answer for its problem: the assignment itself
+pub start_preserved : (p : Opb) (s : State) → IsStart p s → IsPreserved p s
+start_preserved p s (ns, forms, is) = subst (IsPreserved p) (sym is) (record {
+    answer = λ a satisfies below. (a, record { meets = All-numbered (Holds a) 1 ns (all_hold a p.constraints ns forms satisfies); value = omega (arith, ints) });
+    logged = All-nil (IsSolution p);
+    improve = tt;
+  })
+
+pub start_normal : (p : Opb) (s : State) → IsStart p s → AreNormal s
+start_normal p s (ns, forms, is) = subst AreNormal (sym is) (All-numbered (λ n. Rises 0 n.terms) 1 ns (all_rise p.constraints ns forms))
 
 -- the constraint that was read is the one at its place
 pub read_constraint : (cs shown : List Signed) (c : Signed) (i : ℕ) → shown ≡ cs → c ≡ get_or shown i c → c ≡ get_or cs i c

@@ -1,4 +1,14 @@
+pub mod Concluding
+pub mod Determined
+pub mod Faults
 pub mod FileForms
+pub mod Kept
+pub mod LiveConstraints
+pub mod NotLegal
+pub mod Numbered
 pub mod Places
 pub mod Polish
-pub mod Unsatisfiable
+pub mod Preserving
+pub mod ShownHolds
+pub mod SmallCases
+pub mod Values

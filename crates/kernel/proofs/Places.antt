@@ -5,7 +5,7 @@ use Rattle.std.specs.List.{slice_get}
 use Rattle.std.proofs.lemmas.Option.{slice_get-get_or}
 use Rattle.std.proofs.lemmas.Bool.Decides.{nat_tests}
 use Rattle.normal_form.specs.Normal.{NormalConstraint}
-use Rattle.kernel.specs.Expression.{place_of, constraint_of}
+use Rattle.kernel.specs.Places.{place_of, listed}
 use Rattle.kernel.specs.Stack.{no_constraint}
 
 -- a place that an id has is one of those given
@@ -23,5 +23,5 @@ place_of-below count (negsuc j) k e = by (ltb j count) refl e
     by false t e = absurd (cc)
 
 -- the constraint at the place of an id
-pub constraint_of-place : (live : List NormalConstraint) (id : ℤ) (k : ℕ) → place_of (length live) id ≡ Some k → constraint_of live id ≡ Some (get_or live k no_constraint)
-constraint_of-place live id k e = ap (option_and_then (slice_get live)) e ∙ slice_get-get_or live k no_constraint (place_of-below (length live) id k e)
+pub listed-place : (live : List NormalConstraint) (id : ℤ) (k : ℕ) → place_of (length live) id ≡ Some k → listed live id ≡ Some (get_or live k no_constraint)
+listed-place live id k e = ap (option_and_then (slice_get live)) e ∙ slice_get-get_or live k no_constraint (place_of-below (length live) id k e)

@@ -1,7 +1,6 @@
 -- The stack of a `pol` step, its top first.
 use Rattle.std.specs.Prelude.{◌<◌, List, [], All, length, map, reverse, slice_index_or, ⊤}
-use Rattle.linear.specs.Valuation.{Valuation}
-use Rattle.normal_form.specs.Normal.{NormalConstraint, Holds}
+use Rattle.normal_form.specs.Normal.{NormalConstraint}
 use Rattle.kernel.specs.declared.stack.Operand.{Operand}
 use Rattle.kernel.specs.declared.stack.Operand.TheVariants as operands
 
@@ -24,15 +23,10 @@ abbrev pub IsThere : List NormalConstraint → Operand → Type 0
 IsThere live (operands.Live place) = place < length live
 IsThere live (operands.Made n) = ⊤
 
--- a constraint holds wherever all live ones do
-abbrev pub Follows : List NormalConstraint → NormalConstraint → Type 0
-Follows live n = (a : Valuation) → All (Holds a) live → Holds a n
-
 -- the values of the operands, the last one first
 abbrev pub stack_of : List NormalConstraint → List Operand → List NormalConstraint
 stack_of live ops = reverse (map (operand_value live) ops)
 
--- what every evaluation keeps
-pub record IsSound (live : List NormalConstraint) (ops : List Operand) : Type 0 where
-  pub there : All (IsThere live) ops
-  pub follows : All (λ o. Follows live (operand_value live o)) ops
+-- every operand names a constraint that is there
+abbrev pub AreThere : List NormalConstraint → List Operand → Type 0
+AreThere live = All (IsThere live)

@@ -1,80 +1,63 @@
--- The state of a kernel: the problem, and the constraints given so far.
-use Rattle.std.specs.Prelude.{◌≡◌, ◌<◌, ◌≤◌, ◌^◌, List, [], ◌∷◌, ◌++◌, All, Any, length, ⊤}
-use Rattle.linear.specs.declared.constraint.Signed.{Signed}
-use Rattle.linear.specs.declared.constraint.Relation.{Relation}
-use Rattle.linear.specs.declared.constraint.Relation.TheVariants as relations
-use Rattle.linear.specs.Valuation.{Valuation}
-use Rattle.linear.specs.Sum.{Meets}
-use Rattle.linear.specs.Opb.{Opb, Satisfies}
-use Rattle.linear.specs.Limits.{IsWithin}
-use Rattle.normal_form.specs.Normal.{NormalConstraint, Holds}
-use Rattle.normal_form.specs.NormalOf.{IsNormalOf, IsBothOf}
-use Rattle.kernel.specs.declared.step.Step.{Step}
-use Rattle.kernel.specs.declared.step.Step.TheVariants as steps
-use Rattle.kernel.specs.declared.conclusion.Conclusion.{Conclusion}
-use Rattle.kernel.specs.declared.conclusion.Conclusion.TheVariants as conclusions
-use Rattle.kernel.specs.Contradiction.{IsContradiction}
-use Rattle.kernel.specs.Expression.{IsPolish}
+-- The state of a proof: the live constraints, and the solutions logged so far.
+use Rattle.std.specs.Prelude.{◌≡◌, ℕ, zero, suc, ◌+◌, ◌-◌, ◌<◌, ◌^◌, ℤ, pos, negsuc, Bool, List, [], ◌∷◌, ◌++◌, Option, None, length}
+use Rattle.std.specs.Ordering.{nat_cmp}
+use Rattle.std.specs.FinMap as map
+use Rattle.linear.specs.Opb.{Opb}
+use Rattle.normal_form.specs.Normal.{NormalConstraint}
+use Rattle.kernel.specs.Forms.{AreFormsOfAll}
 
--- a problem and its live constraints: that of id k stands at place k - 1
+-- live constraints by their ids
+abbrev pub Live : Type 0
+Live = map.FinMap nat_cmp NormalConstraint
+
 pub record State : Type 0 where
-  pub problem : Opb
-  pub live : List NormalConstraint
+  -- the live constraints
+  pub live : Live
+  -- the id that the next constraint takes; ids count from 1
+  pub next : ℕ
+  -- the least value of an improving solution, if there is one
+  pub improve : Option ℤ
+  -- the solutions, the first one first: the values of the file's variables
+  pub logged : List (List Bool)
+  -- the ids of the constraints that improving solutions added
+  pub improving : List ℕ
 
--- the normal constraints of a signed one: one of a `>=`, two of an equality
-abbrev pub AreFormsAs : Relation → Signed → List NormalConstraint → Type 0
-AreFormsAs relations.AtLeast c ns = (n : NormalConstraint) × (ns ≡ n ∷ []) × IsNormalOf c n
-AreFormsAs relations.Equal c ns = (n : NormalConstraint) × (m : NormalConstraint) × (ns ≡ n ∷ m ∷ []) × IsBothOf c n m
+-- the live constraints, by rising id
+abbrev pub constraints : State → List NormalConstraint
+constraints s = map.values s.live
 
-abbrev pub AreFormsOf : Signed → List NormalConstraint → Type 0
-AreFormsOf c ns = AreFormsAs c.relation c ns
+-- the id that a number in a step means: -k is the next id less k
+abbrev pub id_of : ℕ → ℤ → ℕ
+id_of next (pos k) = k
+id_of next (negsuc k) = next - (k + 1)
 
--- the normal constraints of a file's constraints, in order
-abbrev pub AreFormsOfAll : List Signed → List NormalConstraint → Type 0
-AreFormsOfAll [] ns = ns ≡ []
-AreFormsOfAll (c ∷ cs) ns =
-    (here : List NormalConstraint) × (rest : List NormalConstraint) × (ns ≡ here ++ rest) × AreFormsOf c here × AreFormsOfAll cs rest
+-- the live constraint of an id, if there is one
+abbrev pub constraint_of : State → ℤ → Option NormalConstraint
+constraint_of s id = map.get s.live (id_of s.next id)
 
--- a constraint's normal constraints were added at the end; whatever meets it meets them
-abbrev pub AddsForms : Signed → List NormalConstraint → List NormalConstraint → Type 0
-AddsForms c old new =
-    (here : List NormalConstraint) × (new ≡ old ++ here) × AreFormsOf c here × (length here ≤ 2)
-    × ((a : Valuation) → Meets a c → All (Holds a) here)
+-- an id is left for one more constraint
+abbrev pub HasRoom : State → Type 0
+HasRoom s = s.next < 2 ^ 32
 
--- the state of a problem's file, before the first step
-pub record IsStart (p : Opb) (s : State) : Type 0 where
-  pub problem : s.problem ≡ p
-  pub live : AreFormsOfAll p.constraints s.live
+-- the state with one more constraint, which takes the next id
+abbrev pub with_constraint : NormalConstraint → State → State
+with_constraint n s = record s { live = map.insert s.live s.next n; next = s.next + 1 }
 
--- every assignment that satisfies the problem meets all live constraints
-abbrev pub IsImplied : Opb → List NormalConstraint → Type 0
-IsImplied p live = (a : Valuation) → Satisfies a p → All (Holds a) live
+-- the constraints under the ids from `id` on
+abbrev pub numbered : ℕ → List NormalConstraint → List (ℕ × NormalConstraint)
+numbered id [] = []
+numbered id (n ∷ ns) = (id, n) ∷ numbered (id + 1) ns
 
--- what every state keeps
-pub record IsKept (s : State) : Type 0 where
-  pub within : IsWithin s.problem
-  pub implied : IsImplied s.problem s.live
-  pub numbered : length s.live < 2 ^ 32
+-- the state of these constraints, under the ids 1, 2, .., where nothing is logged
+abbrev pub state_of : List NormalConstraint → State
+state_of ns = record {
+  live = map.from_entries (numbered 1 ns);
+  next = length ns + 1;
+  improve = None;
+  logged = [];
+  improving = [];
+}
 
--- a step whose kind the kernel judges
-abbrev pub IsPol : Step → Type 0
-IsPol (steps.Pol written) = ⊤
-IsPol _ = ⊥
-
--- a `pol` step adds the value of its expression, which takes the next id
-abbrev pub AddsValue : State → Step → State → Type 0
-AddsValue old (steps.Pol written) new =
-    (n : NormalConstraint) × IsPolish old.live written n × (new ≡ record old { live = old.live ++ n ∷ [] })
-AddsValue old _ new = ⊥
-
--- a conclusion whose kind the kernel judges
-abbrev pub IsJudged : Conclusion → Type 0
-IsJudged conclusions.Nothing = ⊤
-IsJudged conclusions.Unsat = ⊤
-IsJudged _ = ⊥
-
--- what entitles to a conclusion: `0 >= 1` is covered by a live constraint
-abbrev pub IsJustified : State → Conclusion → Type 0
-IsJustified s conclusions.Nothing = ⊤
-IsJustified s conclusions.Unsat = Any IsContradiction s.live
-IsJustified s _ = ⊥
+-- the state before the first step: the normal constraints of the file
+abbrev pub IsStart : Opb → State → Type 0
+IsStart p s = (ns : List NormalConstraint) × AreFormsOfAll p.constraints ns × (s ≡ state_of ns)

@@ -1,8 +1,9 @@
 //! The value of the expression that a `pol` step writes in postfix: item after item, over a stack.
 
-ghost use Rattle.std.specs.Prelude.{◌≡◌, ◌∷◌, [], IfOk, OnOk, IsErrOf, OnErr};
-ghost use Rattle.kernel.specs.Expression.{IsPolish, Steps, place_of};
-ghost use Rattle.kernel.specs.Stack.{Follows};
+ghost use Rattle.std.specs.Prelude.{◌≡◌, ◌≢◌, ◌∷◌, [], IfOk, IfErr, OnOk, OnErr, length};
+ghost use Rattle.kernel.specs.Expression.{IsPolish, Steps};
+ghost use Rattle.kernel.specs.Fault.{OrMemory, IsItemFault, IsIdFault, IsAddFault, IsMultiplyFault, IsFactorFault, IsShapeFault, IsWritingFault};
+ghost use Rattle.kernel.specs.Places.{place_of, listed};
 
 use super::fault::StepFault;
 use super::stack::Stack;
@@ -16,8 +17,8 @@ use std::alloc::Global;
 /// id comes first, then too few constraints on the stack, then a factor below 1, then a result that is too large; at
 /// the end not exactly one constraint is left.
 pub(crate) fn evaluate(alloc: Global, live: &[Normal], items: &[Item]) -> Result<Normal, StepFault>
-    ensures value { IfOk result (IsPolish live.now items.now) }
-    ensures follows { IfOk result (Follows live.now) }
+    ensures value { IfOk result (IsPolish (listed live.now) items.now) }
+    ensures fault { IfErr result (λ f. OrMemory f (IsWritingFault (listed live.now) items.now f)) }
 {
     let mut stack = Stack::new(alloc, live);
     for item in items {
@@ -29,7 +30,7 @@ pub(crate) fn evaluate(alloc: Global, live: &[Normal], items: &[Item]) -> Result
 /// The one constraint on the stack.
 fn only(alloc: Global, stack: &mut Stack<'_>) -> Result<Normal, StepFault>
     ensures one { IfOk result (λ n. stack.old.stack ≡ n ∷ []) }
-    ensures follows { IfOk result (Follows stack.old.live) }
+    ensures fault { IfErr result (λ f. OrMemory f ((f ≡ StepFault.StackShape) × (length stack.old.stack ≢ 1))) }
 {
     let Some(top) = stack.pop() else {
         return Err(StepFault::StackShape);
@@ -43,7 +44,8 @@ fn only(alloc: Global, stack: &mut Stack<'_>) -> Result<Normal, StepFault>
 /// What one item does to the stack.
 fn step(alloc: Global, stack: &mut Stack<'_>, item: Item) -> Result<(), StepFault>
     ensures live { stack.new.live ≡ stack.old.live }
-    ensures ok { OnOk result (Steps stack.old.live item stack.old.stack stack.new.stack) }
+    ensures ok { OnOk result (Steps (listed stack.old.live) item stack.old.stack stack.new.stack) }
+    ensures fault { IfErr result (λ f. OrMemory f (IsItemFault (listed stack.old.live) item stack.old.stack f)) }
 {
     match item {
         Item::Id(id) => cite(stack, id),
@@ -74,7 +76,8 @@ fn place_of_id(count: usize, id: i128) -> Option<usize>
 
 fn cite(stack: &mut Stack<'_>, id: i128) -> Result<(), StepFault>
     ensures live { stack.new.live ≡ stack.old.live }
-    ensures ok { OnOk result (Steps stack.old.live (Item.Id id) stack.old.stack stack.new.stack) }
+    ensures ok { OnOk result (Steps (listed stack.old.live) (Item.Id id) stack.old.stack stack.new.stack) }
+    ensures fault { IfErr result (λ f. OrMemory f (IsIdFault (listed stack.old.live) id f)) }
 {
     let Some(place) = place_of_id(stack.count(), id) else {
         return Err(StepFault::DeadId);
@@ -85,7 +88,8 @@ fn cite(stack: &mut Stack<'_>, id: i128) -> Result<(), StepFault>
 
 fn push_axiom(alloc: Global, stack: &mut Stack<'_>, literal: Lit) -> Result<(), StepFault>
     ensures live { stack.new.live ≡ stack.old.live }
-    ensures ok { OnOk result (Steps stack.old.live (Item.Axiom literal) stack.old.stack stack.new.stack) }
+    ensures ok { OnOk result (Steps (listed stack.old.live) (Item.Axiom literal) stack.old.stack stack.new.stack) }
+    ensures fault { IfErr result (λ f. OrMemory f ⊥) }
 {
     let made = axiom(alloc, literal)?;
     stack.push(made)?;
@@ -94,7 +98,8 @@ fn push_axiom(alloc: Global, stack: &mut Stack<'_>, literal: Lit) -> Result<(), 
 
 fn add_top_two(alloc: Global, stack: &mut Stack<'_>) -> Result<(), StepFault>
     ensures live { stack.new.live ≡ stack.old.live }
-    ensures ok { OnOk result (Steps stack.old.live Item.Add stack.old.stack stack.new.stack) }
+    ensures ok { OnOk result (Steps (listed stack.old.live) Item.Add stack.old.stack stack.new.stack) }
+    ensures fault { IfErr result (λ f. OrMemory f (IsAddFault stack.old.stack f)) }
 {
     let Some(right) = stack.pop() else {
         return Err(StepFault::StackShape);
@@ -109,7 +114,8 @@ fn add_top_two(alloc: Global, stack: &mut Stack<'_>) -> Result<(), StepFault>
 
 fn multiply_top(alloc: Global, stack: &mut Stack<'_>, factor: i128) -> Result<(), StepFault>
     ensures live { stack.new.live ≡ stack.old.live }
-    ensures ok { OnOk result (Steps stack.old.live (Item.Multiply factor) stack.old.stack stack.new.stack) }
+    ensures ok { OnOk result (Steps (listed stack.old.live) (Item.Multiply factor) stack.old.stack stack.new.stack) }
+    ensures fault { IfErr result (λ f. OrMemory f (IsMultiplyFault factor stack.old.stack f)) }
 {
     let Some(top) = stack.pop() else {
         return Err(StepFault::StackShape);
@@ -121,7 +127,8 @@ fn multiply_top(alloc: Global, stack: &mut Stack<'_>, factor: i128) -> Result<()
 
 fn divide_top(alloc: Global, stack: &mut Stack<'_>, divisor: i128) -> Result<(), StepFault>
     ensures live { stack.new.live ≡ stack.old.live }
-    ensures ok { OnOk result (Steps stack.old.live (Item.Divide divisor) stack.old.stack stack.new.stack) }
+    ensures ok { OnOk result (Steps (listed stack.old.live) (Item.Divide divisor) stack.old.stack stack.new.stack) }
+    ensures fault { IfErr result (λ f. OrMemory f (IsFactorFault divisor stack.old.stack f)) }
 {
     let Some(top) = stack.pop() else {
         return Err(StepFault::StackShape);
@@ -133,7 +140,8 @@ fn divide_top(alloc: Global, stack: &mut Stack<'_>, divisor: i128) -> Result<(),
 
 fn saturate_top(alloc: Global, stack: &mut Stack<'_>) -> Result<(), StepFault>
     ensures live { stack.new.live ≡ stack.old.live }
-    ensures ok { OnOk result (Steps stack.old.live Item.Saturate stack.old.stack stack.new.stack) }
+    ensures ok { OnOk result (Steps (listed stack.old.live) Item.Saturate stack.old.stack stack.new.stack) }
+    ensures fault { IfErr result (λ f. OrMemory f (IsShapeFault stack.old.stack f)) }
 {
     let Some(top) = stack.pop() else {
         return Err(StepFault::StackShape);
@@ -145,7 +153,8 @@ fn saturate_top(alloc: Global, stack: &mut Stack<'_>) -> Result<(), StepFault>
 
 fn weaken_top(alloc: Global, stack: &mut Stack<'_>, var: Var) -> Result<(), StepFault>
     ensures live { stack.new.live ≡ stack.old.live }
-    ensures ok { OnOk result (Steps stack.old.live (Item.Weaken var) stack.old.stack stack.new.stack) }
+    ensures ok { OnOk result (Steps (listed stack.old.live) (Item.Weaken var) stack.old.stack stack.new.stack) }
+    ensures fault { IfErr result (λ f. OrMemory f (IsShapeFault stack.old.stack f)) }
 {
     let Some(top) = stack.pop() else {
         return Err(StepFault::StackShape);

@@ -70,8 +70,13 @@ pub enum StepFault {
 }
 
 impl StepFault {
+    ghost use Rattle.std.specs.Prelude.{◌≡◌};
+    ghost use Rattle.kernel.specs.Printed.{number_of, name_of};
+
     /// The number that stands for the fault in printed verdicts.
-    pub fn number(self) -> u8 {
+    pub fn number(self) -> u8
+        ensures { result ≡ number_of self }
+    {
         match self {
             StepFault::DeadId => 10,
             StepFault::StackShape => 11,
@@ -97,7 +102,9 @@ impl StepFault {
     }
 
     /// The name that stands beside the number.
-    pub fn name(self) -> &'static str {
+    pub fn name(self) -> &'static str
+        ensures { result.now ≡ name_of self }
+    {
         match self {
             StepFault::DeadId => "DeadId",
             StepFault::StackShape => "StackShape",
@@ -147,7 +154,7 @@ impl<T: Drop> From<AllocFailed<T>> for StepFault {
 
 impl From<CutFault> for StepFault {
     ghost use Rattle.std.specs.Prelude.{◌≡◌};
-    ghost use Rattle.kernel.specs.Fault.{of_rule};
+    ghost use Rattle.kernel.specs.RuleFault.{of_rule};
 
     ghost from_gives = { λ cut step. step ≡ of_rule cut };
 

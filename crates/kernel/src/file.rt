@@ -4,7 +4,7 @@ ghost use Rattle.std.specs.Prelude.{◌≡◌, ◌+◌, ◌*◌, ◌≤◌, ◌^
 ghost use Rattle.linear.specs.Limits.{IsWithin};
 ghost use Rattle.normal_form.specs.Normal.{largest_sum};
 ghost use Rattle.normal_form.specs.NormalOf.{size_sum};
-ghost use Rattle.kernel.specs.State.{AreFormsOfAll, IsImplied, AddsForms};
+ghost use Rattle.kernel.specs.Forms.{AreFormsOfAll, AddsForms, file_ids};
 
 use super::fault::StepFault;
 use linear::{Problem, Relation, Signed};
@@ -14,7 +14,7 @@ use std::alloc::Global;
 /// The normal constraints of all constraints of a problem, in order. Want of memory is the only fault.
 pub(crate) fn file_constraints(alloc: Global, problem: &Problem) -> Result<Vec<Normal>, StepFault>
     ensures forms { IfOk result (λ live. AreFormsOfAll problem.now.constraints live.items) }
-    ensures implied { IfOk result (λ live. IsImplied problem.now live.items) }
+    ensures count { IfOk result (λ live. length live.items ≡ file_ids problem.now.constraints) }
     ensures few { IfOk result (λ live. length live.items ≤ 2 * 2 ^ 20) }
     ensures within { IsWithin problem.now }
     ensures others { OnErr result (IsErrOf result StepFault.OutOfMemory) }

@@ -20,8 +20,9 @@ pub struct Applied {
     pub id: Option<u32>,
 }
 
-/// A problem and its live constraints. Those of the file have the ids 1, 2, .. in order, an equality two of them, the
-/// `>=` direction first; each added one takes the next id. Whatever satisfies the problem meets all of them.
+/// A problem and the state of a proof of it. The live constraints of the file have the ids 1, 2, .. in order, an equality
+/// two of them, the `>=` direction first; each added one takes the next id. That the state has an answer for the problem
+/// is a fact of this type.
 #[derive(Drop)]
 pub struct Kernel {
     problem: Problem,
@@ -29,25 +30,34 @@ pub struct Kernel {
 }
 
 impl Model for Kernel {
-    ghost use Rattle.kernel.specs.State.{State, IsKept};
+    ghost use Rattle.std.specs.Coded.{codes};
+    ghost use Rattle.kernel.specs.Codes.{state_code};
+    ghost use Rattle.kernel.specs.Held.{Held, IsKept};
+    ghost use Rattle.kernel.specs.State.{state_of};
 
-    ghost Value = { State };
+    ghost Value = { Held };
 
-    ghost view = { λ k. record { problem = k.problem; live = k.live.items } };
+    ghost coded = { Prim.hlevel (codes, state_code) };
 
-    ghost invariant = { λ k. IsKept (record { problem = k.problem; live = k.live.items }) };
+    ghost view = { λ k. record { problem = k.problem; state = state_of k.live.items } };
+
+    ghost invariant = { λ k. IsKept (record { problem = k.problem; state = state_of k.live.items }) };
 }
 
 impl Kernel {
-    ghost use Rattle.std.specs.Prelude.{◌≡◌, ◌+◌, ◌<◌, ◌^◌, ◌∷◌, ◌++◌, [], Some, IfOk, OnOk, OnErr, IsErrOf, length, Any, None};
+    ghost use Rattle.std.specs.Prelude.{◌≡◌, ◌+◌, ◌<◌, ◌≤◌, ◌^◌, ◌∷◌, ◌++◌, [], Some, IfOk, IfErr, OnOk, OnErr, IsErrOf, Any};
     ghost use Rattle.normal_form.specs.Normal.{NormalConstraint};
-    ghost use Rattle.kernel.specs.State.{State, IsStart, IsKept, IsPol, AddsValue, IsJudged, IsJustified};
-    ghost use Rattle.kernel.specs.Expression.{IsPolish};
-    ghost use Rattle.kernel.specs.Claim.{Claim, IsUnsatisfiable};
+    ghost use Rattle.kernel.specs.Claim.{Claim};
+    ghost use Rattle.kernel.specs.Fault.{OrMemory, IsStepFault, IsPolFault};
+    ghost use Rattle.kernel.specs.Held.{IsKept, IsPol, IsJudged};
+    ghost use Rattle.kernel.specs.Justified.{IsJustified};
+    ghost use Rattle.kernel.specs.Legal.{Legal, LegalPol};
+    ghost use Rattle.kernel.specs.State.{IsStart, constraints};
 
     /// The kernel of a problem's file. Want of memory is the only fault.
     pub fn new(alloc: Global, problem: &Problem) -> Result<Self, StepFault>
-        ensures start { IfOk result (IsStart problem.now) }
+        ensures problem { IfOk result (λ k. k.problem ≡ problem.now) }
+        ensures start { IfOk result (λ k. IsStart problem.now k.state) }
         ensures others { OnErr result (IsErrOf result StepFault.OutOfMemory) }
     {
         let live = file_constraints(alloc, problem)?;
@@ -59,17 +69,20 @@ impl Kernel {
 
     /// How many ids were given.
     pub fn given(&self) -> usize
-        ensures given { result ≡ length self.now.live }
+        ensures given { result + 1 ≡ self.now.state.next }
         ensures kept { IsKept self.now }
     {
         self.live.len()
     }
 
-    /// Applies a `pol` step: the value of its expression is added. After a refusal the kernel is as before.
+    /// Applies a `pol` step: the value of its expression is added. A refusal names the first fault in the order of judging,
+    /// and leaves the kernel as before; a legal step is refused for want of memory alone.
     pub fn apply(&mut self, step: &Step) -> Result<Applied, StepFault>
         requires { IsPol step.now }
-        ensures ok { OnOk result (AddsValue self.old step.now self.new) }
-        ensures id { IfOk result (λ applied. applied.id ≡ Some (length self.old.live + 1)) }
+        ensures problem { self.new.problem ≡ self.old.problem }
+        ensures ok { OnOk result (Legal self.old.problem self.old.state step.now self.new.state) }
+        ensures id { IfOk result (λ applied. applied.id ≡ Some self.old.state.next) }
+        ensures fault { IfErr result (λ f. OrMemory f (IsStepFault self.old.problem self.old.state step.now f)) }
         ensures err { OnErr result (self.new ≡ self.old) }
     {
         match step {
@@ -79,12 +92,14 @@ impl Kernel {
     }
 
     fn add_value(&mut self, items: &[Item]) -> Result<Applied, StepFault>
-        ensures ok { OnOk result ((n : NormalConstraint) × IsPolish self.old.live items.now n × (self.new ≡ record self.old { live = self.old.live ++ n ∷ [] })) }
-        ensures id { IfOk result (λ applied. applied.id ≡ Some (length self.old.live + 1)) }
+        ensures problem { self.new.problem ≡ self.old.problem }
+        ensures ok { OnOk result (LegalPol self.old.state items.now self.new.state) }
+        ensures id { IfOk result (λ applied. applied.id ≡ Some self.old.state.next) }
+        ensures fault { IfErr result (λ f. OrMemory f (IsPolFault self.old.state items.now f)) }
         ensures err { OnErr result (self.new ≡ self.old) }
     {
         let value = evaluate(*self.live.allocator(), self.live.as_slice(), items)?;
-        let id = self.live.len() as u64 + 1;
+        let id = self.given() as u64 + 1;
         if id > u64::from(u32::MAX) {
             return Err(StepFault::TooManyIds);
         }
@@ -98,12 +113,14 @@ impl Kernel {
     /// coefficient sum; where none is there, the fault is `LowerNotShown`.
     pub fn conclude(&mut self, conclusion: &Conclusion) -> Result<Accepted, StepFault>
         requires { IsJudged conclusion.now }
-        ensures justified { OnOk result (IsJustified self.old conclusion.now) }
+        ensures justified { IfOk result (λ accepted. IsJustified self.old.problem self.old.state conclusion.now accepted.best) }
         ensures conclusion { IfOk result (λ accepted. accepted.conclusion ≡ conclusion.now) }
         ensures claim { IfOk result (λ accepted. Claim self.old.problem accepted.conclusion accepted.best) }
-        ensures refused { OnErr result (IsErrOf result StepFault.LowerNotShown × (IsJustified self.old conclusion.now → ⊥)) }
+        ensures refused { OnErr result ((conclusion.now ≡ Conclusion.Unsat) × IsErrOf result StepFault.LowerNotShown × (Any IsContradiction (constraints self.old.state) → ⊥)) }
         ensures same { self.new ≡ self.old }
     {
+        // What is known of the state stands in the invariant of the fields.
+        let _ = &self.problem;
         match conclusion {
             Conclusion::Nothing => Ok(Accepted::new(Conclusion::Nothing, None)),
             Conclusion::Unsat => self.conclude_unsat(),
@@ -112,11 +129,10 @@ impl Kernel {
     }
 
     fn conclude_unsat(&self) -> Result<Accepted, StepFault>
-        ensures justified { OnOk result (Any IsContradiction self.now.live) }
+        ensures justified { IfOk result (λ accepted. IsJustified self.now.problem self.now.state Conclusion.Unsat accepted.best) }
         ensures conclusion { IfOk result (λ accepted. accepted.conclusion ≡ Conclusion.Unsat) }
-        ensures best { IfOk result (λ accepted. accepted.best ≡ None) }
-        ensures unsatisfiable { OnOk result (IsUnsatisfiable self.now.problem) }
-        ensures refused { OnErr result (IsErrOf result StepFault.LowerNotShown × (Any IsContradiction self.now.live → ⊥)) }
+        ensures claim { IfOk result (λ accepted. Claim self.now.problem Conclusion.Unsat accepted.best) }
+        ensures refused { OnErr result (IsErrOf result StepFault.LowerNotShown × (Any IsContradiction (constraints self.now.state) → ⊥)) }
     {
         if has_contradiction(self.live.as_slice()) {
             Ok(Accepted::new(Conclusion::Unsat, None))

@@ -3,11 +3,13 @@
 #![tactic(auto)]
 
 mod accepted;
+pub mod cases;
 mod conclusion;
 mod evaluation;
 mod fault;
 mod file;
 mod kernel;
+pub mod laws;
 mod stack;
 mod step;
 

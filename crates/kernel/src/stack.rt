@@ -23,7 +23,7 @@ impl MadeWith<Global> for Operand {
     }
 }
 
-/// The stack over the live constraints. Every constraint on it holds wherever all live ones do.
+/// The stack over the live constraints.
 #[derive(Drop)]
 pub(crate) struct Stack<'a> {
     live: &'a [Normal],
@@ -31,18 +31,18 @@ pub(crate) struct Stack<'a> {
 }
 
 impl<'a> Model for Stack<'a> {
-    ghost use Rattle.kernel.specs.Stack.{Evaluation, stack_of, IsSound};
+    ghost use Rattle.kernel.specs.Stack.{Evaluation, stack_of, AreThere};
 
     ghost Value = { Evaluation };
 
     ghost view = { λ s. record { live = s.live.now; stack = stack_of s.live.now s.operands.items } };
 
-    ghost invariant = { λ s. IsSound s.live.now s.operands.items };
+    ghost invariant = { λ s. AreThere s.live.now s.operands.items };
 }
 
 impl<'a> Stack<'a> {
     ghost use Rattle.std.specs.Prelude.{◌≡◌, ◌<◌, [], ◌∷◌, MatchOption, OnOk, OnErr, IfOk, length, slice_index_or};
-    ghost use Rattle.kernel.specs.Stack.{Evaluation, Follows, no_constraint, operand_value, IsThere};
+    ghost use Rattle.kernel.specs.Stack.{Evaluation, no_constraint, operand_value, IsThere};
 
     /// An empty stack.
     pub(crate) fn new(alloc: Global, live: &'a [Normal]) -> Self
@@ -73,7 +73,6 @@ impl<'a> Stack<'a> {
 
     /// Puts a result on top.
     pub(crate) fn push(&mut self, constraint: Normal) -> Result<(), AllocError>
-        requires { Follows self.old.live constraint }
         ensures live { self.new.live ≡ self.old.live }
         ensures ok { OnOk result (self.new ≡ record { live = self.old.live; stack = constraint ∷ self.old.stack }) }
     {
@@ -86,7 +85,6 @@ impl<'a> Stack<'a> {
         ensures live { self.new.live ≡ self.old.live }
         ensures top { MatchOption result (self.old.stack ≡ []) (λ o. self.old.stack ≡ operand_value self.old.live o ∷ self.new.stack) }
         ensures there { MatchOption result (self.old.stack ≡ []) (λ o. IsThere self.old.live o) }
-        ensures follows { MatchOption result (self.old.stack ≡ []) (λ o. Follows self.old.live (operand_value self.old.live o)) }
     {
         self.operands.pop()
     }

@@ -1,7 +1,7 @@
 -- Tables of names: what the keys of the index set say of the names, and that a table stays one.
-use Rattle.std.proofs.Common.{◌≡◌, ℕ, ◌+◌, ◌<◌, ◌^◌, Bool, true, false, not, cond, ◌||◌, List, [], ◌∷◌, ◌++◌, map, length, take, if◌then◌else◌, ltb, get_or, zero, suc, Option, Some, None, is_some, All, nat_eq, refl, sym, ap, subst, ◌∙◌, arith, lit<}
+use Rattle.std.proofs.Common.{◌≡◌, ℕ, ◌+◌, ◌<◌, ◌^◌, Bool, true, false, not, cond, ◌||◌, List, [], ◌∷◌, ◌++◌, map, length, take, if◌then◌else◌, ltb, get_or, zero, suc, Some, None, is_some, refl, sym, ap, subst, ◌∙◌, arith, lit<}
 use Rattle.std.specs.List.{list_any, position_or_len, position, IsDistinct, AllByRecursion}
-use Rattle.std.specs.Cmp.Lexicographic.{pointwise, nat_list_eq_equiv}
+use Rattle.std.specs.Cmp.Lexicographic.{nat_list_eq_equiv}
 use Rattle.std.proofs.lemmas.List.{length-append, length-take, map-append, take_more, get_or-map, length-map}
 use Rattle.std.proofs.lemmas.List.Elements.{All-push, All-take}
 use Rattle.std.proofs.lemmas.Bool.{true≢false}

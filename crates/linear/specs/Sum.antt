@@ -1,5 +1,5 @@
 -- Sums of signed terms, and the constraints on them. Numbers here have no bound.
-use Rattle.std.specs.Prelude.{◌≡◌, ℕ, ◌+◌, ℤ, pos, ◌+ℤ◌, ◌≤ℤ◌, List, [], ◌∷◌, if◌then◌else◌}
+use Rattle.std.specs.Prelude.{◌≡◌, ℤ, pos, ◌+ℤ◌, ◌≤ℤ◌, List, [], ◌∷◌, if◌then◌else◌}
 use Rattle.linear.specs.declared.term.Term.{Term}
 use Rattle.linear.specs.declared.constraint.Relation.{Relation}
 use Rattle.linear.specs.declared.constraint.Relation.TheVariants.{AtLeast, Equal}

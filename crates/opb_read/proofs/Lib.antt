@@ -6,3 +6,14 @@ pub mod Sums
 pub mod Statements
 pub mod Objectives
 pub mod AllConstraints
+pub mod Accepting
+pub mod Going
+pub mod Measures
+pub mod Limited
+pub mod Stopping
+pub mod Reaching
+pub mod SumSteps
+pub mod StatementSteps
+pub mod ConstraintSteps
+pub mod OnePlace
+mod Examples

@@ -205,7 +205,7 @@ pub closes_next : (left : List Lexeme) (c : Closing) → closing_of (pieces left
 closes_next left c h = let k = closes (pieces left).first c h in closes_two left c k.a k.b k.two k.relation k.integer k.right
 
 -- a relation is no end, no integer and no literal
-relation_not_end : (k : Kind) (r : Relation) → relation_of k ≡ Some r → (is_semicolon k ≡ false) × (is_integer k ≡ false) × (is_literal k ≡ false)
+pub relation_not_end : (k : Kind) (r : Relation) → relation_of k ≡ Some r → (is_semicolon k ≡ false) × (is_integer k ≡ false) × (is_literal k ≡ false)
 relation_not_end Integer r h = cc
 relation_not_end Literal r h = cc
 relation_not_end Stray r h = cc
@@ -218,7 +218,7 @@ relation_not_end (Symbol AtMost) r h = cc
 relation_not_end (Symbol Equals) r h = (refl, refl, refl)
 relation_not_end (Symbol Arrow) r h = cc
 
-end_not_literal : (k : Kind) → is_semicolon k ≡ true → is_literal k ≡ false
+pub end_not_literal : (k : Kind) → is_semicolon k ≡ true → is_literal k ≡ false
 end_not_literal Integer h = refl
 end_not_literal Literal h = cc
 end_not_literal (Symbol s) h = refl

@@ -20,6 +20,13 @@ Says TooMany form limit = limit
 Says OutOfMemory form limit = Unit {0}
 Says _ form limit = form
 
+-- the same where a number that is too large and a count that is say two things
+abbrev pub Tells : OpbCode → Type 0 → Type 0 → Type 0 → Type 0
+Tells IntegerTooLarge form large many = large
+Tells TooMany form large many = many
+Tells OutOfMemory form large many = Unit {0}
+Tells _ form large many = form
+
 -- one of the codes of form
 abbrev pub IsForm : OpbCode → Type 0
 IsForm IntegerTooLarge = ⊥

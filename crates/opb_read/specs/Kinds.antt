@@ -1,9 +1,11 @@
 -- What may stand where in a problem file, by the kind of a token.
-use Rattle.std.specs.Prelude.{◌&&◌, Bool, true, false, Option, Some, None, List, [], ◌∷◌, codes, bytes_eq}
+use Rattle.std.specs.Prelude.{◌≡◌, ◌<◌, ◌&&◌, Bool, true, false, if◌then◌else◌, Option, Some, None, List, [], ◌∷◌, drop, unsigned_abs, codes, bytes_eq}
 use Rattle.pb_text.specs.Lexeme.{Lexeme}
 use Rattle.pb_text.specs.declared.kind.Kind.{Kind}
 use Rattle.pb_text.specs.declared.kind.Kind.TheVariants.{Integer, Literal, Symbol}
 use Rattle.pb_text.specs.declared.kind.Symbol.TheVariants.{Semicolon, Colon, AtLeast, Equals}
+use Rattle.pb_text.specs.Number.{integer_value}
+use Rattle.linear.specs.Limits.{largest_integer}
 use Rattle.linear.specs.declared.constraint.Relation.{Relation}
 use Rattle.linear.specs.declared.constraint.Relation.TheVariants as relations
 
@@ -34,3 +36,11 @@ abbrev pub begins_objective : List Lexeme → Bool
 begins_objective [] = false
 begins_objective (a ∷ []) = false
 begins_objective (a ∷ b ∷ rest) = bytes_eq a.text (codes "min") && is_colon b.kind
+
+-- the statements: what stands behind the mark of an objective, or all
+abbrev pub statements_of : List Lexeme → List Lexeme
+statements_of tokens = if begins_objective tokens then drop 2 tokens else tokens
+
+-- an integer above the limit in size
+abbrev pub IsLargeInteger : Lexeme → Type 0
+IsLargeInteger t = (is_integer t.kind ≡ true) × (largest_integer < unsigned_abs (integer_value t.text))

@@ -5,3 +5,6 @@ pub mod Spells
 pub mod Faults
 pub mod Ahead
 pub mod Denial
+pub mod Places
+pub mod Progress
+pub mod FaultPlace

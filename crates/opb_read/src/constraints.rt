@@ -16,6 +16,7 @@ impl<'a> Reader<'a> {
     ghost use Rattle.linear.specs.Limits.{most_constraints, IsConstraintWithin};
     ghost use Rattle.opb_read.specs.Forms.{names_in};
     ghost use Rattle.opb_read.specs.Denial.{constraints_ahead, DeniesConstraints, IsForm};
+    ghost use Rattle.opb_read.specs.Progress.{HoldsLimits, Refuses, StopsAt, at_start};
 
     /// Whether the token that stands next may begin a constraint, behind so many others.
     fn start(&self, token: Token<'a>, count: usize) -> Result<(), OpbCode>
@@ -23,6 +24,7 @@ impl<'a> Reader<'a> {
         requires few { count ≤ most_constraints }
         ensures room { OnOk result (count < most_constraints) }
         ensures denies { IfErr result (λ code. (names : List (List ℕ)) → DeniesConstraints code names count self.now.left) }
+        ensures refuses { IfErr result (λ code. (names : List (List ℕ)) → Refuses code (at_start names count) self.now.left) }
     {
         if !begins_constraint(token.kind) {
             return Err(fault_at_start(token, self.left.kind_after()));
@@ -40,6 +42,8 @@ impl<'a> Reader<'a> {
         ensures few { IfOk result (λ v. length v.items ≤ most_constraints) }
         ensures within { IfOk result (λ v. All (IsConstraintWithin (length (names_in self.old.variables self.old.left))) v.items) }
         ensures denies { IfErr result (λ code. DeniesConstraints code (names_in self.old.variables self.old.left) 0 self.old.left) }
+        ensures stops { IfErr result (λ code.
+            HoldsLimits (at_start self.old.variables 0) → StopsAt code (at_start self.old.variables 0) self.old.left self.new.left) }
     {
         let mut constraints = Vec::new(alloc);
         while let Some(token) = self.left.next() {

@@ -2,34 +2,43 @@
 
 ghost use Rattle.std.specs.Prelude.{◌≡◌};
 
-use std::alloc::{AllocError, AllocFailed};
 use thiserror::Error;
 
 /// What is wrong at the first token that cannot stand in its place. The end of the text counts as a token.
-#[derive(Clone, Copy, Debug, PartialEq, Eq)]
+#[derive(Clone, Copy, Debug, PartialEq, Eq, Error)]
 pub enum OpbCode {
     /// A token that stands nowhere, or not there.
+    #[error("a token that cannot stand here")]
     BadToken,
     /// A constraint is closed before its relation.
+    #[error("a constraint without its relation")]
     NoRelation,
     /// A statement is not closed by `;`.
+    #[error("a statement that is not closed by `;`")]
     NoSemicolon,
     /// A word that begins as a literal does and is none.
+    #[error("a word that is no name")]
     BadName,
     /// An objective behind another statement.
+    #[error("an objective behind another statement")]
     ObjectiveLate,
     /// A form of the format's wider family: a product, `<=`, `max:`, `soft:`, a weight in brackets, a constant in the objective.
+    #[error("a form that is left out")]
     UnsupportedForm,
     /// An integer above 2^62 in size.
+    #[error("an integer above 2^62 in size")]
     IntegerTooLarge,
     /// A term above 2^20 in its statement, or a variable or constraint above 2^20 in the text.
+    #[error("too many terms, variables or constraints")]
     TooMany,
     /// A growth was refused.
+    #[error("out of memory")]
     OutOfMemory,
 }
 
 /// A fault of a problem file: its line, counted from 1, and what it is.
-#[derive(Clone, Copy, Debug, PartialEq, Eq)]
+#[derive(Clone, Copy, Debug, PartialEq, Eq, Error)]
+#[error("line {line}: {code}")]
 pub struct OpbFault {
     pub line: u64,
     pub code: OpbCode,

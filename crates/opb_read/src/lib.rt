@@ -15,7 +15,7 @@ mod sum;
 mod variables;
 
 pub use fault::{OpbCode, OpbFault};
-pub use laws::one_problem;
+pub use laws::{one_place, one_problem};
 pub use reading::read;
 
 #[cfg(test)]

@@ -1,8 +1,18 @@
 //! The tokens that are left of a text, with the next two in sight.
 
+ghost use Rattle.std.specs.Prelude.{◌≡◌, length};
+ghost use Rattle.pb_text.specs.Span.{line_of};
+
 use linear::Relation;
 use pb_text::{Kind, Symbol, Token, Tokens};
 use std::marker::Model;
+
+/// The line of a text's end: 1 and the number of LF bytes in it.
+fn end_line(text: &[u8]) -> u64
+    ensures { result ≡ line_of text.now (length text.now) }
+{
+    1 + text.iter().filter(|b| **b == b'\n').count() as u64
+}
 
 /// The tokens that are left.
 #[derive(Drop)]
@@ -28,6 +38,7 @@ impl<'a> Lookahead<'a> {
     ghost use Rattle.std.specs.Prelude.{◌≡◌, false, [], ◌∷◌, drop, MatchOption};
     ghost use Rattle.pb_text.specs.Lexeme.{lexemes};
     ghost use Rattle.opb_read.specs.Kinds as kinds;
+    ghost use Rattle.opb_read.specs.FaultPlace.{line_of_next};
     ghost use Rattle.opb_read.specs.Ahead.{next_kind, next_relation, begins_integer};
     ghost use Rattle.pb_text.specs.Token.{lexeme_of};
 
@@ -113,11 +124,13 @@ impl<'a> Lookahead<'a> {
         }
     }
 
-    /// The place of the next token's first byte, or `end` at the end.
-    pub fn start(&self, end: usize) -> usize {
+    /// The line of the next token, or of the end, in the text of these tokens.
+    pub fn line(&self, text: &[u8]) -> u64
+        ensures { result ≡ line_of_next text.now self.now }
+    {
         match self.next() {
-            Some(token) => token.start,
-            None => end,
+            Some(token) => token.line,
+            None => end_line(text),
         }
     }
 

@@ -10,6 +10,8 @@ use pb_text::{Kind, Symbol, Token};
 /// A place within a statement.
 #[derive(Clone, Copy)]
 pub enum Place {
+    /// Before a statement that is no objective.
+    Start,
     /// Behind `min :`.
     ObjectiveMark,
     /// Behind a coefficient of the objective.
@@ -34,9 +36,11 @@ impl Place {
         match (self, kind) {
             (Place::RightSide, _) | (_, None) => OpbCode::NoSemicolon,
             (_, Some(Kind::Misspelt)) => OpbCode::BadName,
-            (Place::Literal, Some(Kind::Symbol(Symbol::Semicolon))) => OpbCode::NoRelation,
-            (Place::Literal, Some(Kind::Literal | Kind::Symbol(Symbol::AtMost)))
-            | (Place::ObjectiveLiteral, Some(Kind::Literal))
+            (Place::Start | Place::Literal, Some(Kind::Symbol(Symbol::Semicolon))) => {
+                OpbCode::NoRelation
+            }
+            (Place::Start | Place::Literal, Some(Kind::Symbol(Symbol::AtMost)))
+            | (Place::Literal | Place::ObjectiveLiteral, Some(Kind::Literal))
             | (
                 Place::ObjectiveCoefficient,
                 Some(Kind::Integer | Kind::Symbol(Symbol::Semicolon)),
@@ -61,16 +65,10 @@ fn marked(word: &[u8]) -> OpbCode
 pub fn fault_at_start(token: Token<'_>, after: Option<Kind>) -> OpbCode
     ensures { IsForm result }
 {
-    match (token.kind, after) {
-        (Kind::Misspelt, _) => OpbCode::BadName,
-        (Kind::Symbol(Symbol::Semicolon), _) => OpbCode::NoRelation,
-        (Kind::Symbol(Symbol::AtMost), _) => OpbCode::UnsupportedForm,
-        (Kind::Literal, Some(Kind::Symbol(Symbol::Colon))) => marked(token.text),
-        (Kind::Other, _) => match token.text {
-            [b'[', ..] => OpbCode::UnsupportedForm,
-            _ => OpbCode::BadToken,
-        },
-        _ => OpbCode::BadToken,
+    match (token.kind, token.text, after) {
+        (Kind::Literal, _, Some(Kind::Symbol(Symbol::Colon))) => marked(token.text),
+        (Kind::Other, [b'[', ..], _) => OpbCode::UnsupportedForm,
+        (kind, _, _) => Place::Start.fault(Some(kind)),
     }
 }
 

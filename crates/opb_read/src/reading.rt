@@ -1,10 +1,13 @@
 //! Reading a whole problem file.
 
-ghost use Rattle.std.specs.Prelude.{◌≡◌, ◌+◌, ◌≤◌, ◌==◌, [], Some, All, take, length, count_by, IfOk, IfErr, IfSome};
+ghost use Rattle.std.specs.Prelude.{◌≡◌, ◌≤◌, [], Some, All, length, IfOk, IfErr, IfSome};
 ghost use Rattle.linear.specs.Limits.{most_constraints, IsSumWithin, IsConstraintWithin, IsWithin};
 ghost use Rattle.opb_read.specs.Spells.{Spells, problem_of};
 ghost use Rattle.opb_read.specs.Faults.{Denies};
 ghost use Rattle.opb_read.specs.Denial.{DeniesProblem};
+ghost use Rattle.opb_read.specs.Kinds.{statements_of};
+ghost use Rattle.opb_read.specs.Progress.{StopsAt, start_of};
+ghost use Rattle.opb_read.specs.FaultPlace.{IsFaultAt};
 
 use crate::fault::{OpbCode, OpbFault};
 use crate::reader::Reader;
@@ -22,22 +25,11 @@ fn statements(reader: &mut Reader<'_>, alloc: Global) -> Result<Statements, OpbC
     ensures few { IfOk result (λ s. length s.1.items ≤ most_constraints) }
     ensures within { IfOk result (λ s. All (IsConstraintWithin (length reader.new.variables)) s.1.items) }
     ensures denies { IfErr result (λ code. DeniesProblem code reader.old.left) }
+    ensures stops { IfErr result (λ code. StopsAt code (start_of reader.old.left) (statements_of reader.old.left) reader.new.left) }
 {
     let objective = reader.objective(alloc)?;
     let constraints = reader.constraints(alloc)?;
     Ok((objective, constraints))
-}
-
-/// The line of a place in a text: 1 and the number of LF bytes before it.
-fn line_of(text: &[u8], start: usize) -> u64
-    ensures { result ≡ 1 + count_by (λ b. b == 10) (take start text.now) }
-{
-    let before = if start < text.len() {
-        &text[..start]
-    } else {
-        text
-    };
-    1 + before.iter().filter(|b| **b == b'\n').count() as u64
 }
 
 /// Reads a problem file in the linear OPB format of Roussel and Manquinho: at most one objective `min: <sum> ;` and
@@ -47,14 +39,17 @@ fn line_of(text: &[u8], start: usize) -> u64
 /// has at most 2^20 terms, and there are at most 2^20 variables and constraints. Variables are numbered from 0 in order
 /// of first occurrence.
 ///
-/// Reading goes from left to right, and the first token that cannot stand in its place gives the fault, with its line.
-/// Codes 1 to 6 come only where the text spells no problem, 7 and 8 only where it spells none within the limits.
+/// Reading goes from left to right, and the first token that cannot stand in its place gives the fault, with its line;
+/// the end of the text counts as a token. Codes 1 to 6 come only where the text spells no problem, 7 and 8 only where it
+/// spells none within the limits. All before the fault's token is within the limits and can go on to a problem; with that
+/// token it can go on to none. With the token of a 7 or 8 it can go on to one, but to none within the limits: a 7 is an
+/// integer above 2^62 in size, an 8 makes the terms of a statement, the variables or the constraints too many. Which of
+/// the codes 1 to 6 a token has no clause says, and a refused growth is `OutOfMemory`, at the token where it came.
 pub fn read(alloc: Global, text: &[u8]) -> Result<Problem, OpbFault>
     ensures spells { IfOk result (λ p. Spells text.now p) }
     ensures within { IfOk result (λ p. IsWithin p) }
     ensures denies { IfErr result (λ f. Denies f.code text.now) }
-    ensures first_line { IfErr result (λ f. 1 ≤ f.line) }
-    ensures last_line { IfErr result (λ f. f.line ≤ 1 + count_by (λ b. b == 10) text.now) }
+    ensures place { IfErr result (λ f. IsFaultAt text.now f.code f.line) }
 {
     let mut reader = Reader::new(alloc, text);
     match statements(&mut reader, alloc) {
@@ -63,11 +58,8 @@ pub fn read(alloc: Global, text: &[u8]) -> Result<Problem, OpbFault>
             Ok(Problem::new(names, objective, constraints))
         }
         Err(code) => {
-            let start = reader.left.start(text.len());
-            Err(OpbFault {
-                line: line_of(text, start),
-                code,
-            })
+            let line = reader.left.line(text);
+            Err(OpbFault { line, code })
         }
     }
 }

@@ -18,6 +18,7 @@ impl<'a> Reader<'a> {
     ghost use Rattle.opb_read.specs.Ahead.{begins_integer};
     ghost use Rattle.opb_read.specs.Forms.{terms_of, behind_terms, names_in};
     ghost use Rattle.opb_read.specs.Denial.{DeniesSum};
+    ghost use Rattle.opb_read.specs.Progress.{PassesTerms, StopsInSum};
 
     /// The term that begins with this coefficient, behind so many terms of its statement.
     fn term(&mut self, coefficient: Token<'a>, count: usize, behind: Place) -> Result<Term, OpbCode>
@@ -32,6 +33,8 @@ impl<'a> Reader<'a> {
         ensures room { OnOk result (count < most_terms) }
         ensures shorter { OnOk result (length self.new.left < length self.old.left) }
         ensures denies { IfErr result (λ code. DeniesSum code (names_in self.old.variables self.old.left) count self.old.left) }
+        ensures passes { OnOk result (PassesTerms behind count self.old.variables self.old.left 1 self.new.variables self.new.left) }
+        ensures stops { IfErr result (λ code. StopsInSum code behind count self.old.variables self.old.left self.new.left) }
     {
         let Some(coef) = file_integer(coefficient) else {
             return Err(OpbCode::IntegerTooLarge);
@@ -63,6 +66,9 @@ impl<'a> Reader<'a> {
         ensures names { OnOk result (names_in self.old.variables self.old.left ≡ names_in self.new.variables self.new.left) }
         ensures within { IfOk result (λ v. IsSumWithin (length (names_in self.old.variables self.old.left)) v.items) }
         ensures denies { IfErr result (λ code. DeniesSum code (names_in self.old.variables self.old.left) 0 self.old.left) }
+        ensures passes { IfOk result (λ v.
+            PassesTerms behind 0 self.old.variables self.old.left (length v.items) self.new.variables self.new.left) }
+        ensures stops { IfErr result (λ code. StopsInSum code behind 0 self.old.variables self.old.left self.new.left) }
     {
         let mut terms = Vec::new(alloc);
         while let Some(coefficient) = self.left.integer() {

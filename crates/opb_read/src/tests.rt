@@ -72,6 +72,13 @@ fn refuses_at_the_start_of_a_statement(rt: HostRuntime) {
         file(b": 1 ;", 1, OpbCode::BadToken),
         file(b"\n\xff 1 ;", 2, OpbCode::BadToken),
         file(b"1 x1\0 >= 1 ;", 1, OpbCode::BadName),
+        file(b"min\n1 x1 ;", 1, OpbCode::BadToken),
+        file(b"1 x1 >= 1 ;\nmin", 2, OpbCode::BadToken),
+        file(b"max 1 x1 ;", 1, OpbCode::BadToken),
+        file(b"soft 6 ;", 1, OpbCode::BadToken),
+        file(b"mix: 1 x1 ;", 1, OpbCode::BadToken),
+        file(b"1 x1 >= 1 ;\n;", 2, OpbCode::NoRelation),
+        file(b"min: ;\nmin: ;", 2, OpbCode::ObjectiveLate),
     ];
     for case in &cases {
         assert!(&rt; is_refused(rt.alloc(), case));
@@ -99,6 +106,31 @@ fn refuses_within_a_statement(rt: HostRuntime) {
         file(b"min: 1 x1 x2 ;", 1, OpbCode::UnsupportedForm),
         file(b"min: 1 x1 >= 1 ;", 1, OpbCode::BadToken),
         file(b"min: 1 x1", 1, OpbCode::NoSemicolon),
+        file(b"min: 1 1 x1 ;", 1, OpbCode::UnsupportedForm),
+        file(b"min: 1 x ;", 1, OpbCode::BadName),
+        file(b"min: 1 x1 x ;", 1, OpbCode::BadName),
+        file(b"1 x1 >= 1 <= ;", 1, OpbCode::NoSemicolon),
+        file(b"1 x1 >= 1 x ;", 1, OpbCode::NoSemicolon),
+        file(b"1 x1 = 1 = 1 ;", 1, OpbCode::NoSemicolon),
+        file(b"1 ~ x1 >= 1 ;", 1, OpbCode::BadName),
+        file(b"1\nx1\n>=\n1\nx2 ;", 5, OpbCode::NoSemicolon),
+    ];
+    for case in &cases {
+        assert!(&rt; is_refused(rt.alloc(), case));
+    }
+}
+
+#[test]
+fn refuses_bytes_that_belong_to_no_word(rt: HostRuntime) {
+    let cases = [
+        file(b"1 \xffx1 >= 1 ;", 1, OpbCode::BadToken),
+        file(b"1 \0x1 >= 1 ;", 1, OpbCode::BadToken),
+        file(b"\0", 1, OpbCode::BadToken),
+        file(b"1 x1\x80 >= 1 ;", 1, OpbCode::BadName),
+        file(b"1 x1 >= 1\0 ;", 1, OpbCode::BadToken),
+        file(b"1 x1 >= 1 \xff;", 1, OpbCode::NoSemicolon),
+        file(b"\r* no comment", 1, OpbCode::BadToken),
+        file(b"\r\n\r\n1 x1 >= 1 \r\n", 4, OpbCode::NoSemicolon),
     ];
     for case in &cases {
         assert!(&rt; is_refused(rt.alloc(), case));
@@ -154,6 +186,8 @@ fn reads_files(rt: HostRuntime) {
     );
     assert!(&rt; sizes(rt.alloc(), b"2 x1 2 x2 = 1 ;\n") == Some((2, None, 1)));
     assert!(&rt; sizes(rt.alloc(), b"1 min 1 max >= 1 ;\n* end") == Some((2, None, 1)));
+    assert!(&rt; sizes(rt.alloc(), b"\r\n \t* one\r\n1 x1\r>=\t1\n;") == Some((1, None, 1)));
+    assert!(&rt; sizes(rt.alloc(), b"1 x1>=1;1 a[1]{2}^- =1;") == Some((2, None, 2)));
 }
 
 #[test]
@@ -196,6 +230,67 @@ fn reads_integers_of_any_length(rt: HostRuntime) {
     assert!(&rt; code_of(rt.alloc(), zeros.as_slice()) == None);
     let nines = repeated(rt.alloc(), b"9", 1000, b" x1 >= 0 ;").expect(&rt, "memory");
     assert!(&rt; code_of(rt.alloc(), nines.as_slice()) == Some(OpbCode::IntegerTooLarge));
+}
+
+/// The text of this many terms with names of their own, as `1 aaaab`.
+fn with_names(alloc: Global, count: usize) -> Result<Vec<u8>, AllocError> {
+    let mut text = Vec::new(alloc);
+    for number in 0..count {
+        text.extend_from_slice(b"1 ")?;
+        let mut rest = number;
+        for _ in 0..5 {
+            text.push(b'a' + (rest % 26) as u8)?;
+            rest /= 26;
+        }
+        text.push(b' ')?;
+    }
+    Ok(text)
+}
+
+const MANY: usize = 1 << 20;
+
+#[test]
+fn reads_as_many_terms_as_the_limit(rt: HostRuntime) {
+    let full = repeated(rt.alloc(), b"1 x1 ", MANY, b">= 0 ;").expect(&rt, "memory");
+    assert!(&rt; code_of(rt.alloc(), full.as_slice()) == None);
+    let over = repeated(rt.alloc(), b"1 x1 ", MANY, b"1 x1 >= 0 ;").expect(&rt, "memory");
+    assert!(&rt; code_of(rt.alloc(), over.as_slice()) == Some(OpbCode::TooMany));
+    let large = repeated(rt.alloc(), b"1 x1 ", MANY, b"4611686018427387905 x1 >= 0 ;").expect(
+        &rt, "memory",
+    );
+    assert!(&rt; code_of(rt.alloc(), large.as_slice()) == Some(OpbCode::IntegerTooLarge));
+    let cut = repeated(rt.alloc(), b"1 x1 ", MANY, b"1 x >= 0 ;").expect(&rt, "memory");
+    assert!(&rt; code_of(rt.alloc(), cut.as_slice()) == Some(OpbCode::BadName));
+}
+
+#[test]
+fn reads_as_many_variables_as_the_limit(rt: HostRuntime) {
+    let mut text = with_names(rt.alloc(), MANY).expect(&rt, "memory");
+    text.extend_from_slice(b">= 0 ; 1 aaaaa")
+        .expect(&rt, "memory");
+    assert!(&rt; code_of(rt.alloc(), text.as_slice()) == Some(OpbCode::NoSemicolon));
+    text.extend_from_slice(b" >= 0 ;").expect(&rt, "memory");
+    assert!(&rt; sizes(rt.alloc(), text.as_slice()) == Some((MANY, None, 2)));
+    text.extend_from_slice(b"\n1 more >= 0 ;")
+        .expect(&rt, "memory");
+    assert!(&rt; code_of(rt.alloc(), text.as_slice()) == Some(OpbCode::TooMany));
+}
+
+#[test]
+fn reads_as_many_constraints_as_the_limit(rt: HostRuntime) {
+    let full = repeated(rt.alloc(), b">= 0 ;", MANY, b"").expect(&rt, "memory");
+    assert!(&rt; sizes(rt.alloc(), full.as_slice()) == Some((0, None, MANY)));
+    let ends: [(&'static [u8], OpbCode); 5] = [
+        (b">= 0 ;", OpbCode::TooMany),
+        (b"1", OpbCode::TooMany),
+        (b"4611686018427387905", OpbCode::TooMany),
+        (b"min:", OpbCode::ObjectiveLate),
+        (b";", OpbCode::NoRelation),
+    ];
+    for (end, code) in ends {
+        let over = repeated(rt.alloc(), b">= 0 ;", MANY, end).expect(&rt, "memory");
+        assert!(&rt; code_of(rt.alloc(), over.as_slice()) == Some(code));
+    }
 }
 
 #[test]

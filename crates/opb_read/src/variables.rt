@@ -49,6 +49,7 @@ impl Variables {
         requires { is_name name.now ≡ true }
         ensures ok { OnOk result (self.new ≡ with_name self.old name.now) }
         ensures number { IfOk result (λ v. v.0 ≡ place_of self.old name.now) }
+        ensures few { OnOk result (length self.new ≤ most_variables) }
         ensures err { OnErr result (self.new ≡ self.old) }
         ensures refused { IfErr result (IsTooManyOr (most_variables < length (with_name self.old name.now))) }
     {

@@ -1,4 +1,5 @@
-// What a token is by its bytes.
+//! What a token is by its bytes.
+
 ghost use Rattle.std.specs.Prelude.{◌≡◌};
 ghost use Rattle.std.specs.List.{list_all};
 ghost use Rattle.pb_text.specs.Lexeme as kinds;

@@ -1,4 +1,5 @@
-// Passing the white space and the comment lines before a token.
+//! Passing the white space and the comment lines before a token.
+
 ghost use Rattle.std.specs.Prelude.{◌≡◌, ◌<◌, ◌≤◌, ◌==◌, true, length, MatchOption};
 ghost use Rattle.std.specs.List.{position_or_len};
 ghost use Rattle.pb_text.specs.Cursor.{ahead, comment_at, IsAtToken};

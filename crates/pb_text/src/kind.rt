@@ -1,4 +1,4 @@
-// The kinds of tokens.
+//! The kinds of tokens.
 
 /// The symbols of the two formats.
 #[derive(Clone, Copy, Debug, PartialEq, Eq)]

@@ -1,4 +1,5 @@
-// Laws about the tokens of a text, for proofs above. Nothing here runs.
+//! Laws about the tokens of a text, for proofs above. Nothing here runs.
+
 ghost use Rattle.std.specs.Prelude.{◌≡◌, ◌↔◌, ℕ, All, List, true};
 ghost use Rattle.pb_text.specs.Lexeme.{kind_of, lexemes};
 ghost use Rattle.pb_text.specs.Span.{AreInOrder, StandsIn};

@@ -1,4 +1,4 @@
-// Tokens of the two formats: where words and symbols stand in a text, and what a word is.
+//! Tokens of the two formats: where words and symbols stand in a text, and what a word is.
 #![tactic(auto)]
 
 mod classify;

@@ -1,4 +1,5 @@
-// The number of an integer word.
+//! The number of an integer word.
+
 ghost use Rattle.std.specs.Prelude.{◌≡◌, ◌≢◌, ◌^◌, ◌<◌, ◌≤◌, if◌then◌else◌, true, pos, neg_ℤ, IfOk, SomeIff};
 ghost use Rattle.std.specs.Result.{IsErrOf};
 ghost use Rattle.std.specs.List.{list_all};

@@ -1,4 +1,5 @@
-// How many bytes a token has.
+//! How many bytes a token has.
+
 ghost use Rattle.std.specs.Prelude.{◌≡◌, ℕ, ◌+◌, ◌<◌, ◌≤◌, false, [], ◌∷◌, true, length, take, drop, MatchOption};
 ghost use Rattle.pb_text.specs.Lexeme as cutting;
 ghost use Rattle.pb_text.specs.Lexeme.{Place, cut, lexemes_from, lexeme_at};

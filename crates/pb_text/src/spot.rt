@@ -1,4 +1,5 @@
-// A place in a text from which its tokens are cut.
+//! A place in a text from which its tokens are cut.
+
 ghost use Rattle.std.specs.Prelude.{◌+◌, ◌<◌, ◌≤◌, ◌^◌, length};
 
 /// Where on its line a cursor stands.

@@ -1,4 +1,5 @@
-// Texts written by hand, with the tokens that the format gives them.
+//! Texts written by hand, with the tokens that the format gives them.
+
 use super::*;
 
 #[test]

@@ -1,4 +1,5 @@
-// One token of a text, and what a literal word says.
+//! One token of a text, and what a literal word says.
+
 ghost use Rattle.std.specs.Prelude.{◌≡◌, ◌≢◌, true, MatchOption};
 ghost use Rattle.pb_text.specs.Lexeme as lexeme;
 ghost use Rattle.pb_text.specs.Name as names;

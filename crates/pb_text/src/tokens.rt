@@ -1,4 +1,5 @@
-// The tokens of a text, one after another.
+//! The tokens of a text, one after another.
+
 ghost use Rattle.std.specs.Prelude.{◌≡◌, ◌-◌, ◌^◌, length, min};
 ghost use Rattle.pb_text.specs.Span.{line_of};
 

@@ -1,73 +1,199 @@
-//! The conclusion line. `SAT` and `BOUNDS` are not judged yet.
+//! The conclusion line.
 
-ghost use Rattle.std.specs.Prelude.{IfOk};
-ghost use Rattle.proof_text.specs.Read.{IsJudgedLine};
+ghost use Rattle.std.specs.Prelude.{◌≡◌, ℕ, List, [], ◌∷◌, true, false, is_some, drop, IfOk, IfErr, OnOk, MatchOption};
+ghost use Rattle.proof_text.specs.Words.{AreSmall, unclosed};
+ghost use Rattle.proof_text.specs.Forms.{are_literals, literals_of};
+ghost use Rattle.proof_text.specs.Conclusions as conclusions;
+ghost use Rattle.proof_text.specs.Conclusions.{IsHintRead, IsConclusionRead, IsJudgementRead, IsConclusionLineRead};
+ghost use Rattle.proof_text.specs.Numbering.{Known};
+ghost use Rattle.proof_text.specs.Denial.{Denies};
 
-use super::fault::ProofFault;
-use super::frame::{closes, is_semicolon, takes_word};
-use super::line::Line;
-use kernel::Conclusion;
-use pb_text::{Kind, NumFault, Symbol, Token, Tokens, integer};
+use crate::body::Body;
+use crate::fault::ProofFault;
+use crate::lookahead::Lookahead;
+use crate::part::{lits, number};
+use crate::rule::{Verdict, verdict_of};
+use crate::table::Table;
+use kernel::{Conclusion, Lower, Upper};
+use linear::{Lit, Seq};
+use pb_text::{Kind, Symbol, Token};
+use std::alloc::Global;
 
-/// `conclusion ..`
-pub(crate) fn read_conclusion(mut tokens: Tokens<'_>) -> Result<Line, ProofFault>
-    ensures { IfOk result IsJudgedLine }
+/// A hint of literals, if one stands here.
+fn hint(
+    alloc: Global,
+    mut words: Body<'_>,
+    table: &mut Table,
+) -> Result<Option<Seq<Lit>>, ProofFault>
+    ensures read { IfOk result (λ h. IsHintRead table.old words.entry h table.new) }
+    ensures kept { table.new.before ≡ table.old.before }
+    ensures denies { IfErr result (λ f. Denies f (conclusions.is_hint words.entry) words.entry) }
 {
-    if !takes_word(&mut tokens, b"conclusion".as_slice()) {
-        return Err(ProofFault::BadLine);
-    }
-    let Some(judgement) = tokens.next() else {
+    let Some(token) = words.take() else {
+        return Ok(None);
+    };
+    let Kind::Symbol(Symbol::Colon) = token.kind else {
         return Err(ProofFault::BadLine);
     };
-    if judgement.text == b"NONE".as_slice() {
-        if closes(&mut tokens) {
-            return Ok(Line::Conclusion(Conclusion::Nothing));
-        }
-        return Err(ProofFault::BadLine);
-    }
-    if judgement.text == b"UNSAT".as_slice() {
-        read_hint(&mut tokens)?;
-        return Ok(Line::Conclusion(Conclusion::Unsat));
-    }
-    if judgement.text == b"SAT".as_slice() || judgement.text == b"BOUNDS".as_slice() {
-        return Err(ProofFault::RuleLeftOut);
-    }
-    Err(ProofFault::BadLine)
+    Ok(Some(lits(alloc, words, table)?))
 }
 
-/// A hint of an id, which may be missing and is not kept, and the end of the line.
-fn read_hint(tokens: &mut Tokens<'_>) -> Result<(), ProofFault> {
-    let Some(token) = tokens.next() else {
+/// Passes a hint of an id, if one stands here. It is read and not kept.
+fn pass_id(words: &mut Body<'_>) -> Result<(), ProofFault>
+    ensures left { OnOk result (words.new ≡ conclusions.past_id words.old) }
+    ensures small { OnOk result (AreSmall words.new → AreSmall words.old) }
+    ensures later { OnOk result (AreSmall words.old → AreSmall words.new) }
+    ensures denies { IfErr result (λ f. Denies f (conclusions.begins_right words.old) words.old) }
+{
+    let Some(token) = words.next() else {
         return Ok(());
     };
-    if is_semicolon(token) {
-        return if tokens.next().is_none() {
-            Ok(())
-        } else {
-            Err(ProofFault::BadLine)
-        };
-    }
-    if !is_colon(token) {
-        return Err(ProofFault::BadLine);
-    }
-    let Some(id) = tokens.next() else {
+    let Kind::Symbol(Symbol::Colon) = token.kind else {
+        return Ok(());
+    };
+    words.take();
+    let Some(id) = words.take() else {
         return Err(ProofFault::BadLine);
     };
-    match integer(id) {
-        Ok(_) => {}
-        Err(NumFault::NotNumber) => return Err(ProofFault::BadLine),
-        Err(NumFault::NumberTooLarge) => return Err(ProofFault::IntegerTooLarge),
+    number(id)?;
+    Ok(())
+}
+
+/// A lower bound.
+fn lower(token: Token<'_>) -> Result<Lower, ProofFault>
+    ensures form { OnOk result (conclusions.is_lower token.entry.text.now ≡ true) }
+    ensures value { IfOk result (λ l. l ≡ conclusions.lower_of token.entry.text.now) }
+    ensures small { OnOk result (AreSmall (token.entry.text.now ∷ [])) }
+    ensures denies { IfErr result (λ f. Denies f (conclusions.is_lower token.entry.text.now) (token.entry.text.now ∷ [])) }
+{
+    if token.text == b"INF".as_slice() {
+        return Ok(Lower::Inf);
     }
-    if closes(tokens) {
-        Ok(())
+    if token.text == b"-INF".as_slice() {
+        return Ok(Lower::MinusInf);
+    }
+    Ok(Lower::At(number(token)?))
+}
+
+/// An upper bound.
+fn upper(token: Token<'_>) -> Result<Upper, ProofFault>
+    ensures form { OnOk result (conclusions.is_upper token.entry.text.now ≡ true) }
+    ensures value { IfOk result (λ l. l ≡ conclusions.upper_of token.entry.text.now) }
+    ensures small { OnOk result (AreSmall (token.entry.text.now ∷ [])) }
+    ensures denies { IfErr result (λ f. Denies f (conclusions.is_upper token.entry.text.now) (token.entry.text.now ∷ [])) }
+{
+    if token.text == b"INF".as_slice() {
+        return Ok(Upper::Inf);
+    }
+    Ok(Upper::At(number(token)?))
+}
+
+/// `NONE`, behind the word.
+fn nothing(words: Body<'_>) -> Result<Conclusion, ProofFault>
+    ensures read { IfOk result (λ c. (k : Known) → IsConclusionRead Verdict.Nothing k words.entry c k) }
+    ensures denies { IfErr result (λ f. Denies f (conclusions.is_conclusion Verdict.Nothing words.entry) words.entry) }
+{
+    if words.is_empty() {
+        Ok(Conclusion::Nothing)
     } else {
         Err(ProofFault::BadLine)
     }
 }
 
-fn is_colon(token: Token<'_>) -> bool {
-    match token.kind {
-        Kind::Symbol(Symbol::Colon) => true,
-        _ => false,
+/// `SAT`, behind the word.
+fn sat(alloc: Global, words: Body<'_>, table: &mut Table) -> Result<Conclusion, ProofFault>
+    ensures read { IfOk result (λ c. IsConclusionRead Verdict.Sat table.old words.entry c table.new) }
+    ensures kept { table.new.before ≡ table.old.before }
+    ensures denies { IfErr result (λ f. Denies f (conclusions.is_conclusion Verdict.Sat words.entry) words.entry) }
+{
+    Ok(Conclusion::Sat(hint(alloc, words, table)?))
+}
+
+/// `UNSAT`, behind the word.
+fn unsat(mut words: Body<'_>) -> Result<Conclusion, ProofFault>
+    ensures read { IfOk result (λ c. (k : Known) → IsConclusionRead Verdict.Unsat k words.entry c k) }
+    ensures denies { IfErr result (λ f. Denies f (conclusions.is_conclusion Verdict.Unsat words.entry) words.entry) }
+{
+    pass_id(&mut words)?;
+    if words.is_empty() {
+        Ok(Conclusion::Unsat)
+    } else {
+        Err(ProofFault::BadLine)
     }
+}
+
+/// `BOUNDS`, behind the word.
+fn bounds(alloc: Global, mut words: Body<'_>, table: &mut Table) -> Result<Conclusion, ProofFault>
+    ensures read { IfOk result (λ c. IsConclusionRead Verdict.Bounds table.old words.entry c table.new) }
+    ensures kept { table.new.before ≡ table.old.before }
+    ensures denies { IfErr result (λ f. Denies f (conclusions.is_conclusion Verdict.Bounds words.entry) words.entry) }
+{
+    let Some(token) = words.take() else {
+        return Err(ProofFault::BadLine);
+    };
+    let lower = lower(token)?;
+    pass_id(&mut words)?;
+    let Some(token) = words.take() else {
+        return Err(ProofFault::BadLine);
+    };
+    let upper = upper(token)?;
+    let hint = hint(alloc, words, table)?;
+    Ok(Conclusion::Bounds(lower, upper, hint))
+}
+
+/// What stands behind `conclusion`.
+fn judgement(
+    alloc: Global,
+    mut words: Body<'_>,
+    table: &mut Table,
+) -> Result<Conclusion, ProofFault>
+    ensures read { IfOk result (λ c. IsJudgementRead table.old words.entry c table.new) }
+    ensures kept { table.new.before ≡ table.old.before }
+    ensures denies { IfErr result (λ f. Denies f (is_some (conclusions.judgement_of [] words.entry)) (drop 1 words.entry)) }
+{
+    let Some(token) = words.take() else {
+        return Err(ProofFault::BadLine);
+    };
+    let Some(verdict) = verdict_of(token.text) else {
+        return Err(ProofFault::BadLine);
+    };
+    judged(alloc, verdict, words, table)
+}
+
+/// What stands behind the word of a verdict.
+fn judged(
+    alloc: Global,
+    verdict: Verdict,
+    words: Body<'_>,
+    table: &mut Table,
+) -> Result<Conclusion, ProofFault>
+    ensures read { IfOk result (λ c. IsConclusionRead verdict table.old words.entry c table.new) }
+    ensures kept { table.new.before ≡ table.old.before }
+    ensures denies { IfErr result (λ f. Denies f (conclusions.is_conclusion verdict words.entry) words.entry) }
+{
+    match verdict {
+        Verdict::Nothing => nothing(words),
+        Verdict::Sat => sat(alloc, words, table),
+        Verdict::Unsat => unsat(words),
+        Verdict::Bounds => bounds(alloc, words, table),
+    }
+}
+
+/// `conclusion ..`
+pub(crate) fn conclusion(
+    alloc: Global,
+    mut words: Lookahead<'_>,
+    table: &mut Table,
+) -> Result<Conclusion, ProofFault>
+    ensures read { IfOk result (λ c. IsConclusionLineRead table.old words.entry c table.new) }
+    ensures kept { table.new.before ≡ table.old.before }
+    ensures denies { IfErr result (λ f. Denies f (is_some (conclusions.conclusion_of [] words.entry)) (drop 1 (unclosed (drop 1 words.entry)))) }
+{
+    let Some(token) = words.take() else {
+        return Err(ProofFault::BadLine);
+    };
+    if token.text != b"conclusion".as_slice() {
+        return Err(ProofFault::BadLine);
+    }
+    judgement(alloc, Body::new(words), table)
 }

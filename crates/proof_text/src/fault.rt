@@ -39,8 +39,13 @@ pub enum ProofFault {
 }
 
 impl ProofFault {
+    ghost use Rattle.std.specs.Prelude.{◌≡◌};
+    ghost use Rattle.proof_text.specs.Faults.{number_of, name_of_fault};
+
     /// The number that stands for the fault in printed verdicts.
-    pub fn number(self) -> u8 {
+    pub fn number(self) -> u8
+        ensures { result ≡ number_of self }
+    {
         match self {
             ProofFault::BadHeader => 1,
             ProofFault::BadCount => 2,
@@ -56,7 +61,9 @@ impl ProofFault {
     }
 
     /// The name that stands beside the number.
-    pub fn name(self) -> &'static str {
+    pub fn name(self) -> &'static str
+        ensures { result.now ≡ name_of_fault self }
+    {
         match self {
             ProofFault::BadHeader => "BadHeader",
             ProofFault::BadCount => "BadCount",

@@ -1,98 +1,74 @@
-//! The lines around the steps: header, count, output and end, and the `;` that may close any line.
+//! The lines around the steps: header, count, output and end.
 
-ghost use Rattle.std.specs.Prelude.{IfOk};
-ghost use Rattle.proof_text.specs.Read.{IsJudgedLine};
+ghost use Rattle.std.specs.Prelude.{◌≡◌, ℤ, Some, None, false, true, IfErr, MatchOption, OnOk};
+ghost use Rattle.proof_text.specs.Words.{are_words, AreSmall};
+ghost use Rattle.proof_text.specs.Frame as frame;
+ghost use Rattle.proof_text.specs.Denial.{IsForm};
 
-use super::fault::ProofFault;
-use super::line::Line;
-use pb_text::{Kind, Symbol, Token, Tokens, integer};
+use crate::body::Body;
+use crate::fault::ProofFault;
+use crate::part::number;
+use pb_text::Kind;
 
-/// Whether the next token is this word.
-pub(crate) fn takes_word(tokens: &mut Tokens<'_>, word: &[u8]) -> bool {
-    match tokens.next() {
-        Some(token) => token.text == word,
-        None => false,
-    }
-}
-
-/// Whether nothing is left but a closing `;`, which may be missing.
-pub(crate) fn closes(tokens: &mut Tokens<'_>) -> bool {
-    match tokens.next() {
-        None => true,
-        Some(token) => is_semicolon(token) && tokens.next().is_none(),
-    }
-}
-
-pub(crate) fn is_semicolon(token: Token<'_>) -> bool {
-    match token.kind {
-        Kind::Symbol(Symbol::Semicolon) => true,
-        _ => false,
-    }
-}
-
-/// `pseudo-Boolean proof version 2.0`
-pub(crate) fn read_header(mut tokens: Tokens<'_>) -> Result<Line, ProofFault>
-    ensures { IfOk result IsJudgedLine }
+/// Whether the words are `pseudo-Boolean proof version 2.0`.
+pub(crate) fn is_header(mut words: Body<'_>) -> bool
+    ensures { result ≡ are_words frame.header words.entry }
 {
-    let is_header = takes_word(&mut tokens, b"pseudo-Boolean".as_slice())
-        && takes_word(&mut tokens, b"proof".as_slice())
-        && takes_word(&mut tokens, b"version".as_slice())
-        && takes_word(&mut tokens, b"2.0".as_slice())
-        && closes(&mut tokens);
-    if is_header {
-        Ok(Line::Header)
-    } else {
-        Err(ProofFault::BadHeader)
+    words.takes(b"pseudo-Boolean")
+        && words.takes(b"proof")
+        && words.takes(b"version")
+        && words.takes(b"2.0")
+        && words.is_empty()
+}
+
+/// The number behind `f`, where the words are these two and the number is within the limit.
+pub(crate) fn count(mut words: Body<'_>) -> Option<i128>
+    ensures { MatchOption
+        result
+        ((n : ℤ) → frame.count_of words.entry ≡ Some n → AreSmall words.entry → ⊥)
+        (λ n. (frame.count_of words.entry ≡ Some n) × AreSmall words.entry) }
+{
+    if !words.takes(b"f") {
+        return None;
+    }
+    let token = words.take()?;
+    match number(token) {
+        Ok(number) => { if words.is_empty() { Some(number) } else { None } }
+        Err(_) => None,
     }
 }
 
-/// `f N`
-pub(crate) fn read_count(mut tokens: Tokens<'_>) -> Result<Line, ProofFault>
-    ensures { IfOk result IsJudgedLine }
+/// The words are `output NONE`; another output is left out.
+pub(crate) fn output(mut words: Body<'_>) -> Result<(), ProofFault>
+    ensures ok { OnOk result (are_words frame.output words.entry ≡ true) }
+    ensures form { IfErr result IsForm }
+    ensures denies { IfErr result (λ f. are_words frame.output words.entry ≡ false) }
 {
-    if !takes_word(&mut tokens, b"f".as_slice()) {
-        return Err(ProofFault::BadCount);
-    }
-    let Some(token) = tokens.next() else {
-        return Err(ProofFault::BadCount);
-    };
-    match integer(token) {
-        Ok(count) if closes(&mut tokens) => Ok(Line::Count(count)),
-        _ => Err(ProofFault::BadCount),
-    }
-}
-
-/// What follows `output`.
-pub(crate) fn read_output(mut tokens: Tokens<'_>) -> Result<Line, ProofFault>
-    ensures { IfOk result IsJudgedLine }
-{
-    let Some(token) = tokens.next() else {
+    if !words.takes(b"output") {
         return Err(ProofFault::BadLine);
-    };
-    if token.text != b"NONE".as_slice() {
-        return Err(match token.kind {
-            Kind::Symbol(_) | Kind::Stray => ProofFault::BadLine,
-            _ => ProofFault::RuleLeftOut,
-        });
     }
-    if closes(&mut tokens) {
-        Ok(Line::Output)
-    } else {
-        Err(ProofFault::BadLine)
+    if words.takes(b"NONE") {
+        return if words.is_empty() {
+            Ok(())
+        } else {
+            Err(ProofFault::BadLine)
+        };
+    }
+    match words.next() {
+        None => Err(ProofFault::BadLine),
+        Some(token) => match token.kind {
+            Kind::Symbol(_) | Kind::Stray => Err(ProofFault::BadLine),
+            _ => Err(ProofFault::RuleLeftOut),
+        },
     }
 }
 
-/// `end pseudo-Boolean proof`
-pub(crate) fn read_end(mut tokens: Tokens<'_>) -> Result<Line, ProofFault>
-    ensures { IfOk result IsJudgedLine }
+/// Whether the words are `end pseudo-Boolean proof`.
+pub(crate) fn is_end(mut words: Body<'_>) -> bool
+    ensures { result ≡ are_words frame.ending words.entry }
 {
-    let is_end = takes_word(&mut tokens, b"end".as_slice())
-        && takes_word(&mut tokens, b"pseudo-Boolean".as_slice())
-        && takes_word(&mut tokens, b"proof".as_slice())
-        && closes(&mut tokens);
-    if is_end {
-        Ok(Line::End)
-    } else {
-        Err(ProofFault::BadLine)
-    }
+    words.takes(b"end")
+        && words.takes(b"pseudo-Boolean")
+        && words.takes(b"proof")
+        && words.is_empty()
 }

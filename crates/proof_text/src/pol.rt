@@ -1,120 +1,63 @@
 //! The items of a `pol` line. An integer directly before `*` or `d` belongs to it, and so does a name directly before
 //! `w`; so each line has one reading.
 
-ghost use Rattle.std.specs.Prelude.{◌≡◌};
-ghost use Rattle.proof_text.specs.Growth.{Extends};
+ghost use Rattle.std.specs.Prelude.{◌≡◌, ℕ, List, ◌∷◌, true, false, IfOk, IfErr, OnOk};
+ghost use Rattle.pb_text.specs.Lexeme.{kind_of};
+ghost use Rattle.proof_text.specs.Kinds.{is_integer, is_literal};
+ghost use Rattle.proof_text.specs.Numbering.{Known};
+ghost use Rattle.proof_text.specs.Forms.{are_items, items_of};
+ghost use Rattle.proof_text.specs.Reading.{Takes, IsRead};
+ghost use Rattle.proof_text.specs.Denial.{Denies};
 
-use super::fault::ProofFault;
-use super::frame::is_semicolon;
-use super::name::lit_of;
+use crate::body::Body;
+use crate::fault::ProofFault;
+use crate::part::{lit, number};
+use crate::table::Table;
 use kernel::Item;
-use linear::{Names, Seq};
-use pb_text::{Kind, NumFault, Token, Tokens, as_literal, integer};
+use linear::Seq;
+use pb_text::{Kind, Token};
 use std::alloc::Global;
 
-/// What an operation word behind an operand makes of it.
-#[derive(Clone, Copy)]
-enum Behind {
-    Multiply,
-    Divide,
-    Weaken,
-    Other,
-}
-
-/// The items up to the end of the line.
-pub(crate) fn read_items(
-    alloc: Global,
-    tokens: &mut Tokens<'_>,
-    names: &mut Names,
-) -> Result<Seq<Item>, ProofFault>
-    ensures { Extends names.old names.new }
-{
-    let mut items = Vec::new(alloc);
-    let mut ahead = tokens.next();
-    while let Some(token) = ahead {
-        ahead = tokens.next();
-        if is_semicolon(token) {
-            return if ahead.is_none() {
-                Ok(Seq::from_vec(items))
-            } else {
-                Err(ProofFault::BadLine)
-            };
-        }
-        let item = read_item(token, operation_behind(ahead), names)?;
-        if takes_next(item) {
-            ahead = tokens.next();
-        }
-        items.push(item)?;
-    }
-    Ok(Seq::from_vec(items))
-}
-
-fn operation_behind(ahead: Option<Token<'_>>) -> Behind {
-    match ahead {
-        Some(token) => {
-            if token.text == b"*".as_slice() {
-                Behind::Multiply
-            } else if token.text == b"d".as_slice() {
-                Behind::Divide
-            } else if token.text == b"w".as_slice() {
-                Behind::Weaken
-            } else {
-                Behind::Other
-            }
-        }
-        None => Behind::Other,
-    }
-}
-
-/// Whether an item is written by two tokens, an operand and the operation behind it.
-fn takes_next(item: Item) -> bool {
-    matches!(item, Item::Multiply(_) | Item::Divide(_) | Item::Weaken(_))
-}
-
-/// The item that a token begins.
-fn read_item(token: Token<'_>, behind: Behind, names: &mut Names) -> Result<Item, ProofFault>
-    ensures { Extends names.old names.new }
-{
-    match token.kind {
-        Kind::Integer => read_number(token, behind),
-        Kind::Literal => read_literal(token, behind, names),
-        // `s` begins with a letter and is no name, so its kind is that of a misspelt one.
-        Kind::Other | Kind::Misspelt => read_operation(token),
-        _ => Err(ProofFault::BadLine),
-    }
-}
-
 /// An id, or a factor with its operation.
-fn read_number(token: Token<'_>, behind: Behind) -> Result<Item, ProofFault> {
-    let number = match integer(token) {
-        Ok(number) => number,
-        Err(NumFault::NotNumber) => return Err(ProofFault::BadLine),
-        Err(NumFault::NumberTooLarge) => return Err(ProofFault::IntegerTooLarge),
-    };
-    Ok(match behind {
-        Behind::Multiply => Item::Multiply(number),
-        Behind::Divide => Item::Divide(number),
-        _ => Item::Id(number),
-    })
+fn integer_item(token: Token<'_>, words: &mut Body<'_>) -> Result<Item, ProofFault>
+    requires { token.kind ≡ Kind.Integer }
+    ensures takes { IfOk result (λ i. (k : Known) → Takes are_items items_of k (token.entry.text.now ∷ words.old) i k words.new) }
+    ensures denies { IfErr result (λ f. Denies f (are_items (token.entry.text.now ∷ words.old)) (token.entry.text.now ∷ words.old)) }
+{
+    let number = number(token)?;
+    if words.takes(b"*") {
+        return Ok(Item::Multiply(number));
+    }
+    if words.takes(b"d") {
+        return Ok(Item::Divide(number));
+    }
+    Ok(Item::Id(number))
 }
 
 /// An axiom, or a variable with the weakening by it.
-fn read_literal(token: Token<'_>, behind: Behind, names: &mut Names) -> Result<Item, ProofFault>
-    ensures { Extends names.old names.new }
+fn literal_item(
+    token: Token<'_>,
+    words: &mut Body<'_>,
+    table: &mut Table,
+) -> Result<Item, ProofFault>
+    requires { token.kind ≡ Kind.Literal }
+    ensures takes { IfOk result (λ i. Takes are_items items_of table.old (token.entry.text.now ∷ words.old) i table.new words.new) }
+    ensures kept { table.new.before ≡ table.old.before }
+    ensures denies { IfErr result (λ f. Denies f (are_items (token.entry.text.now ∷ words.old)) (token.entry.text.now ∷ words.old)) }
 {
-    let Some(literal) = as_literal(token) else {
-        return Err(ProofFault::BadLine);
-    };
-    let negated = literal.negated;
-    let lit = lit_of(names, literal)?;
-    Ok(match behind {
-        Behind::Weaken if !negated => Item::Weaken(lit.var),
-        _ => Item::Axiom(lit),
-    })
+    let lit = lit(token, table)?;
+    if !lit.negated && words.takes(b"w") {
+        return Ok(Item::Weaken(lit.var));
+    }
+    Ok(Item::Axiom(lit))
 }
 
-/// `+` or `s`.
-fn read_operation(token: Token<'_>) -> Result<Item, ProofFault> {
+/// `+` or `s`. (Both begin no name, but `s` begins with a letter, so its kind is that of a misspelt one.)
+fn operation_item(token: Token<'_>) -> Result<Item, ProofFault>
+    requires { (is_integer token.kind ≡ false) × (is_literal token.kind ≡ false) }
+    ensures takes { IfOk result (λ i. (k : Known) (rest : List (List ℕ)) → Takes are_items items_of k (token.entry.text.now ∷ rest) i k rest) }
+    ensures denies { IfErr result (λ f. (rest : List (List ℕ)) → Denies f (are_items (token.entry.text.now ∷ rest)) (token.entry.text.now ∷ rest)) }
+{
     if token.text == b"+".as_slice() {
         Ok(Item::Add)
     } else if token.text == b"s".as_slice() {
@@ -122,4 +65,35 @@ fn read_operation(token: Token<'_>) -> Result<Item, ProofFault> {
     } else {
         Err(ProofFault::BadLine)
     }
+}
+
+/// The item that a word begins.
+fn item(token: Token<'_>, words: &mut Body<'_>, table: &mut Table) -> Result<Item, ProofFault>
+    ensures takes { IfOk result (λ i. Takes are_items items_of table.old (token.entry.text.now ∷ words.old) i table.new words.new) }
+    ensures kept { table.new.before ≡ table.old.before }
+    ensures denies { IfErr result (λ f. Denies f (are_items (token.entry.text.now ∷ words.old)) (token.entry.text.now ∷ words.old)) }
+{
+    match token.kind {
+        Kind::Integer => integer_item(token, words),
+        Kind::Literal => literal_item(token, words, table),
+        Kind::Symbol(_) | Kind::Stray | Kind::Misspelt | Kind::Other => operation_item(token),
+    }
+}
+
+/// The items up to the end of a line.
+pub(crate) fn items(
+    alloc: Global,
+    mut words: Body<'_>,
+    table: &mut Table,
+) -> Result<Seq<Item>, ProofFault>
+    ensures read { IfOk result (λ v. IsRead are_items items_of table.old words.entry v table.new) }
+    ensures kept { table.new.before ≡ table.old.before }
+    ensures denies { IfErr result (λ f. Denies f (are_items words.entry) words.entry) }
+{
+    let mut items = Vec::new(alloc);
+    while let Some(token) = words.take() {
+        let item = item(token, &mut words, table)?;
+        items.push(item)?;
+    }
+    Ok(Seq::from_vec(items))
 }

@@ -1,134 +1,144 @@
 //! What a line says at its place.
 
-ghost use Rattle.std.specs.Prelude.{◌≡◌, IfOk, OnErr};
-ghost use Rattle.proof_text.specs.Growth.{Extends};
-ghost use Rattle.proof_text.specs.Read.{IsJudgedLine};
+ghost use Rattle.std.specs.Prelude.{◌≡◌, false, IfOk, IfErr, OnErr};
+ghost use Rattle.proof_text.specs.Words.{words};
+ghost use Rattle.proof_text.specs.Steps.{IsStep, IsStepLineRead};
+ghost use Rattle.proof_text.specs.Spells.{IsLine};
+ghost use Rattle.proof_text.specs.Faults.{DeniesStep, DeniesLine};
 
-use super::conclude::read_conclusion;
-use super::fault::ProofFault;
-use super::frame::{read_count, read_end, read_header, read_output};
-use super::line::{Line, Place};
-use super::pol::read_items;
+use crate::body::Body;
+use crate::conclude::conclusion;
+use crate::fault::ProofFault;
+use crate::frame::{count, is_end, is_header, output};
+use crate::line::{Line, Place};
+use crate::lookahead::Lookahead;
+use crate::refusal::rule_fault;
+use crate::rule::rule_of;
+use crate::step::step;
+use crate::table::Table;
 use kernel::Step;
 use linear::Names;
-use pb_text::{Kind, Tokens};
 use std::alloc::Global;
+use std::mem;
+
+/// The step that the words of a line say.
+fn step_line(alloc: Global, mut words: Lookahead<'_>, table: &mut Table) -> Result<Step, ProofFault>
+    requires { table.old.full ≡ false }
+    ensures read { IfOk result (λ s. IsStepLineRead table.old words.entry s table.new) }
+    ensures kept { table.new.before ≡ table.old.before }
+    ensures denies { IfErr result (λ f. DeniesStep f table.old.names words.entry) }
+{
+    let Some(token) = words.take() else {
+        return Err(ProofFault::BadLine);
+    };
+    match rule_of(token.text) {
+        Some(rule) => step(alloc, rule, words, table),
+        None => Err(rule_fault(token)),
+    }
+}
+
+/// The step that a line says. Names that the table does not have are added in order; a refused line adds none.
+///
+/// All integers are at most 2^120 in size. What stands behind the `;` of `rup` is passed over.
+///
+/// `UnknownRule`, `RuleLeftOut` and `BadLine` come only where the line says no step, `IntegerTooLarge` only where an
+/// integer is too large, `TooManyIds` only where the line is well formed and the table would have 2^32 names or more.
+pub fn read_step(alloc: Global, line: &[u8], names: &mut Names) -> Result<Step, ProofFault>
+    ensures step { IfOk result (λ s. IsStep names.old (words line.now) s names.new) }
+    ensures err { OnErr result (names.new ≡ names.old) }
+    ensures denies { IfErr result (λ f. DeniesStep f names.old (words line.now)) }
+{
+    let mut table = Table::new(mem::replace(names, Names::new(alloc)));
+    match step_line(alloc, Lookahead::new(line), &mut table) {
+        Ok(step) => {
+            if table.is_full() {
+                *names = table.undo();
+                return Err(ProofFault::TooManyIds);
+            }
+            *names = table.into_names();
+            Ok(step)
+        }
+        Err(fault) => {
+            *names = table.undo();
+            Err(fault)
+        }
+    }
+}
+
+/// The conclusion that a line says.
+fn read_conclusion(alloc: Global, line: &[u8], names: &mut Names) -> Result<Line, ProofFault>
+    ensures line { IfOk result (λ l. IsLine Place.Conclusion names.old (words line.now) l names.new) }
+    ensures err { OnErr result (names.new ≡ names.old) }
+    ensures denies { IfErr result (λ f. DeniesLine f Place.Conclusion names.old (words line.now)) }
+{
+    let mut table = Table::new(mem::replace(names, Names::new(alloc)));
+    match conclusion(alloc, Lookahead::new(line), &mut table) {
+        Ok(conclusion) => {
+            if table.is_full() {
+                *names = table.undo();
+                return Err(ProofFault::TooManyIds);
+            }
+            *names = table.into_names();
+            Ok(Line::Conclusion(conclusion))
+        }
+        Err(fault) => {
+            *names = table.undo();
+            Err(fault)
+        }
+    }
+}
+
+/// A step, or the output line behind the steps.
+fn read_step_or_output(alloc: Global, line: &[u8], names: &mut Names) -> Result<Line, ProofFault>
+    ensures line { IfOk result (λ l. IsLine Place.Step names.old (words line.now) l names.new) }
+    ensures err { OnErr result (names.new ≡ names.old) }
+    ensures denies { IfErr result (λ f. DeniesLine f Place.Step names.old (words line.now)) }
+{
+    let words = Lookahead::new(line);
+    if words.begins(b"output") {
+        output(Body::new(words))?;
+        return Ok(Line::Output);
+    }
+    let step = read_step(alloc, line, names)?;
+    Ok(Line::Step(step))
+}
 
 /// What a line says at its place. Names that the table does not have are added in order; a refused line adds none.
+///
+/// The fault is `BadHeader` at the header, `BadCount` at the count (also for an integer above 2^120 in size),
+/// `TextAfterEnd` behind the end line, whatever the line is, and `BadLine` at the end. Elsewhere the faults are those of
+/// `read_step`.
 pub fn read_line(
     alloc: Global,
     place: Place,
     line: &[u8],
     names: &mut Names,
 ) -> Result<Line, ProofFault>
-    ensures judged { IfOk result IsJudgedLine }
-    ensures grows { Extends names.old names.new }
+    ensures line { IfOk result (λ l. IsLine place names.old (words line.now) l names.new) }
     ensures err { OnErr result (names.new ≡ names.old) }
+    ensures denies { IfErr result (λ f. DeniesLine f place names.old (words line.now)) }
 {
-    let tokens = Tokens::new(line);
     match place {
-        Place::Header => read_header(tokens),
-        Place::Count => read_count(tokens),
-        Place::Step => {
-            let known = names.len();
-            let read = read_step_line(alloc, tokens, names);
-            if read.is_err() {
-                names.truncate(known);
+        Place::Header => {
+            if is_header(Body::new(Lookahead::new(line))) {
+                Ok(Line::Header)
+            } else {
+                Err(ProofFault::BadHeader)
             }
-            read
         }
-        Place::Conclusion => read_conclusion(tokens),
-        Place::End => read_end(tokens),
+        Place::Count => match count(Body::new(Lookahead::new(line))) {
+            Some(number) => Ok(Line::Count(number)),
+            None => Err(ProofFault::BadCount),
+        },
+        Place::Step => read_step_or_output(alloc, line, names),
+        Place::Conclusion => read_conclusion(alloc, line, names),
+        Place::End => {
+            if is_end(Body::new(Lookahead::new(line))) {
+                Ok(Line::End)
+            } else {
+                Err(ProofFault::BadLine)
+            }
+        }
         Place::After => Err(ProofFault::TextAfterEnd),
     }
-}
-
-/// A step, or the output line behind the steps.
-fn read_step_line(
-    alloc: Global,
-    mut tokens: Tokens<'_>,
-    names: &mut Names,
-) -> Result<Line, ProofFault>
-    ensures judged { IfOk result IsJudgedLine }
-    ensures grows { Extends names.old names.new }
-{
-    let Some(rule) = tokens.next() else {
-        return Err(ProofFault::BadLine);
-    };
-    if let Kind::Symbol(_) | Kind::Stray = rule.kind {
-        return Err(ProofFault::BadLine);
-    }
-    if rule.text == b"pol".as_slice() || rule.text == b"p".as_slice() {
-        let items = read_items(alloc, &mut tokens, names)?;
-        return Ok(Line::Step(Step::Pol(items)));
-    }
-    if rule.text == b"output".as_slice() {
-        return read_output(tokens);
-    }
-    Err(refused_rule(rule.text, tokens))
-}
-
-/// The fault of a rule that is not read.
-fn refused_rule(rule: &[u8], mut tokens: Tokens<'_>) -> ProofFault {
-    if is_left_out(rule) || is_later(rule) {
-        return ProofFault::RuleLeftOut;
-    }
-    if rule == b"del".as_slice() {
-        return match tokens.next() {
-            Some(token) if is_deletion(token.text) => ProofFault::RuleLeftOut,
-            _ => ProofFault::BadLine,
-        };
-    }
-    if is_frame(rule) {
-        return ProofFault::BadLine;
-    }
-    ProofFault::UnknownRule
-}
-
-/// The rules of the format that this profile leaves out.
-fn is_left_out(rule: &[u8]) -> bool {
-    is_left_out_order(rule) || is_left_out_check(rule)
-}
-
-fn is_left_out_order(rule: &[u8]) -> bool {
-    rule == b"dom".as_slice()
-        || rule == b"pre_order".as_slice()
-        || rule == b"load_order".as_slice()
-        || rule == b"obju".as_slice()
-        || rule == b"solx".as_slice()
-        || rule == b"core".as_slice()
-        || rule == b"begin".as_slice()
-        || rule == b"proofgoal".as_slice()
-}
-
-fn is_left_out_check(rule: &[u8]) -> bool {
-    rule == b"e".as_slice()
-        || rule == b"ea".as_slice()
-        || rule == b"i".as_slice()
-        || rule == b"ia".as_slice()
-        || rule == b"setlvl".as_slice()
-        || rule == b"wiplvl".as_slice()
-        || rule == b"delc".as_slice()
-        || rule == b"deld".as_slice()
-}
-
-/// The rules that are not judged yet.
-fn is_later(rule: &[u8]) -> bool {
-    rule == b"rup".as_slice()
-        || rule == b"u".as_slice()
-        || rule == b"red".as_slice()
-        || rule == b"sol".as_slice()
-        || rule == b"soli".as_slice()
-}
-
-fn is_deletion(word: &[u8]) -> bool {
-    word == b"id".as_slice() || word == b"range".as_slice() || word == b"spec".as_slice()
-}
-
-/// The first words of lines that may not stand among the steps.
-fn is_frame(rule: &[u8]) -> bool {
-    rule == b"pseudo-Boolean".as_slice()
-        || rule == b"f".as_slice()
-        || rule == b"conclusion".as_slice()
-        || rule == b"end".as_slice()
 }

@@ -1,100 +1,128 @@
 //! The lines of a proof that count, with their numbers.
 
+ghost use Rattle.std.specs.Prelude.{◌≡◌, ◌+◌, ◌<◌, ◌≤◌, ◌^◌, length};
+ghost use Rattle.proof_text.specs.Lines as lines;
+
 use memchr::memchr;
+use pb_text::Tokens;
 use std::marker::Model;
 
-/// A line that counts: neither blank nor a comment.
+/// A line that counts: it has a token, so it is neither blank nor a comment.
 #[derive(Clone, Copy, Debug)]
 pub struct NumberedLine<'a> {
-    /// Its number, counted from 1 over all lines.
+    /// Its number: 1 and the number of LF bytes before it.
     pub number: u64,
     /// Its bytes, without the LF.
     pub text: &'a [u8],
 }
 
-/// The lines of a proof that are still to come. Lines end with LF; the last one may lack it.
-#[derive(Drop)]
-pub struct ProofReader<'a> {
+/// A place at the start of a line.
+#[derive(Clone, Copy)]
+struct LineCursor<'a> {
+    /// The bytes that follow.
     rest: &'a [u8],
+    /// The number of the line.
     number: u64,
+    ghost fits: { number + length rest.now < 2 ^ 64 },
 }
 
-impl<'a> Model for ProofReader<'a> {
-    ghost use Rattle.std.specs.Prelude.{ℕ, List};
-
-    ghost Value = { List ℕ };
-
-    ghost view = { λ r. r.rest.now };
+/// Whether a line counts.
+fn counts(line: &[u8]) -> bool
+    ensures { result ≡ lines.counts line.now }
+{
+    Tokens::new(line).next().is_some()
 }
 
-impl<'a> ProofReader<'a> {
-    ghost use Rattle.std.specs.Prelude.{◌≡◌, ◌<◌, [], length, MatchOption};
+impl<'a> LineCursor<'a> {
+    ghost use Rattle.proof_text.specs.Reader.{numbered_of, pending};
 
-    /// All lines of a proof. Contracts see the bytes that are left.
-    pub fn new(proof: &'a [u8]) -> Self
-        ensures { result ≡ proof.now }
-    {
-        ProofReader {
-            rest: proof,
-            number: 1,
-        }
-    }
-
-    /// The next line that counts; none at the end of the text.
-    pub fn next(&mut self) -> Option<NumberedLine<'a>>
-        ensures left { MatchOption result (self.new ≡ []) (λ l. length self.new < length self.old) }
-    {
-        while !self.rest.is_empty() {
-            let line = self.take_line();
-            if counts(line.text) {
-                return Some(line);
-            }
-        }
-        None
-    }
-
-    /// The number of the line at which the text ends: 1 and the LF bytes of the text, once all lines were taken.
-    pub fn end_number(&self) -> u64 {
-        self.number
-    }
-
-    /// The first line, whichever it is.
-    fn take_line(&mut self) -> NumberedLine<'a>
-        requires { 0 < length self.old }
-        ensures { length self.new < length self.old }
+    /// The line at a place, and the place behind it.
+    fn line(self) -> (NumberedLine<'a>, LineCursor<'a>)
+        requires { 0 < length self.rest.now }
+        ensures lines { (pending self.entry).lines ≡ lines.onto (numbered_of result.0) (pending result.1).lines }
+        ensures last { (pending result.1).last ≡ (pending self.entry).last }
+        ensures shorter { length result.1.rest.now < length self.entry.rest.now }
     {
         let number = self.number;
         match memchr(b'\n', self.rest) {
-            None => {
-                let text = self.rest;
-                self.rest = &text[text.len()..];
-                NumberedLine { number, text }
-            }
-            Some(end) => {
-                let text = &self.rest[..end];
-                self.rest = &self.rest[end + 1..];
-                self.number = number.saturating_add(1);
-                NumberedLine { number, text }
-            }
+            None => (
+                NumberedLine {
+                    number,
+                    text: self.rest,
+                },
+                LineCursor { rest: &[], number },
+            ),
+            Some(end) => (
+                NumberedLine {
+                    number,
+                    text: &self.rest[..end],
+                },
+                LineCursor {
+                    rest: &self.rest[end + 1..],
+                    number: number + 1,
+                },
+            ),
         }
     }
 }
 
-/// Whether a line is neither blank nor a comment.
-fn counts(line: &[u8]) -> bool {
-    for byte in line {
-        match byte {
-            b' ' | b'\t' => {}
-            b'*' => return false,
-            b'\r' => return has_word(line),
-            _ => return true,
-        }
-    }
-    false
+/// The lines of a proof that are still to come. Lines are parted by LF; the last one may be empty. Nothing is copied.
+#[derive(Drop)]
+pub struct ProofReader<'a> {
+    at: LineCursor<'a>,
 }
 
-/// Whether a line has a byte that is no white space.
-fn has_word(line: &[u8]) -> bool {
-    line.iter()
-        .any(|b| !matches!(*b, b' ' | b'\t' | b'\r' | b'\n'))
+impl<'a> Model for ProofReader<'a> {
+    ghost use Rattle.proof_text.specs.Lines.{Pending};
+    ghost use Rattle.proof_text.specs.Reader.{pending};
+
+    ghost Value = { Pending };
+
+    ghost view = { λ r. pending r.at };
+}
+
+impl<'a> ProofReader<'a> {
+    ghost use Rattle.std.specs.Prelude.{[], ◌∷◌, MatchOption};
+    ghost use Rattle.proof_text.specs.Lines.{lines_of};
+    ghost use Rattle.proof_text.specs.Reader.{numbered_of};
+
+    /// All lines of a proof.
+    pub fn new(proof: &'a [u8]) -> Self
+        ensures { result ≡ lines_of proof.now }
+    {
+        ProofReader {
+            at: LineCursor {
+                rest: proof,
+                number: 1,
+            },
+        }
+    }
+
+    /// The next line that counts; `None` where none is left, then as often as it is asked for.
+    pub fn next(&mut self) -> Option<NumberedLine<'a>>
+        ensures line { MatchOption
+            result
+            ((self.old.lines ≡ []) × (self.new.lines ≡ []))
+            (λ l. self.old.lines ≡ numbered_of l ∷ self.new.lines) }
+        ensures last { self.new.last ≡ self.old.last }
+    {
+        let mut at = self.at;
+        while !at.rest.is_empty() {
+            let (line, after) = at.line();
+            at = after;
+            if counts(line.text) {
+                self.at = at;
+                return Some(line);
+            }
+        }
+        self.at = at;
+        None
+    }
+
+    /// The number of the line at which the text ends: 1 and the number of its LF bytes.
+    pub fn end_number(&self) -> u64
+        ensures { result ≡ self.now.last }
+    {
+        self.at.number + self.at.rest.iter().filter(|b| **b == b'\n').count() as u64
+    }
 }

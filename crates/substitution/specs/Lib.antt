@@ -1,1 +1,5 @@
 pub mod Images
+pub mod Under
+pub mod Objective
+pub mod Covering
+pub mod Cases

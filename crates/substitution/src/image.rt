@@ -1,5 +1,7 @@
 //! What a substitution puts in place of a variable.
 
+ghost use Rattle.std.specs.Prelude.{◌≡◌};
+
 use linear::Lit;
 
 /// A literal, or a truth value.
@@ -8,4 +10,22 @@ pub enum Image {
     Lit(Lit),
     Zero,
     One,
+}
+
+impl Image {
+    ghost use Rattle.substitution.specs.Images.{opposite_image};
+
+    /// What is worth 1 less this.
+    pub fn opposite(self) -> Image
+        ensures { result ≡ opposite_image self }
+    {
+        match self {
+            Image::Lit(lit) => Image::Lit(Lit {
+                var: lit.var,
+                negated: !lit.negated,
+            }),
+            Image::Zero => Image::One,
+            Image::One => Image::Zero,
+        }
+    }
 }

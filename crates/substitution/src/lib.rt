@@ -1,8 +1,20 @@
-//! Substitutions of literals and truth values for variables: the witnesses of redundance steps.
+//! Substitutions of literals and truth values for variables, the witnesses of redundance steps, and covering.
 #![tactic(auto)]
 
+mod application;
+pub mod cases;
+mod composition;
+mod covering;
 mod image;
+pub mod laws;
+mod objective;
 mod substitution;
+#[cfg(test)]
+mod tests;
 
+pub use application::apply;
+pub use composition::compose;
+pub use covering::covers;
 pub use image::Image;
+pub use objective::objective_goal;
 pub use substitution::Substitution;

@@ -1,32 +1,83 @@
 //! A list of variables and their images.
 
-ghost use Rattle.std.specs.Prelude.{◌≡◌};
+ghost use Rattle.std.specs.Prelude.{◌≡◌, None, IfOk, IfSome, map, nat_eq};
+ghost use Rattle.std.specs.HashMap.{IsFromIterResult};
 
 use super::image::Image;
-use linear::Var;
+use linear::{Lit, Var};
+use std::alloc::{AllocError, Global};
+use std::collections::HashMap;
 use std::marker::Model;
 
 /// Images of some variables, in the order given; no variable stands twice. The other variables stay.
 #[derive(Debug, Drop)]
 pub struct Substitution {
     images: Vec<(Var, Image)>,
+    by_variable: HashMap<u32, Image>,
 }
 
 impl Model for Substitution {
-    ghost use Rattle.std.specs.Prelude.{List};
+    ghost use Rattle.std.specs.Prelude.{◌≡◌, ℕ, List, nat_eq, unwrap_or};
+    ghost use Rattle.std.specs.HashMap.{get};
     ghost use Rattle.linear.specs.declared.term.Var.{Var};
     ghost use Rattle.substitution.specs.declared.image.Image.{Image};
-    ghost use Rattle.substitution.specs.Images.{NamesOnce};
+    ghost use Rattle.substitution.specs.Images.{NamesOnce, image_of, itself};
 
     ghost Value = { List (Var × Image) };
 
     ghost view = { λ s. s.images.items };
 
-    ghost invariant = { λ s. NamesOnce s.images.items };
+    ghost invariant = { λ s. NamesOnce s.images.items × ((v : ℕ) → unwrap_or (get nat_eq s.by_variable v) (itself v) ≡ image_of s.images.items v) };
+}
+
+// The images under the numbers of their variables.
+fn numbered(alloc: Global, images: &[(Var, Image)]) -> Result<HashMap<u32, Image>, AllocError>
+    ensures { IfOk result (IsFromIterResult nat_eq (map (λ p. (p.0.0, p.1)) images.now)) }
+{
+    images
+        .iter()
+        .map(|(var, image)| (var.0, *image))
+        .collect(alloc)
 }
 
 impl Substitution {
-    ghost use Rattle.substitution.specs.Images.{NamesOnce};
+    ghost use Rattle.substitution.specs.Images.{NamesOnce, image_of, image_of_literal};
+
+    /// The substitution of these images, or `None` where a variable stands twice.
+    pub fn new(alloc: Global, images: Vec<(Var, Image)>) -> Result<Option<Self>, AllocError>
+        ensures some { IfOk result (λ made. IfSome made (λ s. s ≡ images.items)) }
+        ensures none { IfOk result (λ made. made ≡ None → NamesOnce images.items → ⊥) }
+    {
+        let by_variable = numbered(alloc, images.as_slice())?;
+        if by_variable.len() < images.len() {
+            return Ok(None);
+        }
+        Ok(Some(Substitution {
+            images,
+            by_variable,
+        }))
+    }
+
+    /// The image of a variable: the variable itself where none is given. It takes the time of one look-up.
+    pub fn image_of(&self, var: Var) -> Image
+        ensures { result ≡ image_of self.now (var.0) }
+    {
+        match self.by_variable.get(&var.0) {
+            Some(image) => *image,
+            None => Image::Lit(Lit {
+                var,
+                negated: false,
+            }),
+        }
+    }
+
+    /// The image of a literal: of `~x` it is the opposite of the image of `x`.
+    pub fn image_of_literal(&self, var: Var, negated: bool) -> Image
+        ensures { result ≡ image_of_literal self.now (var.0) negated }
+    {
+        let image = self.image_of(var);
+        if negated { image.opposite() } else { image }
+    }
 
     /// The variables and their images, in the order given.
     pub fn as_slice(&self) -> &[(Var, Image)]

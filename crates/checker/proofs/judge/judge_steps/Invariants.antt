@@ -5,6 +5,6 @@ use Rattle.checker.proofs.judge.judge_steps.Given as goal
 abbrev pub invariant-loop-number : goal.invariant-loop-number
 invariant-loop-number l = l.kernel.problem ≡ l.fn.kernel.problem
 
--- the bytes that are left
+-- the lines that are left
 abbrev pub decreases-loop-number : goal.decreases-loop-number
-decreases-loop-number l = length l.lines.reader
+decreases-loop-number l = length l.lines.reader.lines

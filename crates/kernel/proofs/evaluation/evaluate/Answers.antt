@@ -1,11 +1,45 @@
-use Rattle.std.proofs.Common.{pos, refl, ◌∙◌}
+use Rattle.std.proofs.Common.{◌≡◌, ◌≢◌, pos, [], length, get_or, refl, ap, subst, ◌∙◌}
+use Rattle.std.proofs.lemmas.List.{take_all}
+use Rattle.std.proofs.lemmas.Result.{err_from_is_err_and, IfErr-weaker}
+use Rattle.kernel.specs.declared.fault.StepFault.TheVariants as faults
 use Rattle.kernel.specs.declared.step.Item.TheVariants as items
+use Rattle.kernel.specs.Fault.{OrMemory, IsItemFault, IsWritingFault}
+use Rattle.kernel.specs.Places.{listed}
+use Rattle.kernel.specs.Running.{Runs}
+use Rattle.kernel.proofs.Faults.{Runs-take, or_memory, stops_here, leaves_writing}
 use Rattle.kernel.proofs.Polish.{IsWritten-take}
 use Rattle.kernel.proofs.evaluation.evaluate.Goals as goal
 
 pub loop-item-preserved : goal.loop-item-preserved
 loop-item-preserved c = record {
   live = c.in_ok-step.ensures.live ∙ c.loop-item.invariant.live;
-  written = IsWritten-take c.args.live.now c.loop-item.stack.live c.args.items.now c.loop-item.item-index _ (items.Id (pos 0)) c.loop-item.stack.stack c.step.new.stack.stack
-      c.loop-item.invariant.live c.loop-item-test.true refl c.in_ok-step.ensures.ok c.loop-item.invariant.written;
+  written = IsWritten-take (listed c.args.live.now) (listed c.loop-item.stack.live) c.args.items.now c.loop-item.item-index _ (items.Id (pos 0)) c.loop-item.stack.stack c.step.new.stack.stack
+      (ap listed c.loop-item.invariant.live) c.loop-item-test.true refl c.in_ok-step.ensures.ok c.loop-item.invariant.written;
+  runs = Runs-take (listed c.args.live.now) (listed c.loop-item.stack.live) c.args.items.now c.loop-item.item-index _ (items.Id (pos 0)) c.loop-item.stack.stack c.step.new.stack.stack
+      (ap listed c.loop-item.invariant.live) c.loop-item-test.true refl c.in_ok-step.ensures.ok c.loop-item.invariant.runs;
 }
+
+pub returns-in_err-step-clause-fault : goal.returns-in_err-step-clause-fault
+returns-in_err-step-clause-fault c =
+    let given = listed c.args.live.now in
+    let f = c.in_err-step.field-0.0 in
+    let at = c.loop-item in
+    let p = err_from_is_err_and c.from_residual.result c.from_residual.ensures.1 in
+    rw (p.1, p.2)
+    (or_memory f (IsItemFault (listed at.stack.live) (get_or c.args.items.now at.item-index (items.Id (pos 0))) at.stack.stack f) (IsWritingFault given c.args.items.now f)
+        (stops_here given (listed at.stack.live) c.args.items.now at.item-index _ (items.Id (pos 0)) at.stack.stack f
+            (ap listed at.invariant.live) c.loop-item-test.true refl at.invariant.runs)
+        c.in_err-step.ensures.fault)
+
+pub returns-clause-fault : goal.returns-clause-fault
+returns-clause-fault c =
+    let given = listed c.args.live.now in
+    let at = c.loop-item in
+    let end = take_all at.item-index c.args.items.now c.loop-item-test.false in
+    let runs : Runs given c.args.items.now [] at.stack.stack = subst (λ w. Runs given w [] at.stack.stack) end at.invariant.runs in
+    IfErr-weaker c.only.result
+    (λ f. OrMemory f ((f ≡ faults.StackShape) × (length at.stack.stack ≢ 1)))
+    (λ f. OrMemory f (IsWritingFault given c.args.items.now f))
+    (λ f. or_memory f ((f ≡ faults.StackShape) × (length at.stack.stack ≢ 1)) (IsWritingFault given c.args.items.now f)
+        (λ h. leaves_writing given c.args.items.now f h.0 (at.stack.stack, runs, h.1)))
+    c.only.ensures.fault

@@ -1,7 +1,6 @@
 use Rattle.std.proofs.Common.{◌≡◌, [], ◌∷◌, ◌++◌, List, refl, sym, ap, subst, ◌∙◌, append_assoc, arith}
-use Rattle.normal_form.specs.Normal.{NormalConstraint, Holds}
-use Rattle.kernel.specs.State.{AreFormsAs}
-use Rattle.kernel.proofs.FileForms.{All-two}
+use Rattle.normal_form.specs.Normal.{NormalConstraint}
+use Rattle.kernel.specs.Forms.{AreFormsAs}
 use Rattle.kernel.proofs.file.push_forms.Goals as goal
 
 pub returns-in_ok-push-in-Equal-2-clause-ok : goal.returns-in_ok-push-in-Equal-2-clause-ok
@@ -14,4 +13,4 @@ returns-in_ok-push-in-Equal-2-clause-ok c =
     c.in_ok-push-in-Equal-2.ensures.items ∙ ap (λ l. l ++ m ∷ []) c.in_ok-push-in-Equal.ensures.items ∙ append_assoc old (n ∷ []) (m ∷ []) in
     let forms : AreFormsAs c.args.constraint.now.relation c.args.constraint.now here =
     subst (λ r. AreFormsAs r c.args.constraint.now here) (sym c.in-Equal.is) (n, m, refl, c.in_ok-least-in-Equal.ensures.form) in
-    (here, is, forms, omega arith, λ a meets. let both = (c.in_ok-least-in-Equal.ensures.same a).1 meets in All-two (Holds a) n m both.0 both.1)
+    (here, is, forms)

@@ -1,4 +1,4 @@
-use Rattle.std.proofs.Common.{◌≡◌, ℕ, ◌+◌, ◌*◌, ◌^◌, ◌<◌, ◌≤◌, false, List, length, ℤ, pos, neg_ℤ, ◌+ℤ◌, ◌≤ℤ◌, drop, get_or, FitsSigned, to_z, of_z, sym, ap, ◌∙◌, arith, rules}
+use Rattle.std.proofs.Common.{◌≡◌, ℕ, ◌+◌, ◌*◌, ◌^◌, ◌<◌, false, List, length, ℤ, pos, neg_ℤ, ◌+ℤ◌, ◌≤ℤ◌, drop, get_or, FitsSigned, to_z, of_z, ap, ◌∙◌, arith, rules}
 use Rattle.std.proofs.lemmas.Int.{ints, to_z-of_z}
 use Rattle.std.proofs.lemmas.List.Elements.{All-get_or}
 use mir.Syntax.{w128}

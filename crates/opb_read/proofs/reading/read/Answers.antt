@@ -2,6 +2,9 @@ use Rattle.std.proofs.Common.{ap, subst, ◌∙◌}
 use Rattle.linear.specs.Opb.{Opb}
 use Rattle.opb_read.specs.Denial.{DeniesProblem}
 use Rattle.opb_read.proofs.Spelled.{denied_text, spells_text}
+use Rattle.opb_read.specs.Kinds.{statements_of}
+use Rattle.opb_read.specs.Progress.{StopsAt, start_of}
+use Rattle.opb_read.proofs.Stopping.{fault_at}
 use Rattle.opb_read.proofs.reading.read.Goals as goal
 
 pub returns-in-Ok-clause-spells : goal.returns-in-Ok-clause-spells
@@ -14,3 +17,15 @@ returns-in-Ok-clause-spells c =
 pub returns-in-Err-clause-denies : goal.returns-in-Err-clause-denies
 returns-in-Err-clause-denies c =
     denied_text c.in-Err.code c.args.text.now (subst (DeniesProblem c.in-Err.code) c.new-reader.ensures.left c.in-Err.ensures.denies)
+
+pub returns-in-Err-clause-place : goal.returns-in-Err-clause-place
+returns-in-Err-clause-place c =
+    let code = c.in-Err.code in
+    let left = c.statements.new.reader.left in
+    fault_at
+    c.args.text.now
+    code
+    c.line-line.result
+    left
+    (subst (λ tokens. StopsAt code (start_of tokens) (statements_of tokens) left) c.new-reader.ensures.left c.in-Err.ensures.stops)
+    c.line-line.ensures

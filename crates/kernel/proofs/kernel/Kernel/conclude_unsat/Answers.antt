@@ -1,13 +1,34 @@
-use Rattle.std.proofs.Common.{List, Any, refl, ap, subst}
+use Rattle.std.proofs.Common.{List, Any, None, refl, sym, ap, subst}
+use Rattle.std.proofs.lemmas.Bool.{false≢true}
 use Rattle.normal_form.specs.Normal.{NormalConstraint}
-use Rattle.kernel.specs.Claim.{IsUnsatisfiable}
+use Rattle.kernel.specs.declared.conclusion.Conclusion.TheVariants as conclusions
+use Rattle.kernel.specs.Claim.{Claim}
 use Rattle.kernel.specs.Contradiction.{IsContradiction}
-use Rattle.kernel.proofs.Unsatisfiable.{unsatisfiable}
+use Rattle.kernel.specs.Justified.{IsJustified}
+use Rattle.kernel.specs.State.{state_of, constraints}
+use Rattle.kernel.proofs.Concluding.{justified_claim}
+use Rattle.kernel.proofs.Kept.{unsat_justified}
+use Rattle.kernel.proofs.Numbered.{constraints_listed}
 use Rattle.kernel.proofs.kernel.Kernel.conclude_unsat.Goals as goal
 
-pub returns-then-has_contradiction-clause-unsatisfiable : goal.returns-then-has_contradiction-clause-unsatisfiable
-returns-then-has_contradiction-clause-unsatisfiable c =
+justified : (c : goal.After-new) → IsJustified c.self.inside.problem (state_of c.self.inside.live.items) conclusions.Unsat c.new.result.best
+justified c =
     let live : List NormalConstraint = c.self.inside.live.items in
     let found : Any IsContradiction live = subst (Any IsContradiction) c.as_slice.ensures.value (c.if-has_contradiction.ensures.0 refl) in
-    let none : IsUnsatisfiable c.self.inside.problem = unsatisfiable c.self.inside.problem live c.self.invariant.implied found in
-    subst IsUnsatisfiable (ap (λ s. s.problem) c.self.view_is) none
+    subst (IsJustified c.self.inside.problem (state_of live) conclusions.Unsat) (sym (ap (λ a. a.best) c.new.ensures)) (unsat_justified c.self.inside.problem live found)
+
+pub returns-then-has_contradiction-clause-justified : goal.returns-then-has_contradiction-clause-justified
+returns-then-has_contradiction-clause-justified c = subst (λ k. IsJustified k.problem k.state conclusions.Unsat c.new.result.best) c.self.view_is (justified c)
+
+pub returns-then-has_contradiction-clause-claim : goal.returns-then-has_contradiction-clause-claim
+returns-then-has_contradiction-clause-claim c =
+    let held = c.self.inside in
+    subst (λ k. Claim k.problem conclusions.Unsat c.new.result.best) c.self.view_is
+    (justified_claim held.problem (state_of held.live.items) conclusions.Unsat c.new.result.best c.self.invariant.preserved c.self.invariant.normal (justified c))
+
+pub returns-else-has_contradiction-clause-refused : goal.returns-else-has_contradiction-clause-refused
+returns-else-has_contradiction-clause-refused c = (refl, λ found.
+    let live : List NormalConstraint = c.self.inside.live.items in
+    let state : Any IsContradiction (constraints (state_of live)) = subst (λ k. Any IsContradiction (constraints k.state)) (sym c.self.view_is) found in
+    let here : Any IsContradiction live = subst (Any IsContradiction) (constraints_listed live) state in
+    false≢true (c.if-has_contradiction.ensures.1 (subst (Any IsContradiction) (sym c.as_slice.ensures.value) here)))

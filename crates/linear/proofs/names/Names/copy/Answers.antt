@@ -1,4 +1,4 @@
-use Rattle.std.proofs.Common.{◌≡◌, ◌<◌, true, ℕ, List, length, take, get_or, ap, subst, ◌∙◌}
+use Rattle.std.proofs.Common.{◌≡◌, true, take, ap, subst, ◌∙◌}
 use Rattle.std.proofs.lemmas.List.Elements.{All-get_or}
 use Rattle.pb_text.specs.Name.{is_name}
 use Rattle.linear.specs.Table.{IsTable, with_name}

@@ -1,6 +1,6 @@
-use Rattle.std.proofs.Common.{◌≡◌, ℕ, List, map, length, sym, ap, ◌∙◌, subst}
+use Rattle.std.proofs.Common.{◌≡◌, map, length, sym, ap, ◌∙◌, subst}
 use Rattle.std.proofs.lemmas.List.{length-map}
-use Rattle.linear.specs.Table.{IsTable, with_name, place_of}
+use Rattle.linear.specs.Table.{IsTable, with_name}
 use Rattle.linear.proofs.Tables.{IsTable-with_name, map-insert_key, place_of-new}
 use Rattle.linear.proofs.names.Names.intern.Goals as goal
 

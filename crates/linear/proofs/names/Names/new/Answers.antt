@@ -1,4 +1,4 @@
-use Rattle.std.proofs.Common.{ℕ, List, map, sym, ap, subst}
+use Rattle.std.proofs.Common.{map, sym, ap, subst}
 use Rattle.linear.specs.Table.{IsTable}
 use Rattle.linear.proofs.Tables.{IsTable-empty}
 use Rattle.linear.proofs.names.Names.new.Goals as goal

@@ -1,4 +1,4 @@
-use Rattle.std.proofs.Common.{◌≡◌, map, take, sym, ap, ◌∙◌, subst}
+use Rattle.std.proofs.Common.{map, take, sym, ap, ◌∙◌, subst}
 use Rattle.std.proofs.lemmas.List.{take-map}
 use Rattle.linear.specs.Table.{IsTable}
 use Rattle.linear.proofs.Tables.{IsTable-take}

@@ -1,8 +1,11 @@
-use Rattle.std.proofs.Common.{◌≡◌, false, drop, None, sym, ap, ◌∙◌}
+use Rattle.std.proofs.Common.{◌≡◌, ◌+◌, ◌∷◌, false, drop, None, sym, ap, subst, ◌∙◌}
 use Rattle.std.proofs.lemmas.Result.{err_from_is_err_and}
 use Rattle.pb_text.specs.Token.{lexeme_of}
 use Rattle.opb_read.specs.Ahead.{begins_integer, begins_semicolon, next_relation}
 use Rattle.opb_read.proofs.Statements.{no_relation, no_integer, large_right, no_semicolon}
+use Rattle.opb_read.specs.Progress.{Reaches, StopsAt, at_start}
+use Rattle.opb_read.proofs.SumSteps.{small_value}
+use Rattle.opb_read.proofs.StatementSteps.{stops_at_relation, stops_at_right, stops_at_large, stops_at_end, closing_passed}
 use Rattle.opb_read.proofs.reader.Reader.closing.Goals as goal
 
 pub returns-in_default-clause-denies : goal.returns-in_default-clause-denies
@@ -26,3 +29,88 @@ returns-in_err-semicolon-clause-denies c =
     let none : begins_semicolon (drop 1 (drop 1 left)) ≡ false = ap begins_semicolon (sym at) ∙ c.in_err-semicolon.ensures.none in
     let p = err_from_is_err_and c.from_residual.result c.from_residual.ensures.1 in
     rw (p.1, p.2) (no_semicolon c.in_err-semicolon.field-0.0 left c.in_err-semicolon.ensures.form none)
+
+pub returns-in_default-clause-stops : goal.returns-in_default-clause-stops
+returns-in_default-clause-stops c s h =
+    let none : next_relation c.args.self.now.left ≡ None = sym c.relation.ensures ∙ c.in_default.is in
+    stops_at_relation c.fault.result s c.args.self.now.variables c.args.self.now.left c.fault.ensures h none
+
+pub returns-in_default-integer-clause-stops : goal.returns-in_default-integer-clause-stops
+returns-in_default-integer-clause-stops c s h =
+    stops_at_right
+    c.fault-in_default-integer.result
+    s
+    c.args.self.now.variables
+    c.args.self.now.left
+    c.advance.new.self
+    c.in-Some.relation
+    c.fault-in_default-integer.ensures
+    h
+    (sym c.relation.ensures ∙ c.in-Some.is)
+    c.advance.ensures
+    c.in_default-integer.ensures
+
+pub returns-in_default-file_integer-clause-stops : goal.returns-in_default-file_integer-clause-stops
+returns-in_default-file_integer-clause-stops c s h =
+    stops_at_large
+    s
+    c.args.self.now.variables
+    c.args.self.now.left
+    c.advance.new.self
+    c.in-Some.relation
+    (lexeme_of c.in-Some-integer.token)
+    h
+    (sym c.relation.ensures ∙ c.in-Some.is)
+    c.advance.ensures
+    c.in-Some-integer.ensures.1
+    c.in-Some-integer.ensures.0
+    c.in_default-file_integer.ensures
+
+pub returns-in_err-semicolon-clause-stops : goal.returns-in_err-semicolon-clause-stops
+returns-in_err-semicolon-clause-stops c =
+    let left = c.args.self.now.left in
+    let b = lexeme_of c.in-Some-integer.token in
+    let code = c.in_err-semicolon.field-0.0 in
+    let p = err_from_is_err_and c.from_residual.result c.from_residual.ensures.1 in
+    rw (p.1, p.2) (λ s h.
+    subst (StopsAt code s left) (sym c.in_err-semicolon.ensures.stays)
+    (stops_at_end
+    code
+    s
+    c.args.self.now.variables
+    left
+    c.advance.new.self
+    c.advance-2.new.self
+    c.in-Some.relation
+    b
+    c.in_err-semicolon.ensures.form
+    h
+    (sym c.relation.ensures ∙ c.in-Some.is)
+    c.advance.ensures
+    (c.in-Some-integer.ensures.1 ∙ ap (λ l. b ∷ l) (sym c.advance-2.ensures))
+    c.in-Some-integer.ensures.0
+    (small_value _ _ c.in-Some-file_integer.ensures.0 c.in-Some-file_integer.ensures.1)
+    c.in_err-semicolon.ensures.none))
+
+pub returns-clause-passes : goal.returns-clause-passes
+returns-clause-passes c s h =
+    let left = c.args.self.now.left in
+    let b = lexeme_of c.in-Some-integer.token in
+    subst (λ n. Reaches s left (at_start n (s.constraints + 1)) c.semicolon.new.self.left) (sym c.semicolon.ensures.variables)
+    (closing_passed
+    s
+    c.args.self.now.variables
+    left
+    c.advance.new.self
+    c.advance-2.new.self
+    c.semicolon.new.self.left
+    c.in-Some.relation
+    b
+    h
+    (sym c.relation.ensures ∙ c.in-Some.is)
+    c.advance.ensures
+    (c.in-Some-integer.ensures.1 ∙ ap (λ l. b ∷ l) (sym c.advance-2.ensures))
+    c.in-Some-integer.ensures.0
+    (small_value _ _ c.in-Some-file_integer.ensures.0 c.in-Some-file_integer.ensures.1)
+    c.in_ok-semicolon.ensures.ok
+    c.in_ok-semicolon.ensures.left)

@@ -1,9 +1,11 @@
-use Rattle.std.proofs.Common.{◌≡◌, false, drop, sym, subst, arith, rules}
+use Rattle.std.proofs.Common.{◌≡◌, true, false, drop, sym, subst, arith, rules}
 use Rattle.pb_text.specs.Token.{lexeme_of}
 use Rattle.linear.specs.Limits.{most_constraints}
 use Rattle.opb_read.specs.Ahead.{begins_constraint}
 use Rattle.opb_read.specs.Denial.{DeniesConstraints}
 use Rattle.opb_read.proofs.AllConstraints.{begins_none, denied_start, denied_many}
+use Rattle.opb_read.specs.Progress.{Refuses, at_start}
+use Rattle.opb_read.proofs.ConstraintSteps.{refused_start, refused_many}
 use Rattle.opb_read.proofs.reader.Reader.start.Goals as goal
 
 pub returns-then-not-begins_constraint-clause-denies : goal.returns-then-not-begins_constraint-clause-denies
@@ -20,3 +22,15 @@ pub returns-then-count-eq-MOST_CONSTRAINTS-clause-denies : goal.returns-then-cou
 returns-then-count-eq-MOST_CONSTRAINTS-clause-denies c names =
     let full : c.args.count ≡ most_constraints = omega (arith, c.if-count-eq-MOST_CONSTRAINTS.true) in
     subst (λ l. DeniesConstraints _ names c.args.count l) (sym c.requires.next) (denied_many names c.args.count (lexeme_of c.args.token) (drop 1 c.args.self.now.left) full)
+
+pub returns-then-not-begins_constraint-clause-refuses : goal.returns-then-not-begins_constraint-clause-refuses
+returns-then-not-begins_constraint-clause-refuses c names =
+    let code = c.fault_at_start.result in
+    let no_start : begins_constraint c.args.token.kind ≡ false = first_of (cc, search rules, grind arith) in
+    subst (λ l. Refuses code (at_start names c.args.count) l) (sym c.requires.next) (refused_start code names c.args.count (lexeme_of c.args.token) (drop 1 c.args.self.now.left) c.fault_at_start.ensures no_start)
+
+pub returns-then-count-eq-MOST_CONSTRAINTS-clause-refuses : goal.returns-then-count-eq-MOST_CONSTRAINTS-clause-refuses
+returns-then-count-eq-MOST_CONSTRAINTS-clause-refuses c names =
+    let full : c.args.count ≡ most_constraints = omega (arith, c.if-count-eq-MOST_CONSTRAINTS.true) in
+    let begins : begins_constraint c.args.token.kind ≡ true = first_of (cc, search rules, grind arith) in
+    refused_many names c.args.count c.args.self.now.left (lexeme_of c.args.token) c.requires.next begins full

@@ -1,14 +1,16 @@
-use Rattle.std.proofs.Common.{◌≡◌, ◌≤◌, ◌<◌, ◌+◌, ℕ, length, List, [], ◌∷◌, ◌++◌, sym, ap, subst, ◌∙◌, arith, rules, append_assoc, length-append}
+use Rattle.std.proofs.Common.{◌≡◌, ◌≤◌, ◌<◌, ◌+◌, ℕ, length, List, [], ◌∷◌, ◌++◌, refl, sym, ap, subst, ◌∙◌, arith, rules, append_assoc, length-append}
 use Rattle.std.specs.Prelude.{All}
 use Rattle.std.proofs.lemmas.Grind.{common_steps}
 use Rattle.std.proofs.lemmas.Result.{err_from_is_err_and}
-use Rattle.std.proofs.lemmas.List.Elements.{All-push}
+use Rattle.std.proofs.lemmas.List.Elements.{All-nil, All-push}
 use Rattle.pb_text.specs.Lexeme.{Lexeme}
 use Rattle.linear.specs.declared.term.Term.{Term}
 use Rattle.linear.specs.Limits.{most_terms, IsTermWithin}
 use Rattle.opb_read.specs.Forms.{terms_of, names_in}
 use Rattle.opb_read.specs.Denial.{DeniesSum}
 use Rattle.opb_read.proofs.Sums.{denied_whole}
+use Rattle.opb_read.specs.Progress.{PassesTerms, StopsInSum}
+use Rattle.opb_read.proofs.SumSteps.{sum_begins, sum_goes_on, sum_stops, sum_wants}
 use Rattle.opb_read.proofs.reader.Reader.sum.Goals as goal
 
 pub returns-in_err-term-clause-denies : goal.returns-in_err-term-clause-denies
@@ -22,9 +24,48 @@ returns-in_err-term-clause-denies c =
     let p = err_from_is_err_and c.from_residual.result c.from_residual.ensures.1 in
     rw (p.1, p.2) (denied_whole code names l.terms.items l.self.left whole l.invariant.0 l.invariant.1 (subst (λ n. DeniesSum code names n l.self.left) count here))
 
+pub returns-in_err-term-clause-stops : goal.returns-in_err-term-clause-stops
+returns-in_err-term-clause-stops c =
+    let l = c.loop-coefficient in
+    let code = c.in_err-term.field-0.0 in
+    let count : c.len.result ≡ length l.terms.items = search rules in
+    let here : StopsInSum code c.args.behind (length l.terms.items) l.self.variables l.self.left c.term.new.self.left =
+    subst (λ n. StopsInSum code c.args.behind n l.self.variables l.self.left c.term.new.self.left) count c.in_err-term.ensures.stops in
+    let p = err_from_is_err_and c.from_residual.result c.from_residual.ensures.1 in
+    rw (p.1, p.2) (sum_stops code c.args.behind c.args.self.now.variables l.self.variables c.args.self.now.left l.self.left c.term.new.self.left (length l.terms.items) l.invariant.5 here)
+
 pub returns-then-is_err-clause-denies : goal.returns-then-is_err-clause-denies
 unfolding DeniesSum
 returns-then-is_err-clause-denies c = tt
+
+pub returns-then-is_err-clause-stops : goal.returns-then-is_err-clause-stops
+returns-then-is_err-clause-stops c =
+    let l = c.loop-coefficient in
+    let n = length l.terms.items in
+    let count : c.len.result ≡ n = search rules in
+    let term : PassesTerms c.args.behind n l.self.variables l.self.left 1 c.term.new.self.variables c.term.new.self.left =
+    subst (λ n. PassesTerms c.args.behind n l.self.variables l.self.left 1 c.term.new.self.variables c.term.new.self.left) count c.in_ok-term.ensures.passes in
+    sum_wants c.args.behind c.args.self.now.variables c.term.new.self.variables c.args.self.now.left c.term.new.self.left (n + 1)
+    (sum_goes_on c.args.behind c.args.self.now.variables l.self.variables c.term.new.self.variables c.args.self.now.left l.self.left c.term.new.self.left n (n + 1) refl l.invariant.5 term)
+
+pub loop-coefficient-init : goal.loop-coefficient-init
+loop-coefficient-init c =
+    let left = c.args.self.now.left in
+    let vars = c.args.self.now.variables in
+    let names = names_in vars left in
+    let done = c.new-terms.result.items in
+    let none : done ≡ [] = search rules in
+    let few : length done ≤ most_terms = omega (arith, ap length none) in (
+      ap (λ ts. ts ++ terms_of names left) none,
+      refl,
+      refl,
+      few,
+      subst (All (IsTermWithin (length names))) (sym none) (All-nil (IsTermWithin (length names))),
+      subst (λ (ts : List Term). PassesTerms c.args.behind 0 vars left (length ts) vars left) (sym none) (sum_begins c.args.behind vars left),
+    )
+
+pub returns-clause-passes : goal.returns-clause-passes
+returns-clause-passes c = c.loop-coefficient.invariant.5
 
 -- one more term, read
 record Next (names : List (List ℕ)) (done : List Term) (left whole : List Lexeme) : Type 0 where
@@ -65,4 +106,25 @@ loop-coefficient-preserved c =
     room
     l.invariant.4
     (subst (λ n. IsTermWithin (length n) t) l.invariant.2 c.in_ok-term.ensures.within) in
-    (n.terms, sym c.in_ok-term.ensures.behind ∙ l.invariant.1, sym c.in_ok-term.ensures.names ∙ l.invariant.2, n.few, n.each)
+    let term : PassesTerms c.args.behind (length l.terms.items) l.self.variables l.self.left 1 c.term.new.self.variables c.term.new.self.left =
+    subst (λ k. PassesTerms c.args.behind k l.self.variables l.self.left 1 c.term.new.self.variables c.term.new.self.left) count c.in_ok-term.ensures.passes in
+    let more : length c.push.new.self.items ≡ length l.terms.items + 1 = ap length items ∙ length-append l.terms.items (t ∷ []) in (
+      n.terms,
+      sym c.in_ok-term.ensures.behind ∙ l.invariant.1,
+      sym c.in_ok-term.ensures.names ∙ l.invariant.2,
+      n.few,
+      n.each,
+      sum_goes_on
+          c.args.behind
+          c.args.self.now.variables
+          l.self.variables
+          c.term.new.self.variables
+          whole
+          l.self.left
+          c.term.new.self.left
+          (length l.terms.items)
+          (length c.push.new.self.items)
+          more
+          l.invariant.5
+          term,
+    )

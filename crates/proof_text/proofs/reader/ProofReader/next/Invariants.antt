@@ -1,9 +1,10 @@
-use Rattle.std.proofs.Common.{◌≤◌, length}
+use Rattle.std.proofs.Common.{◌≡◌, length}
+use Rattle.proof_text.specs.Reader.{pending}
 use Rattle.proof_text.proofs.reader.ProofReader.next.Given as goal
 
--- no more is left than at first
-abbrev pub invariant-loop-self : goal.invariant-loop-self
-invariant-loop-self l = length l.self ≤ length l.initial.self
+-- what is passed does not count
+abbrev pub invariant-loop-at : goal.invariant-loop-at
+invariant-loop-at l = pending l.at ≡ l.fn.self
 
-abbrev pub decreases-loop-self : goal.decreases-loop-self
-decreases-loop-self l = length l.self
+abbrev pub decreases-loop-at : goal.decreases-loop-at
+decreases-loop-at l = length l.at.rest.now

@@ -1,0 +1,33 @@
+-- What a kernel holds, and what it keeps.
+use Rattle.std.specs.Prelude.{◌≤◌, ◌^◌, ℕ, ⊤}
+use Rattle.linear.specs.Opb.{Opb}
+use Rattle.linear.specs.Limits.{IsWithin}
+use Rattle.kernel.specs.declared.step.Step.{Step}
+use Rattle.kernel.specs.declared.step.Step.TheVariants as steps
+use Rattle.kernel.specs.declared.conclusion.Conclusion.{Conclusion}
+use Rattle.kernel.specs.declared.conclusion.Conclusion.TheVariants as conclusions
+use Rattle.kernel.specs.Preserved.{IsPreserved, AreNormal}
+use Rattle.kernel.specs.State.{State}
+
+-- a problem, and the state of a proof of it
+pub record Held : Type 0 where
+  pub problem : Opb
+  pub state : State
+
+-- what every kernel keeps: the problem is within the limits, and the state has an answer for it
+pub record IsKept (k : Held) : Type 0 where
+  pub within : IsWithin k.problem
+  pub preserved : IsPreserved k.problem k.state
+  pub normal : AreNormal k.state
+  pub numbered : k.state.next ≤ 2 ^ 32
+
+-- a step whose kind the kernel judges so far
+abbrev pub IsPol : Step → Type 0
+IsPol (steps.Pol written) = ⊤
+IsPol _ = ⊥
+
+-- a conclusion whose kind the kernel judges so far
+abbrev pub IsJudged : Conclusion → Type 0
+IsJudged conclusions.Nothing = ⊤
+IsJudged conclusions.Unsat = ⊤
+IsJudged _ = ⊥

@@ -1,0 +1,74 @@
+-- The conclusions that a state entitles to.
+use Rattle.std.specs.Prelude.{◌≡◌, ◌≢◌, ℤ, ◌<ℤ◌, ◌≤ℤ◌, Bool, List, [], ◌∷◌, ◌++◌, Option, None, Some, All, Any, IfSome, ⊤}
+use Rattle.linear.specs.declared.term.Lit.{Lit}
+use Rattle.linear.specs.declared.term.Term.{Term}
+use Rattle.linear.specs.Opb.{Opb}
+use Rattle.normal_form.specs.Normal.{NormalConstraint, Fits}
+use Rattle.normal_form.specs.NormalOf.{IsNormalOf}
+use Rattle.kernel.specs.declared.conclusion.Lower.{Lower}
+use Rattle.kernel.specs.declared.conclusion.Upper.{Upper}
+use Rattle.kernel.specs.declared.conclusion.Conclusion.{Conclusion}
+use Rattle.kernel.specs.declared.conclusion.Lower.TheVariants as lowers
+use Rattle.kernel.specs.declared.conclusion.Upper.TheVariants as uppers
+use Rattle.kernel.specs.declared.conclusion.Conclusion.TheVariants as conclusions
+use Rattle.kernel.specs.declared.step.Step.{Step}
+use Rattle.kernel.specs.Legal.{LegalSol, Leads, worth_of}
+use Rattle.kernel.specs.Shown.{IsShown, absurdity}
+use Rattle.kernel.specs.Solution.{at_least}
+use Rattle.kernel.specs.State.{State, constraints, IsStart}
+
+-- no solution is logged, and `0 >= 1` is shown
+pub record IsExhausted (s : State) : Type 0 where
+  pub unlogged : s.logged ≡ []
+  pub shown : IsShown (constraints s) absurdity
+
+-- objective >= bound, where the bound is at most the least improving value: its normal form fits and is shown
+pub record IsLowerBound (s : State) (objective : List Term) (bound : ℤ) (n : NormalConstraint) : Type 0 where
+  pub below : IfSome s.improve (λ least. bound ≤ℤ least)
+  pub form : IsNormalOf (at_least objective bound) n
+  pub fits : Fits n
+  pub shown : IsShown (constraints s) n
+
+abbrev pub HoldsLower : State → List Term → Lower → Type 0
+HoldsLower s objective lowers.MinusInf = ⊤
+HoldsLower s objective (lowers.At bound) = (n : NormalConstraint) × IsLowerBound s objective bound n
+HoldsLower s objective lowers.Inf = IsExhausted s
+
+-- some logged solution is worth no more
+abbrev pub HoldsUpper : Opb → State → Upper → Type 0
+HoldsUpper p s (uppers.At bound) = Any (λ g. worth_of p g ≤ℤ bound) s.logged
+HoldsUpper p s uppers.Inf = ⊤
+
+-- what a conclusion asks of the state, its hint apart
+abbrev pub Holds : Opb → State → Conclusion → Type 0
+Holds p s conclusions.Nothing = ⊤
+Holds p s (conclusions.Sat hint) = s.logged ≢ []
+Holds p s conclusions.Unsat = IsExhausted s
+Holds p s (conclusions.Bounds lower upper hint) =
+    (objective : List Term) × (p.objective ≡ Some objective) × HoldsLower s objective lower × HoldsUpper p s upper
+
+-- the literals that a conclusion gives as a hint
+abbrev pub hint_of : Conclusion → Option (List Lit)
+hint_of (conclusions.Sat hint) = hint
+hint_of (conclusions.Bounds lower upper hint) = hint
+hint_of _ = None
+
+-- a hint is one more solution, logged first
+abbrev pub TakesHint : Opb → State → Option (List Lit) → State → Type 0
+TakesHint p old None new = new ≡ old
+TakesHint p old (Some listing) new = LegalSol p old listing new
+
+-- `best` is the logged solution of the least value, the earliest among equals; there is none where nothing is logged
+abbrev pub IsBest : Opb → List (List Bool) → Option (List Bool) → Type 0
+IsBest p logged None = logged ≡ []
+IsBest p logged (Some g) =
+    (before : List (List Bool)) × (behind : List (List Bool)) × (logged ≡ before ++ g ∷ behind)
+    × All (λ h. worth_of p g <ℤ worth_of p h) before × All (λ h. worth_of p g ≤ℤ worth_of p h) behind
+
+-- the state entitles to the conclusion, and this is the best solution
+abbrev pub IsJustified : Opb → State → Conclusion → Option (List Bool) → Type 0
+IsJustified p s c best = (t : State) × TakesHint p s (hint_of c) t × Holds p t c × IsBest p t.logged best
+
+-- the steps lead from the file to a state that entitles to the conclusion
+abbrev pub IsLegalProof : Opb → List Step → Conclusion → Option (List Bool) → Type 0
+IsLegalProof p steps c best = (start : State) × (end : State) × IsStart p start × Leads p start steps end × IsJustified p end c best

@@ -1,0 +1,46 @@
+-- Solutions that a proof lists: how a listing of literals is completed, and what improving solutions ask for.
+use Rattle.std.specs.Prelude.{◌≡◌, ℕ, ◌<◌, ◌⊎◌, ℤ, pos, ◌-ℤ◌, Bool, true, false, not, List, map, length, slice_index_or}
+use Rattle.linear.specs.declared.constraint.Relation.TheVariants.{AtLeast}
+use Rattle.linear.specs.declared.constraint.Signed.{Signed}
+use Rattle.linear.specs.declared.term.Lit.{Lit}
+use Rattle.linear.specs.declared.term.Term.{Term}
+use Rattle.normal_form.specs.Normal.{NormalConstraint}
+use Rattle.normal_form.specs.NormalOf.{opposite_term}
+use Rattle.propagate.specs.Literals.{lists, IsConsistent}
+use Rattle.propagate.specs.Chain.{LeadsToConflict, IsReached}
+
+-- the literal that makes a variable true, or false
+abbrev pub literal_for : ℕ → Bool → Lit
+literal_for v value = record { var = record { 0 = v }; negated = not value }
+
+-- the listing names all of the first `count` variables
+abbrev pub NamesAll : ℕ → List Lit → Type 0
+NamesAll count listing = (v : ℕ) → v < count → (value : Bool) × (lists listing (literal_for v value) ≡ true)
+
+-- the value that an assignment gives a variable
+abbrev pub value_at : List Bool → ℕ → Bool
+value_at g v = slice_index_or g v false
+
+-- the listing itself says what the assignment gives each of its variables
+abbrev pub SaysAll : List Lit → List Bool → Type 0
+SaysAll listing g = (v : ℕ) → v < length g → lists listing (literal_for v (value_at g v)) ≡ true
+
+-- what the assignment gives each of its variables is said by the listing or forced by chains from it
+abbrev pub ReachesAll : List NormalConstraint → List Lit → List Bool → Type 0
+ReachesAll live listing g = (v : ℕ) → v < length g → IsReached live listing (literal_for v (value_at g v))
+
+-- `g` is the listing completed to the first `count` variables. A listing that names all of them is taken as it
+-- stands; another one is completed by chains over the live constraints, none of which may lead to a conflict.
+pub record Completes (live : List NormalConstraint) (count : ℕ) (listing : List Lit) (g : List Bool) : Type 0 where
+  pub consistent : IsConsistent listing
+  pub long : length g ≡ count
+  pub completed : (NamesAll count listing × SaysAll listing g)
+      ⊎ ((NamesAll count listing → ⊥) × (LeadsToConflict live listing → ⊥) × ReachesAll live listing g)
+
+-- objective <= bound
+abbrev pub at_most : List Term → ℤ → Signed
+at_most objective bound = record { terms = map opposite_term objective; relation = AtLeast; right = pos 0 -ℤ bound }
+
+-- objective >= bound
+abbrev pub at_least : List Term → ℤ → Signed
+at_least objective bound = record { terms = objective; relation = AtLeast; right = bound }

@@ -1,0 +1,110 @@
+//! Laws of the definitions, each the contract of a function that does nothing: every legal step preserves an answer to
+//! the problem, so what a legal conclusion claims is true.
+
+ghost use Rattle.std.specs.Prelude.{◌≡◌, ℤ, Bool, List, Option, All};
+ghost use Rattle.linear.specs.Opb.{Opb};
+ghost use Rattle.linear.specs.Valuation.{Valuation};
+ghost use Rattle.linear.specs.declared.constraint.Signed.{Signed};
+ghost use Rattle.linear.specs.declared.term.Lit.{Lit};
+ghost use Rattle.normal_form.specs.Normal.{NormalConstraint, Holds, Rises};
+ghost use Rattle.substitution.specs.Images.{Images};
+ghost use Rattle.kernel.specs.Claim.{Claim};
+ghost use Rattle.kernel.specs.Expression.{Given, IsPolish};
+ghost use Rattle.kernel.specs.Fault.{IsStepFault, IsConclusionFault};
+ghost use Rattle.kernel.specs.Justified.{IsJustified, IsLegalProof};
+ghost use Rattle.kernel.specs.Legal.{Legal, LegalPol, LegalRup, LegalRed, LegalSol, LegalSoli, LegalDel, Leads};
+ghost use Rattle.kernel.specs.Preserved.{IsPreserved, AreNormal};
+ghost use Rattle.kernel.specs.Shown.{IsShown};
+ghost use Rattle.kernel.specs.State.{State, IsStart};
+ghost use Rattle.kernel.specs.declared.conclusion.Conclusion.{Conclusion};
+ghost use Rattle.kernel.specs.declared.fault.StepFault.{StepFault};
+ghost use Rattle.kernel.specs.declared.step.Item.{Item};
+ghost use Rattle.kernel.specs.declared.step.Step.{Step};
+
+/// What is shown from constraints holds wherever all of them do.
+pub fn shown_is_true()
+    ensures { (live : List NormalConstraint) → (n : NormalConstraint) → All (λ e. Rises 0 e.terms) live → Rises 0 n.terms
+        → IsShown live n → (a : Valuation) → All (Holds a) live → Holds a n }
+{}
+
+/// A constraint of degree 0 is always shown, also where its negation is not within the limits.
+pub fn degree_zero_is_shown()
+    ensures { (live : List NormalConstraint) → (n : NormalConstraint) → Rises 0 n.terms → n.degree ≡ 0 → IsShown live n }
+{}
+
+/// The state of a file has an answer for its problem: each assignment itself.
+pub fn start_is_preserved()
+    ensures answer { (p : Opb) → (s : State) → IsStart p s → IsPreserved p s }
+    ensures normal { (p : Opb) → (s : State) → IsStart p s → AreNormal s }
+{}
+
+/// The value of an expression follows from the live constraints, so answers stay.
+pub fn pol_preserves()
+    ensures answer { (p : Opb) → (s t : State) → (items : List Item) → IsPreserved p s → LegalPol s items t → IsPreserved p t }
+    ensures normal { (s t : State) → (items : List Item) → AreNormal s → LegalPol s items t → AreNormal t }
+{}
+
+/// What is shown follows from the live constraints, so answers stay.
+pub fn rup_preserves()
+    ensures answer { (p : Opb) → (s t : State) → (c : Signed) → IsPreserved p s → AreNormal s → LegalRup s c t → IsPreserved p t }
+    ensures normal { (s t : State) → (c : Signed) → AreNormal s → LegalRup s c t → AreNormal t }
+{}
+
+/// Redundance: where the new constraint fails at an answer, the answer after the substitution meets it and all live
+/// constraints, at no greater value.
+pub fn red_preserves()
+    ensures answer { (p : Opb) → (s t : State) → (c : Signed) → (images : Images)
+        → IsPreserved p s → AreNormal s → LegalRed p s c images t → IsPreserved p t }
+    ensures normal { (p : Opb) → (s t : State) → (c : Signed) → (images : Images) → AreNormal s → LegalRed p s c images t → AreNormal t }
+{}
+
+/// A solution is logged only where it satisfies the problem, and changes no live constraint.
+pub fn sol_preserves()
+    ensures answer { (p : Opb) → (s t : State) → (listing : List Lit) → IsPreserved p s → LegalSol p s listing t → IsPreserved p t }
+    ensures normal { (p : Opb) → (s t : State) → (listing : List Lit) → AreNormal s → LegalSol p s listing t → AreNormal t }
+{}
+
+/// After an improving solution only better assignments are asked for, and these meet what it adds.
+pub fn soli_preserves()
+    ensures answer { (p : Opb) → (s t : State) → (listing : List Lit) → IsPreserved p s → LegalSoli p s listing t → IsPreserved p t }
+    ensures normal { (p : Opb) → (s t : State) → (listing : List Lit) → AreNormal s → LegalSoli p s listing t → AreNormal t }
+{}
+
+/// An answer meets what is left after a deletion.
+pub fn del_preserves()
+    ensures answer { (p : Opb) → (s t : State) → (ids : List ℤ) → IsPreserved p s → LegalDel p s ids t → IsPreserved p t }
+    ensures normal { (p : Opb) → (s t : State) → (ids : List ℤ) → AreNormal s → LegalDel p s ids t → AreNormal t }
+{}
+
+/// Every list of legal steps preserves an answer to the problem.
+pub fn steps_preserve()
+    ensures answer { (p : Opb) → (s t : State) → (steps : List Step) → IsPreserved p s → AreNormal s → Leads p s steps t → IsPreserved p t }
+    ensures normal { (p : Opb) → (s t : State) → (steps : List Step) → IsPreserved p s → AreNormal s → Leads p s steps t → AreNormal t }
+{}
+
+/// What a state that has an answer for the problem entitles to is true of the problem.
+pub fn conclusion_is_true()
+    ensures { (p : Opb) → (s : State) → (c : Conclusion) → (best : Option (List Bool))
+        → IsPreserved p s → AreNormal s → IsJustified p s c best → Claim p c best }
+{}
+
+/// The conclusion of a legal proof is true of the problem, whoever wrote the proof.
+pub fn legal_proof_is_true()
+    ensures { (p : Opb) → (steps : List Step) → (c : Conclusion) → (best : Option (List Bool)) → IsLegalProof p steps c best → Claim p c best }
+{}
+
+/// The items of a `pol` step write at most one value, so it leads to at most one state.
+pub fn one_value()
+    ensures { (given : Given) → (written : List Item) → (n m : NormalConstraint) → IsPolish given written n → IsPolish given written m → n ≡ m }
+{}
+
+/// A step that has a fault is not legal.
+pub fn faulty_is_not_legal()
+    ensures { (p : Opb) → (s t : State) → (step : Step) → (f : StepFault) → IsStepFault p s step f → Legal p s step t → ⊥ }
+{}
+
+/// A conclusion that has a fault is not justified.
+pub fn faulty_is_not_justified()
+    ensures { (p : Opb) → (s : State) → (c : Conclusion) → (f : StepFault) → (best : Option (List Bool))
+        → IsConclusionFault p s c f → IsJustified p s c best → ⊥ }
+{}

@@ -1,0 +1,5 @@
+use Rattle.opb_read.proofs.OnePlace.{one_place}
+use Rattle.opb_read.proofs.laws.one_place.Goals as goal
+
+pub returns : goal.returns
+returns c = one_place

@@ -1,0 +1,54 @@
+use Rattle.std.proofs.Common.{◌≡◌, ℤ, true, false, ◌∷◌, codes, sym, subst, ◌∙◌, FitsSigned, rules}
+use Rattle.std.proofs.lemmas.Int.{to_z-of_z}
+use mir.Syntax.{w128}
+use Rattle.kernel.specs.declared.step.Item.TheVariants as items
+use Rattle.proof_text.specs.Words.{is_first}
+use Rattle.proof_text.specs.Forms.{are_items, items_of}
+use Rattle.proof_text.specs.Reading.{Takes}
+use Rattle.proof_text.proofs.Items.{multiplied, divided, referred, passed, not_passed}
+use Rattle.proof_text.proofs.pol.integer_item.Goals as goal
+
+pub returns-then-takes-clause-takes : goal.returns-then-takes-clause-takes
+returns-then-takes-clause-takes c k =
+    let a = c.args.token.text.now in
+    let left = c.args.words.now in
+    let rest = c.takes.new.self in
+    let n = c.in_ok-number.number in
+    let e = c.in_ok-number.ensures in
+    let fits : FitsSigned w128 n = search rules in
+    let first : is_first (codes "*") left ≡ true = sym c.takes.ensures.first ∙ c.if-takes.true in
+    subst (λ (x : ℤ). Takes are_items items_of k (a ∷ left) (items.Multiply x) k rest) (sym (to_z-of_z w128 n fits))
+    (multiplied k a left rest n e.integer e.value e.small first (passed (codes "*") left rest first c.takes.ensures.left))
+
+pub returns-then-takes-2-clause-takes : goal.returns-then-takes-2-clause-takes
+returns-then-takes-2-clause-takes c k =
+    let a = c.args.token.text.now in
+    let left = c.args.words.now in
+    let rest = c.takes-2.new.self in
+    let n = c.in_ok-number.number in
+    let e = c.in_ok-number.ensures in
+    let fits : FitsSigned w128 n = search rules in
+    let star : is_first (codes "*") left ≡ false = sym c.takes.ensures.first ∙ c.if-takes.false in
+    let same : c.takes.new.self ≡ left = not_passed (codes "*") left c.takes.new.self star c.takes.ensures.left in
+    let first : is_first (codes "d") c.takes.new.self ≡ true = sym c.takes-2.ensures.first ∙ c.if-takes-2.true in
+    let passed_it = passed (codes "d") c.takes.new.self rest first c.takes-2.ensures.left in
+    subst (λ (x : ℤ). Takes are_items items_of k (a ∷ left) (items.Divide x) k rest) (sym (to_z-of_z w128 n fits))
+    (subst (λ ws. Takes are_items items_of k (a ∷ ws) (items.Divide n) k rest) same
+    (divided k a c.takes.new.self rest n e.integer e.value e.small first passed_it))
+
+pub returns-clause-takes : goal.returns-clause-takes
+returns-clause-takes c k =
+    let a = c.args.token.text.now in
+    let left = c.args.words.now in
+    let rest = c.takes-2.new.self in
+    let n = c.in_ok-number.number in
+    let e = c.in_ok-number.ensures in
+    let fits : FitsSigned w128 n = search rules in
+    let star : is_first (codes "*") left ≡ false = sym c.takes.ensures.first ∙ c.if-takes.false in
+    let same : c.takes.new.self ≡ left = not_passed (codes "*") left c.takes.new.self star c.takes.ensures.left in
+    let d : is_first (codes "d") c.takes.new.self ≡ false = sym c.takes-2.ensures.first ∙ c.if-takes-2.false in
+    let still : rest ≡ c.takes.new.self = not_passed (codes "d") c.takes.new.self rest d c.takes-2.ensures.left in
+    let there : rest ≡ left = still ∙ same in
+    subst (λ (x : ℤ). Takes are_items items_of k (a ∷ left) (items.Id x) k rest) (sym (to_z-of_z w128 n fits))
+    (subst (λ ws. Takes are_items items_of k (a ∷ left) (items.Id n) k ws) (sym there)
+    (referred k a left n e.integer e.value e.small star (subst (λ ws. is_first (codes "d") ws ≡ false) same d)))

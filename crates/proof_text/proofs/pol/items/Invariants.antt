@@ -1,0 +1,10 @@
+use Rattle.std.proofs.Common.{length}
+use Rattle.proof_text.specs.Forms.{are_items, items_of}
+use Rattle.proof_text.specs.Reading.{SoFar}
+use Rattle.proof_text.proofs.pol.items.Given as goal
+
+abbrev pub invariant-loop-token : goal.invariant-loop-token
+invariant-loop-token l = SoFar are_items items_of l.fn.table l.fn.words l.items.items l.table l.words
+
+abbrev pub decreases-loop-token : goal.decreases-loop-token
+decreases-loop-token l = length l.words

@@ -1,0 +1,36 @@
+use Rattle.std.proofs.Common.{◌≡◌, [], drop, is_some, sym, ap, subst, ◌∙◌}
+use Rattle.proof_text.specs.Words.{words, unclosed}
+use Rattle.proof_text.specs.Conclusions.{conclusion_of, IsConclusionLineRead}
+use Rattle.proof_text.specs.Spells.{IsLine}
+use Rattle.proof_text.specs.Denial.{Denies}
+use Rattle.proof_text.specs.declared.line.Line.TheVariants as lines
+use Rattle.proof_text.specs.declared.line.Place.TheVariants as places
+use Rattle.proof_text.proofs.Placing.{fresh, conclusion_placed, conclusion_full, conclusion_denied}
+use Rattle.proof_text.proofs.read.read_conclusion.Goals as goal
+
+pub returns-then-is_full-clause-denies : goal.returns-then-is_full-clause-denies
+returns-then-is_full-clause-denies c =
+    let names = c.args.names.now in
+    let k = c.new-table.result in
+    let new = c.conclusion.new.table in
+    let ws = words c.args.line.now in
+    let x = c.in-Ok.conclusion in
+    let start : k ≡ fresh names = c.new-table.ensures ∙ ap fresh c.replace.ensures.value in
+    let r : IsConclusionLineRead k ws x new = subst (λ w. IsConclusionLineRead k w x new) c.new-2.ensures c.in-Ok.ensures.read in
+    conclusion_full names k new ws x start r (sym c.is_full.ensures ∙ c.if-is_full.true)
+
+pub returns-else-is_full-clause-line : goal.returns-else-is_full-clause-line
+returns-else-is_full-clause-line c =
+    let names = c.args.names.now in
+    let k = c.new-table.result in
+    let new = c.conclusion.new.table in
+    let ws = words c.args.line.now in
+    let x = c.in-Ok.conclusion in
+    let start : k ≡ fresh names = c.new-table.ensures ∙ ap fresh c.replace.ensures.value in
+    let r : IsConclusionLineRead k ws x new = subst (λ w. IsConclusionLineRead k w x new) c.new-2.ensures c.in-Ok.ensures.read in
+    subst (IsLine places.Conclusion names ws (lines.Conclusion x)) (sym c.into_names.ensures) (conclusion_placed names k new ws x start r (sym c.is_full.ensures ∙ c.if-is_full.false))
+
+pub returns-in-Err-clause-denies : goal.returns-in-Err-clause-denies
+returns-in-Err-clause-denies c =
+    conclusion_denied c.in-Err.fault c.args.names.now (words c.args.line.now)
+    (subst (λ w. Denies c.in-Err.fault (is_some (conclusion_of [] w)) (drop 1 (unclosed (drop 1 w)))) c.new-2.ensures c.in-Err.ensures.denies)

@@ -1,0 +1,30 @@
+use Rattle.std.proofs.Common.{sym}
+use Rattle.std.proofs.lemmas.Result.{IfOk-weaker, IfErr-weaker}
+use Rattle.proof_text.specs.Steps.{IsStepRead, IsStepLineRead}
+use Rattle.proof_text.specs.Faults.{DeniesRule, DeniesStep}
+use Rattle.proof_text.proofs.Placing.{ruled_read, ruled_denied, unruled_denied, empty_denied}
+use Rattle.proof_text.proofs.read.step_line.Goals as goal
+
+pub returns-in_default-clause-denies : goal.returns-in_default-clause-denies
+returns-in_default-clause-denies c = empty_denied c.args.table.now.names c.args.words c.in_default.ensures.0
+
+pub returns-in-Some-rule_of-clause-read : goal.returns-in-Some-rule_of-clause-read
+returns-in-Some-rule_of-clause-read c =
+    let k = c.args.table.now in
+    let new = c.step.new.table in
+    let rest = c.take.new.self in
+    let rule = c.in-Some-rule_of.rule in
+    IfOk-weaker c.step.result (λ s. IsStepRead rule k rest s new) (λ s. IsStepLineRead k c.args.words s new)
+    (λ s r. ruled_read k new c.in-Some.token.text.now c.args.words rest rule s c.in-Some.ensures (sym c.in-Some-rule_of.ensures) r) c.step.ensures.read
+
+pub returns-in-Some-rule_of-clause-denies : goal.returns-in-Some-rule_of-clause-denies
+returns-in-Some-rule_of-clause-denies c =
+    let names = c.args.table.now.names in
+    let rest = c.take.new.self in
+    let rule = c.in-Some-rule_of.rule in
+    IfErr-weaker c.step.result (λ f. DeniesRule f rule names rest) (λ f. DeniesStep f names c.args.words)
+    (λ f d. ruled_denied f rule names c.in-Some.token.text.now c.args.words rest c.in-Some.ensures (sym c.in-Some-rule_of.ensures) d) c.step.ensures.denies
+
+pub returns-in-None-clause-denies : goal.returns-in-None-clause-denies
+returns-in-None-clause-denies c =
+    unruled_denied c.rule_fault.result c.args.table.now.names c.in-Some.token.text.now c.args.words c.take.new.self c.in-Some.ensures (sym c.in-None.ensures) c.rule_fault.ensures

@@ -1,0 +1,12 @@
+use Rattle.std.proofs.Common.{subst}
+use Rattle.proof_text.specs.Forms.{are_literals, literals_of}
+use Rattle.proof_text.specs.Reading.{IsRead}
+use Rattle.proof_text.proofs.Stepping.{soli_read}
+use Rattle.proof_text.proofs.step.soli.Goals as goal
+
+pub returns-clause-read : goal.returns-clause-read
+returns-clause-read c =
+    let k = c.args.table.now in
+    let new = c.lits.new.table in
+    let xs = c.in_ok-lits.lits in
+    soli_read k new c.args.words xs (subst (λ ws. IsRead are_literals literals_of k ws xs new) c.new.ensures c.in_ok-lits.ensures.read)

@@ -1,0 +1,18 @@
+use Rattle.std.proofs.Common.{ap, ◌∙◌, codes, ◌∷◌, ◌++◌, append_assoc}
+use Rattle.proof_text.specs.Writing.{spaced, line_text, judgement_words}
+use Rattle.proof_text.proofs.EndBack.{end_back}
+use Rattle.proof_text.proofs.write.write_end.Goals as goal
+
+pub returns-in-Ok-clause-lines : goal.returns-in-Ok-clause-lines
+returns-in-Ok-clause-lines c =
+    let names = c.args.names.now in
+    let x = c.args.conclusion.now in
+    let e = c.in-Ok.ensures in
+    let b = end_back names x e.table c.requires in
+    let text = spaced (judgement_words names x) in
+    record {
+      line = line_text (codes "conclusion" ∷ judgement_words names x);
+      appended = e.ok ∙ ap (λ t. t ++ codes "\nend pseudo-Boolean proof\n") (append_assoc (c.args.out.now.items ++ codes "output NONE\n") (codes "conclusion") text);
+      one = b.one;
+      says = b.says;
+    }

@@ -1,0 +1,14 @@
+-- The rules of steps, by the words with which their lines begin.
+use Rattle.std.specs.Prelude.{ℕ, ◌||◌, if◌then◌else◌, Option, Some, None, List, codes, bytes_eq}
+use Rattle.proof_text.specs.declared.rule.Rule.{Rule}
+use Rattle.proof_text.specs.declared.rule.Rule.TheVariants as rules
+
+unfoldable pub rule_of : List ℕ → Option Rule
+rule_of word =
+    if bytes_eq word (codes "pol") || bytes_eq word (codes "p") then Some rules.Pol
+    else if bytes_eq word (codes "rup") || bytes_eq word (codes "u") then Some rules.Rup
+    else if bytes_eq word (codes "red") then Some rules.Red
+    else if bytes_eq word (codes "sol") then Some rules.Sol
+    else if bytes_eq word (codes "soli") then Some rules.Soli
+    else if bytes_eq word (codes "del") then Some rules.Del
+    else None

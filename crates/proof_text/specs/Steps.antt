@@ -1,0 +1,103 @@
+-- What the line of a step says.
+use Rattle.std.specs.Prelude.{◌≡◌, ℕ, ◌&&◌, Bool, if◌then◌else◌, Option, Some, None, List, [], ◌∷◌, ◌++◌, drop, codes, ⊤}
+use Rattle.std.specs.Option.{option_map}
+use Rattle.linear.specs.declared.constraint.Signed.{Signed}
+use Rattle.linear.specs.declared.constraint.Relation.TheVariants as relations
+use Rattle.substitution.specs.Images.{NamesOnce}
+use Rattle.kernel.specs.declared.step.Step.{Step}
+use Rattle.kernel.specs.declared.step.Step.TheVariants as steps
+use Rattle.proof_text.specs.declared.rule.Rule.{Rule}
+use Rattle.proof_text.specs.declared.rule.Rule.TheVariants as rules
+use Rattle.proof_text.specs.Words.{is_first, unclosed, halves, AreSmall}
+use Rattle.proof_text.specs.Numbering.{Known, met_in, names_in}
+use Rattle.proof_text.specs.Forms.{are_literals, literals_of, are_integers, integers_of, terms_of, behind_terms, closing_of, are_items, items_of, are_images, images_of}
+use Rattle.proof_text.specs.Rules.{rule_of}
+
+-- terms, `>=` and an integer: a constraint
+abbrev pub constraint_of : List (List ℕ) → List (List ℕ) → Option Signed
+constraint_of names ws =
+    option_map (λ right. record { terms = terms_of names ws; relation = relations.AtLeast; right = right }) (closing_of (behind_terms ws))
+
+-- the words are this constraint, its variables numbered by any table that has met them, and perhaps `more`
+pub record IsConstraintRead (k : Known) (ws : List (List ℕ)) (c : Signed) (new : Known) : Type 0 where
+  pub says : (more : List (List ℕ)) → constraint_of (met_in new more).names ws ≡ Some c
+  pub known : new ≡ met_in k ws
+  pub small : AreSmall ws
+
+-- a constraint, `;`, and whatever follows
+abbrev pub rup_by : List (List ℕ) → List (List ℕ) → Option (List (List ℕ)) → Option Step
+rup_by names front None = None
+rup_by names front (Some hints) = option_map (λ c. steps.Rup c) (constraint_of names front)
+
+abbrev pub red_with : List (List ℕ) → List (List ℕ) → Option Signed → Option Step
+red_with names ws None = None
+red_with names ws (Some c) = if are_images ws then Some (steps.Red c (images_of names ws)) else None
+
+-- a constraint, `;`, and a substitution
+abbrev pub red_by : List (List ℕ) → List (List ℕ) → Option (List (List ℕ)) → Option Step
+red_by names front None = None
+red_by names front (Some witness) = red_with names (unclosed witness) (constraint_of names front)
+
+-- `id` and integers
+abbrev pub is_deletion : List (List ℕ) → Bool
+is_deletion ws = is_first (codes "id") ws && are_integers (unclosed (drop 1 ws))
+
+-- the step of a rule that the words behind its own word say
+abbrev pub step_by : Rule → List (List ℕ) → List (List ℕ) → Option Step
+step_by rules.Pol names ws = if are_items (unclosed ws) then Some (steps.Pol (items_of names (unclosed ws))) else None
+step_by rules.Rup names ws = rup_by names (halves ws).front (halves ws).behind
+step_by rules.Red names ws = red_by names (halves ws).front (halves ws).behind
+step_by rules.Sol names ws = if are_literals (unclosed ws) then Some (steps.Sol (literals_of names (unclosed ws))) else None
+step_by rules.Soli names ws = if are_literals (unclosed ws) then Some (steps.Soli (literals_of names (unclosed ws))) else None
+step_by rules.Del names ws = if is_deletion ws then Some (steps.Del (integers_of (unclosed (drop 1 ws)))) else None
+
+-- the words of a substitution, if a `;` stands before it
+abbrev pub witness_words : Option (List (List ℕ)) → List (List ℕ)
+witness_words None = []
+witness_words (Some ws) = unclosed ws
+
+-- the words of a step that count, of those behind its rule's own word: nothing behind the `;` of `rup` does
+abbrev pub counted_by : Rule → List (List ℕ) → List (List ℕ)
+counted_by rules.Pol ws = unclosed ws
+counted_by rules.Rup ws = (halves ws).front
+counted_by rules.Red ws = (halves ws).front ++ witness_words (halves ws).behind
+counted_by rules.Sol ws = unclosed ws
+counted_by rules.Soli ws = unclosed ws
+counted_by rules.Del ws = unclosed (drop 1 ws)
+
+-- no name stands twice on the left of a substitution
+abbrev pub IsProper : Step → Type 0
+IsProper (steps.Red c images) = NamesOnce images
+IsProper _ = ⊤
+
+-- the words behind a rule's own word are this step, as it is read
+pub record IsStepRead (rule : Rule) (k : Known) (ws : List (List ℕ)) (step : Step) (new : Known) : Type 0 where
+  pub says : step_by rule new.names ws ≡ Some step
+  pub proper : IsProper step
+  pub known : new ≡ met_in k (counted_by rule ws)
+  pub small : AreSmall (counted_by rule ws)
+
+-- the step that a line's words say, its variables numbered by the table `names`
+unfoldable pub step_of : List (List ℕ) → List (List ℕ) → Option Step
+step_of names [] = None
+step_of names (w ∷ rest) = elim (rule_of w) [ None ↦ None | Some rule ↦ step_by rule names rest ]
+
+-- the words of a step's line that count
+unfoldable pub counted : List (List ℕ) → List (List ℕ)
+counted [] = []
+counted (w ∷ rest) = elim (rule_of w) [ None ↦ [] | Some rule ↦ counted_by rule rest ]
+
+-- the words of a line are this step, as it is read
+pub record IsStepLineRead (k : Known) (ws : List (List ℕ)) (step : Step) (new : Known) : Type 0 where
+  pub says : step_of new.names ws ≡ Some step
+  pub proper : IsProper step
+  pub known : new ≡ met_in k (counted ws)
+  pub small : AreSmall (counted ws)
+
+-- The words of a line are this step: its variables are numbered by the table `new`, which is the table `old` and the
+-- names that the step brings, in order; no name stands twice on the left; and the integers are within 2^120.
+pub record IsStep (old : List (List ℕ)) (ws : List (List ℕ)) (step : Step) (new : List (List ℕ)) : Type 0 where
+  pub names : new ≡ names_in old (counted ws)
+  pub says : step_of new ws ≡ Some step
+  pub proper : IsProper step
+  pub small : AreSmall (counted ws)

@@ -1,0 +1,117 @@
+//! Written constraints: terms, `>=` and an integer, and the `;` behind them.
+
+ghost use Rattle.std.specs.Prelude.{◌≡◌, [], ◌∷◌, Some, is_some, false, true, ◌&&◌, IfOk, IfErr, OnOk};
+ghost use Rattle.proof_text.specs.Words.{AreSmall, begins_integer};
+ghost use Rattle.proof_text.specs.Forms.{terms_of, behind_terms, closing_of};
+ghost use Rattle.proof_text.specs.Steps.{IsConstraintRead};
+ghost use Rattle.proof_text.specs.Reading.{Takes, SoFar};
+ghost use Rattle.proof_text.specs.Denial.{Denies, IsForm};
+
+use crate::fault::ProofFault;
+use crate::front::Front;
+use crate::lookahead::Lookahead;
+use crate::part::{lit, number};
+use crate::table::Table;
+use linear::{Relation, Seq, Signed, Term};
+use pb_text::{Kind, Symbol, Token};
+use std::alloc::Global;
+
+/// The term that begins with a coefficient.
+fn term(
+    coefficient: Token<'_>,
+    words: &mut Front<'_>,
+    table: &mut Table,
+) -> Result<Term, ProofFault>
+    requires { coefficient.kind ≡ Kind.Integer }
+    ensures takes { IfOk result (λ t. Takes behind_terms terms_of table.old (coefficient.entry.text.now ∷ words.old.front) t table.new words.new.front) }
+    ensures behind { words.new.behind ≡ words.old.behind }
+    ensures kept { table.new.before ≡ table.old.before }
+    ensures denies { let front = coefficient.entry.text.now ∷ words.old.front in
+        IfErr result (λ f. Denies f (is_some (closing_of (behind_terms front))) front) }
+{
+    let coef = number(coefficient)?;
+    let Some(token) = words.take() else {
+        return Err(ProofFault::BadLine);
+    };
+    let lit = lit(token, table)?;
+    Ok(Term {
+        coef,
+        var: lit.var,
+        negated: lit.negated,
+    })
+}
+
+/// The terms that stand next.
+fn terms(alloc: Global, words: &mut Front<'_>, table: &mut Table) -> Result<Seq<Term>, ProofFault>
+    ensures read { IfOk result (λ v. SoFar behind_terms terms_of table.old words.old.front v table.new words.new.front) }
+    ensures end { OnOk result (begins_integer words.new.front ≡ false) }
+    ensures behind { words.new.behind ≡ words.old.behind }
+    ensures kept { table.new.before ≡ table.old.before }
+    ensures denies { IfErr result (λ f. Denies f (is_some (closing_of (behind_terms words.old.front))) words.old.front) }
+{
+    let mut terms = Vec::new(alloc);
+    while let Some(coefficient) = words.take_integer() {
+        let term = term(coefficient, words, table)?;
+        terms.push(term)?;
+    }
+    Ok(Seq::from_vec(terms))
+}
+
+/// The fault of a word where `>=` is due.
+fn relation_fault(token: Token<'_>) -> ProofFault
+    ensures { IsForm result }
+{
+    match token.kind {
+        Kind::Symbol(Symbol::Equals | Symbol::AtMost) => ProofFault::RuleLeftOut,
+        _ => ProofFault::BadLine,
+    }
+}
+
+/// `>=` and the right side.
+fn right_side(words: &mut Front<'_>) -> Result<i128, ProofFault>
+    ensures closing { IfOk result (λ n. closing_of words.old.front ≡ Some n) }
+    ensures small { OnOk result (AreSmall words.old.front) }
+    ensures end { OnOk result (words.new.front ≡ []) }
+    ensures behind { words.new.behind ≡ words.old.behind }
+    ensures denies { IfErr result (λ f. Denies f (is_some (closing_of words.old.front)) words.old.front) }
+{
+    let Some(token) = words.take() else {
+        return Err(ProofFault::BadLine);
+    };
+    let Kind::Symbol(Symbol::AtLeast) = token.kind else {
+        return Err(relation_fault(token));
+    };
+    let Some(token) = words.take() else {
+        return Err(ProofFault::BadLine);
+    };
+    let right = number(token)?;
+    if words.is_empty() {
+        Ok(right)
+    } else {
+        Err(ProofFault::BadLine)
+    }
+}
+
+/// A constraint, and the words behind its `;`.
+pub(crate) fn constraint<'a>(
+    alloc: Global,
+    mut words: Front<'a>,
+    table: &mut Table,
+) -> Result<(Signed, Lookahead<'a>), ProofFault>
+    ensures read { IfOk result (λ r. IsConstraintRead table.old words.entry.front r.0 table.new) }
+    ensures behind { IfOk result (λ r. words.entry.behind ≡ Some r.1) }
+    ensures kept { table.new.before ≡ table.old.before }
+    ensures denies { IfErr result (λ f. Denies f (is_some words.entry.behind && is_some (closing_of (behind_terms words.entry.front))) words.entry.front) }
+{
+    let terms = terms(alloc, &mut words, table)?;
+    let right = right_side(&mut words)?;
+    let Some(behind) = words.into_behind() else {
+        return Err(ProofFault::BadLine);
+    };
+    let constraint = Signed {
+        terms,
+        relation: Relation::AtLeast,
+        right,
+    };
+    Ok((constraint, behind))
+}

@@ -1,0 +1,122 @@
+//! Steps, rule by rule.
+
+ghost use Rattle.std.specs.Prelude.{◌≡◌, false, IfOk, IfErr};
+ghost use Rattle.proof_text.specs.Steps.{IsStepRead};
+ghost use Rattle.proof_text.specs.Faults.{DeniesRule};
+
+use crate::body::Body;
+use crate::constraint::constraint;
+use crate::fault::ProofFault;
+use crate::front::Front;
+use crate::lookahead::Lookahead;
+use crate::part::{lits, numbers};
+use crate::pol::items;
+use crate::rule::Rule;
+use crate::table::Table;
+use crate::witness::images;
+use kernel::Step;
+use std::alloc::Global;
+use substitution::Substitution;
+
+/// `pol`: the items of an expression.
+fn pol(alloc: Global, words: Lookahead<'_>, table: &mut Table) -> Result<Step, ProofFault>
+    ensures read { IfOk result (λ s. IsStepRead Rule.Pol table.old words.entry s table.new) }
+    ensures kept { table.new.before ≡ table.old.before }
+    ensures denies { IfErr result (λ f. DeniesRule f Rule.Pol table.old.names words.entry) }
+{
+    let items = items(alloc, Body::new(words), table)?;
+    Ok(Step::Pol(items))
+}
+
+/// `rup`: a constraint, `;`, and hints, which are passed over.
+fn rup(alloc: Global, words: Lookahead<'_>, table: &mut Table) -> Result<Step, ProofFault>
+    ensures read { IfOk result (λ s. IsStepRead Rule.Rup table.old words.entry s table.new) }
+    ensures kept { table.new.before ≡ table.old.before }
+    ensures denies { IfErr result (λ f. DeniesRule f Rule.Rup table.old.names words.entry) }
+{
+    let (constraint, _hints) = constraint(alloc, Front::new(words), table)?;
+    Ok(Step::Rup(constraint))
+}
+
+/// `red`: a constraint, `;`, and a substitution.
+fn red(alloc: Global, words: Lookahead<'_>, table: &mut Table) -> Result<Step, ProofFault>
+    requires { table.old.full ≡ false }
+    ensures read { IfOk result (λ s. IsStepRead Rule.Red table.old words.entry s table.new) }
+    ensures kept { table.new.before ≡ table.old.before }
+    ensures denies { IfErr result (λ f. DeniesRule f Rule.Red table.old.names words.entry) }
+{
+    let (constraint, witness) = constraint(alloc, Front::new(words), table)?;
+    let images = images(alloc, Body::new(witness), table)?;
+    if table.is_full() {
+        return Err(ProofFault::TooManyIds);
+    }
+    match Substitution::new(alloc, images)? {
+        Some(witness) => {
+            // That no variable stands twice is known by the type; this makes it known here.
+            let _images = witness.as_slice();
+            Ok(Step::Red(constraint, witness))
+        }
+        None => Err(ProofFault::BadLine),
+    }
+}
+
+/// `sol`: literals.
+fn sol(alloc: Global, words: Lookahead<'_>, table: &mut Table) -> Result<Step, ProofFault>
+    ensures read { IfOk result (λ s. IsStepRead Rule.Sol table.old words.entry s table.new) }
+    ensures kept { table.new.before ≡ table.old.before }
+    ensures denies { IfErr result (λ f. DeniesRule f Rule.Sol table.old.names words.entry) }
+{
+    let lits = lits(alloc, Body::new(words), table)?;
+    Ok(Step::Sol(lits))
+}
+
+/// `soli`: literals.
+fn soli(alloc: Global, words: Lookahead<'_>, table: &mut Table) -> Result<Step, ProofFault>
+    ensures read { IfOk result (λ s. IsStepRead Rule.Soli table.old words.entry s table.new) }
+    ensures kept { table.new.before ≡ table.old.before }
+    ensures denies { IfErr result (λ f. DeniesRule f Rule.Soli table.old.names words.entry) }
+{
+    let lits = lits(alloc, Body::new(words), table)?;
+    Ok(Step::Soli(lits))
+}
+
+/// `del`: `id`, and ids.
+fn del(alloc: Global, mut words: Lookahead<'_>, table: &mut Table) -> Result<Step, ProofFault>
+    ensures read { IfOk result (λ s. IsStepRead Rule.Del table.old words.entry s table.new) }
+    ensures kept { table.new.before ≡ table.old.before }
+    ensures denies { IfErr result (λ f. DeniesRule f Rule.Del table.old.names words.entry) }
+{
+    let Some(token) = words.take() else {
+        return Err(ProofFault::BadLine);
+    };
+    if token.text == b"id".as_slice() {
+        let ids = numbers(alloc, Body::new(words))?;
+        return Ok(Step::Del(ids));
+    }
+    if token.text == b"range".as_slice() || token.text == b"spec".as_slice() {
+        return Err(ProofFault::RuleLeftOut);
+    }
+    Err(ProofFault::BadLine)
+}
+
+/// The step that words say behind the word of its rule.
+pub(crate) fn step(
+    alloc: Global,
+    rule: Rule,
+    words: Lookahead<'_>,
+    table: &mut Table,
+) -> Result<Step, ProofFault>
+    requires { table.old.full ≡ false }
+    ensures read { IfOk result (λ s. IsStepRead rule table.old words.entry s table.new) }
+    ensures kept { table.new.before ≡ table.old.before }
+    ensures denies { IfErr result (λ f. DeniesRule f rule table.old.names words.entry) }
+{
+    match rule {
+        Rule::Pol => pol(alloc, words, table),
+        Rule::Rup => rup(alloc, words, table),
+        Rule::Red => red(alloc, words, table),
+        Rule::Sol => sol(alloc, words, table),
+        Rule::Soli => soli(alloc, words, table),
+        Rule::Del => del(alloc, words, table),
+    }
+}

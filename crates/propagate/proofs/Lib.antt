@@ -1,0 +1,17 @@
+pub mod SetSums
+pub mod Listings
+pub mod Somewhere
+pub mod Chains
+pub mod Ends
+pub mod Gathered
+pub mod Zero
+pub mod Outcomes
+pub mod Ending
+pub mod Consistency
+pub mod Closure
+pub mod Table
+pub mod Occurrences
+pub mod Places
+pub mod Steps
+pub mod Bounds
+pub mod Reaching

@@ -1,0 +1,10 @@
+pub mod Literals
+pub mod Slack
+pub mod Chain
+pub mod Biting
+pub mod Passes
+pub mod Cases
+pub mod Values
+pub mod Reading
+pub mod Walk
+pub mod Reach

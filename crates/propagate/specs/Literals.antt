@@ -1,0 +1,38 @@
+-- Listings of literals that are taken as true.
+use Rattle.std.specs.Prelude.{ℕ, ◌≡◌, Bool, true, false, not, ◌||◌, List, [], ◌∷◌}
+use Rattle.linear.specs.declared.term.Lit.{Lit}
+use Rattle.linear.specs.Valuation.{Valuation, literal_true}
+use Rattle.normal_form.specs.Normal.{Literals, NormalConstraint, only, coefficient}
+
+-- the opposite literal
+abbrev pub opposite : Lit → Lit
+opposite l = record l { negated = not l.negated }
+
+-- N(l): the coefficient of a literal
+abbrev pub coefficient_of : NormalConstraint → Lit → ℕ
+coefficient_of n l = coefficient n (l.var.0) l.negated
+
+-- the literals of a listing, as a set
+abbrev pub among : List Lit → Literals
+among [] v s = false
+among (l ∷ ls) v s = only (l.var.0) l.negated v s || among ls v s
+
+-- whether a listing has a literal
+abbrev pub lists : List Lit → Lit → Bool
+lists listing l = among listing (l.var.0) l.negated
+
+-- a listing that has a literal and its opposite
+abbrev pub Contradicts : List Lit → Type 0
+Contradicts listing = (l : Lit) × (lists listing l ≡ true) × (lists listing (opposite l) ≡ true)
+
+-- a listing that does not
+abbrev pub IsConsistent : List Lit → Type 0
+IsConsistent listing = Contradicts listing → ⊥
+
+-- two listings have the same literals
+abbrev pub SameLiterals : List Lit → List Lit → Type 0
+SameLiterals xs ys = (v : ℕ) (s : Bool) → among xs v s ≡ among ys v s
+
+-- an assignment makes a literal true
+abbrev pub MakesTrue : Valuation → Lit → Type 0
+MakesTrue a l = literal_true a (l.var.0) l.negated ≡ true

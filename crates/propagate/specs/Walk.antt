@@ -1,0 +1,52 @@
+-- Chains with their reasons. The constraints are numbered by their places in a list.
+use Rattle.std.specs.Prelude.{◌≡◌, ℕ, ◌<◌, List, [], ◌∷◌, ◌++◌, All, length, map, slice_index_or}
+use Rattle.std.specs.List.{AllWithin}
+use Rattle.linear.specs.declared.term.Lit.{Lit}
+use Rattle.normal_form.specs.Normal.{NormalConstraint}
+use Rattle.propagate.specs.declared.next.Forced.{Forced}
+use Rattle.propagate.specs.declared.next.Next.{Next}
+use Rattle.propagate.specs.declared.next.Next.TheVariants as nexts
+use Rattle.propagate.specs.Slack.{IsBroken, IsForced}
+
+-- the constraint at a place is this one
+abbrev pub StandsAt : List NormalConstraint → ℕ → NormalConstraint → Type 0
+StandsAt constraints place n = (place < length constraints) × (slice_index_or constraints place n ≡ n)
+
+-- the constraint at a place is broken
+abbrev pub IsBrokenAt : List NormalConstraint → List Lit → ℕ → Type 0
+IsBrokenAt constraints listing place = (n : NormalConstraint) × StandsAt constraints place n × IsBroken listing n
+
+-- the constraint at the place of the reason forces the literal
+abbrev pub IsForcedStep : List NormalConstraint → List Lit → Forced → Type 0
+IsForcedStep constraints listing step = (n : NormalConstraint) × StandsAt constraints step.reason n × IsForced listing step.literal n
+
+-- each literal is forced in the constraint of its reason under what is given and those before it
+abbrev pub IsReasonedChain : List NormalConstraint → List Lit → List Forced → Type 0
+IsReasonedChain constraints given [] = Unit {0}
+IsReasonedChain constraints given (s ∷ ss) = IsForcedStep constraints given s × IsReasonedChain constraints (given ++ s.literal ∷ []) ss
+
+-- the literals of a chain with its reasons
+abbrev pub literals_of : List Forced → List Lit
+literals_of = map (λ s. s.literal)
+
+-- a constraint that is not broken and forces nothing
+abbrev pub IsQuiet : List Lit → NormalConstraint → Type 0
+IsQuiet listing n = (IsBroken listing n → ⊥) × ((l : Lit) → IsForced listing l n → ⊥)
+
+-- what one constraint, which stands at this place, says
+abbrev pub IsNextAt : ℕ → NormalConstraint → List Lit → Next → Type 0
+IsNextAt place n listing nexts.Quiet = IsQuiet listing n
+IsNextAt place n listing (nexts.Broken at) = (at ≡ place) × IsBroken listing n
+IsNextAt place n listing (nexts.Step step) = (step.reason ≡ place) × IsForced listing step.literal n
+
+-- what comes next of the constraints from one place up to another
+abbrev pub IsNextBetween : List NormalConstraint → ℕ → ℕ → List Lit → Next → Type 0
+IsNextBetween constraints low high listing nexts.Quiet = AllWithin (IsQuiet listing) constraints low high
+IsNextBetween constraints low high listing (nexts.Broken place) = IsBrokenAt constraints listing place
+IsNextBetween constraints low high listing (nexts.Step step) = IsForcedStep constraints listing step
+
+-- what comes next under a listing: nothing, as all constraints are quiet, or a broken constraint, or a forced literal
+abbrev pub IsNext : List NormalConstraint → List Lit → Next → Type 0
+IsNext constraints listing nexts.Quiet = All (IsQuiet listing) constraints
+IsNext constraints listing (nexts.Broken place) = IsBrokenAt constraints listing place
+IsNext constraints listing (nexts.Step step) = IsForcedStep constraints listing step

@@ -1,0 +1,69 @@
+//! The definitions computed on small constraints, each the contract of a function that does nothing.
+
+ghost use Rattle.std.specs.Prelude.{◌≡◌, All, List, [], ◌∷◌, ◌++◌, pos};
+ghost use Rattle.linear.specs.declared.term.Lit.{Lit};
+ghost use Rattle.normal_form.specs.Cases.{plain, negated, normal};
+ghost use Rattle.propagate.specs.Cases.{x, not_x, unit, unit_not, four_clauses, one_of_two, weighted, pigeons, two_of_three, two_of_three_negated, improving_moved};
+ghost use Rattle.propagate.specs.Chain.{IsForcedByOne, IsChain, IsRefuted, IsClosure, IsImpossible, LeadsToConflict};
+ghost use Rattle.propagate.specs.Slack.{slack, IsBroken};
+
+/// `1 ~x2 1 x3 >= 1 ; 1 ~x1 1 x2 >= 1 ; 1 x1 >= 1 ; 1 ~x3 >= 1`: the first two force something only after the
+/// third, so one pass over the four in order does not do.
+pub fn four_clauses_refuted()
+    ensures chain { IsChain four_clauses [] (x 1 ∷ x 2 ∷ x 3 ∷ []) }
+    ensures refuted { IsRefuted four_clauses }
+{}
+
+/// `3 x1 2 x2 1 x3 >= 4` needs x1 and not x2: under `~x2` it forces the two others, which meet it.
+pub fn weighted_needs_first()
+    ensures first { IsRefuted (weighted ∷ unit_not 1 ∷ []) }
+    ensures second { IsRefuted (weighted ∷ unit_not 2 ∷ []) → ⊥ }
+    ensures others { IsClosure (weighted ∷ unit_not 2 ∷ []) [] (x 1 ∷ not_x 2 ∷ x 3 ∷ []) }
+{}
+
+/// Three pigeons in two holes: no slack is below 1, so nothing is forced and nothing refuted. `>= 0`, the negation
+/// of `>= 1` without terms, adds nothing.
+pub fn pigeons_not_refuted()
+    ensures slacks { All (λ n. slack n [] ≡ pos 1) pigeons }
+    ensures refuted { IsRefuted (pigeons ++ normal [] 0 ∷ []) → ⊥ }
+{}
+
+/// `1 x1 1 x2 1 x3 >= 2` beside its own negation `1 ~x1 1 ~x2 1 ~x3 >= 2`: nothing is forced.
+pub fn own_negation_forces_nothing()
+    ensures forced { (l : Lit) → IsForcedByOne (two_of_three ∷ two_of_three_negated ∷ []) [] l → ⊥ }
+    ensures refuted { IsRefuted (two_of_three ∷ two_of_three_negated ∷ []) → ⊥ }
+{}
+
+/// `1 x1 1 x2 >= 1` with `1 ~x1 1 x2 >= 1` says `x2`.
+pub fn cases_of_one_variable()
+    ensures { IsRefuted (one_of_two ∷ normal (negated 1 1 ∷ plain 1 2 ∷ []) 1 ∷ unit_not 2 ∷ []) }
+{}
+
+/// `1 x1 1 x2 >= 1` forces x2 under `~x1`, and nothing under `x1`. No listing has both.
+pub fn listing_continued()
+    ensures false_given { IsClosure (one_of_two ∷ []) (not_x 1 ∷ []) (not_x 1 ∷ x 2 ∷ []) }
+    ensures true_given { IsClosure (one_of_two ∷ []) (x 1 ∷ []) (x 1 ∷ []) }
+    ensures both_given { IsImpossible (one_of_two ∷ []) (x 1 ∷ not_x 1 ∷ []) }
+    ensures neither_given { LeadsToConflict (one_of_two ∷ []) (not_x 1 ∷ not_x 2 ∷ []) }
+{}
+
+/// `1 x2 >= 1` does not follow from `1 x1 1 x2 >= 1` and `1 x1 >= 1`.
+pub fn other_literal_open()
+    ensures { IsRefuted (one_of_two ∷ unit 1 ∷ unit_not 2 ∷ []) → ⊥ }
+{}
+
+/// `1 ~x1 1 x2 >= 2` beside `1 x1 1 ~x2 >= 2`: both literals are forced, and the other is broken.
+pub fn opposites_refuted()
+    ensures { IsRefuted (normal (negated 1 1 ∷ plain 1 2 ∷ []) 2 ∷ normal (plain 1 1 ∷ negated 1 2 ∷ []) 2 ∷ []) }
+{}
+
+/// `1 ~x1 >= 2`, the negation of `1 x1 >= 0`, is broken at once.
+pub fn degree_zero_negated()
+    ensures { IsBroken [] (normal (negated 1 1 ∷ []) 2) }
+{}
+
+/// `1 ~x2 1 ~x3 1 ~x4 1 ~x5 >= 3` is not shown from `1 x1 1 ~x5 >= 1`, `1 ~x1 1 ~x2 1 ~x3 1 ~x4 >= 3` and
+/// `1 ~x6 >= 1`.
+pub fn moved_bound_open()
+    ensures { IsRefuted improving_moved → ⊥ }
+{}

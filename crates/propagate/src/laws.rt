@@ -1,0 +1,103 @@
+//! Laws of the definitions, each the contract of a function that does nothing.
+
+ghost use Rattle.std.specs.Prelude.{◌≡◌, ◌⊎◌, ℕ, true, All, Contains, List, [], ◌∷◌, ◌++◌};
+ghost use Rattle.linear.specs.declared.term.Lit.{Lit};
+ghost use Rattle.linear.specs.Valuation.{Valuation};
+ghost use Rattle.normal_form.specs.Negation.{IsNegation};
+ghost use Rattle.normal_form.specs.Normal.{NormalConstraint, Holds, Rises};
+ghost use Rattle.propagate.specs.Biting.{Bites};
+ghost use Rattle.propagate.specs.Chain.{IsConflict, IsChain, LeadsToConflict, IsRefuted, IsWholeChain, IsSettled, IsClosure};
+ghost use Rattle.propagate.specs.Literals.{IsConsistent, MakesTrue, lists};
+ghost use Rattle.propagate.specs.Passes.{outcome, Conflict, Settled};
+ghost use Rattle.propagate.specs.Slack.{IsBroken};
+
+/// An assignment that meets all constraints and makes the given literals true makes every literal of a chain
+/// true.
+pub fn chain_holds()
+    ensures { (constraints : List NormalConstraint) → (given chain : List Lit) → IsChain constraints given chain
+        → (a : Valuation) → All (Holds a) constraints → All (MakesTrue a) given → All (MakesTrue a) chain }
+{}
+
+/// No assignment meets all constraints of a refuted list.
+pub fn refuted_unsatisfiable()
+    ensures { (constraints : List NormalConstraint) → IsRefuted constraints
+        → (a : Valuation) → All (Holds a) constraints → ⊥ }
+{}
+
+/// More constraints lead to every conflict that fewer lead to, and refute what those refute.
+pub fn more_constraints()
+    ensures conflict { (fewer more : List NormalConstraint) → ((n : NormalConstraint) → Contains fewer n → Contains more n)
+        → (given : List Lit) → LeadsToConflict fewer given → LeadsToConflict more given }
+    ensures refuted { (fewer more : List NormalConstraint) → ((n : NormalConstraint) → Contains fewer n → Contains more n)
+        → IsRefuted fewer → IsRefuted more }
+{}
+
+/// Two chains that cannot go on lead to a conflict both, or have the same literals with what is given: in which
+/// order literals are forced does not matter.
+pub fn one_end()
+    ensures { (constraints : List NormalConstraint) → (given chain other : List Lit)
+        → IsWholeChain constraints given chain → IsWholeChain constraints given other
+        → (IsConflict constraints (given ++ chain) × IsConflict constraints (given ++ other))
+        ⊎ ((l : Lit) → lists (given ++ chain) l ≡ lists (given ++ other) l) }
+{}
+
+/// No chain from literals of a settled listing leaves the listing, and none leads to a conflict.
+pub fn settled_end()
+    ensures stays { (constraints : List NormalConstraint) → (settled given chain : List Lit) → IsSettled constraints settled
+        → ((l : Lit) → lists given l ≡ true → lists settled l ≡ true) → IsChain constraints given chain
+        → (l : Lit) → lists chain l ≡ true → lists settled l ≡ true }
+    ensures no_conflict { (constraints : List NormalConstraint) → (settled given : List Lit) → IsSettled constraints settled
+        → ((l : Lit) → lists given l ≡ true → lists settled l ≡ true) → LeadsToConflict constraints given → ⊥ }
+{}
+
+/// A chain from a consistent listing never has a literal whose opposite is there.
+pub fn chain_consistent()
+    ensures { (constraints : List NormalConstraint) → (given chain : List Lit) → IsConsistent given
+        → IsChain constraints given chain → IsConsistent (given ++ chain) }
+{}
+
+/// From each listing a chain leads to a conflict, or there is a listing of exactly what is given or forced; the
+/// latter is the same set of literals however it is found.
+pub fn one_outcome()
+    ensures ends { (constraints : List NormalConstraint) → (given : List Lit) → LeadsToConflict constraints given
+        ⊎ ((closed : List Lit) × IsClosure constraints given closed × (LeadsToConflict constraints given → ⊥)) }
+    ensures one { (constraints : List NormalConstraint) → (given closed other : List Lit) → IsClosure constraints given closed
+        → IsClosure constraints given other → (l : Lit) → lists closed l ≡ lists other l }
+{}
+
+/// Where no chain leads to a conflict, the listing of what is given or forced is settled.
+pub fn closure_settled()
+    ensures { (constraints : List NormalConstraint) → (given closed : List Lit) → IsClosure constraints given closed
+        → (LeadsToConflict constraints given → ⊥) → IsSettled constraints closed }
+{}
+
+/// More literals lead to every conflict that fewer lead to.
+pub fn more_literals()
+    ensures { (constraints : List NormalConstraint) → (given more : List Lit)
+        → ((l : Lit) → lists given l ≡ true → lists more l ≡ true)
+        → LeadsToConflict constraints given → LeadsToConflict constraints more }
+{}
+
+/// The negation of a constraint of degree 0 has negative slack at once, so it is refuted whatever stands beside it.
+pub fn degree_zero()
+    ensures broken { (n m : NormalConstraint) → Rises 0 n.terms → n.degree ≡ 0 → IsNegation n m → IsBroken [] m }
+    ensures refuted { (n m : NormalConstraint) → Rises 0 n.terms → n.degree ≡ 0 → IsNegation n m
+        → (constraints : List NormalConstraint) → Contains constraints m → IsRefuted constraints }
+{}
+
+/// A copy of a constraint that is there never bites.
+pub fn copy_never_bites()
+    ensures { (constraints : List NormalConstraint) → (n : NormalConstraint) → Contains constraints n
+        → Bites constraints n → ⊥ }
+{}
+
+/// What the slow search comes to is so: a conflict is one that a chain leads to, and a settled listing is exactly
+/// what chains reach, none of which leads to a conflict.
+pub fn search_is_right()
+    ensures conflict { (steps : ℕ) → (constraints : List NormalConstraint) → (given : List Lit)
+        → outcome steps constraints given ≡ Conflict → LeadsToConflict constraints given }
+    ensures closure { (steps : ℕ) → (constraints : List NormalConstraint) → (given closed : List Lit)
+        → outcome steps constraints given ≡ Settled closed → IsClosure constraints given closed }
+    ensures no_conflict { (steps : ℕ) → (constraints : List NormalConstraint) → (given closed : List Lit)
+        → outcome steps constraints given ≡ Settled closed → LeadsToConflict constraints given → ⊥ }
+{}

@@ -1,0 +1,64 @@
+//! What a listing of literals extends to by propagation.
+
+ghost use Rattle.std.specs.Prelude.{◌≡◌, ◌<◌, ◌≤◌, All, IfOk, map};
+ghost use Rattle.normal_form.specs.Normal.{variable_bound};
+ghost use Rattle.propagate.specs.Literals.{IsConsistent};
+
+use super::refutation::variable_count;
+use super::trail::Trail;
+use super::walk::{Walk, complete};
+use linear::{Lit, Seq};
+use normal_form::Normal;
+use std::alloc::{AllocError, Global};
+
+/// A conflict: the listing has a literal and its opposite, or a chain from it leads to a constraint with negative
+/// slack. Else all literals that are given or forced.
+#[derive(Debug, Drop)]
+pub enum Reach {
+    Conflict,
+    Closed(Seq<Lit>),
+}
+
+// The least number above all variables of some literals.
+fn literal_count(literals: &[Lit]) -> usize
+    ensures { All (λ l. l.var.0 < result) literals.now }
+{
+    let mut count: usize = 0;
+    for literal in literals {
+        count = count.max(literal.var.0 as usize + 1);
+    }
+    count
+}
+
+impl Reach {
+    ghost use Rattle.propagate.specs.Reach.{IsReach};
+
+    // What a trail extends to.
+    fn from_trail(alloc: Global, constraints: &[&Normal], start: Trail) -> Result<Reach, AllocError>
+        requires variables { All (λ n. variable_bound n.now.terms ≤ start.1) constraints.now }
+        requires consistent { IsConsistent start.0 }
+        ensures { IfOk result (IsReach (map (λ n. n.now) constraints.now) start.0) }
+    {
+        let Walk {
+            trail,
+            steps: _,
+            broken,
+        } = complete(alloc, constraints, start)?;
+        match broken {
+            Some(_) => Ok(Reach::Conflict),
+            None => Ok(Reach::Closed(trail.into_listing())),
+        }
+    }
+
+    /// What a listing extends to: `Conflict` exactly where it has a literal and its opposite or a chain from it
+    /// leads to negative slack, else `Closed` with exactly the given and forced literals.
+    pub fn of(alloc: Global, constraints: &[&Normal], given: &[Lit]) -> Result<Reach, AllocError>
+        ensures { IfOk result (IsReach (map (λ n. n.now) constraints.now) given.now) }
+    {
+        let count = variable_count(constraints).max(literal_count(given));
+        match Trail::of(alloc, count, given)? {
+            Some(start) => Reach::from_trail(alloc, constraints, start),
+            None => Ok(Reach::Conflict),
+        }
+    }
+}

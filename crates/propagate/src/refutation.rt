@@ -1,0 +1,42 @@
+//! Whether constraints are refuted by propagation alone.
+
+ghost use Rattle.std.specs.Prelude.{◌≡◌, ◌≤◌, ◌↔◌, All, IfOk, IsTrue, map};
+ghost use Rattle.normal_form.specs.Normal.{variable_bound};
+ghost use Rattle.propagate.specs.Chain.{IsRefuted};
+
+use super::trail::Trail;
+use super::walk::complete;
+use normal_form::Normal;
+use std::alloc::{AllocError, Global};
+
+// The least number above all variables of a constraint: that of the last term is the greatest.
+fn bound(constraint: &Normal) -> usize
+    ensures { result ≡ variable_bound constraint.now.terms }
+{
+    let count = constraint.len();
+    if count == 0 {
+        return 0;
+    }
+    constraint.term(count - 1).var.0 as usize + 1
+}
+
+/// The least number above all variables of some constraints.
+pub(crate) fn variable_count(constraints: &[&Normal]) -> usize
+    ensures { All (λ n. variable_bound n.now.terms ≤ result) constraints.now }
+{
+    let mut count: usize = 0;
+    for constraint in constraints {
+        count = count.max(bound(constraint));
+    }
+    count
+}
+
+/// Whether constraints are refuted: whether some chain of literals, each forced in one of them, leads from nothing
+/// to one with negative slack.
+pub fn refuted(alloc: Global, constraints: &[&Normal]) -> Result<bool, AllocError>
+    ensures { IfOk result (λ yes. IsTrue yes ↔ IsRefuted (map (λ n. n.now) constraints.now)) }
+{
+    let nothing = Trail::new(alloc, variable_count(constraints))?;
+    let walk = complete(alloc, constraints, nothing)?;
+    Ok(walk.broken.is_some())
+}

@@ -1,0 +1,61 @@
+//! Chains of forced literals, as long as they go.
+
+ghost use Rattle.std.specs.Prelude.{◌≡◌, ◌≤◌, ◌++◌, All, IfOk, MatchOption, map};
+ghost use Rattle.normal_form.specs.Normal.{variable_bound};
+ghost use Rattle.propagate.specs.Chain.{IsSettled};
+ghost use Rattle.propagate.specs.Walk.{IsBrokenAt, IsReasonedChain, literals_of};
+
+use super::next::{Forced, Next};
+use super::trail::Trail;
+use normal_form::Normal;
+use std::alloc::{AllocError, Global};
+
+/// Where a chain ends: the literals given and forced, the steps, and the place of a broken constraint, if there is
+/// one.
+#[derive(Debug, Drop)]
+pub(crate) struct Walk {
+    pub(crate) trail: Trail,
+    pub(crate) steps: Vec<Forced>,
+    pub(crate) broken: Option<usize>,
+}
+
+/// Adds forced literals to a trail, one after another, until a constraint is broken or nothing more is forced.
+pub(crate) fn complete(
+    alloc: Global,
+    constraints: &[&Normal],
+    start: Trail,
+) -> Result<Walk, AllocError>
+    requires { All (λ n. variable_bound n.now.terms ≤ start.1) constraints.now }
+    ensures chain { IfOk result (λ w. IsReasonedChain (map (λ n. n.now) constraints.now) start.0 w.steps.items) }
+    ensures listing { IfOk result (λ w. w.trail.0 ≡ start.0 ++ literals_of w.steps.items) }
+    ensures end { IfOk result (λ w. MatchOption w.broken
+        (IsSettled (map (λ n. n.now) constraints.now) w.trail.0)
+        (IsBrokenAt (map (λ n. n.now) constraints.now) w.trail.0)) }
+{
+    let mut trail = start;
+    let mut steps = Vec::new(alloc);
+    let mut place = 0;
+    loop {
+        match Next::from(constraints, &trail, place) {
+            Next::Quiet => {
+                return Ok(Walk {
+                    trail,
+                    steps,
+                    broken: None,
+                });
+            }
+            Next::Broken(place) => {
+                return Ok(Walk {
+                    trail,
+                    steps,
+                    broken: Some(place),
+                });
+            }
+            Next::Step(step) => {
+                trail.push(step.literal)?;
+                steps.push(step)?;
+                place = step.reason;
+            }
+        }
+    }
+}

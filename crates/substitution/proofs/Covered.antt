@@ -1,0 +1,116 @@
+-- What a constraint covers holds wherever it does.
+use Rattle.std.proofs.Common.{◌≡◌, ◌↔◌, ℕ, ◌+◌, ◌-◌, ◌<◌, ◌≤◌, Bool, true, false, cond, ◌&&◌, List, [], ◌∷◌, nat_le, refl, ap, arith}
+use Rattle.std.proofs.lemmas.Bool.{false≢true}
+use Rattle.std.proofs.lemmas.Bool.Decides.{nat_tests}
+use Rattle.linear.specs.Valuation.{Valuation, literal_true}
+use Rattle.normal_form.specs.declared.term.NormalTerm.{NormalTerm}
+use Rattle.normal_form.specs.Normal.{Literals, NormalConstraint, Holds, sum_over, only, coefficient, total, Rises}
+use Rattle.normal_form.proofs.OneForm.{counted_own}
+use Rattle.substitution.specs.Covering.{excess, Covers}
+
+only_is : (v x : ℕ) (s y : Bool) → only v s x y ≡ true → (x ≡ v) × (y ≡ s)
+only_is v x true true h = (grind (arith, nat_tests), refl)
+only_is v x true false h = absurd (grind (arith, nat_tests))
+only_is v x false true h = absurd (grind (arith, nat_tests))
+only_is v x false false h = (grind (arith, nat_tests), refl)
+
+apart : (o b d : Bool) (c : ℕ) → (o ≡ true → b ≡ false) → (o ≡ true → d ≡ true) → (b ≡ true → d ≡ true) → cond o c 0 + cond b c 0 ≤ cond d c 0
+apart true true d c h k m = absurd (false≢true (cc (h refl)))
+apart true false true c h k m = omega arith
+apart true false false c h k m = absurd (false≢true (k refl))
+apart false true true c h k m = omega arith
+apart false true false c h k m = absurd (false≢true (m refl))
+apart false false true c h k m = omega arith
+apart false false false c h k m = omega arith
+
+-- the true literals whose variables are not below a number
+abbrev true_from : ℕ → Valuation → Literals
+true_from low a v s = literal_true a v s && nat_le low v
+
+both_true : (b d : Bool) → (b && d) ≡ true → (b ≡ true) × (d ≡ true)
+both_true true d h = (refl, h)
+both_true false d h = absurd (false≢true h)
+
+raise : (low v x : ℕ) (b : Bool) → low ≤ v → (b && nat_le (v + 1) x) ≡ true → (b && nat_le low x) ≡ true
+raise low v x true h e = grind (arith, nat_tests)
+raise low v x false h e = e
+
+above : (v : ℕ) (b : Bool) → (b && nat_le (v + 1) v) ≡ false
+above v true = grind (arith, nat_tests)
+above v false = refl
+
+reached : (low v : ℕ) (b : Bool) → low ≤ v → b ≡ true → (b && nat_le low v) ≡ true
+reached low v true h e = grind (arith, nat_tests)
+reached low v false h e = absurd (false≢true e)
+
+-- a true literal has its coefficient beside those of the variables above it
+beside : (a : Valuation) (low v : ℕ) (s : Bool) → low ≤ v → literal_true a v s ≡ true → (ns : List NormalTerm) → sum_over (only v s) ns + sum_over (true_from (v + 1) a) ns ≤ sum_over (true_from low a) ns
+beside a low v s h true' [] = omega arith
+beside a low v s h true' (t ∷ ts) =
+    let x = t.var.0 in
+    let y = t.negated in
+    let out : only v s x y ≡ true → true_from (v + 1) a x y ≡ false = λ o. let e = only_is v x s y o in let u = above v (literal_true a v s) in cc in
+    let in' : only v s x y ≡ true → true_from low a x y ≡ true = λ o. let e = only_is v x s y o in let u = reached low v (literal_true a v s) h true' in cc in
+    omega (arith, apart (only v s x y) (true_from (v + 1) a x y) (true_from low a x y) t.coef out in' (raise low v x (literal_true a x y) h), beside a low v s h true' ts)
+
+fewer : (a : Valuation) (low v : ℕ) → low ≤ v → (ns : List NormalTerm) → sum_over (true_from (v + 1) a) ns ≤ sum_over (true_from low a) ns
+fewer a low v h [] = omega arith
+fewer a low v h (t ∷ ts) =
+    let x = t.var.0 in
+    let y = t.negated in
+    omega (arith, apart false (true_from (v + 1) a x y) (true_from low a x y) t.coef (λ e. absurd (false≢true e)) (λ e. absurd (false≢true e)) (raise low v x (literal_true a x y) h), fewer a low v h ts)
+
+-- what a constraint has at the true literals of some terms
+abbrev matched : Valuation → NormalConstraint → List NormalTerm → ℕ
+matched a n [] = 0
+matched a n (t ∷ ts) = cond (literal_true a (t.var.0) t.negated) (coefficient n (t.var.0) t.negated) 0 + matched a n ts
+
+with_head : (a : Valuation) (n : NormalConstraint) (low v : ℕ) (s : Bool) → low ≤ v → (b : Bool) → literal_true a v s ≡ b → (m : ℕ) → m ≤ sum_over (true_from (v + 1) a) n.terms → cond b (coefficient n v s) 0 + m ≤ sum_over (true_from low a) n.terms
+with_head a n low v s h true e m k = omega (arith, beside a low v s h e n.terms, k)
+with_head a n low v s h false e m k = omega (arith, fewer a low v h n.terms, k)
+
+matched_below : (a : Valuation) (n : NormalConstraint) (low : ℕ) (ts : List NormalTerm) → Rises low ts → matched a n ts ≤ sum_over (true_from low a) n.terms
+matched_below a n low [] r = omega arith
+matched_below a n low (t ∷ ts) r =
+    with_head a n low (t.var.0) t.negated r.0 (literal_true a (t.var.0) t.negated) refl (matched a n ts) (matched_below a n (t.var.0 + 1) ts r.2)
+
+true_of : (a : Valuation) (ns : List NormalTerm) → sum_over (true_from 0 a) ns ≤ sum_over (literal_true a) ns
+true_of a [] = omega arith
+true_of a (t ∷ ts) =
+    let b = literal_true a (t.var.0) t.negated in
+    omega (arith, apart false (true_from 0 a (t.var.0) t.negated) b t.coef (λ e. absurd (false≢true e)) (λ e. absurd (false≢true e)) (λ e. (both_true b (nat_le 0 (t.var.0)) e).0), true_of a ts)
+
+parted : (b : Bool) (c k : ℕ) → cond b c 0 ≤ cond b k 0 + (c - k)
+parted true c k = omega arith
+parted false c k = omega arith
+
+-- a weight is what is matched and no more than the excess
+weight_below : (a : Valuation) (n : NormalConstraint) (ts : List NormalTerm) → sum_over (literal_true a) ts ≤ matched a n ts + excess ts n
+weight_below a n [] = omega arith
+weight_below a n (t ∷ ts) = omega (arith, parted (literal_true a (t.var.0) t.negated) t.coef (coefficient n (t.var.0) t.negated), weight_below a n ts)
+
+pub covered_holds : (e n : NormalConstraint) → Rises 0 e.terms → Covers e n → (a : Valuation) → Holds a e → Holds a n
+covered_holds e n r c a h = omega (arith, c, h, weight_below a n e.terms, matched_below a n 0 e.terms r, true_of a n.terms)
+
+-- the excess over more terms is no more
+excess_over : (n : NormalConstraint) (t : NormalTerm) (us ts : List NormalTerm) → excess ts (record n { terms = t ∷ us }) ≤ excess ts (record n { terms = us })
+excess_over n t us [] = omega arith
+excess_over n t us (u ∷ ts) = omega (arith, excess_over n t us ts)
+
+no_excess : (n : NormalConstraint) (ts : List NormalTerm) → excess ts (record n { terms = ts }) ≡ 0
+no_excess n [] = refl
+no_excess n (t ∷ ts) = omega (arith, counted_own t, excess_over n t ts ts, no_excess n ts)
+
+pub covers_itself : (n : NormalConstraint) → Covers n n
+covers_itself n = omega (arith, no_excess n n.terms)
+
+all_excess : (n : NormalConstraint) → n.terms ≡ [] → (ts : List NormalTerm) → excess ts n ≡ total ts
+all_excess n e [] = refl
+all_excess n e (t ∷ ts) =
+    let none : coefficient n (t.var.0) t.negated ≡ 0 = ap (sum_over (only (t.var.0) t.negated)) e in
+    omega (arith, none, all_excess n e ts)
+
+pub covers_falsity : (e n : NormalConstraint) → n.terms ≡ [] → n.degree ≡ 1 → Covers e n ↔ (total e.terms < e.degree)
+covers_falsity e n t d =
+    let all = all_excess n t e.terms in
+    (λ c. omega (arith, c, all, d), λ h. omega (arith, h, all, d))
