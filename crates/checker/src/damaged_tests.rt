@@ -5,8 +5,11 @@ use super::{check, verdict_text};
 use std::process::Abort;
 use std::test::Fail;
 
-const OPB: &str = "1 x1 1 x2 >= 1 ;\n1 x3 1 x4 >= 1 ;\n1 x5 1 x6 >= 1 ;\n-1 x1 -1 x3 -1 x5 >= -1 ;\n-1 x2 -1 x4 -1 x6 >= -1 ;";
-const PROOF: &str = "pseudo-Boolean proof version 2.0\nf 5\npol 1 2 + 3 + 4 + 5 +\noutput NONE\nconclusion UNSAT\nend pseudo-Boolean proof\n";
+const OPB: &str =
+    "1 x1 1 x2 >= 1 ;\n1 x3 1 x4 >= 1 ;\n1 x5 1 x6 >= 1 ;\n-1 x1 -1 x3 -1 x5 >= -1 ;\n-1 x2 -1 x4 -1 x6 >= -1 ;";
+
+const PROOF: &str =
+    "pseudo-Boolean proof version 2.0\nf 5\npol 1 2 + 3 + 4 + 5 +\noutput NONE\nconclusion UNSAT\nend pseudo-Boolean proof\n";
 
 /// Checks what is printed for two texts.
 fn answers<R: Abort + AllocGlobal>(
@@ -17,7 +20,11 @@ fn answers<R: Abort + AllocGlobal>(
 ) -> Result<(), Fail> {
     let verdict = check(rt.alloc(), opb, proof);
     let printed = verdict_text(rt.alloc(), opb, &verdict)?;
-    assert_eq!(rt; printed.as_slice(), text.as_bytes(), "for {opb:?} and {proof:?}");
+    assert_eq!(rt;
+        printed.as_slice(),
+        text.as_bytes(),
+        "for {opb:?} and {proof:?}"
+    );
     Ok(())
 }
 
@@ -66,13 +73,18 @@ fn answered(text: &'static str, code: &'static str) -> Piece {
 }
 
 const BAD_LINE: &str = "5 BadLine";
+
 const TRUNCATED: &str = "6 Truncated";
+
 const STACK_SHAPE: &str = "11 StackShape";
 
 /// Checks the answers to a proof cut behind each byte of this piece.
 fn cut_within<R: Abort + AllocGlobal>(rt: &R, before: usize, piece: Piece) -> Result<(), Fail> {
     for end in 0..piece.text.len() {
-        let Some(cut) = PROOF.as_bytes().get(..before.saturating_add(end).saturating_add(1)) else {
+        let Some(cut) = PROOF
+            .as_bytes()
+            .get(..before.saturating_add(end).saturating_add(1))
+        else {
             return Ok(());
         };
         let line = end_line(cut);
@@ -122,7 +134,12 @@ fn proof_cut_behind_each_byte(rt: HostRuntime) -> Result<(), Fail> {
         before = before.saturating_add(piece.text.len());
     }
     assert_eq!(&rt; before, PROOF.len().saturating_sub(2));
-    answers(&rt, OPB.as_bytes(), PROOF.trim_end().as_bytes(), "accepted UNSAT\n")
+    answers(
+        &rt,
+        OPB.as_bytes(),
+        PROOF.trim_end().as_bytes(),
+        "accepted UNSAT\n",
+    )
 }
 
 /// The pigeons' texts with each LF made a CR and an LF.
@@ -151,15 +168,38 @@ fn with_line<R: AllocGlobal>(rt: &R, line: &[u8]) -> Result<Vec<u8>, Fail> {
 #[test]
 fn bytes_that_no_format_has(rt: HostRuntime) -> Result<(), Fail> {
     let opb = OPB.as_bytes();
-    answers(&rt, b"1 x\xff1 >= 1 ;".as_slice(), b"".as_slice(), "bad problem line 1 code 4 BadName\n")?;
-    answers(&rt, b"1 x1 >= 1 ;\n\xff".as_slice(), b"".as_slice(), "bad problem line 2 code 1 BadToken\n")?;
-    answers(&rt, b"1 x1\0 >= 1 ;".as_slice(), b"".as_slice(), "bad problem line 1 code 4 BadName\n")?;
-    answers(&rt, b"1 x1 >= 1 ;\0".as_slice(), b"".as_slice(), "bad problem line 1 code 1 BadToken\n")?;
+    answers(
+        &rt,
+        b"1 x\xff1 >= 1 ;".as_slice(),
+        b"".as_slice(),
+        "bad problem line 1 code 4 BadName\n",
+    )?;
+    answers(
+        &rt,
+        b"1 x1 >= 1 ;\n\xff".as_slice(),
+        b"".as_slice(),
+        "bad problem line 2 code 1 BadToken\n",
+    )?;
+    answers(
+        &rt,
+        b"1 x1\0 >= 1 ;".as_slice(),
+        b"".as_slice(),
+        "bad problem line 1 code 4 BadName\n",
+    )?;
+    answers(
+        &rt,
+        b"1 x1 >= 1 ;\0".as_slice(),
+        b"".as_slice(),
+        "bad problem line 1 code 1 BadToken\n",
+    )?;
     let steps = [
         (b"pol \xff".as_slice(), "refused line 3 code 5 BadLine\n"),
         (b"pol 1\0".as_slice(), "refused line 3 code 5 BadLine\n"),
         (b"\0".as_slice(), "refused line 3 code 3 UnknownRule\n"),
-        (b"p\xc3\xb6l 1".as_slice(), "refused line 3 code 3 UnknownRule\n"),
+        (
+            b"p\xc3\xb6l 1".as_slice(),
+            "refused line 3 code 3 UnknownRule\n",
+        ),
         (b"* \xff \0 in a comment".as_slice(), "accepted UNSAT\n"),
     ];
     for (line, text) in &steps {
@@ -173,16 +213,38 @@ fn bytes_that_no_format_has(rt: HostRuntime) -> Result<(), Fail> {
 fn integers_of_a_thousand_digits(rt: HostRuntime) -> Result<(), Fail> {
     let nines = "9".repeat(rt.alloc(), 1000)?;
     let opb = format!(in rt.alloc(); "1 x1 >= 1 ;\n{nines} x1 >= 1 ;")?;
-    answers(&rt, opb.as_bytes(), b"".as_slice(), "bad problem line 2 code 7 IntegerTooLarge\n")?;
+    answers(
+        &rt,
+        opb.as_bytes(),
+        b"".as_slice(),
+        "bad problem line 2 code 7 IntegerTooLarge\n",
+    )?;
     let right = format!(in rt.alloc(); "1 x1 >= -{nines} ;")?;
-    answers(&rt, right.as_bytes(), b"".as_slice(), "bad problem line 1 code 7 IntegerTooLarge\n")?;
+    answers(
+        &rt,
+        right.as_bytes(),
+        b"".as_slice(),
+        "bad problem line 1 code 7 IntegerTooLarge\n",
+    )?;
     let line = format!(in rt.alloc(); "pol 1 {nines} *")?;
     let proof = with_line(&rt, line.as_bytes())?;
-    answers(&rt, OPB.as_bytes(), proof.as_slice(), "refused line 3 code 8 IntegerTooLarge\n")?;
+    answers(
+        &rt,
+        OPB.as_bytes(),
+        proof.as_slice(),
+        "refused line 3 code 8 IntegerTooLarge\n",
+    )?;
     let count = format!(in rt.alloc(); "pseudo-Boolean proof version 2.0\nf {nines}\n")?;
-    answers(&rt, OPB.as_bytes(), count.as_bytes(), "refused line 2 code 2 BadCount\n")?;
+    answers(
+        &rt,
+        OPB.as_bytes(),
+        count.as_bytes(),
+        "refused line 2 code 2 BadCount\n",
+    )?;
     let zeros = "0".repeat(rt.alloc(), 1000)?;
-    let padded = format!(in rt.alloc(); "pseudo-Boolean proof version 2.0\nf {zeros}5\noutput NONE\nconclusion NONE\nend pseudo-Boolean proof\n")?;
+    let padded = format!(in rt.alloc();
+        "pseudo-Boolean proof version 2.0\nf {zeros}5\noutput NONE\nconclusion NONE\nend pseudo-Boolean proof\n"
+    )?;
     answers(&rt, OPB.as_bytes(), padded.as_bytes(), "accepted NONE\n")
 }
 

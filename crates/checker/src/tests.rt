@@ -102,7 +102,9 @@ fn third_line_of_two<R: Abort + AllocGlobal>(
     text: &str,
     status: u8,
 ) -> Result<(), Fail> {
-    let proof = format!(in rt.alloc(); "pseudo-Boolean proof version 2.0\nf 2\n{line}\noutput NONE\nconclusion NONE\nend pseudo-Boolean proof\n")?;
+    let proof = format!(in rt.alloc();
+        "pseudo-Boolean proof version 2.0\nf 2\n{line}\noutput NONE\nconclusion NONE\nend pseudo-Boolean proof\n"
+    )?;
     run(
         rt,
         &Case {
@@ -131,12 +133,7 @@ fn rules_at_the_limits(rt: HostRuntime) -> Result<(), Fail> {
         1,
     )?;
     third_line_of_two(&rt, "pol 1 3 * 2 d", "accepted NONE\n", 0)?;
-    third_line_of_two(
-        &rt,
-        "pol 1 -1 *",
-        "refused line 3 code 12 BadFactor\n",
-        1,
-    )?;
+    third_line_of_two(&rt, "pol 1 -1 *", "refused line 3 code 12 BadFactor\n", 1)?;
     third_line_of_two(&rt, "p 1 ~x1 + ;", "accepted NONE\n", 0)?;
     third_line_of_two(&rt, "pol 1 2", "refused line 3 code 11 StackShape\n", 1)
 }
@@ -157,8 +154,10 @@ fn the_first_fault_decides(rt: HostRuntime) -> Result<(), Fail> {
 #[test]
 fn an_equality_takes_two_ids(rt: HostRuntime) -> Result<(), Fail> {
     let opb = "1 x1 1 x2 = 1 ; 1 x1 1 x2 >= 2 ;";
-    let proof = "pseudo-Boolean proof version 2.0\nf 3\npol 2 3 +\noutput NONE\nconclusion UNSAT\nend pseudo-Boolean proof\n";
-    let with_the_first = "pseudo-Boolean proof version 2.0\nf 3\npol 1 3 +\noutput NONE\nconclusion UNSAT\nend pseudo-Boolean proof\n";
+    let proof =
+        "pseudo-Boolean proof version 2.0\nf 3\npol 2 3 +\noutput NONE\nconclusion UNSAT\nend pseudo-Boolean proof\n";
+    let with_the_first =
+        "pseudo-Boolean proof version 2.0\nf 3\npol 1 3 +\noutput NONE\nconclusion UNSAT\nend pseudo-Boolean proof\n";
     let counted_once = "pseudo-Boolean proof version 2.0\nf 2\n";
     run(
         &rt,

@@ -69,6 +69,7 @@ lower_bound p s objective bound n kept normal minimises low a satisfies = by s.i
         let b = kept.answer a satisfies below in
         let holds = shown_holds (constraints s) n normal low.form.rises low.shown b.0 b.1.meets in
         no_greater bound (value_of b.0 p) (value_of a p) (bound_holds p objective n bound b.0 minimises low.form holds) b.1.value
+
     by : (o : Option ℤ) → IfSome o (λ least. bound ≤ℤ least) → (IfSome o (λ least. value_of a p <ℤ least) → bound ≤ℤ value_of a p) → bound ≤ℤ value_of a p
     by None low' next = next tt
     by (Some least) low' next = elim (less_or_not (value_of a p) least) as (λ _. bound ≤ℤ value_of a p) [
@@ -87,7 +88,7 @@ best_least p logged g (before, behind, is, less, no_more) =
     let P : List Bool → Type 0 = λ h. worth_of p g ≤ℤ worth_of p h in
     subst (All P) (sym is)
     (All-append P before (g ∷ behind) (All-weaker (λ h. worth_of p g <ℤ worth_of p h) P (λ h lt. omega (arith, ints, lt)) before less)
-        (All-cons P g behind (omega (arith, ints)) no_more))
+    (All-cons P g behind (omega (arith, ints)) no_more))
 
 claims_upper : (p : Opb) (s : State) (upper : Upper) (best : Option (List Bool)) → HoldsUpper p s upper → IsBest p s.logged best → ClaimsUpper p upper best
 claims_upper p s (uppers.At bound) None (i, g, below, is, worth) empty = absurd (omega (arith, below, ap length empty))
@@ -110,6 +111,7 @@ best_solves p logged (Some g) all (before, behind, is, less, no_more) =
   where
     in_middle : (xs ys : List (List Bool)) (g : List Bool) → length xs < length (xs ++ g ∷ ys)
     in_middle xs ys g = omega (arith, length-append xs (g ∷ ys))
+
     at_middle : (xs ys : List (List Bool)) (g : List Bool) → get_or (xs ++ g ∷ ys) (length xs) g ≡ g
     at_middle xs ys g = get_or-append_seam xs g ys g
 

@@ -100,10 +100,10 @@ all_rise (c ∷ cs) ns (here, rest, is, form, forms) =
 -- the state of a file has an answer for its problem: the assignment itself
 pub start_preserved : (p : Opb) (s : State) → IsStart p s → IsPreserved p s
 start_preserved p s (ns, forms, is) = subst (IsPreserved p) (sym is) (record {
-    answer = λ a satisfies below. (a, record { meets = All-numbered (Holds a) 1 ns (all_hold a p.constraints ns forms satisfies); value = omega (arith, ints) });
-    logged = All-nil (IsSolution p);
-    improve = tt;
-  })
+  answer = λ a satisfies below. (a, record { meets = All-numbered (Holds a) 1 ns (all_hold a p.constraints ns forms satisfies); value = omega (arith, ints) });
+  logged = All-nil (IsSolution p);
+  improve = tt;
+})
 
 pub start_normal : (p : Opb) (s : State) → IsStart p s → AreNormal s
 start_normal p s (ns, forms, is) = subst AreNormal (sym is) (All-numbered (λ n. Rises 0 n.terms) 1 ns (all_rise p.constraints ns forms))

@@ -24,11 +24,11 @@ use Rattle.kernel.proofs.Preserving.{pol_preserves, pol_normal}
 pub kept_start : (p q : Opb) (live : List NormalConstraint) → q ≡ p → IsWithin p → AreFormsOfAll p.constraints live → length live ≤ 2 * 2 ^ 20
     → IsKept (record { problem = q; state = state_of live })
 kept_start p q live same within forms few = subst (λ r. IsKept (record { problem = r; state = state_of live })) (sym same) (record {
-    within = within;
-    preserved = start_preserved p (state_of live) (live, forms, refl);
-    normal = start_normal p (state_of live) (live, forms, refl);
-    numbered = omega (arith, few);
-  })
+  within = within;
+  preserved = start_preserved p (state_of live) (live, forms, refl);
+  normal = start_normal p (state_of live) (live, forms, refl);
+  numbered = omega (arith, few);
+})
 
 -- the ids of the list are those of its state
 pub given_listed : (live : List NormalConstraint) → listed live ≡ constraint_of (state_of live)

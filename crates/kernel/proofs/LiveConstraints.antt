@@ -84,7 +84,7 @@ All-from_get P live h = each_found P (fin.entries live) (fin.entries_sorted live
 pub All-insert : (P : NormalConstraint → Type 0) (live : Live) (k : ℕ) (n : NormalConstraint) → P n → All P (fin.values live) → All P (fin.values (fin.insert live k n))
 All-insert P live k n here all =
     All-from_get P (fin.insert live k n) (λ q m is.
-        found_here P (eq_by_cmp nat_cmp q k) n m (fin.get live q) here (All-get P live q m all) (sym (fin.get-insert nat_cmp_total live k n q) ∙ is))
+    found_here P (eq_by_cmp nat_cmp q k) n m (fin.get live q) here (All-get P live q m all) (sym (fin.get-insert nat_cmp_total live k n q) ∙ is))
 
 none_or : (P : NormalConstraint → Type 0) (b : Bool) (m : NormalConstraint) (rest : Option NormalConstraint) → (rest ≡ Some m → P m) → cond b None rest ≡ Some m → P m
 none_or P true m rest there is = absurd (cc)
@@ -94,7 +94,7 @@ none_or P false m rest there is = there is
 pub All-remove : (P : NormalConstraint → Type 0) (live : Live) (k : ℕ) → All P (fin.values live) → All P (fin.values (fin.remove live k))
 All-remove P live k all =
     All-from_get P (fin.remove live k) (λ q m is.
-        none_or P (eq_by_cmp nat_cmp q k) m (fin.get live q) (All-get P live q m all) (sym (fin.get-remove nat_cmp_total live k q) ∙ is))
+    none_or P (eq_by_cmp nat_cmp q k) m (fin.get live q) (All-get P live q m all) (sym (fin.get-remove nat_cmp_total live k q) ∙ is))
 
 values_numbered : (id : ℕ) (ns : List NormalConstraint) → values (numbered id ns) ≡ ns
 values_numbered id [] = refl
@@ -104,4 +104,4 @@ values_numbered id (n ∷ ns) = ap (λ rest. n ∷ rest) (values_numbered (id + 
 pub All-numbered : (P : NormalConstraint → Type 0) (id : ℕ) (ns : List NormalConstraint) → All P ns → All P (fin.values (fin.from_entries {R = nat_cmp} (numbered id ns)))
 All-numbered P id ns all =
     All-from_get P (fin.from_entries (numbered id ns)) (λ q m is.
-        found P (numbered id ns) q m (subst (All P) (sym (values_numbered id ns)) all) (sym (fin.get-from_entries nat_cmp_total (numbered id ns) q) ∙ is))
+    found P (numbered id ns) q m (subst (All P) (sym (values_numbered id ns)) all) (sym (fin.get-from_entries nat_cmp_total (numbered id ns) q) ∙ is))

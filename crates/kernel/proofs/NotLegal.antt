@@ -70,7 +70,7 @@ red_never p s t c images f (inr (n, m, admitted, room, negated, goal)) (k, j, ad
 sol_never : (p : Opb) (s : State) (listing : List Lit) (g : List Bool) (f : StepFault) → IsSolFault p s listing f → Logs p s listing g → ⊥
 sol_never p s listing g faults.SolutionConflict (inl not) logs = not logs.completes.consistent
 sol_never p s listing g faults.SolutionConflict (inr (consistent, not_all, leads)) logs =
-    elim (logs.completes.completed) as (λ _. ⊥) [ | inl h ↦ not_all h.0 | inr h ↦ h.1 leads ]
+    elim (logs.completes.completed) as (λ _. ⊥) [ inl h ↦ not_all h.0 | inr h ↦ h.1 leads ]
 sol_never p s listing g faults.SolutionPartial (consistent, no_conflict, none) logs = none g logs.completes
 sol_never p s listing g faults.SolutionFalse (some, breaks) logs = breaks g logs.completes logs.satisfies
 sol_never p s listing g _ h logs = h
@@ -159,7 +159,7 @@ one_objective o x y h k = let same : Some x ≡ Some y = sym h ∙ k in cc
 
 bounded_never : (p : Opb) (s : State) (lower : Lower) (upper : Upper) (hint : Option (List Lit)) (best : Option (List Bool)) (f : StepFault)
     → ((objective : List Term) × (p.objective ≡ Some objective)
-        × (IsHintFault p s hint f ⊎ judging.IsBehindHint p s hint (λ t. IsBoundsFault p t objective lower upper f)))
+    × (IsHintFault p s hint f ⊎ judging.IsBehindHint p s hint (λ t. IsBoundsFault p t objective lower upper f)))
     → IsJustified p s (conclusions.Bounds lower upper hint) best → ⊥
 bounded_never p s lower upper hint best f (objective, is, inl h) (t, takes, holds, b) = hint_never p s t hint f h takes
 bounded_never p s lower upper hint best f (objective, is, inr (some, h)) (t, takes, (objective', is', low, up), b) =

@@ -77,8 +77,8 @@ state_push ns n =
     let key : 1 + length ns ≡ length ns + 1 = omega arith in
     let new : fin.find nat_cmp (1 + length ns) (numbered 1 ns) ≡ None = find_numbered 1 (length ns) (1 + length ns) ns refl ∙ past_end ns (length ns) (omega arith) in
     let live = ap (fin.from_entries {R = nat_cmp}) (numbered_push 1 ns n)
-        ∙ fin.from_entries_push nat_cmp_total fin.nat_cmp-IsAntisymmetric (numbered 1 ns) (1 + length ns) n new
-        ∙ ap (λ k. fin.insert (fin.from_entries {R = nat_cmp} (numbered 1 ns)) k n) key in
+    ∙ fin.from_entries_push nat_cmp_total fin.nat_cmp-IsAntisymmetric (numbered 1 ns) (1 + length ns) n new
+    ∙ ap (λ k. fin.insert (fin.from_entries {R = nat_cmp} (numbered 1 ns)) k n) key in
     let next : length (ns ++ n ∷ []) + 1 ≡ (length ns + 1) + 1 = omega (arith, length-append ns (n ∷ [])) in
     λ i. record { live = live i; next = next i; improve = None; logged = []; improving = [] }
 

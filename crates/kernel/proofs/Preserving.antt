@@ -40,13 +40,13 @@ added : (p : Opb) (s t : State) (n : NormalConstraint) → IsPreserved p s
     → ((a b : Valuation) → IsAsGood p s a b → (c : Valuation) × IsAsGood p s a c × Holds c n)
     → t ≡ with_constraint n s → IsPreserved p t
 added p s t n kept change is = subst (IsPreserved p) (sym is) (record {
-    answer = λ a satisfies below.
-        let b = kept.answer a satisfies below in
-        let c = change a b.0 b.1 in
-        (c.0, record { meets = All-insert (Holds c.0) s.live s.next n c.2 c.1.meets; value = c.1.value });
-    logged = kept.logged;
-    improve = kept.improve;
-  })
+  answer = λ a satisfies below.
+      let b = kept.answer a satisfies below in
+      let c = change a b.0 b.1 in
+      (c.0, record { meets = All-insert (Holds c.0) s.live s.next n c.2 c.1.meets; value = c.1.value });
+  logged = kept.logged;
+  improve = kept.improve;
+})
 
 -- a constraint was added that holds wherever the live ones do
 followed : (p : Opb) (s t : State) (n : NormalConstraint) → IsPreserved p s → ((b : Valuation) → All (Holds b) (constraints s) → Holds b n)
@@ -120,10 +120,10 @@ solution_of p s listing g logs = record { long = logs.completes.long; satisfies 
 
 pub sol_preserves : (p : Opb) (s t : State) (listing : List Lit) → IsPreserved p s → LegalSol p s listing t → IsPreserved p t
 sol_preserves p s t listing kept (g, logs, is) = subst (IsPreserved p) (sym is) (record {
-    answer = λ a satisfies below. let b = kept.answer a satisfies below in (b.0, record { meets = b.1.meets; value = b.1.value });
-    logged = All-push (IsSolution p) s.logged g kept.logged (solution_of p s listing g logs);
-    improve = IfSome_then s.improve kept.improve (λ least some. any_before (λ h. worth_of p h ≡ least) s.logged g some);
-  })
+  answer = λ a satisfies below. let b = kept.answer a satisfies below in (b.0, record { meets = b.1.meets; value = b.1.value });
+  logged = All-push (IsSolution p) s.logged g kept.logged (solution_of p s listing g logs);
+  improve = IfSome_then s.improve kept.improve (λ least some. any_before (λ h. worth_of p h ≡ least) s.logged g some);
+})
 
 pub sol_normal : (p : Opb) (s t : State) (listing : List Lit) → AreNormal s → LegalSol p s listing t → AreNormal t
 sol_normal p s t listing normal (g, logs, is) = subst AreNormal (sym is) normal
@@ -144,13 +144,13 @@ less_then x y z h k = omega (arith, ints, h, k)
 
 pub soli_preserves : (p : Opb) (s t : State) (listing : List Lit) → IsPreserved p s → LegalSoli p s listing t → IsPreserved p t
 soli_preserves p s t listing kept (objective, g, n, better, is) = subst (IsPreserved p) (sym is) (record {
-    answer = λ a satisfies below.
-        let b = kept.answer a satisfies (IfSome_then s.improve better.better (λ least h. less_then (value_of a p) (worth_of p g) least below h)) in
-        let holds = improved p objective n (worth_of p g) b.0 better.minimises better.form (between (value_of b.0 p) (value_of a p) (worth_of p g) b.1.value below) in
-        (b.0, record { meets = All-insert (Holds b.0) s.live s.next n holds b.1.meets; value = b.1.value });
-    logged = All-push (IsSolution p) s.logged g kept.logged (solution_of p s listing g better.logs);
-    improve = Any-push (λ h. worth_of p h ≡ worth_of p g) s.logged g refl;
-  })
+  answer = λ a satisfies below.
+      let b = kept.answer a satisfies (IfSome_then s.improve better.better (λ least h. less_then (value_of a p) (worth_of p g) least below h)) in
+      let holds = improved p objective n (worth_of p g) b.0 better.minimises better.form (between (value_of b.0 p) (value_of a p) (worth_of p g) b.1.value below) in
+      (b.0, record { meets = All-insert (Holds b.0) s.live s.next n holds b.1.meets; value = b.1.value });
+  logged = All-push (IsSolution p) s.logged g kept.logged (solution_of p s listing g better.logs);
+  improve = Any-push (λ h. worth_of p h ≡ worth_of p g) s.logged g refl;
+})
 
 pub soli_normal : (p : Opb) (s t : State) (listing : List Lit) → AreNormal s → LegalSoli p s listing t → AreNormal t
 soli_normal p s t listing normal (objective, g, n, better, is) =

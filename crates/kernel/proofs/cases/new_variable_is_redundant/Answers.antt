@@ -9,7 +9,8 @@ use Rattle.kernel.proofs.ShownHolds.{zero_shown}
 use Rattle.kernel.proofs.cases.new_variable_is_redundant.Goals as goal
 
 pub returns : goal.returns
-returns c =
-    (normal (negated 1 1 ∷ []) 0,
-        is_form (substituted (normal (negated 1 1 ∷ plain 1 2 ∷ []) 1) (single 2 One)) (normal (negated 1 1 ∷ []) 0) (omega arith, omega arith, tt) (λ set. refl) refl,
-        zero_shown (unit 1 ∷ []) (normal (negated 1 1 ∷ []) 0) (omega arith, omega arith, tt) refl)
+returns c = (
+  normal (negated 1 1 ∷ []) 0,
+  is_form (substituted (normal (negated 1 1 ∷ plain 1 2 ∷ []) 1) (single 2 One)) (normal (negated 1 1 ∷ []) 0) (omega arith, omega arith, tt) (λ set. refl) refl,
+  zero_shown (unit 1 ∷ []) (normal (negated 1 1 ∷ []) 0) (omega arith, omega arith, tt) refl,
+)

@@ -15,17 +15,19 @@ use Rattle.kernel.proofs.SmallCases.{shown_by_search}
 use Rattle.kernel.proofs.cases.swap_is_redundant.Goals as goal
 
 stays : IsShownUnder (first_or_second ∷ not_first_and_second ∷ []) swap first_or_second
-stays =
-    (first_or_second,
-        is_form (substituted first_or_second swap) first_or_second (omega arith, omega arith, (omega arith, omega arith, tt)) (λ set. omega (arith, ints)) refl,
-        inl (any_here (λ e. Covers e first_or_second) first_or_second (not_first_and_second ∷ []) (covers_itself first_or_second)))
+stays = (
+  first_or_second,
+  is_form (substituted first_or_second swap) first_or_second (omega arith, omega arith, (omega arith, omega arith, tt)) (λ set. omega (arith, ints)) refl,
+  inl (any_here (λ e. Covers e first_or_second) first_or_second (not_first_and_second ∷ []) (covers_itself first_or_second)),
+)
 
 becomes : IsShownUnder (first_or_second ∷ not_first_and_second ∷ []) swap first_or_not_second
-becomes =
-    (normal (negated 1 1 ∷ plain 1 2 ∷ []) 1,
-        is_form (substituted first_or_not_second swap) (normal (negated 1 1 ∷ plain 1 2 ∷ []) 1) (omega arith, omega arith, (omega arith, omega arith, tt)) (λ set. omega (arith, ints)) refl,
-        shown_by_search 3 (first_or_second ∷ not_first_and_second ∷ []) (normal (negated 1 1 ∷ plain 1 2 ∷ []) 1) (normal (plain 1 1 ∷ negated 1 2 ∷ []) 2)
-        (record { rises = (omega arith, omega arith, (omega arith, omega arith, tt)); terms = refl; degree = refl }) refl)
+becomes = (
+  normal (negated 1 1 ∷ plain 1 2 ∷ []) 1,
+  is_form (substituted first_or_not_second swap) (normal (negated 1 1 ∷ plain 1 2 ∷ []) 1) (omega arith, omega arith, (omega arith, omega arith, tt)) (λ set. omega (arith, ints)) refl,
+  shown_by_search 3 (first_or_second ∷ not_first_and_second ∷ []) (normal (negated 1 1 ∷ plain 1 2 ∷ []) 1) (normal (plain 1 1 ∷ negated 1 2 ∷ []) 2)
+      (record { rises = (omega arith, omega arith, (omega arith, omega arith, tt)); terms = refl; degree = refl }) refl,
+)
 
 pub returns : goal.returns
 returns c = record {

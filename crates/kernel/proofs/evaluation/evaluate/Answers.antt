@@ -27,9 +27,9 @@ returns-in_err-step-clause-fault c =
     let p = err_from_is_err_and c.from_residual.result c.from_residual.ensures.1 in
     rw (p.1, p.2)
     (or_memory f (IsItemFault (listed at.stack.live) (get_or c.args.items.now at.item-index (items.Id (pos 0))) at.stack.stack f) (IsWritingFault given c.args.items.now f)
-        (stops_here given (listed at.stack.live) c.args.items.now at.item-index _ (items.Id (pos 0)) at.stack.stack f
-            (ap listed at.invariant.live) c.loop-item-test.true refl at.invariant.runs)
-        c.in_err-step.ensures.fault)
+    (stops_here given (listed at.stack.live) c.args.items.now at.item-index _ (items.Id (pos 0)) at.stack.stack f
+    (ap listed at.invariant.live) c.loop-item-test.true refl at.invariant.runs)
+    c.in_err-step.ensures.fault)
 
 pub returns-clause-fault : goal.returns-clause-fault
 returns-clause-fault c =
@@ -41,5 +41,5 @@ returns-clause-fault c =
     (λ f. OrMemory f ((f ≡ faults.StackShape) × (length at.stack.stack ≢ 1)))
     (λ f. OrMemory f (IsWritingFault given c.args.items.now f))
     (λ f. or_memory f ((f ≡ faults.StackShape) × (length at.stack.stack ≢ 1)) (IsWritingFault given c.args.items.now f)
-        (λ h. leaves_writing given c.args.items.now f h.0 (at.stack.stack, runs, h.1)))
+    (λ h. leaves_writing given c.args.items.now f h.0 (at.stack.stack, runs, h.1)))
     c.only.ensures.fault

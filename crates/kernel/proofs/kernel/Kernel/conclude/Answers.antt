@@ -10,7 +10,7 @@ returns-in-Nothing-clause-justified c =
     let none : IsJustified held.problem (state_of held.live.items) conclusions.Nothing None = (state_of held.live.items, refl, tt, refl) in
     subst (λ k. IsJustified k.problem k.state c.args.conclusion.now c.new.result.best) c.self.view_is
     (subst (λ x. IsJustified held.problem (state_of held.live.items) x c.new.result.best) (sym c.in-Nothing.is)
-        (subst (IsJustified held.problem (state_of held.live.items) conclusions.Nothing) (sym (ap (λ a. a.best) c.new.ensures)) none))
+    (subst (IsJustified held.problem (state_of held.live.items) conclusions.Nothing) (sym (ap (λ a. a.best) c.new.ensures)) none))
 
 pub returns-in-Unsat-clause-justified : goal.returns-in-Unsat-clause-justified
 returns-in-Unsat-clause-justified c =

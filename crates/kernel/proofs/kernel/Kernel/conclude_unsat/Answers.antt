@@ -27,8 +27,11 @@ returns-then-has_contradiction-clause-claim c =
     (justified_claim held.problem (state_of held.live.items) conclusions.Unsat c.new.result.best c.self.invariant.preserved c.self.invariant.normal (justified c))
 
 pub returns-else-has_contradiction-clause-refused : goal.returns-else-has_contradiction-clause-refused
-returns-else-has_contradiction-clause-refused c = (refl, λ found.
-    let live : List NormalConstraint = c.self.inside.live.items in
-    let state : Any IsContradiction (constraints (state_of live)) = subst (λ k. Any IsContradiction (constraints k.state)) (sym c.self.view_is) found in
-    let here : Any IsContradiction live = subst (Any IsContradiction) (constraints_listed live) state in
-    false≢true (c.if-has_contradiction.ensures.1 (subst (Any IsContradiction) (sym c.as_slice.ensures.value) here)))
+returns-else-has_contradiction-clause-refused c = (
+  refl,
+  λ found.
+      let live : List NormalConstraint = c.self.inside.live.items in
+      let state : Any IsContradiction (constraints (state_of live)) = subst (λ k. Any IsContradiction (constraints k.state)) (sym c.self.view_is) found in
+      let here : Any IsContradiction live = subst (Any IsContradiction) (constraints_listed live) state in
+      false≢true (c.if-has_contradiction.ensures.1 (subst (Any IsContradiction) (sym c.as_slice.ensures.value) here)),
+)
