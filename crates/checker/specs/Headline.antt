@@ -1,9 +1,18 @@
--- What an accepted proof shows.
-use Rattle.std.specs.Prelude.{◌≡◌, ℕ, List, ⊤}
+-- What a verdict says of the problem's text.
+use Rattle.std.specs.Prelude.{◌≡◌, ◌≢◌, ℕ, List, ⊤}
 use Rattle.linear.specs.Opb.{Opb}
+use Rattle.linear.specs.Limits.{IsWithin}
 use Rattle.opb_read.specs.Spells.{Spells}
+use Rattle.opb_read.specs.Faults.{Denies}
+use Rattle.opb_read.specs.FaultPlace.{IsFaultAt}
+use Rattle.opb_read.specs.declared.fault.OpbFault.{OpbFault}
+use Rattle.opb_read.specs.declared.fault.OpbCode.TheVariants as problems
+use Rattle.proof_text.specs.declared.fault.ProofFault.TheVariants as readings
+use Rattle.kernel.specs.declared.fault.StepFault.TheVariants as judgings
 use Rattle.kernel.specs.Accepted.{Judgement}
 use Rattle.kernel.specs.Claim.{Claim}
+use Rattle.checker.specs.declared.verdict.Code.{Code}
+use Rattle.checker.specs.declared.verdict.Code.TheVariants.{Reading, Judging}
 use Rattle.checker.specs.declared.verdict.Verdict.{Verdict}
 use Rattle.checker.specs.declared.verdict.Verdict.TheVariants as verdicts
 
@@ -14,9 +23,25 @@ pub record IsTrueOf (text : List ℕ) (accepted : Judgement) : Type 0 where
   pub alone : (other : Opb) → Spells text other → other ≡ problem
   pub claim : Claim problem accepted.conclusion accepted.best
 
--- a verdict that accepts is true of the text
+-- The text has this fault, at the first token that cannot stand: it spells no problem, or none within the limits.
+pub record IsRefusedProblem (text : List ℕ) (fault : OpbFault) : Type 0 where
+  pub denied : Denies fault.code text
+  pub place : IsFaultAt text fault.code fault.line
+  pub no_memory : fault.code ≢ problems.OutOfMemory
+
+-- the text spells a problem within the limits
+abbrev pub IsProblem : List ℕ → Type 0
+IsProblem text = (p : Opb) × Spells text p × IsWithin p
+
+-- a code of a refusal: want of memory is a verdict of its own
+abbrev pub IsRefusal : Code → Type 0
+IsRefusal (Reading fault) = fault ≢ readings.OutOfMemory
+IsRefusal (Judging fault) = fault ≢ judgings.OutOfMemory
+
+-- a verdict that accepts is true of the text, one that refuses a line of the proof has a problem before it, and one that
+-- refuses the problem says why
 abbrev pub IsSound : List ℕ → Verdict → Type 0
 IsSound text (verdicts.Accepted accepted) = IsTrueOf text accepted
-IsSound text (verdicts.Refused line code) = ⊤
-IsSound text (verdicts.BadProblem fault) = ⊤
+IsSound text (verdicts.Refused line code) = IsProblem text × IsRefusal code
+IsSound text (verdicts.BadProblem fault) = IsRefusedProblem text fault
 IsSound text verdicts.NoMemory = ⊤

@@ -1,5 +1,5 @@
 -- What is printed for a verdict, and the exit status that stands for it.
-use Rattle.std.specs.Prelude.{◌≡◌, ℕ, List, ◌++◌, None, codes}
+use Rattle.std.specs.Prelude.{◌≡◌, ◌⊎◌, ℕ, Bool, true, false, List, [], ◌∷◌, ◌++◌, MatchOption, codes, length}
 use Rattle.std.specs.Fmt.{decimal, signed_decimal}
 use Rattle.kernel.specs.declared.conclusion.Conclusion.{Conclusion}
 use Rattle.kernel.specs.declared.conclusion.Lower.{Lower}
@@ -9,6 +9,9 @@ use Rattle.kernel.specs.declared.conclusion.Lower.TheVariants as lowers
 use Rattle.kernel.specs.declared.conclusion.Upper.TheVariants as uppers
 use Rattle.kernel.specs.Accepted.{Judgement}
 use Rattle.kernel.specs.Printed as steps
+use Rattle.linear.specs.Opb.{Opb}
+use Rattle.linear.specs.Limits.{IsWithin}
+use Rattle.opb_read.specs.Spells.{Spells}
 use Rattle.opb_read.specs.Faults as problems
 use Rattle.proof_text.specs.Faults as readings
 use Rattle.checker.specs.declared.verdict.Code.{Code}
@@ -57,16 +60,44 @@ with_conclusion before (conclusions.Bounds lower upper hint) = with_upper (with_
 abbrev pub accepted_line : Conclusion → List ℕ
 accepted_line conclusion = with_conclusion (codes "accepted ") conclusion ++ codes "\n"
 
--- nothing stands behind the first line where there is no best assignment; where there is one, more may stand there
-abbrev pub IsAcceptedText : Judgement → List ℕ → Type 0
-IsAcceptedText accepted text =
-    (accepted.best ≡ None → text ≡ accepted_line accepted.conclusion)
-    × ((more : List ℕ) × (text ≡ accepted_line accepted.conclusion ++ more))
+-- a variable's name behind a space, with `-` before it where the variable is false
+abbrev pub with_value : List ℕ → List ℕ → Bool → List ℕ
+with_value before name true = (before ++ codes " ") ++ name
+with_value before name false = (before ++ codes " -") ++ name
 
--- what is printed for a verdict
-abbrev pub IsPrinted : Verdict → List ℕ → Type 0
-IsPrinted (verdicts.Accepted accepted) text = IsAcceptedText accepted text
-IsPrinted (verdicts.Refused line code) text = text ≡ with_fault (codes "refused") line (number_of code) (name_of code)
-IsPrinted (verdicts.BadProblem fault) text =
+abbrev pub with_values : List ℕ → List (List ℕ) → List Bool → List ℕ
+with_values before [] values = before
+with_values before names [] = before
+with_values before (name ∷ names) (value ∷ values) = with_values (with_value before name value) names values
+
+-- the `v` line of an assignment
+abbrev pub with_assignment : List ℕ → List (List ℕ) → List Bool → List ℕ
+with_assignment before names values = with_values (before ++ codes "v") names values ++ codes "\n"
+
+-- the text spells a problem of these names, one for each value
+pub record Names (opb : List ℕ) (values : List Bool) (p : Opb) : Type 0 where
+  pub spelled : Spells opb p
+  pub within : IsWithin p
+  pub as_many : length p.names ≡ length values
+
+-- the `v` line of an assignment by the names of the problem that the text spells; where it spells none with as many
+-- variables, nothing
+abbrev pub IsWithBest : List ℕ → List ℕ → List Bool → List ℕ → Type 0
+IsWithBest opb before values text =
+    ((p : Opb) × Names opb values p × (text ≡ with_assignment before p.names values))
+    ⊎ (((p : Opb) → Names opb values p → ⊥) × (text ≡ before))
+
+-- the first line, and the `v` line of the best assignment where there is one
+abbrev pub IsAcceptedText : List ℕ → Judgement → List ℕ → Type 0
+IsAcceptedText opb accepted text =
+    MatchOption accepted.best
+    (text ≡ accepted_line accepted.conclusion)
+    (λ values. IsWithBest opb (accepted_line accepted.conclusion) values text)
+
+-- what is printed for a verdict about a problem's text
+abbrev pub IsPrinted : List ℕ → Verdict → List ℕ → Type 0
+IsPrinted opb (verdicts.Accepted accepted) text = IsAcceptedText opb accepted text
+IsPrinted opb (verdicts.Refused line code) text = text ≡ with_fault (codes "refused") line (number_of code) (name_of code)
+IsPrinted opb (verdicts.BadProblem fault) text =
     text ≡ with_fault (codes "bad problem") fault.line (problems.number_of fault.code) (problems.name_of_code fault.code)
-IsPrinted verdicts.NoMemory text = text ≡ codes "no memory\n"
+IsPrinted opb verdicts.NoMemory text = text ≡ codes "no memory\n"

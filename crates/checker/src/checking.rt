@@ -1,29 +1,54 @@
 //! The checker: the problem is read first, then the proof is judged line by line.
 
-ghost use Rattle.checker.specs.Headline.{IsSound};
+ghost use Rattle.std.specs.Prelude.{ℕ, List};
+ghost use Rattle.opb_read.specs.Faults.{Denies};
+ghost use Rattle.opb_read.specs.FaultPlace.{IsFaultAt};
+ghost use Rattle.checker.specs.Headline.{IsSound, IsProblem};
 
 use super::judge::{Stop, judge};
-use super::verdict::Verdict;
-use opb_read::{OpbCode, read};
+use super::verdict::{Code, Verdict};
+use kernel::StepFault;
+use opb_read::{OpbCode, OpbFault, read};
+use proof_text::ProofFault;
 use std::alloc::Global;
 
 /// Judges a proof (VeriPB 2.0, this product's profile) of a problem (the linear OPB format).
 ///
 /// Whenever the verdict is `Accepted`, for any two texts and whoever wrote the proof, the problem's text spells exactly
 /// one problem, and the accepted conclusion is true of that problem's own signed terms: under `UNSAT` no 0-1 assignment
-/// satisfies it.
+/// satisfies it. A line is refused only where the problem's text spells a problem, and `BadProblem` is the fault that
+/// `read` finds in it. Want of memory is never a refusal, but `NoMemory`.
 pub fn check(alloc: Global, opb: &[u8], proof: &[u8]) -> Verdict
     ensures sound { IsSound opb.now result }
 {
     match read(alloc, opb) {
         Ok(problem) => match judge(alloc, &problem, proof) {
             Ok(accepted) => Verdict::Accepted(accepted),
-            Err(Stop::Refused(line, code)) => Verdict::Refused { line, code },
+            Err(Stop::At(line, code)) => refused(line, code),
             Err(Stop::NoMemory) => Verdict::NoMemory,
         },
-        Err(fault) => match fault.code {
-            OpbCode::OutOfMemory => Verdict::NoMemory,
-            _ => Verdict::BadProblem(fault),
-        },
+        Err(fault) => bad_problem(fault),
+    }
+}
+
+/// The verdict where judging stops at a line.
+fn refused(line: u64, code: Code) -> Verdict
+    ensures { (text : List ℕ) → IsProblem text → IsSound text result }
+{
+    match code {
+        Code::Reading(ProofFault::OutOfMemory) | Code::Judging(StepFault::OutOfMemory) => {
+            Verdict::NoMemory
+        }
+        code => Verdict::Refused { line, code },
+    }
+}
+
+/// The verdict where the problem is not read.
+fn bad_problem(fault: OpbFault) -> Verdict
+    ensures { (text : List ℕ) → Denies fault.code text → IsFaultAt text fault.code fault.line → IsSound text result }
+{
+    match fault.code {
+        OpbCode::OutOfMemory => Verdict::NoMemory,
+        _ => Verdict::BadProblem(fault),
     }
 }

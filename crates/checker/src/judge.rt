@@ -10,10 +10,10 @@ use linear::{Names, Problem};
 use proof_text::{Line, Place, ProofFault, ProofReader, read_line};
 use std::alloc::{AllocError, Global};
 
-/// Why judging stops before the end.
+/// Why judging stops before the end: at a line, or for want of memory apart from any line.
 #[derive(Clone, Copy, Debug)]
 pub(crate) enum Stop {
-    Refused(u64, Code),
+    At(u64, Code),
     NoMemory,
 }
 
@@ -24,17 +24,11 @@ impl From<AllocError> for Stop {
 }
 
 fn stop_reading(number: u64, fault: ProofFault) -> Stop {
-    match fault {
-        ProofFault::OutOfMemory => Stop::NoMemory,
-        fault => Stop::Refused(number, Code::Reading(fault)),
-    }
+    Stop::At(number, Code::Reading(fault))
 }
 
 fn stop_judging(number: u64, fault: StepFault) -> Stop {
-    match fault {
-        StepFault::OutOfMemory => Stop::NoMemory,
-        fault => Stop::Refused(number, Code::Judging(fault)),
-    }
+    Stop::At(number, Code::Judging(fault))
 }
 
 /// A line that was read, and its number.

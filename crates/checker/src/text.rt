@@ -1,19 +1,19 @@
 //! What is printed for a verdict.
 
-ghost use Rattle.std.specs.Prelude.{◌≡◌, ℕ, List, ◌++◌, IfOk, OnOk};
-ghost use Rattle.checker.specs.Printed.{IsPrinted, IsAcceptedText, with_fault, with_conclusion, with_lower, with_upper};
+ghost use Rattle.std.specs.Prelude.{◌≡◌, ◌<◌, [], IfOk, OnOk, length, slice_index_or};
+ghost use Rattle.checker.specs.Printed.{IsPrinted, IsAcceptedText, IsWithBest, with_fault, with_conclusion, with_lower, with_upper, with_value, with_values};
 
 use super::verdict::Verdict;
 use itoa::Buffer;
 use kernel::{Accepted, Conclusion, Lower, Upper};
-use linear::{Assignment, Var};
+use linear::{Assignment, Names, Var};
 use opb_read::{OpbCode, read};
 use std::alloc::{AllocError, Global};
 
 /// The text of a verdict, each line ended by LF: `accepted ..` and the `v` line of the best assignment where there is one,
 /// `refused line L code C Name`, `bad problem line L code C Name`, or `no memory`.
 pub fn verdict_text(alloc: Global, opb: &[u8], verdict: &Verdict) -> Result<Vec<u8>, AllocError>
-    ensures { IfOk result (λ text. IsPrinted verdict.now text.items) }
+    ensures { IfOk result (λ text. IsPrinted opb.now verdict.now text.items) }
 {
     match verdict {
         Verdict::Accepted(accepted) => accepted_text(alloc, opb, accepted),
@@ -55,7 +55,7 @@ fn fault_text(
 
 /// The conclusion, and the `v` line of the best assignment where there is one.
 fn accepted_text(alloc: Global, opb: &[u8], accepted: &Accepted) -> Result<Vec<u8>, AllocError>
-    ensures { IfOk result (λ text. IsAcceptedText accepted.now text.items) }
+    ensures { IfOk result (λ text. IsAcceptedText opb.now accepted.now text.items) }
 {
     let mut out = Vec::from_slice(alloc, b"accepted ")?;
     write_conclusion(&mut out, accepted.conclusion())?;
@@ -115,28 +115,39 @@ fn write_best(
     opb: &[u8],
     best: &Assignment,
 ) -> Result<(), AllocError>
-    ensures { OnOk result ((more : List ℕ) × (out.new.items ≡ out.old.items ++ more)) }
+    ensures { OnOk result (IsWithBest opb.now out.old.items best.now out.new.items) }
 {
     let problem = match read(alloc, opb) {
         Ok(problem) => problem,
         Err(fault) if fault.code == OpbCode::OutOfMemory => return Err(AllocError),
         Err(_) => return Ok(()),
     };
-    if problem.names().len() != best.len() {
+    let names = problem.names();
+    if names.len() != best.len() {
         return Ok(());
     }
     out.extend_from_slice(b"v")?;
-    let mut number: u32 = 0;
-    for value in best.as_slice() {
-        write_value(out, *value, problem.names().get(Var(number)))?;
-        number = number.saturating_add(1);
-    }
+    write_values(out, names, best)?;
     out.extend_from_slice(b"\n")
 }
 
+/// The variables' names, each by its value.
+fn write_values(out: &mut Vec<u8>, names: &Names, best: &Assignment) -> Result<(), AllocError>
+    requires { length names.now ≡ length best.now }
+    ensures { OnOk result (out.new.items ≡ with_values out.old.items names.now best.now) }
+{
+    // That the numbers of a table's names fit into 32 bits is known by its type; this makes it known here.
+    let _count = names.len();
+    for (number, value) in best.as_slice().iter().enumerate() {
+        write_value(out, names, Var(number as u32), *value)?;
+    }
+    Ok(())
+}
+
 /// A variable's name, with `-` before it where the variable is false.
-fn write_value(out: &mut Vec<u8>, value: bool, name: Option<&[u8]>) -> Result<(), AllocError>
-    ensures { OnOk result ((more : List ℕ) × (out.new.items ≡ out.old.items ++ more)) }
+fn write_value(out: &mut Vec<u8>, names: &Names, var: Var, value: bool) -> Result<(), AllocError>
+    requires { var.0 < length names.now }
+    ensures { OnOk result (out.new.items ≡ with_value out.old.items (slice_index_or names.now (var.0) []) value) }
 {
     let sign = if value {
         b" ".as_slice()
@@ -144,5 +155,8 @@ fn write_value(out: &mut Vec<u8>, value: bool, name: Option<&[u8]>) -> Result<()
         b" -".as_slice()
     };
     out.extend_from_slice(sign)?;
-    out.extend_from_slice(name.unwrap_or(&[]))
+    match names.get(var) {
+        Some(name) => out.extend_from_slice(name),
+        None => Ok(()),
+    }
 }

@@ -1,4 +1,3 @@
-use Rattle.std.proofs.Common.{◌≡◌}
 use Rattle.linear.specs.Opb.{Opb}
 use Rattle.opb_read.proofs.Spelled.{one_problem}
 use Rattle.checker.proofs.checking.check.Goals as goal
@@ -14,3 +13,7 @@ returns-in-Ok-judge c =
         claim = c.in-Ok-judge.ensures;
       };
     }
+
+pub returns-in-Err-At : goal.returns-in-Err-At
+returns-in-Err-At c =
+    record { sound = c.refused.ensures c.args.opb.now (c.in-Ok.problem, c.in-Ok.ensures.spells, c.in-Ok.ensures.within) }
