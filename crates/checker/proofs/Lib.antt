@@ -1,1 +1,2 @@
 mod ValueLine
+mod Judging

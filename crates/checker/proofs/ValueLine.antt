@@ -8,11 +8,11 @@ use Rattle.checker.specs.Printed.{with_value, with_values, Names}
 
 pub value_next : (before : List ℕ) (names : List (List ℕ)) (values : List Bool) (i : ℕ) → i < length names → length names ≡ length values
     → with_values (with_value before (slice_index_or names i []) (slice_index_or values i false)) (drop (i + 1) names) (drop (i + 1) values)
-      ≡ with_values before (drop i names) (drop i values)
+    ≡ with_values before (drop i names) (drop i values)
 value_next before [] values i h e = absurd (omega (arith, h))
 value_next before (name ∷ names) [] i h e = absurd (omega (arith, e))
 value_next before (name ∷ names) (value ∷ values) zero h e = refl
-value_next before (name ∷ names) (value ∷ values) (suc i) h e = 
+value_next before (name ∷ names) (value ∷ values) (suc i) h e =
     let rest = value_next before names values i (omega (arith, h)) (omega (arith, e)) in
     simp unary_clauses (simp unary_clauses at rest)
 

@@ -1,5 +1,5 @@
 -- What a verdict says of the problem's text.
-use Rattle.std.specs.Prelude.{◌≡◌, ◌≢◌, ℕ, List, ⊤}
+use Rattle.std.specs.Prelude.{◌≡◌, ◌≢◌, ℕ, pos, List, ⊤}
 use Rattle.linear.specs.Opb.{Opb}
 use Rattle.linear.specs.Limits.{IsWithin}
 use Rattle.opb_read.specs.Spells.{Spells}
@@ -11,17 +11,30 @@ use Rattle.proof_text.specs.declared.fault.ProofFault.TheVariants as readings
 use Rattle.kernel.specs.declared.fault.StepFault.TheVariants as judgings
 use Rattle.kernel.specs.Accepted.{Judgement}
 use Rattle.kernel.specs.Claim.{Claim}
+use Rattle.kernel.specs.Forms.{file_ids}
+use Rattle.kernel.specs.Justified.{IsLegalProof}
+use Rattle.kernel.specs.declared.step.Step.{Step}
+use Rattle.checker.specs.ProofSpells.{SpellsProof}
 use Rattle.checker.specs.declared.verdict.Code.{Code}
 use Rattle.checker.specs.declared.verdict.Code.TheVariants.{Reading, Judging}
 use Rattle.checker.specs.declared.verdict.Verdict.{Verdict}
 use Rattle.checker.specs.declared.verdict.Verdict.TheVariants as verdicts
 
--- The text spells exactly one problem, and what was accepted is true of that problem's own signed terms.
-pub record IsTrueOf (text : List ℕ) (accepted : Judgement) : Type 0 where
+-- The text of a proof spells steps of the problem, with the count of its constraints, that lead from its file by legal
+-- steps to the conclusion.
+pub record IsProved (p : Opb) (proof : List ℕ) (accepted : Judgement) : Type 0 where
+  pub steps : List Step
+  pub spelled : SpellsProof proof p.names (pos (file_ids p.constraints)) steps accepted.conclusion
+  pub legal : IsLegalProof p steps accepted.conclusion accepted.best
+
+-- The text spells exactly one problem, what was accepted is true of that problem's own signed terms, and the proof proves
+-- it.
+pub record IsTrueOf (text proof : List ℕ) (accepted : Judgement) : Type 0 where
   pub problem : Opb
   pub spelled : Spells text problem
   pub alone : (other : Opb) → Spells text other → other ≡ problem
   pub claim : Claim problem accepted.conclusion accepted.best
+  pub proved : IsProved problem proof accepted
 
 -- The text has this fault, at the first token that cannot stand: it spells no problem, or none within the limits.
 pub record IsRefusedProblem (text : List ℕ) (fault : OpbFault) : Type 0 where
@@ -40,8 +53,8 @@ IsRefusal (Judging fault) = fault ≢ judgings.OutOfMemory
 
 -- a verdict that accepts is true of the text, one that refuses a line of the proof has a problem before it, and one that
 -- refuses the problem says why
-abbrev pub IsSound : List ℕ → Verdict → Type 0
-IsSound text (verdicts.Accepted accepted) = IsTrueOf text accepted
-IsSound text (verdicts.Refused line code) = IsProblem text × IsRefusal code
-IsSound text (verdicts.BadProblem fault) = IsRefusedProblem text fault
-IsSound text verdicts.NoMemory = ⊤
+abbrev pub IsSound : List ℕ → List ℕ → Verdict → Type 0
+IsSound text proof (verdicts.Accepted accepted) = IsTrueOf text proof accepted
+IsSound text proof (verdicts.Refused line code) = IsProblem text × IsRefusal code
+IsSound text proof (verdicts.BadProblem fault) = IsRefusedProblem text fault
+IsSound text proof verdicts.NoMemory = ⊤

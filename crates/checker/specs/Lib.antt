@@ -1,2 +1,4 @@
 pub mod Headline
 pub mod Printed
+pub mod ProofSpells
+pub mod Taking

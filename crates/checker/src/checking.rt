@@ -16,10 +16,10 @@ use std::alloc::Global;
 ///
 /// Whenever the verdict is `Accepted`, for any two texts and whoever wrote the proof, the problem's text spells exactly
 /// one problem, and the accepted conclusion is true of that problem's own signed terms: under `UNSAT` no 0-1 assignment
-/// satisfies it. A line is refused only where the problem's text spells a problem, and `BadProblem` is the fault that
+/// satisfies it; and the proof's text spells a legal proof of that conclusion. A line is refused only where the problem's text spells a problem, and `BadProblem` is the fault that
 /// `read` finds in it. Want of memory is never a refusal, but `NoMemory`.
 pub fn check(alloc: Global, opb: &[u8], proof: &[u8]) -> Verdict
-    ensures sound { IsSound opb.now result }
+    ensures sound { IsSound opb.now proof.now result }
 {
     match read(alloc, opb) {
         Ok(problem) => match judge(alloc, &problem, proof) {
@@ -33,7 +33,7 @@ pub fn check(alloc: Global, opb: &[u8], proof: &[u8]) -> Verdict
 
 /// The verdict where judging stops at a line.
 fn refused(line: u64, code: Code) -> Verdict
-    ensures { (text : List ℕ) → IsProblem text → IsSound text result }
+    ensures { (text proof : List ℕ) → IsProblem text → IsSound text proof result }
 {
     match code {
         Code::Reading(ProofFault::OutOfMemory) | Code::Judging(StepFault::OutOfMemory) => {
@@ -45,7 +45,7 @@ fn refused(line: u64, code: Code) -> Verdict
 
 /// The verdict where the problem is not read.
 fn bad_problem(fault: OpbFault) -> Verdict
-    ensures { (text : List ℕ) → Denies fault.code text → IsFaultAt text fault.code fault.line → IsSound text result }
+    ensures { (text proof : List ℕ) → Denies fault.code text → IsFaultAt text fault.code fault.line → IsSound text proof result }
 {
     match fault.code {
         OpbCode::OutOfMemory => Verdict::NoMemory,

@@ -1,8 +1,12 @@
 //! Judging a proof line by line: each line is read and then judged, so the first line with a fault decides.
 
-ghost use Rattle.std.specs.Prelude.{◌≡◌, ◌<◌, IfOk, OnOk, IsTrue, length};
+ghost use Rattle.std.specs.Prelude.{◌≡◌, [], IfOk, OnOk, IsTrue};
 ghost use Rattle.kernel.specs.Claim.{Claim};
 ghost use Rattle.kernel.specs.Held.{IsPol, IsJudged};
+ghost use Rattle.kernel.specs.Justified.{IsJustified};
+ghost use Rattle.kernel.specs.Legal.{Legal};
+ghost use Rattle.checker.specs.Headline.{IsProved};
+ghost use Rattle.checker.specs.Taking.{Takes, TakesCount, TakesLine, TakesToOutput};
 
 use super::verdict::Code;
 use kernel::{Accepted, Conclusion, Kernel, Step, StepFault};
@@ -38,6 +42,13 @@ struct Read {
     line: Line,
 }
 
+/// What a line among the steps was.
+#[derive(Clone, Copy)]
+enum Taken {
+    Step,
+    Output,
+}
+
 /// The lines that are left, and the names so far.
 #[derive(Drop)]
 struct Lines<'a> {
@@ -49,7 +60,7 @@ struct Lines<'a> {
 impl<'a> Lines<'a> {
     /// The next line that counts, as what it says at its place.
     fn next(&mut self, place: Place) -> Result<Read, Stop>
-        ensures left { OnOk result (length self.new.reader.lines < length self.old.reader.lines) }
+        ensures line { IfOk result (λ read. Takes place self.old.names self.old.reader.lines read.line self.new.names self.new.reader.lines) }
     {
         let Some(line) = self.reader.next() else {
             let end = self.reader.end_number();
@@ -65,7 +76,9 @@ impl<'a> Lines<'a> {
     }
 
     /// Nothing that counts is left.
-    fn end(&mut self) -> Result<(), Stop> {
+    fn end(&mut self) -> Result<(), Stop>
+        ensures { OnOk result (self.old.reader.lines ≡ []) }
+    {
         match self.reader.next() {
             None => Ok(()),
             Some(line) => Err(stop_reading(line.number, ProofFault::TextAfterEnd)),
@@ -75,7 +88,8 @@ impl<'a> Lines<'a> {
 
 /// Judges a proof of a problem. What is accepted is true of the problem, whoever wrote the proof.
 pub(crate) fn judge(alloc: Global, problem: &Problem, proof: &[u8]) -> Result<Accepted, Stop>
-    ensures { IfOk result (λ accepted. Claim problem.now accepted.conclusion accepted.best) }
+    ensures claim { IfOk result (λ accepted. Claim problem.now accepted.conclusion accepted.best) }
+    ensures proved { IfOk result (λ accepted. IsProved problem.now proof.now accepted) }
 {
     let mut kernel = match Kernel::new(alloc, problem) {
         Ok(kernel) => kernel,
@@ -96,7 +110,9 @@ pub(crate) fn judge(alloc: Global, problem: &Problem, proof: &[u8]) -> Result<Ac
 }
 
 /// The count line gives the number of the file's constraints, an equality counted twice.
-fn judge_count(lines: &mut Lines<'_>, kernel: &Kernel) -> Result<(), Stop> {
+fn judge_count(lines: &mut Lines<'_>, kernel: &Kernel) -> Result<(), Stop>
+    ensures { OnOk result (TakesCount kernel.now.state lines.old.names lines.old.reader.lines lines.new.names lines.new.reader.lines) }
+{
     let Read { number, line } = lines.next(Place::Count)?;
     match line {
         Line::Count(count) if count == kernel.given() as i128 => Ok(()),
@@ -106,21 +122,33 @@ fn judge_count(lines: &mut Lines<'_>, kernel: &Kernel) -> Result<(), Stop> {
 
 /// The steps, up to the output line.
 fn judge_steps(lines: &mut Lines<'_>, kernel: &mut Kernel) -> Result<(), Stop>
-    ensures { kernel.new.problem ≡ kernel.old.problem }
+    ensures problem { kernel.new.problem ≡ kernel.old.problem }
+    ensures steps { OnOk result (TakesToOutput kernel.old.problem kernel.old.state lines.old.names lines.old.reader.lines kernel.new.state lines.new.names lines.new.reader.lines) }
 {
-    loop {
-        let Read { number, line } = lines.next(Place::Step)?;
-        match line {
-            Line::Step(step) => judge_step(kernel, &step, number)?,
-            Line::Output => return Ok(()),
-            _ => return Err(stop_reading(number, ProofFault::BadLine)),
+    while let Taken::Step = judge_line(lines, kernel)? {}
+    Ok(())
+}
+
+/// Judges the next line among the steps.
+fn judge_line(lines: &mut Lines<'_>, kernel: &mut Kernel) -> Result<Taken, Stop>
+    ensures problem { kernel.new.problem ≡ kernel.old.problem }
+    ensures line { IfOk result (λ taken. TakesLine kernel.old.problem kernel.old.state lines.old.names lines.old.reader.lines taken kernel.new.state lines.new.names lines.new.reader.lines) }
+{
+    let Read { number, line } = lines.next(Place::Step)?;
+    match line {
+        Line::Step(step) => {
+            judge_step(kernel, &step, number)?;
+            Ok(Taken::Step)
         }
+        Line::Output => Ok(Taken::Output),
+        _ => Err(stop_reading(number, ProofFault::BadLine)),
     }
 }
 
 /// Judges a step. What reads well and is not judged yet is left out.
 fn judge_step(kernel: &mut Kernel, step: &Step, number: u64) -> Result<(), Stop>
-    ensures { kernel.new.problem ≡ kernel.old.problem }
+    ensures problem { kernel.new.problem ≡ kernel.old.problem }
+    ensures legal { OnOk result (Legal kernel.old.problem kernel.old.state step.now kernel.new.state) }
 {
     if !is_judged_step(step) {
         return Err(stop_reading(number, ProofFault::RuleLeftOut));
@@ -153,7 +181,9 @@ fn is_judged_conclusion(conclusion: &Conclusion) -> bool
 
 /// The conclusion.
 fn judge_conclusion(lines: &mut Lines<'_>, kernel: &mut Kernel) -> Result<Accepted, Stop>
-    ensures { IfOk result (λ accepted. Claim kernel.old.problem accepted.conclusion accepted.best) }
+    ensures claim { IfOk result (λ accepted. Claim kernel.old.problem accepted.conclusion accepted.best) }
+    ensures justified { IfOk result (λ accepted. IsJustified kernel.old.problem kernel.old.state accepted.conclusion accepted.best) }
+    ensures line { IfOk result (λ accepted. Takes Place.Conclusion lines.old.names lines.old.reader.lines (Line.Conclusion accepted.conclusion) lines.new.names lines.new.reader.lines) }
 {
     let Read { number, line } = lines.next(Place::Conclusion)?;
     match line {

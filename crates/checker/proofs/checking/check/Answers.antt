@@ -10,10 +10,11 @@ returns-in-Ok-judge c =
         problem = p;
         spelled = c.in-Ok.ensures.spells;
         alone = λ other spells. one_problem c.args.opb.now other p spells c.in-Ok.ensures.spells;
-        claim = c.in-Ok-judge.ensures;
+        claim = c.in-Ok-judge.ensures.claim;
+        proved = c.in-Ok-judge.ensures.proved;
       };
     }
 
 pub returns-in-Err-At : goal.returns-in-Err-At
 returns-in-Err-At c =
-    record { sound = c.refused.ensures c.args.opb.now (c.in-Ok.problem, c.in-Ok.ensures.spells, c.in-Ok.ensures.within) }
+    record { sound = c.refused.ensures c.args.opb.now c.args.proof.now (c.in-Ok.problem, c.in-Ok.ensures.spells, c.in-Ok.ensures.within) }

@@ -1,10 +1,13 @@
 use Rattle.std.proofs.Common.{◌≡◌, length}
+use Rattle.checker.specs.Taking.{TakesSteps}
 use Rattle.checker.proofs.judge.judge_steps.Given as goal
 
--- the problem stays
-abbrev pub invariant-loop-number : goal.invariant-loop-number
-invariant-loop-number l = l.kernel.problem ≡ l.fn.kernel.problem
+-- the lines so far are steps, and lead to the state
+abbrev pub invariant-loop : goal.invariant-loop
+invariant-loop l =
+    (l.kernel.problem ≡ l.fn.kernel.problem)
+    × TakesSteps l.fn.kernel.problem l.fn.kernel.state l.fn.lines.names l.fn.lines.reader.lines l.kernel.state l.lines.names l.lines.reader.lines
 
 -- the lines that are left
-abbrev pub decreases-loop-number : goal.decreases-loop-number
-decreases-loop-number l = length l.lines.reader.lines
+abbrev pub decreases-loop : goal.decreases-loop
+decreases-loop l = length l.lines.reader.lines

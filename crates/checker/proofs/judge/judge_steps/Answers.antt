@@ -1,0 +1,17 @@
+use Rattle.std.proofs.Common.{refl, subst, ◌∙◌}
+use Rattle.kernel.specs.Legal.{Legal}
+use Rattle.checker.proofs.Judging.{none_taken, one_more}
+use Rattle.checker.proofs.judge.judge_steps.Goals as goal
+
+pub loop-init : goal.loop-init
+loop-init c = (refl, none_taken c.args.kernel.now.problem c.args.kernel.now.state c.args.lines.now.names c.args.lines.now.reader.lines)
+
+pub loop-preserved : goal.loop-preserved
+loop-preserved c =
+    let same = c.loop.invariant.0 in
+    let took = rw c.in-Step.is at c.in_ok-judge_line.ensures.line in
+    let legal = subst (λ p. Legal p c.loop.kernel.state took.0 c.judge_line.new.kernel.state) same took.2 in (
+      c.in_ok-judge_line.ensures.problem ∙ same,
+      one_more c.args.kernel.now.problem c.args.kernel.now.state c.loop.kernel.state c.judge_line.new.kernel.state c.args.lines.now.names c.loop.lines.names c.judge_line.new.lines.names
+          c.args.lines.now.reader.lines c.loop.lines.reader.lines c.judge_line.new.lines.reader.lines took.0 c.loop.invariant.1 took.1 legal,
+    )
