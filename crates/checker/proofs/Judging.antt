@@ -18,6 +18,7 @@ use Rattle.proof_text.specs.declared.line.Line.TheVariants as lines
 use Rattle.proof_text.specs.declared.line.Place.TheVariants as places
 use Rattle.checker.specs.Headline.{IsProved}
 use Rattle.checker.specs.ProofSpells.{AreSteps}
+use Rattle.checker.specs.Stopping.{AtCount, AtConclusion}
 use Rattle.checker.specs.Taking.{Takes, TakesCount, TakesSteps, TakesToOutput}
 
 -- a legal step behind others
@@ -107,6 +108,12 @@ end_says old new ws line is = by (are_words frame.ending (unclosed ws)) is.says
     by true e = cc
     by false e = cc
 
+pub takes_header : (old new : List (List ℕ)) (left rest : List Numbered) (line : Line) → Takes places.Header old left line new rest → Takes places.Header old left lines.Header new rest
+takes_header old new left rest line takes = subst (λ l. Takes places.Header old left l new rest) (header_says old new (words takes.0.text) line takes.2) takes
+
+pub takes_end : (old new : List (List ℕ)) (left rest : List Numbered) (line : Line) → Takes places.End old left line new rest → Takes places.End old left lines.End new rest
+takes_end old new left rest line takes = subst (λ l. Takes places.End old left l new rest) (end_says old new (words takes.0.text) line takes.2) takes
+
 -- the same in the words of the code: the names are a copy of the file's, and the kernel is that of the problem
 pub proved_from : (p q r : Opb) (proof : List ℕ) (a : Judgement) (s t : State) (n0 n1 n2 n3 n4 n5 : List (List ℕ)) (r0 r1 r2 r3 r4 r5 : List Numbered) (first last : Line) → q ≡ p → r ≡ q
     → n0 ≡ p.names → r0 ≡ (lines_of proof).lines → IsStart p s → Takes places.Header n0 r0 first n1 r1 → TakesCount s n1 r1 n2 r2 → TakesToOutput q s n2 r2 t n3 r3
@@ -115,8 +122,13 @@ pub proved_from : (p q r : Opb) (proof : List ℕ) (a : Judgement) (s t : State)
 proved_from p q r proof a s t n0 n1 n2 n3 n4 n5 r0 r1 r2 r3 r4 r5 first last same still names read start header counted output concluded ended none justified =
     let begun : Takes places.Header p.names (lines_of proof).lines lines.Header n1 r1 =
     subst (λ n. Takes places.Header n (lines_of proof).lines lines.Header n1 r1) names
-    (subst (λ ls. Takes places.Header n0 ls lines.Header n1 r1) read
-    (subst (λ l. Takes places.Header n0 r0 l n1 r1) (header_says n0 n1 (words header.0.text) first header.2) header)) in
-    let over : Takes places.End n4 r4 lines.End n5 r5 = subst (λ l. Takes places.End n4 r4 l n5 r5) (end_says n4 n5 (words ended.0.text) last ended.2) ended in
-    proved_by p proof a s t n1 n2 n3 n4 n5 r1 r2 r3 r4 r5 start begun counted (subst (λ x. TakesToOutput x s n2 r2 t n3 r3) same output) concluded over none
+    (subst (λ ls. Takes places.Header n0 ls lines.Header n1 r1) read (takes_header n0 n1 r0 r1 first header)) in
+    proved_by p proof a s t n1 n2 n3 n4 n5 r1 r2 r3 r4 r5 start begun counted (subst (λ x. TakesToOutput x s n2 r2 t n3 r3) same output) concluded (takes_end n4 n5 r4 r5 last ended) none
     (subst (λ x. IsJustified x t a.conclusion a.best) (still ∙ same) justified)
+
+-- the conclusion stands behind the steps and the output line
+pub at_conclusion_from : (p q : Opb) (proof : List ℕ) (s t : State) (n1 n2 n3 : List (List ℕ)) (r1 r2 r3 : List Numbered) → q ≡ p → AtCount p proof s n1 r1 → TakesCount s n1 r1 n2 r2 → TakesToOutput q s n2 r2 t n3 r3
+    → AtConclusion p proof t n3 r3
+at_conclusion_from p q proof s t n1 n2 n3 r1 r2 r3 same at counted output =
+    let steps : TakesSteps p s n2 r2 t output.0 output.1 = subst (λ x. TakesSteps x s n2 r2 t output.0 output.1) same output.2 in
+    (output.0, output.1, (s, n1, r1, n2, r2, at, counted, steps), output.3)

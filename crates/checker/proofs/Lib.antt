@@ -1,2 +1,3 @@
 mod ValueLine
 mod Judging
+mod Stops

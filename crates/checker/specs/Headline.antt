@@ -15,6 +15,7 @@ use Rattle.kernel.specs.Forms.{file_ids}
 use Rattle.kernel.specs.Justified.{IsLegalProof}
 use Rattle.kernel.specs.declared.step.Step.{Step}
 use Rattle.checker.specs.ProofSpells.{SpellsProof}
+use Rattle.checker.specs.Stopping.{IsStopped}
 use Rattle.checker.specs.declared.verdict.Code.{Code}
 use Rattle.checker.specs.declared.verdict.Code.TheVariants.{Reading, Judging}
 use Rattle.checker.specs.declared.verdict.Verdict.{Verdict}
@@ -42,19 +43,29 @@ pub record IsRefusedProblem (text : List ℕ) (fault : OpbFault) : Type 0 where
   pub place : IsFaultAt text fault.code fault.line
   pub no_memory : fault.code ≢ problems.OutOfMemory
 
--- the text spells a problem within the limits
-abbrev pub IsProblem : List ℕ → Type 0
-IsProblem text = (p : Opb) × Spells text p × IsWithin p
-
 -- a code of a refusal: want of memory is a verdict of its own
 abbrev pub IsRefusal : Code → Type 0
 IsRefusal (Reading fault) = fault ≢ readings.OutOfMemory
 IsRefusal (Judging fault) = fault ≢ judgings.OutOfMemory
 
+-- the verdict where judging stops at a line
+abbrev pub IsRefusalAt : ℕ → Code → Verdict → Type 0
+IsRefusalAt line code (verdicts.Refused l c) = (l ≡ line) × (c ≡ code) × IsRefusal code
+IsRefusalAt line code verdicts.NoMemory = ⊤
+IsRefusalAt line code _ = ⊥
+
+-- The text spells a problem, and judging the proof stops at this line with this code.
+pub record IsRefusedProof (text proof : List ℕ) (line : ℕ) (code : Code) : Type 0 where
+  pub problem : Opb
+  pub spelled : Spells text problem
+  pub within : IsWithin problem
+  pub stopped : IsStopped problem proof line code
+  pub refusal : IsRefusal code
+
 -- a verdict that accepts is true of the text, one that refuses a line of the proof has a problem before it, and one that
 -- refuses the problem says why
 abbrev pub IsSound : List ℕ → List ℕ → Verdict → Type 0
 IsSound text proof (verdicts.Accepted accepted) = IsTrueOf text proof accepted
-IsSound text proof (verdicts.Refused line code) = IsProblem text × IsRefusal code
+IsSound text proof (verdicts.Refused line code) = IsRefusedProof text proof line code
 IsSound text proof (verdicts.BadProblem fault) = IsRefusedProblem text fault
 IsSound text proof verdicts.NoMemory = ⊤

@@ -2,3 +2,4 @@ pub mod Headline
 pub mod Printed
 pub mod ProofSpells
 pub mod Taking
+pub mod Stopping

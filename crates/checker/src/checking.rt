@@ -3,7 +3,7 @@
 ghost use Rattle.std.specs.Prelude.{ℕ, List};
 ghost use Rattle.opb_read.specs.Faults.{Denies};
 ghost use Rattle.opb_read.specs.FaultPlace.{IsFaultAt};
-ghost use Rattle.checker.specs.Headline.{IsSound, IsProblem};
+ghost use Rattle.checker.specs.Headline.{IsRefusalAt, IsSound};
 
 use super::judge::{Stop, judge};
 use super::verdict::{Code, Verdict};
@@ -33,7 +33,7 @@ pub fn check(alloc: Global, opb: &[u8], proof: &[u8]) -> Verdict
 
 /// The verdict where judging stops at a line.
 fn refused(line: u64, code: Code) -> Verdict
-    ensures { (text proof : List ℕ) → IsProblem text → IsSound text proof result }
+    ensures { IsRefusalAt line code result }
 {
     match code {
         Code::Reading(ProofFault::OutOfMemory) | Code::Judging(StepFault::OutOfMemory) => {

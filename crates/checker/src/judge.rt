@@ -1,11 +1,12 @@
 //! Judging a proof line by line: each line is read and then judged, so the first line with a fault decides.
 
-ghost use Rattle.std.specs.Prelude.{◌≡◌, [], IfOk, OnOk, IsTrue};
+ghost use Rattle.std.specs.Prelude.{◌≡◌, ◌↔◌, [], IfOk, IfErr, OnOk, IsTrue};
 ghost use Rattle.kernel.specs.Claim.{Claim};
 ghost use Rattle.kernel.specs.Held.{IsPol, IsJudged};
 ghost use Rattle.kernel.specs.Justified.{IsJustified};
 ghost use Rattle.kernel.specs.Legal.{Legal};
 ghost use Rattle.checker.specs.Headline.{IsProved};
+ghost use Rattle.checker.specs.Stopping.{IsRead, IsUnread, IsTextAfterEnd, IsRefusedStep, IsStopped, StopsBy, StopsAtCount, StopsAtStep, StopsAmongSteps, StopsAtConclusion};
 ghost use Rattle.checker.specs.Taking.{Takes, TakesCount, TakesLine, TakesToOutput};
 
 use super::verdict::Code;
@@ -22,16 +23,25 @@ pub(crate) enum Stop {
 }
 
 impl From<AllocError> for Stop {
+    ghost use Rattle.std.specs.Prelude.{◌≡◌};
+    ghost use Rattle.checker.specs.declared.judge.Stop.TheVariants.{NoMemory};
+
+    ghost from_gives = { λ _ e. e ≡ NoMemory };
+
     fn from(_e: AllocError) -> Stop {
         Stop::NoMemory
     }
 }
 
-fn stop_reading(number: u64, fault: ProofFault) -> Stop {
+fn stop_reading(number: u64, fault: ProofFault) -> Stop
+    ensures { result ≡ Stop.At number (Code.Reading fault) }
+{
     Stop::At(number, Code::Reading(fault))
 }
 
-fn stop_judging(number: u64, fault: StepFault) -> Stop {
+fn stop_judging(number: u64, fault: StepFault) -> Stop
+    ensures { result ≡ Stop.At number (Code.Judging fault) }
+{
     Stop::At(number, Code::Judging(fault))
 }
 
@@ -61,6 +71,9 @@ impl<'a> Lines<'a> {
     /// The next line that counts, as what it says at its place.
     fn next(&mut self, place: Place) -> Result<Read, Stop>
         ensures line { IfOk result (λ read. Takes place self.old.names self.old.reader.lines read.line self.new.names self.new.reader.lines) }
+        ensures number { IfOk result (λ read. IsRead place self.old.names self.old.reader.lines read.number read.line) }
+        ensures last { self.new.reader.last ≡ self.old.reader.last }
+        ensures stop { IfErr result (StopsBy (IsUnread place self.old.names self.old.reader.lines self.old.reader.last)) }
     {
         let Some(line) = self.reader.next() else {
             let end = self.reader.end_number();
@@ -77,7 +90,8 @@ impl<'a> Lines<'a> {
 
     /// Nothing that counts is left.
     fn end(&mut self) -> Result<(), Stop>
-        ensures { OnOk result (self.old.reader.lines ≡ []) }
+        ensures none { OnOk result (self.old.reader.lines ≡ []) }
+        ensures stop { IfErr result (StopsBy (IsTextAfterEnd self.old.reader.lines)) }
     {
         match self.reader.next() {
             None => Ok(()),
@@ -90,6 +104,7 @@ impl<'a> Lines<'a> {
 pub(crate) fn judge(alloc: Global, problem: &Problem, proof: &[u8]) -> Result<Accepted, Stop>
     ensures claim { IfOk result (λ accepted. Claim problem.now accepted.conclusion accepted.best) }
     ensures proved { IfOk result (λ accepted. IsProved problem.now proof.now accepted) }
+    ensures stop { IfErr result (StopsBy (IsStopped problem.now proof.now)) }
 {
     let mut kernel = match Kernel::new(alloc, problem) {
         Ok(kernel) => kernel,
@@ -111,19 +126,26 @@ pub(crate) fn judge(alloc: Global, problem: &Problem, proof: &[u8]) -> Result<Ac
 
 /// The count line gives the number of the file's constraints, an equality counted twice.
 fn judge_count(lines: &mut Lines<'_>, kernel: &Kernel) -> Result<(), Stop>
-    ensures { OnOk result (TakesCount kernel.now.state lines.old.names lines.old.reader.lines lines.new.names lines.new.reader.lines) }
+    ensures count { OnOk result (TakesCount kernel.now.state lines.old.names lines.old.reader.lines lines.new.names lines.new.reader.lines) }
+    ensures last { lines.new.reader.last ≡ lines.old.reader.last }
+    ensures stop { IfErr result (StopsBy (StopsAtCount kernel.now.state lines.old.names lines.old.reader.lines lines.old.reader.last)) }
 {
     let Read { number, line } = lines.next(Place::Count)?;
-    match line {
-        Line::Count(count) if count == kernel.given() as i128 => Ok(()),
-        _ => Err(stop_reading(number, ProofFault::BadCount)),
+    let Line::Count(count) = line else {
+        return Err(stop_reading(number, ProofFault::BadCount));
+    };
+    if count != kernel.given() as i128 {
+        return Err(stop_reading(number, ProofFault::BadCount));
     }
+    Ok(())
 }
 
 /// The steps, up to the output line.
 fn judge_steps(lines: &mut Lines<'_>, kernel: &mut Kernel) -> Result<(), Stop>
     ensures problem { kernel.new.problem ≡ kernel.old.problem }
     ensures steps { OnOk result (TakesToOutput kernel.old.problem kernel.old.state lines.old.names lines.old.reader.lines kernel.new.state lines.new.names lines.new.reader.lines) }
+    ensures last { lines.new.reader.last ≡ lines.old.reader.last }
+    ensures stop { IfErr result (StopsBy (StopsAmongSteps kernel.old.problem kernel.old.state lines.old.names lines.old.reader.lines lines.old.reader.last)) }
 {
     while let Taken::Step = judge_line(lines, kernel)? {}
     Ok(())
@@ -133,6 +155,8 @@ fn judge_steps(lines: &mut Lines<'_>, kernel: &mut Kernel) -> Result<(), Stop>
 fn judge_line(lines: &mut Lines<'_>, kernel: &mut Kernel) -> Result<Taken, Stop>
     ensures problem { kernel.new.problem ≡ kernel.old.problem }
     ensures line { IfOk result (λ taken. TakesLine kernel.old.problem kernel.old.state lines.old.names lines.old.reader.lines taken kernel.new.state lines.new.names lines.new.reader.lines) }
+    ensures last { lines.new.reader.last ≡ lines.old.reader.last }
+    ensures stop { IfErr result (StopsBy (StopsAtStep kernel.old.problem kernel.old.state lines.old.names lines.old.reader.lines lines.old.reader.last)) }
 {
     let Read { number, line } = lines.next(Place::Step)?;
     match line {
@@ -149,6 +173,7 @@ fn judge_line(lines: &mut Lines<'_>, kernel: &mut Kernel) -> Result<Taken, Stop>
 fn judge_step(kernel: &mut Kernel, step: &Step, number: u64) -> Result<(), Stop>
     ensures problem { kernel.new.problem ≡ kernel.old.problem }
     ensures legal { OnOk result (Legal kernel.old.problem kernel.old.state step.now kernel.new.state) }
+    ensures stop { IfErr result (StopsBy (λ line code. (line ≡ number) × IsRefusedStep kernel.old.problem kernel.old.state step.now code)) }
 {
     if !is_judged_step(step) {
         return Err(stop_reading(number, ProofFault::RuleLeftOut));
@@ -161,7 +186,7 @@ fn judge_step(kernel: &mut Kernel, step: &Step, number: u64) -> Result<(), Stop>
 
 /// Whether the kernel judges steps of this kind so far.
 fn is_judged_step(step: &Step) -> bool
-    ensures { IsTrue result → IsPol step.now }
+    ensures { IsTrue result ↔ IsPol step.now }
 {
     match step {
         Step::Pol(_) => true,
@@ -171,7 +196,7 @@ fn is_judged_step(step: &Step) -> bool
 
 /// Whether the kernel judges conclusions of this kind so far.
 fn is_judged_conclusion(conclusion: &Conclusion) -> bool
-    ensures { IsTrue result → IsJudged conclusion.now }
+    ensures { IsTrue result ↔ IsJudged conclusion.now }
 {
     match conclusion {
         Conclusion::Nothing | Conclusion::Unsat => true,
@@ -184,6 +209,8 @@ fn judge_conclusion(lines: &mut Lines<'_>, kernel: &mut Kernel) -> Result<Accept
     ensures claim { IfOk result (λ accepted. Claim kernel.old.problem accepted.conclusion accepted.best) }
     ensures justified { IfOk result (λ accepted. IsJustified kernel.old.problem kernel.old.state accepted.conclusion accepted.best) }
     ensures line { IfOk result (λ accepted. Takes Place.Conclusion lines.old.names lines.old.reader.lines (Line.Conclusion accepted.conclusion) lines.new.names lines.new.reader.lines) }
+    ensures last { lines.new.reader.last ≡ lines.old.reader.last }
+    ensures stop { IfErr result (StopsBy (StopsAtConclusion kernel.old.state lines.old.names lines.old.reader.lines lines.old.reader.last)) }
 {
     let Read { number, line } = lines.next(Place::Conclusion)?;
     match line {

@@ -1,4 +1,5 @@
 use Rattle.linear.specs.Opb.{Opb}
+use Rattle.checker.proofs.Stops.{refused_there}
 use Rattle.opb_read.proofs.Spelled.{one_problem}
 use Rattle.checker.proofs.checking.check.Goals as goal
 
@@ -17,4 +18,6 @@ returns-in-Ok-judge c =
 
 pub returns-in-Err-At : goal.returns-in-Err-At
 returns-in-Err-At c =
-    record { sound = c.refused.ensures c.args.opb.now c.args.proof.now (c.in-Ok.problem, c.in-Ok.ensures.spells, c.in-Ok.ensures.within) }
+    record {
+      sound = refused_there c.args.opb.now c.args.proof.now c.in-Ok.problem _ _ _ _ c.in-Ok.ensures.spells c.in-Ok.ensures.within c.in-Err-At.ensures.stop c.in-Err-At.field-0-is c.refused.ensures;
+    }

@@ -6,6 +6,7 @@ use Rattle.checker.proofs.judge.judge_steps.Given as goal
 abbrev pub invariant-loop : goal.invariant-loop
 invariant-loop l =
     (l.kernel.problem ≡ l.fn.kernel.problem)
+    × (l.lines.reader.last ≡ l.fn.lines.reader.last)
     × TakesSteps l.fn.kernel.problem l.fn.kernel.state l.fn.lines.names l.fn.lines.reader.lines l.kernel.state l.lines.names l.lines.reader.lines
 
 -- the lines that are left

@@ -1,0 +1,85 @@
+-- Why judging stops, from the reason at a line to that of the whole proof.
+use Rattle.std.proofs.Common.{◌≡◌, ℕ, List, inr, sym, subst}
+use Rattle.linear.specs.Limits.{IsWithin}
+use Rattle.linear.specs.Opb.{Opb}
+use Rattle.opb_read.specs.Spells.{Spells}
+use Rattle.kernel.specs.State.{State}
+use Rattle.kernel.specs.declared.step.Step.{Step}
+use Rattle.proof_text.specs.Lines.{Numbered, lines_of}
+use Rattle.proof_text.specs.declared.line.Line.TheVariants as lines
+use Rattle.proof_text.specs.declared.line.Place.TheVariants as places
+use Rattle.checker.specs.Headline.{IsRefusal, IsRefusalAt, IsSound}
+use Rattle.checker.specs.Stopping.{AtHeader, AtCount, AtConclusion, AtEnd, BehindEnd, IsRead, IsUnread, IsTextAfterEnd, IsRefusedStep, StopsAtCount, StopsAtStep, StopsAmongSteps, StopsAtConclusion, IsStopped, StopsBy}
+use Rattle.checker.specs.Stopping.{at_header, at_count, at_step, at_conclusion, at_end, behind_end}
+use Rattle.checker.specs.Taking.{TakesCount, TakesSteps}
+use Rattle.checker.specs.declared.verdict.Code.{Code}
+use Rattle.checker.specs.declared.verdict.Verdict.{Verdict}
+use Rattle.checker.specs.declared.verdict.Verdict.TheVariants as verdicts
+use Rattle.checker.specs.declared.judge.Stop.{Stop}
+use Rattle.checker.specs.declared.judge.Stop.TheVariants as stops
+
+-- a step that was read is refused
+pub stops_at_step : (p : Opb) (s : State) (names : List (List ℕ)) (left : List Numbered) (last number : ℕ) (step : Step) (stop : Stop) → IsRead places.Step names left number (lines.Step step)
+    → StopsBy (λ line code. (line ≡ number) × IsRefusedStep p s step code) stop → StopsBy (StopsAtStep p s names left last) stop
+stops_at_step p s names left last number step (stops.At line code) read why =
+    inr (step, subst (λ n. IsRead places.Step names left n (lines.Step step)) (sym why.0) read, why.1)
+stops_at_step p s names left last number step stops.NoMemory read why = tt
+
+-- a step behind legal ones is refused, or its line is not read
+pub stops_among : (p q : Opb) (s t : State) (old named : List (List ℕ)) (left behind : List Numbered) (last end : ℕ) (stop : Stop) → q ≡ p → end ≡ last
+    → TakesSteps p s old left t named behind → StopsBy (StopsAtStep q t named behind end) stop → StopsBy (StopsAmongSteps p s old left last) stop
+stops_among p q s t old named left behind last end (stops.At line code) same ends taken why =
+    (t, named, behind, taken, subst (λ n. StopsAtStep p t named behind n line code) ends (subst (λ x. StopsAtStep x t named behind end line code) same why))
+stops_among p q s t old named left behind last end stops.NoMemory same ends taken why = tt
+
+-- a reason that is part of another
+stops_weaker : (why more : ℕ → Code → Type 0) (stop : Stop) → ((line : ℕ) (code : Code) → why line code → more line code) → StopsBy why stop → StopsBy more stop
+stops_weaker why more (stops.At line code) part reason = part line code reason
+stops_weaker why more stops.NoMemory part reason = tt
+
+-- what stops at a place stops the proof; `last` is the line at which its text ends
+pub stops_header : (p : Opb) (proof : List ℕ) (s : State) (names : List (List ℕ)) (left : List Numbered) (last : ℕ) (stop : Stop) → AtHeader p proof s names left → last ≡ (lines_of proof).last
+    → StopsBy (IsUnread places.Header names left last) stop → StopsBy (IsStopped p proof) stop
+stops_header p proof s names left last stop at ends reason =
+    stops_weaker (IsUnread places.Header names left last) (IsStopped p proof) stop (λ line code why. at_header s names left at (subst (λ n. IsUnread places.Header names left n line code) ends why)) reason
+
+pub stops_count : (p : Opb) (proof : List ℕ) (s : State) (names : List (List ℕ)) (left : List Numbered) (last : ℕ) (stop : Stop) → AtCount p proof s names left → last ≡ (lines_of proof).last
+    → StopsBy (StopsAtCount s names left last) stop → StopsBy (IsStopped p proof) stop
+stops_count p proof s names left last stop at ends reason =
+    stops_weaker (StopsAtCount s names left last) (IsStopped p proof) stop (λ line code why. at_count s names left at (subst (λ n. StopsAtCount s names left n line code) ends why)) reason
+
+-- the steps begin behind the count line, in the state of the file
+pub stops_steps : (p q : Opb) (proof : List ℕ) (s : State) (names counted : List (List ℕ)) (left behind : List Numbered) (last : ℕ) (stop : Stop) → q ≡ p → AtCount p proof s names left
+    → TakesCount s names left counted behind → last ≡ (lines_of proof).last → StopsBy (StopsAmongSteps q s counted behind last) stop → StopsBy (IsStopped p proof) stop
+stops_steps p q proof s names counted left behind last stop same at takes ends reason =
+    stops_weaker (StopsAmongSteps q s counted behind last) (IsStopped p proof) stop
+    (λ line code why. let w = subst (λ n. StopsAmongSteps p s counted behind n line code) ends (subst (λ x. StopsAmongSteps x s counted behind last line code) same why) in
+    at_step w.0 w.1 w.2 (s, names, left, counted, behind, at, takes, w.3) w.4) reason
+
+pub stops_conclusion : (p : Opb) (proof : List ℕ) (t : State) (names : List (List ℕ)) (left : List Numbered) (last : ℕ) (stop : Stop) → AtConclusion p proof t names left → last ≡ (lines_of proof).last
+    → StopsBy (StopsAtConclusion t names left last) stop → StopsBy (IsStopped p proof) stop
+stops_conclusion p proof t names left last stop at ends reason =
+    stops_weaker (StopsAtConclusion t names left last) (IsStopped p proof) stop
+    (λ line code why. at_conclusion t names left at (subst (λ n. StopsAtConclusion t names left n line code) ends why)) reason
+
+pub stops_end : (p : Opb) (proof : List ℕ) (names : List (List ℕ)) (left : List Numbered) (last : ℕ) (stop : Stop) → AtEnd p proof names left → last ≡ (lines_of proof).last
+    → StopsBy (IsUnread places.End names left last) stop → StopsBy (IsStopped p proof) stop
+stops_end p proof names left last stop at ends reason =
+    stops_weaker (IsUnread places.End names left last) (IsStopped p proof) stop (λ line code why. at_end names left at (subst (λ n. IsUnread places.End names left n line code) ends why)) reason
+
+pub stops_behind : (p : Opb) (proof : List ℕ) (left : List Numbered) (stop : Stop) → BehindEnd p proof left → StopsBy (IsTextAfterEnd left) stop → StopsBy (IsStopped p proof) stop
+stops_behind p proof left stop behind reason = stops_weaker (IsTextAfterEnd left) (IsStopped p proof) stop (λ line code why. behind_end left behind why) reason
+
+-- the verdict at the line where judging stops is sound
+pub refused_there : (text proof : List ℕ) (p : Opb) (line : ℕ) (code : Code) (stop : Stop) (verdict : Verdict) → Spells text p → IsWithin p → StopsBy (IsStopped p proof) stop → stop ≡ stops.At line code
+    → IsRefusalAt line code verdict → IsSound text proof verdict
+refused_there text proof p line code stop (verdicts.Refused l c) spelled within stopped at refusal = record {
+  problem = p;
+  spelled = spelled;
+  within = within;
+  stopped = subst (λ k. IsStopped p proof k c) (sym refusal.0) (subst (IsStopped p proof line) (sym refusal.1) (subst (StopsBy (IsStopped p proof)) at stopped));
+  refusal = subst IsRefusal (sym refusal.1) refusal.2;
+}
+refused_there text proof p line code stop verdicts.NoMemory spelled within stopped at refusal = tt
+refused_there text proof p line code stop (verdicts.Accepted accepted) spelled within stopped at refusal = absurd refusal
+refused_there text proof p line code stop (verdicts.BadProblem fault) spelled within stopped at refusal = absurd refusal
