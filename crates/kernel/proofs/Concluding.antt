@@ -1,5 +1,5 @@
 -- What a preserved state entitles to is true of the problem.
-use Rattle.std.proofs.Common.{◌≡◌, ◌≢◌, ℕ, ◌+◌, ◌<◌, ℤ, pos, ◌<ℤ◌, ◌≤ℤ◌, ◌⊎◌, inl, inr, Bool, true, false, int_le, List, [], ◌∷◌, ◌++◌, Option, None, Some, All, Any, IfSome, IsSome, IsSomeAnd, length, get_or, refl, sym, ap, subst, ◌∙◌, arith}
+use Rattle.std.proofs.Common.{◌≡◌, ◌<◌, ℤ, ◌<ℤ◌, ◌≤ℤ◌, ◌⊎◌, inl, inr, Bool, true, false, int_le, List, [], ◌∷◌, ◌++◌, Option, None, Some, All, Any, IfSome, length, get_or, refl, sym, ap, subst, arith}
 use Rattle.std.proofs.lemmas.Int.{ints}
 use Rattle.std.proofs.lemmas.List.{length-append}
 use Rattle.std.proofs.Math.Seq.{get_or-append_seam}
@@ -7,10 +7,10 @@ use Rattle.std.proofs.lemmas.Bool.Decides.{nat_tests}
 use Rattle.std.proofs.lemmas.List.Elements.{All-cons, All-append, All-weaker, All-contains}
 use Rattle.linear.specs.declared.term.Term.{Term}
 use Rattle.linear.specs.declared.term.Lit.{Lit}
-use Rattle.linear.specs.Valuation.{Valuation, valuation_of}
+use Rattle.linear.specs.Valuation.{Valuation}
 use Rattle.linear.specs.Sum.{sum_of}
 use Rattle.linear.specs.Opb.{Opb, Satisfies, value_of, objective_value}
-use Rattle.normal_form.specs.Normal.{NormalConstraint, Holds, Rises}
+use Rattle.normal_form.specs.Normal.{NormalConstraint, Holds}
 use Rattle.normal_form.specs.NormalOf.{IsNormalOf}
 use Rattle.normal_form.proofs.NormalForm.{form_meaning}
 use Rattle.kernel.specs.declared.conclusion.Lower.{Lower}
@@ -83,7 +83,7 @@ claims_lower p s objective (lowers.At bound) kept normal minimises (n, low) = lo
 claims_lower p s objective lowers.Inf kept normal minimises h = exhausted p s kept normal h
 
 -- the best solution is worth no more than any
-best_least : (p : Opb) (logged : List (List Bool)) (g : List Bool) → IsBest p logged (Some g) → All (λ h. worth_of p g ≤ℤ worth_of p h) logged
+pub best_least : (p : Opb) (logged : List (List Bool)) (g : List Bool) → IsBest p logged (Some g) → All (λ h. worth_of p g ≤ℤ worth_of p h) logged
 best_least p logged g (before, behind, is, less, no_more) =
     let P : List Bool → Type 0 = λ h. worth_of p g ≤ℤ worth_of p h in
     subst (All P) (sym is)

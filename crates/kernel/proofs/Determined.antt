@@ -1,17 +1,16 @@
 -- Items run in one way: what they lead to, and what the value of an expression is.
-use Rattle.std.proofs.Common.{◌≡◌, ◌≢◌, ℕ, ◌+◌, ◌<◌, ℤ, pos, ◌<ℤ◌, ◌⊎◌, inl, inr, List, [], ◌∷◌, ◌++◌, Some, None, length, unsigned_abs, refl, sym, ap, subst, ◌∙◌, arith}
+use Rattle.std.proofs.Common.{◌≡◌, inl, inr, List, [], ◌∷◌, ◌++◌, length, unsigned_abs, refl, sym, ap, subst, ◌∙◌, arith}
 use Rattle.std.proofs.lemmas.Int.{ints}
-use Rattle.linear.specs.declared.term.Lit.{Lit}
 use Rattle.normal_form.specs.Normal.{NormalConstraint, Fits}
-use Rattle.cut_rules.specs.Rules.{IsSum, IsMultiple, IsQuotient, IsSaturation, IsWeakening, IsTooLarge}
-use Rattle.cut_rules.proofs.Sum.{one_sum, sum_within}
+use Rattle.cut_rules.specs.Rules.{IsSum, IsMultiple, IsQuotient, IsSaturation, IsWeakening}
+use Rattle.cut_rules.proofs.Sum.{one_sum}
 use Rattle.cut_rules.proofs.Meaning.{one_multiple, one_quotient, one_saturation, one_weakening, one_axiom}
 use Rattle.kernel.specs.declared.fault.StepFault.{StepFault}
 use Rattle.kernel.specs.declared.fault.StepFault.TheVariants as faults
 use Rattle.kernel.specs.declared.step.Item.{Item}
 use Rattle.kernel.specs.declared.step.Item.TheVariants as items
 use Rattle.kernel.specs.Expression.{Given, Expression, cited, axiom_of, sum, multiple, quotient, saturated, weakened, postfix, HasValue, IsPolish, Steps}
-use Rattle.kernel.specs.Fault.{IsItemFault, StopsAtItem, LeavesOther, IsWritingFault}
+use Rattle.kernel.specs.Fault.{IsItemFault, StopsAtItem, IsWritingFault}
 use Rattle.kernel.specs.Running.{Runs}
 
 abbrev Stack : Type 0

@@ -1,4 +1,8 @@
+pub mod Completing
 pub mod Concluding
+pub mod ConclusionJudged
+pub mod Deciding
+pub mod DelJudged
 pub mod Determined
 pub mod Faults
 pub mod FileForms
@@ -7,8 +11,15 @@ pub mod LiveConstraints
 pub mod NotLegal
 pub mod Numbered
 pub mod Places
+pub mod PolJudged
 pub mod Polish
 pub mod Preserving
+pub mod RedJudged
+pub mod ResultsExist
+pub mod RupJudged
 pub mod ShownHolds
+pub mod ShownOrNot
 pub mod SmallCases
+pub mod SolJudged
+pub mod StepJudged
 pub mod Values

@@ -1,5 +1,5 @@
 -- A step that has a fault is not legal, and a conclusion that has one is not justified.
-use Rattle.std.proofs.Common.{◌≡◌, ◌≢◌, ℕ, ◌+◌, ◌<◌, ◌≤◌, ℤ, pos, ◌<ℤ◌, ◌≤ℤ◌, ◌⊎◌, inl, inr, Bool, List, [], ◌∷◌, ◌++◌, Option, Some, None, All, Any, Contains, IfSome, IsSome, length, refl, sym, ap, subst, ◌∙◌, arith}
+use Rattle.std.proofs.Common.{◌≡◌, ◌≢◌, ℕ, ℤ, ◌<ℤ◌, ◌≤ℤ◌, ◌⊎◌, inl, inr, Bool, List, [], ◌∷◌, ◌++◌, Option, Some, None, All, IfSome, IsSome, refl, sym, subst, ◌∙◌, arith}
 use Rattle.std.proofs.lemmas.Bool.{false≢true}
 use Rattle.std.proofs.lemmas.Int.{ints}
 use Rattle.std.specs.FinMap as fin
@@ -7,8 +7,7 @@ use Rattle.linear.specs.declared.constraint.Signed.{Signed}
 use Rattle.linear.specs.declared.term.Lit.{Lit}
 use Rattle.linear.specs.declared.term.Term.{Term}
 use Rattle.linear.specs.Opb.{Opb}
-use Rattle.normal_form.specs.Normal.{NormalConstraint, Rises}
-use Rattle.normal_form.specs.NormalOf.{IsNormalOf}
+use Rattle.normal_form.specs.Normal.{NormalConstraint}
 use Rattle.normal_form.specs.Negation.{IsNegation}
 use Rattle.normal_form.proofs.NormalForm.{one_form}
 use Rattle.normal_form.proofs.Opposite.{one_negation}
@@ -27,11 +26,11 @@ use Rattle.kernel.specs.Fault as judging
 use Rattle.kernel.specs.Fault.{IsPolFault, IsAdmissionFault, IsRupFault, IsGoalFault, IsOpenGoal, IsRedFault, IsSolFault, IsSoliFault, IsKeptId, IsDelFault, IsStepFault, IsUnsatFault, IsBoundFault, IsLowerFault, IsUpperFault, IsBoundsFault, IsSatFault, IsHintFault, IsConclusionFault}
 use Rattle.kernel.specs.Justified as justified
 use Rattle.kernel.specs.Justified.{IsExhausted, IsLowerBound, HoldsLower, TakesHint, IsJustified}
-use Rattle.kernel.specs.Legal.{Legal, LegalPol, LegalRup, LegalRed, LegalSol, LegalSoli, LegalDel, IsDeletable, IsShownUnder, IsShownNotRaised, Redundant, Logs, worth_of, without}
-use Rattle.kernel.specs.Shown.{IsShown, IsAdmitted, absurdity}
+use Rattle.kernel.specs.Legal.{Legal, LegalPol, LegalRup, LegalRed, LegalSoli, LegalDel, IsDeletable, IsShownUnder, IsShownNotRaised, Logs, worth_of, without}
+use Rattle.kernel.specs.Shown.{IsShown, IsAdmitted}
 use Rattle.kernel.specs.Solution.{at_least}
 use Rattle.kernel.specs.State.{State, constraints, constraint_of, id_of, HasRoom}
-use Rattle.kernel.proofs.Determined.{one_polish, writing_never}
+use Rattle.kernel.proofs.Determined.{writing_never}
 use Rattle.kernel.proofs.LiveConstraints.{All-get}
 
 pol_never : (s t : State) (written : List Item) (f : StepFault) → IsPolFault s written f → LegalPol s written t → ⊥

@@ -1,6 +1,6 @@
 -- The faults of steps and conclusions, in the order of judging: each one's condition says that none before it stands.
 -- Want of memory is no fault of a step.
-use Rattle.std.specs.Prelude.{◌≡◌, ◌≢◌, ℕ, ◌<◌, ◌≤◌, ◌⊎◌, ℤ, pos, ◌<ℤ◌, ◌≤ℤ◌, Bool, List, [], ◌∷◌, ◌++◌, Option, None, Some, All, Any, Contains, IfSome, length, unsigned_abs}
+use Rattle.std.specs.Prelude.{◌≡◌, ◌≢◌, ℕ, ◌<◌, ◌≤◌, ◌⊎◌, ℤ, pos, ◌<ℤ◌, ◌≤ℤ◌, Bool, List, [], ◌∷◌, ◌++◌, Option, None, Some, All, Contains, IfSome, length, unsigned_abs}
 use Rattle.std.specs.FinMap as map
 use Rattle.linear.specs.declared.constraint.Signed.{Signed}
 use Rattle.linear.specs.declared.term.Lit.{Lit}
@@ -27,7 +27,7 @@ use Rattle.kernel.specs.declared.step.Step.{Step}
 use Rattle.kernel.specs.declared.step.Step.TheVariants as steps
 use Rattle.kernel.specs.Expression.{Given, IsPolish}
 use Rattle.kernel.specs.Forms.{file_ids}
-use Rattle.kernel.specs.Justified.{IsExhausted, HoldsLower, HoldsUpper, hint_of, TakesHint}
+use Rattle.kernel.specs.Justified.{HoldsLower, HoldsUpper, TakesHint}
 use Rattle.kernel.specs.Legal.{IsShownUnder, IsShownNotRaised, Logs, LegalDel, worth_of}
 use Rattle.kernel.specs.Running.{Runs}
 use Rattle.kernel.specs.Shown.{IsShown, IsAdmitted, absurdity}

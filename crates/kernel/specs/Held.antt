@@ -1,5 +1,5 @@
 -- What a kernel holds, and what it keeps.
-use Rattle.std.specs.Prelude.{◌≤◌, ◌^◌, ℕ, ⊤}
+use Rattle.std.specs.Prelude.{◌≤◌, ◌^◌, ⊤}
 use Rattle.linear.specs.Opb.{Opb}
 use Rattle.linear.specs.Limits.{IsWithin}
 use Rattle.kernel.specs.declared.step.Step.{Step}
