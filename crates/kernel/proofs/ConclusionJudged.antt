@@ -17,7 +17,7 @@ use Rattle.kernel.specs.declared.fault.StepFault.{StepFault}
 use Rattle.kernel.specs.declared.fault.StepFault.TheVariants as faults
 use Rattle.kernel.specs.Fault as judging
 use Rattle.kernel.specs.Fault.{IsUnsatFault, IsBoundFault, IsLowerFault, IsUpperFault, IsBoundsFault, IsSatFault, IsHintFault, IsConclusionFault}
-use Rattle.kernel.specs.Justified.{IsExhausted, IsLowerBound, HoldsLower, HoldsUpper, TakesHint, IsBest, IsJustified}
+use Rattle.kernel.specs.Justified.{IsExhausted, IsLowerBound, EntitlesLower, EntitlesUpper, TakesHint, IsBest, IsJustified}
 use Rattle.kernel.specs.Legal.{with_solution, worth_of}
 use Rattle.kernel.specs.Shown.{IsShown, absurdity}
 use Rattle.kernel.specs.Solution.{at_least}
@@ -103,20 +103,20 @@ bound_judged s objective bound = elim (below_or_above s bound s.improve refl) as
       bound_from s objective bound below (fits_decided (form c)) (shown_decided (constraints s) (form c) (form_is c).rises)
 ]
 
-lower_judged : (s : State) (objective : List Term) (lower : Lower) → Or (HoldsLower s objective lower) (IsLowerFault s objective lower)
+lower_judged : (s : State) (objective : List Term) (lower : Lower) → Or (EntitlesLower s objective lower) (IsLowerFault s objective lower)
 lower_judged s objective lowers.MinusInf = inl tt
 lower_judged s objective (lowers.At bound) = bound_judged s objective bound
 lower_judged s objective lowers.Inf = exhausted_judged s
 
-upper_decided : (p : Opb) (s : State) (upper : Upper) → Decided (HoldsUpper p s upper)
+upper_decided : (p : Opb) (s : State) (upper : Upper) → Decided (EntitlesUpper p s upper)
 upper_decided p s (uppers.At bound) = any_decided (λ g. worth_of p g ≤ℤ bound) (λ g. int_le_decided (worth_of p g) bound) s.logged
 upper_decided p s uppers.Inf = inl tt
 
 abbrev BoundsJudged : Opb → State → List Term → Lower → Upper → Type 0
-BoundsJudged p s objective lower upper = Or (HoldsLower s objective lower × HoldsUpper p s upper) (IsBoundsFault p s objective lower upper)
+BoundsJudged p s objective lower upper = Or (EntitlesLower s objective lower × EntitlesUpper p s upper) (IsBoundsFault p s objective lower upper)
 
-bounds_from : (p : Opb) (s : State) (objective : List Term) (lower : Lower) (upper : Upper) → Or (HoldsLower s objective lower) (IsLowerFault s objective lower)
-    → Decided (HoldsUpper p s upper) → BoundsJudged p s objective lower upper
+bounds_from : (p : Opb) (s : State) (objective : List Term) (lower : Lower) (upper : Upper) → Or (EntitlesLower s objective lower) (IsLowerFault s objective lower)
+    → Decided (EntitlesUpper p s upper) → BoundsJudged p s objective lower upper
 bounds_from p s objective lower upper (inr (f, fault)) d = inr (f, inl fault)
 bounds_from p s objective lower upper (inl low) (inl up) = inl (low, up)
 bounds_from p s objective lower upper (inl low) (inr none) = inr (faults.UpperNotLogged, inr (low, none))

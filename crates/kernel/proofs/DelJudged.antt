@@ -6,7 +6,7 @@ use Rattle.linear.specs.Opb.{Opb}
 use Rattle.normal_form.specs.Normal.{NormalConstraint}
 use Rattle.kernel.specs.declared.fault.StepFault.{StepFault}
 use Rattle.kernel.specs.declared.fault.StepFault.TheVariants as faults
-use Rattle.kernel.specs.Fault.{IsKeptId, IsDelFault}
+use Rattle.kernel.specs.Fault.{IsUndeletable, IsDelFault}
 use Rattle.kernel.specs.Forms.{file_ids}
 use Rattle.kernel.specs.Legal.{IsDeletable, LegalDel, without}
 use Rattle.kernel.specs.State.{State, id_of}
@@ -14,7 +14,7 @@ use Rattle.kernel.proofs.Deciding.{Decided, Judged, contains_decided}
 
 -- one id: to be deleted, or at fault
 abbrev IdJudged : Opb → State → ℕ → Type 0
-IdJudged p s id = IsDeletable p s id ⊎ ((f : StepFault) × IsKeptId p s id f)
+IdJudged p s id = IsDeletable p s id ⊎ ((f : StepFault) × IsUndeletable p s id f)
 
 is_there : (o : Option NormalConstraint) (n : NormalConstraint) → o ≡ Some n → (o ≢ None) × IsSome o
 is_there o n is = (λ none. let same : None ≡ Some n = sym none ∙ is in absurd (cc), ap is_some is)

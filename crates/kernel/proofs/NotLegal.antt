@@ -23,9 +23,9 @@ use Rattle.kernel.specs.declared.step.Item.{Item}
 use Rattle.kernel.specs.declared.step.Step.{Step}
 use Rattle.kernel.specs.declared.step.Step.TheVariants as steps
 use Rattle.kernel.specs.Fault as judging
-use Rattle.kernel.specs.Fault.{IsPolFault, IsAdmissionFault, IsRupFault, IsGoalFault, IsOpenGoal, IsRedFault, IsSolFault, IsSoliFault, IsKeptId, IsDelFault, IsStepFault, IsUnsatFault, IsBoundFault, IsLowerFault, IsUpperFault, IsBoundsFault, IsSatFault, IsHintFault, IsConclusionFault}
+use Rattle.kernel.specs.Fault.{IsPolFault, IsAdmissionFault, IsRupFault, IsGoalFault, IsOpenGoal, IsRedFault, IsSolFault, IsSoliFault, IsUndeletable, IsDelFault, IsStepFault, IsUnsatFault, IsBoundFault, IsLowerFault, IsUpperFault, IsBoundsFault, IsSatFault, IsHintFault, IsConclusionFault}
 use Rattle.kernel.specs.Justified as justified
-use Rattle.kernel.specs.Justified.{IsExhausted, IsLowerBound, HoldsLower, TakesHint, IsJustified}
+use Rattle.kernel.specs.Justified.{IsExhausted, IsLowerBound, EntitlesLower, TakesHint, IsJustified}
 use Rattle.kernel.specs.Legal.{Legal, LegalPol, LegalRup, LegalRed, LegalSoli, LegalDel, IsDeletable, IsShownUnder, IsShownNotRaised, Logs, worth_of, without}
 use Rattle.kernel.specs.Shown.{IsShown, IsAdmitted}
 use Rattle.kernel.specs.Solution.{at_least}
@@ -91,11 +91,11 @@ soli_never p s t listing f h (objective, g, n, better, is) = sol_never p s listi
 is_some_never : {A : Type 0} (o : Option A) → o ≡ None → IsSome o → ⊥
 is_some_never o h k = subst (λ x. IsSome x → ⊥) (sym h) (λ n. false≢true n) k
 
-kept_never : (p : Opb) (s : State) (id : ℕ) (f : StepFault) → IsKeptId p s id f → IsDeletable p s id → ⊥
-kept_never p s id faults.DeadId none d = is_some_never (fin.get s.live id) none d.live
-kept_never p s id faults.FileConstraint (some, inl file) d = omega (arith, file, d.derived)
-kept_never p s id faults.FileConstraint (some, inr asked) d = d.asked asked
-kept_never p s id _ h d = h
+undeletable_never : (p : Opb) (s : State) (id : ℕ) (f : StepFault) → IsUndeletable p s id f → IsDeletable p s id → ⊥
+undeletable_never p s id faults.DeadId none d = is_some_never (fin.get s.live id) none d.live
+undeletable_never p s id faults.FileConstraint (some, inl file) d = omega (arith, file, d.derived)
+undeletable_never p s id faults.FileConstraint (some, inr asked) d = d.asked asked
+undeletable_never p s id _ h d = h
 
 one_deletion : (p : Opb) (s t u : State) (ids : List ℤ) → LegalDel p s ids t → LegalDel p s ids u → t ≡ u
 one_deletion p s t u [] x y = x ∙ sym y
@@ -109,7 +109,7 @@ del_never : (p : Opb) (s t : State) (ids : List ℤ) (f : StepFault) → IsDelFa
 del_never p s t ids f (before, id, behind, between, is, legal, kept) whole =
     let r = first_ids p s t before (id ∷ behind) (subst (λ xs. LegalDel p s xs t) is whole) in
     let same : between ≡ r.0 = one_deletion p s between r.0 before legal r.1 in
-    kept_never p r.0 (id_of r.0.next id) f (subst (λ u. IsKeptId p u (id_of u.next id) f) same kept) r.2.0
+    undeletable_never p r.0 (id_of r.0.next id) f (subst (λ u. IsUndeletable p u (id_of u.next id) f) same kept) r.2.0
 
 pub step_never : (p : Opb) (s : State) (step : Step) (f : StepFault) (t : State) → IsStepFault p s step f → Legal p s step t → ⊥
 step_never p s (steps.Pol written) f t h legal = pol_never s t written f h legal
@@ -131,17 +131,17 @@ bound_never s objective bound n faults.LowerNotShown (below, (m, form, fits, not
     not (subst (IsShown (constraints s)) (one_form (at_least objective bound) n m low.form form) low.shown)
 bound_never s objective bound n _ h low = h
 
-lower_never : (s : State) (objective : List Term) (lower : Lower) (f : StepFault) → IsLowerFault s objective lower f → HoldsLower s objective lower → ⊥
+lower_never : (s : State) (objective : List Term) (lower : Lower) (f : StepFault) → IsLowerFault s objective lower f → EntitlesLower s objective lower → ⊥
 lower_never s objective lowers.MinusInf f h low = h
 lower_never s objective (lowers.At bound) f h (n, low) = bound_never s objective bound n f h low
 lower_never s objective lowers.Inf f h low = unsat_never s f h low
 
-upper_never : (p : Opb) (s : State) (upper : Upper) (f : StepFault) → IsUpperFault p s upper f → justified.HoldsUpper p s upper → ⊥
+upper_never : (p : Opb) (s : State) (upper : Upper) (f : StepFault) → IsUpperFault p s upper f → justified.EntitlesUpper p s upper → ⊥
 upper_never p s upper faults.UpperNotLogged not up = not up
 upper_never p s upper _ h up = h
 
 bounds_never : (p : Opb) (s : State) (objective : List Term) (lower : Lower) (upper : Upper) (f : StepFault) → IsBoundsFault p s objective lower upper f
-    → HoldsLower s objective lower → justified.HoldsUpper p s upper → ⊥
+    → EntitlesLower s objective lower → justified.EntitlesUpper p s upper → ⊥
 bounds_never p s objective lower upper f (inl h) low up = lower_never s objective lower f h low
 bounds_never p s objective lower upper f (inr (low', h)) low up = upper_never p s upper f h up
 
