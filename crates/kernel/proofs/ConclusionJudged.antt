@@ -143,7 +143,7 @@ hint_judged : (p : Opb) (s : State) (hint : Option (List Lit)) → HintJudged p 
 hint_judged p s None = inl (s, refl)
 hint_judged p s (Some listing) = hint_from p s listing (log_judged p s listing)
 
-one_hint : (p : Opb) (s : State) (hint : Option (List Lit)) (t u : State) → TakesHint p s hint t → TakesHint p s hint u → t ≡ u
+pub one_hint : (p : Opb) (s : State) (hint : Option (List Lit)) (t u : State) → TakesHint p s hint t → TakesHint p s hint u → t ≡ u
 one_hint p s None t u is also = is ∙ sym also
 one_hint p s (Some listing) t u (g, logs, is) (h, also, same) = is ∙ ap (λ b. with_solution b s) (one_log p s listing g h logs also) ∙ sym same
 

@@ -10,6 +10,10 @@ pub mod Kept
 pub mod LiveConstraints
 pub mod NotLegal
 pub mod Numbered
+pub mod OneConclusionFault
+pub mod OneItemFault
+pub mod OneState
+pub mod OneStepFault
 pub mod Places
 pub mod PolJudged
 pub mod Polish

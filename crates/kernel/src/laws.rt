@@ -1,5 +1,5 @@
 //! Laws of the definitions, each the contract of a function that does nothing: every legal step preserves an answer to
-//! the problem, so what a legal conclusion claims is true; and each step and conclusion is judged, one way only.
+//! the problem, so what a legal conclusion claims is true; and each step and each conclusion has one verdict.
 
 ghost use Rattle.std.specs.Prelude.{◌≡◌, ◌⊎◌, ℤ, Bool, List, Option, All};
 ghost use Rattle.linear.specs.Opb.{Opb};
@@ -125,4 +125,18 @@ pub fn every_conclusion_is_judged()
         → ((best : Option (List Bool)) × IsJustified p s c best) ⊎ ((f : StepFault) × IsConclusionFault p s c f) }
     ensures faultless { (p : Opb) → (s : State) → (c : Conclusion)
         → ((f : StepFault) → IsConclusionFault p s c f → ⊥) → (best : Option (List Bool)) × IsJustified p s c best }
+{}
+
+/// A legal step leads to one state, and a justified conclusion comes with one best solution.
+pub fn one_result()
+    ensures step { (p : Opb) → (s t u : State) → (step : Step) → Legal p s step t → Legal p s step u → t ≡ u }
+    ensures conclusion { (p : Opb) → (s : State) → (c : Conclusion) → (best other : Option (List Bool))
+        → IsJustified p s c best → IsJustified p s c other → best ≡ other }
+{}
+
+/// A step, or a conclusion, has at most one fault: the first in the order of judging.
+pub fn one_fault()
+    ensures step { (p : Opb) → (s : State) → (step : Step) → (f g : StepFault) → IsStepFault p s step f → IsStepFault p s step g → f ≡ g }
+    ensures conclusion { (p : Opb) → (s : State) → (c : Conclusion) → (f g : StepFault)
+        → IsConclusionFault p s c f → IsConclusionFault p s c g → f ≡ g }
 {}
