@@ -22,16 +22,12 @@ use Rattle.kernel.proofs.Deciding.{Decided}
 
 -- a listing is consistent or not
 
-swap : (b d : Bool) → (b ≡ true) ⊎ (d ≡ true) → (P : Type 0) → (b ≡ true → P) → (d ≡ true → P) → P
-swap b d (inl h) P f g = f h
-swap b d (inr h) P f g = g h
-
 -- with the first literal moved behind the others
 moved : (l : Lit) (ls : List Lit) (v : ℕ) (s : Bool) → among (l ∷ ls) v s ≡ true → among (ls ++ l ∷ []) v s ≡ true
-moved l ls v s h =
-    swap (only (l.var.0) l.negated v s) (among ls v s) (or_cases (only (l.var.0) l.negated v s) (among ls v s) h) (among (ls ++ l ∷ []) v s ≡ true)
-    (λ here. among_right ls (l ∷ []) v s (rw here refl))
-    (λ later. among_left ls (l ∷ []) v s later)
+moved l ls v s h = elim (or_cases (only (l.var.0) l.negated v s) (among ls v s) h) as (λ _. among (ls ++ l ∷ []) v s ≡ true) [
+  | inl here ↦ among_right ls (l ∷ []) v s (rw here refl)
+  | inr later ↦ among_left ls (l ∷ []) v s later
+]
 
 one_more : (l : Lit) (ls : List Lit) → Decided (IsConsistent ls) → (b : Bool) → lists ls (opposite l) ≡ b → Decided (IsConsistent (l ∷ ls))
 one_more l ls (inr fails) b is = inr (λ h. fails (λ m. h (m.0, among_tail l ls (m.0.var.0) m.0.negated m.1, among_tail l ls (m.0.var.0) (not m.0.negated) m.2)))

@@ -3,8 +3,6 @@ use Rattle.std.proofs.Common.{◌≡◌, ◌≢◌, ◌⊎◌, inl, inr, ℤ, �
 use Rattle.linear.specs.declared.term.Lit.{Lit}
 use Rattle.linear.specs.declared.term.Term.{Term}
 use Rattle.linear.specs.Opb.{Opb}
-use Rattle.normal_form.specs.Normal.{NormalConstraint, Fits}
-use Rattle.normal_form.specs.NormalOf.{IsNormalOf}
 use Rattle.kernel.specs.declared.conclusion.Conclusion.{Conclusion}
 use Rattle.kernel.specs.declared.conclusion.Lower.{Lower}
 use Rattle.kernel.specs.declared.conclusion.Upper.{Upper}
@@ -14,7 +12,6 @@ use Rattle.kernel.specs.declared.fault.StepFault.{StepFault}
 use Rattle.kernel.specs.declared.fault.StepFault.TheVariants as faults
 use Rattle.kernel.specs.Fault as judging
 use Rattle.kernel.specs.Fault.{IsUnsatFault, IsBoundFault, IsLowerFault, IsUpperFault, IsBoundsFault, IsSatFault, IsHintFault, IsConclusionFault}
-use Rattle.kernel.specs.Solution.{at_least}
 use Rattle.kernel.specs.State.{State}
 use Rattle.kernel.proofs.NotLegal.{less_never, hint_never, lower_never, one_objective, none_some}
 use Rattle.kernel.proofs.OneItemFault.{Case, one_of_two, one_of_three}
@@ -29,33 +26,27 @@ one_unsat_fault : (s : State) (f g : StepFault) → IsUnsatFault s f → IsUnsat
 one_unsat_fault s f g h k =
     one_of_two f g faults.SolutionLogged faults.LowerNotShown (s.logged ≢ []) (s.logged ≡ []) (λ some none. some none) (unsat_is s f h) (unsat_is s g k)
 
--- a bound: above the least value, or its form does not fit, or it does
-
-abbrev IsAbove : State → ℤ → Type 0
-IsAbove s bound = (least : ℤ) × (s.improve ≡ Some least) × (least <ℤ bound)
-
-abbrev IsAtMost : State → ℤ → Type 0
-IsAtMost s bound = IfSome s.improve (λ least. bound ≤ℤ least)
-
-abbrev FormFits : List Term → ℤ → Type 0
-FormFits objective bound = (n : NormalConstraint) × IsNormalOf (at_least objective bound) n × Fits n
+-- a bound: above the least value, or its form does not fit, or it fits and is not shown
 
 bound_is : (s : State) (objective : List Term) (bound : ℤ) (f : StepFault) → IsBoundFault s objective bound f
-    → Case f faults.LowerAboveBest (IsAbove s bound)
-    ⊎ (Case f faults.TooLarge (IsAtMost s bound × (FormFits objective bound → ⊥)) ⊎ Case f faults.LowerNotShown (IsAtMost s bound × FormFits objective bound))
+    → Case f faults.LowerAboveBest (IsBoundFault s objective bound faults.LowerAboveBest)
+    ⊎ (Case f faults.TooLarge (IsBoundFault s objective bound faults.TooLarge) ⊎ Case f faults.LowerNotShown (IsBoundFault s objective bound faults.LowerNotShown))
 bound_is s objective bound faults.LowerAboveBest h = inl (refl, h)
-bound_is s objective bound faults.TooLarge (below, none) = inr (inl (refl, (below, λ (n, form, fits). none n form fits)))
-bound_is s objective bound faults.LowerNotShown (below, (n, form, fits, not)) = inr (inr (refl, (below, (n, form, fits))))
+bound_is s objective bound faults.TooLarge h = inr (inl (refl, h))
+bound_is s objective bound faults.LowerNotShown h = inr (inr (refl, h))
 bound_is s objective bound _ h = absurd h
 
-above_never : (s : State) (bound : ℤ) → IsAbove s bound → IsAtMost s bound → ⊥
+above_never : (s : State) (bound : ℤ) → (least : ℤ) × (s.improve ≡ Some least) × (least <ℤ bound) → IfSome s.improve (λ least. bound ≤ℤ least) → ⊥
 above_never s bound (least, is, above) below = less_never least bound above (subst (λ o. IfSome o (λ x. bound ≤ℤ x)) is below)
+
+unfit_never : (s : State) (objective : List Term) (bound : ℤ) → IsBoundFault s objective bound faults.TooLarge → IsBoundFault s objective bound faults.LowerNotShown → ⊥
+unfit_never s objective bound (below, none) (below', (n, form, fits, not)) = none n form fits
 
 one_bound_fault : (s : State) (objective : List Term) (bound : ℤ) (f g : StepFault) → IsBoundFault s objective bound f → IsBoundFault s objective bound g → f ≡ g
 one_bound_fault s objective bound f g h k =
     one_of_three f g faults.LowerAboveBest faults.TooLarge faults.LowerNotShown
-    (IsAbove s bound) (IsAtMost s bound × (FormFits objective bound → ⊥)) (IsAtMost s bound × FormFits objective bound)
-    (λ above low. above_never s bound above low.0) (λ above low. above_never s bound above low.0) (λ none some. none.1 some.1)
+    (IsBoundFault s objective bound faults.LowerAboveBest) (IsBoundFault s objective bound faults.TooLarge) (IsBoundFault s objective bound faults.LowerNotShown)
+    (λ above low. above_never s bound above low.0) (λ above low. above_never s bound above low.0) (unfit_never s objective bound)
     (bound_is s objective bound f h) (bound_is s objective bound g k)
 
 one_lower_fault : (s : State) (objective : List Term) (lower : Lower) (f g : StepFault) → IsLowerFault s objective lower f → IsLowerFault s objective lower g → f ≡ g

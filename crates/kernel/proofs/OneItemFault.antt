@@ -1,5 +1,5 @@
 -- A `pol` step has at most one fault: each item has, and a run stops at one place.
-use Rattle.std.proofs.Common.{◌≡◌, ◌≢◌, ◌<◌, ◌⊎◌, inl, inr, ℤ, pos, ◌<ℤ◌, List, [], ◌∷◌, ◌++◌, length, refl, sym, ap, subst, ◌∙◌, arith}
+use Rattle.std.proofs.Common.{◌≡◌, ◌⊎◌, inl, inr, ℤ, pos, ◌<ℤ◌, List, [], ◌∷◌, ◌++◌, length, refl, sym, ap, subst, ◌∙◌, arith}
 use Rattle.std.proofs.lemmas.Int.{ints}
 use Rattle.normal_form.specs.Normal.{NormalConstraint}
 use Rattle.kernel.specs.declared.fault.StepFault.{StepFault}
@@ -43,14 +43,15 @@ id_is : (given : Given) (id : ℤ) (f : StepFault) → IsIdFault given id f → 
 id_is given id faults.DeadId h = refl
 id_is given id _ h = absurd h
 
-factor_is : (k : ℤ) (stack : Stack) (f : StepFault) → IsFactorFault k stack f → Case f faults.StackShape (stack ≡ []) ⊎ Case f faults.BadFactor ((stack ≢ []) × (k <ℤ pos 1))
+factor_is : (k : ℤ) (stack : Stack) (f : StepFault) → IsFactorFault k stack f → Case f faults.StackShape (IsFactorFault k stack faults.StackShape) ⊎ Case f faults.BadFactor (IsFactorFault k stack faults.BadFactor)
 factor_is k stack faults.StackShape h = inl (refl, h)
 factor_is k stack faults.BadFactor h = inr (refl, h)
 factor_is k stack _ h = absurd h
 
 one_factor_fault : (k : ℤ) (stack : Stack) (f g : StepFault) → IsFactorFault k stack f → IsFactorFault k stack g → f ≡ g
 one_factor_fault k stack f g h j =
-    one_of_two f g faults.StackShape faults.BadFactor (stack ≡ []) ((stack ≢ []) × (k <ℤ pos 1)) (λ none some. some.0 none) (factor_is k stack f h) (factor_is k stack g j)
+    one_of_two f g faults.StackShape faults.BadFactor (IsFactorFault k stack faults.StackShape) (IsFactorFault k stack faults.BadFactor)
+    (λ none some. some.0 none) (factor_is k stack f h) (factor_is k stack g j)
 
 -- two operands, and one operand with a factor
 abbrev HasTwo : Stack → Type 0
@@ -59,37 +60,37 @@ HasTwo stack = (d : NormalConstraint) × (g : NormalConstraint) × (rest : Stack
 abbrev HasOne : ℤ → Stack → Type 0
 HasOne k stack = (d : NormalConstraint) × (rest : Stack) × (stack ≡ d ∷ rest) × (pos 0 <ℤ k)
 
-add_is : (stack : Stack) (f : StepFault) → IsAddFault stack f → Case f faults.StackShape (length stack < 2) ⊎ Case f faults.TooLarge (HasTwo stack)
+add_is : (stack : Stack) (f : StepFault) → IsAddFault stack f → Case f faults.StackShape (IsAddFault stack faults.StackShape) ⊎ Case f faults.TooLarge (HasTwo stack)
 add_is stack faults.StackShape h = inl (refl, h)
 add_is stack faults.TooLarge (d, g, rest, r, is, large) = inr (refl, (d, g, rest, is))
 add_is stack _ h = absurd h
 
-few_never : (stack : Stack) → length stack < 2 → HasTwo stack → ⊥
+few_never : (stack : Stack) → IsAddFault stack faults.StackShape → HasTwo stack → ⊥
 few_never stack few (d, g, rest, is) = omega (arith, few, ap length is)
 
 multiply_is : (k : ℤ) (stack : Stack) (f : StepFault) → IsMultiplyFault k stack f
-    → Case f faults.StackShape (stack ≡ []) ⊎ (Case f faults.BadFactor ((stack ≢ []) × (k <ℤ pos 1)) ⊎ Case f faults.TooLarge (HasOne k stack))
+    → Case f faults.StackShape (IsFactorFault k stack faults.StackShape) ⊎ (Case f faults.BadFactor (IsFactorFault k stack faults.BadFactor) ⊎ Case f faults.TooLarge (HasOne k stack))
 multiply_is k stack faults.StackShape h = inl (refl, h)
 multiply_is k stack faults.BadFactor h = inr (inl (refl, h))
 multiply_is k stack faults.TooLarge (d, rest, r, is, above, large) = inr (inr (refl, (d, rest, is, above)))
 multiply_is k stack _ h = absurd h
 
-empty_never : (k : ℤ) (stack : Stack) → stack ≡ [] → HasOne k stack → ⊥
+empty_never : (k : ℤ) (stack : Stack) → IsFactorFault k stack faults.StackShape → HasOne k stack → ⊥
 empty_never k stack none (d, rest, is, above) = empty_top stack d rest none is
 
-below_never : (k : ℤ) (stack : Stack) → (stack ≢ []) × (k <ℤ pos 1) → HasOne k stack → ⊥
+below_never : (k : ℤ) (stack : Stack) → IsFactorFault k stack faults.BadFactor → HasOne k stack → ⊥
 below_never k stack (some, below) (d, rest, is, above) = omega (arith, ints, below, above)
 
 one_multiply_fault : (k : ℤ) (stack : Stack) (f g : StepFault) → IsMultiplyFault k stack f → IsMultiplyFault k stack g → f ≡ g
 one_multiply_fault k stack f g h j =
-    one_of_three f g faults.StackShape faults.BadFactor faults.TooLarge (stack ≡ []) ((stack ≢ []) × (k <ℤ pos 1)) (HasOne k stack)
+    one_of_three f g faults.StackShape faults.BadFactor faults.TooLarge (IsFactorFault k stack faults.StackShape) (IsFactorFault k stack faults.BadFactor) (HasOne k stack)
     (λ none some. some.0 none) (empty_never k stack) (below_never k stack) (multiply_is k stack f h) (multiply_is k stack g j)
 
 one_item_fault : (given : Given) (i : Item) (stack : Stack) (f g : StepFault) → IsItemFault given i stack f → IsItemFault given i stack g → f ≡ g
 one_item_fault given (items.Id id) stack f g h j = id_is given id f h ∙ sym (id_is given id g j)
 one_item_fault given (items.Axiom l) stack f g h j = absurd h
 one_item_fault given items.Add stack f g h j =
-    one_of_two f g faults.StackShape faults.TooLarge (length stack < 2) (HasTwo stack) (few_never stack) (add_is stack f h) (add_is stack g j)
+    one_of_two f g faults.StackShape faults.TooLarge (IsAddFault stack faults.StackShape) (HasTwo stack) (few_never stack) (add_is stack f h) (add_is stack g j)
 one_item_fault given (items.Multiply k) stack f g h j = one_multiply_fault k stack f g h j
 one_item_fault given (items.Divide k) stack f g h j = one_factor_fault k stack f g h j
 one_item_fault given items.Saturate stack f g h j = shape_is stack f h ∙ sym (shape_is stack g j)

@@ -1,5 +1,5 @@
 -- A step has at most one fault.
-use Rattle.std.proofs.Common.{◌≡◌, ◌≢◌, ℕ, ◌<◌, ◌⊎◌, inl, inr, ℤ, ◌<ℤ◌, Bool, List, [], ◌∷◌, ◌++◌, Some, None, All, IfSome, length, refl, sym, ap, subst, ◌∙◌}
+use Rattle.std.proofs.Common.{◌≡◌, ◌≢◌, ℕ, ◌⊎◌, inl, inr, ℤ, ◌<ℤ◌, Bool, List, [], ◌∷◌, ◌++◌, None, All, IfSome, length, refl, sym, ap, subst, ◌∙◌, arith}
 use Rattle.std.proofs.lemmas.Bool.{cases_order}
 use Rattle.std.specs.FinMap as fin
 use Rattle.linear.specs.declared.constraint.Signed.{Signed}
@@ -8,8 +8,6 @@ use Rattle.linear.specs.Opb.{Opb}
 use Rattle.normal_form.specs.Normal.{NormalConstraint}
 use Rattle.normal_form.specs.Negation.{IsNegation}
 use Rattle.normal_form.proofs.Opposite.{one_negation}
-use Rattle.propagate.specs.Literals.{IsConsistent}
-use Rattle.propagate.specs.Chain.{LeadsToConflict}
 use Rattle.substitution.specs.Images.{Images}
 use Rattle.kernel.specs.declared.fault.StepFault.{StepFault}
 use Rattle.kernel.specs.declared.fault.StepFault.TheVariants as faults
@@ -18,7 +16,7 @@ use Rattle.kernel.specs.declared.step.Step.TheVariants as steps
 use Rattle.kernel.specs.Fault.{IsAdmissionFault, IsRupFault, IsGoalFault, IsOpenGoal, IsRedFault, IsSolFault, IsNotBetter, IsSoliFault, IsUndeletable, IsDelFault, IsStepFault}
 use Rattle.kernel.specs.Legal.{IsShownUnder, Logs, LegalDel, worth_of, without}
 use Rattle.kernel.specs.Shown.{IsAdmitted}
-use Rattle.kernel.specs.Solution.{NamesAll, Completes}
+use Rattle.kernel.specs.Solution.{Completes}
 use Rattle.kernel.specs.State.{State, constraints, id_of, HasRoom}
 use Rattle.kernel.proofs.LiveConstraints.{All-get}
 use Rattle.kernel.proofs.NotLegal.{admitted_never, one_admitted, sol_never, less_never, undeletable_never}
@@ -58,56 +56,53 @@ one_rup_fault s c f g h k = one_rup_case s c f g (rup_is s c f h) (rup_is s c g 
 
 -- red: the first id whose constraint is not shown, then the new constraint, then the objective
 
-abbrev FirstOpen : State → List NormalConstraint → Images → ℕ → Type 0
-FirstOpen s from images id =
-    (e : NormalConstraint) × (fin.get s.live id ≡ Some e) × (IsShownUnder from images e → ⊥)
-    × ((k : ℕ) (d : NormalConstraint) → k < id → fin.get s.live k ≡ Some d → IsShownUnder from images d)
+abbrev LiveOpen : Opb → State → List NormalConstraint → Images → NormalConstraint → StepFault → Type 0
+LiveOpen p s from images n f = (id : ℕ) × (f ≡ faults.GoalOpen id) × IsGoalFault p s from images n (faults.GoalOpen id)
 
-abbrev LiveOpen : State → List NormalConstraint → Images → StepFault → Type 0
-LiveOpen s from images f = (id : ℕ) × (f ≡ faults.GoalOpen id) × FirstOpen s from images id
-
-one_id : (s : State) (from : List NormalConstraint) (images : Images) (i j : ℕ) → FirstOpen s from images i → FirstOpen s from images j → i ≡ j
-one_id s from images i j (e, is, not, before) (d, is', not', before') = elim (cases_order i j) as (λ _. i ≡ j) [
+one_id : (p : Opb) (s : State) (from : List NormalConstraint) (images : Images) (n : NormalConstraint) (i j : ℕ)
+    → IsGoalFault p s from images n (faults.GoalOpen i) → IsGoalFault p s from images n (faults.GoalOpen j) → i ≡ j
+one_id p s from images n i j (e, is, not, before) (d, is', not', before') = elim (cases_order i j) as (λ _. i ≡ j) [
   | inl same ↦ same
-  | inr (inl less) ↦ absurd (not (before' i e less is))
-  | inr (inr more) ↦ absurd (not' (before j d more is'))
+  | inr (inl less) ↦ absurd (not (before' i e (omega (arith, less)) is))
+  | inr (inr more) ↦ absurd (not' (before j d (omega (arith, more)) is'))
 ]
 
-one_live : (s : State) (from : List NormalConstraint) (images : Images) (f g : StepFault) → LiveOpen s from images f → LiveOpen s from images g → f ≡ g
-one_live s from images f g (i, is, open_i) (j, is', open_j) = is ∙ ap (λ id. faults.GoalOpen id) (one_id s from images i j open_i open_j) ∙ sym is'
+one_live : (p : Opb) (s : State) (from : List NormalConstraint) (images : Images) (n : NormalConstraint) (f g : StepFault) → LiveOpen p s from images n f → LiveOpen p s from images n g → f ≡ g
+one_live p s from images n f g (i, is, open_i) (j, is', open_j) = is ∙ ap (λ id. faults.GoalOpen id) (one_id p s from images n i j open_i open_j) ∙ sym is'
 
 abbrev LiveShown : State → List NormalConstraint → Images → Type 0
 LiveShown s from images = All (IsShownUnder from images) (constraints s)
 
-live_never : (s : State) (from : List NormalConstraint) (images : Images) (f : StepFault) → LiveOpen s from images f → LiveShown s from images → ⊥
-live_never s from images f (id, is, (e, there, not, before)) all = not (All-get (IsShownUnder from images) s.live id e all there)
+live_never : (p : Opb) (s : State) (from : List NormalConstraint) (images : Images) (n : NormalConstraint) (f : StepFault) → LiveOpen p s from images n f → LiveShown s from images → ⊥
+live_never p s from images n f (id, is, (e, there, not, before)) all = not (All-get (IsShownUnder from images) s.live id e all there)
 
-abbrev OwnOpen : State → List NormalConstraint → Images → NormalConstraint → Type 0
-OwnOpen s from images n = LiveShown s from images × (IsShownUnder from images n → ⊥)
+abbrev OtherOpen : Opb → State → List NormalConstraint → Images → NormalConstraint → StepFault → Type 0
+OtherOpen p s from images n f =
+    Case f faults.GoalOpenSelf (IsGoalFault p s from images n faults.GoalOpenSelf) ⊎ Case f faults.GoalOpenObjective (IsGoalFault p s from images n faults.GoalOpenObjective)
 
-abbrev ObjectiveOpen : State → List NormalConstraint → Images → NormalConstraint → Type 0
-ObjectiveOpen s from images n = LiveShown s from images × IsShownUnder from images n
-
-abbrev GoalCase : State → List NormalConstraint → Images → NormalConstraint → StepFault → Type 0
-GoalCase s from images n f = LiveOpen s from images f ⊎ (Case f faults.GoalOpenSelf (OwnOpen s from images n) ⊎ Case f faults.GoalOpenObjective (ObjectiveOpen s from images n))
-
-goal_is : (p : Opb) (s : State) (from : List NormalConstraint) (images : Images) (n : NormalConstraint) (f : StepFault) → IsGoalFault p s from images n f → GoalCase s from images n f
+goal_is : (p : Opb) (s : State) (from : List NormalConstraint) (images : Images) (n : NormalConstraint) (f : StepFault)
+    → IsGoalFault p s from images n f → LiveOpen p s from images n f ⊎ OtherOpen p s from images n f
 goal_is p s from images n (faults.GoalOpen id) h = inl (id, refl, h)
 goal_is p s from images n faults.GoalOpenSelf h = inr (inl (refl, h))
-goal_is p s from images n faults.GoalOpenObjective h = inr (inr (refl, (h.0, h.1)))
+goal_is p s from images n faults.GoalOpenObjective h = inr (inr (refl, h))
 goal_is p s from images n _ h = absurd h
 
-all_live : (s : State) (from : List NormalConstraint) (images : Images) (n : NormalConstraint) (f : StepFault)
-    → Case f faults.GoalOpenSelf (OwnOpen s from images n) ⊎ Case f faults.GoalOpenObjective (ObjectiveOpen s from images n) → LiveShown s from images
-all_live s from images n f (inl h) = h.1.0
-all_live s from images n f (inr h) = h.1.0
+all_live : (p : Opb) (s : State) (from : List NormalConstraint) (images : Images) (n : NormalConstraint) (f : StepFault) → OtherOpen p s from images n f → LiveShown s from images
+all_live p s from images n f (inl h) = h.1.0
+all_live p s from images n f (inr h) = h.1.0
 
-one_goal_case : (s : State) (from : List NormalConstraint) (images : Images) (n : NormalConstraint) (f g : StepFault) → GoalCase s from images n f → GoalCase s from images n g → f ≡ g
-one_goal_case s from images n f g (inl h) (inl k) = one_live s from images f g h k
-one_goal_case s from images n f g (inl h) (inr k) = absurd (live_never s from images f h (all_live s from images n g k))
-one_goal_case s from images n f g (inr h) (inl k) = absurd (live_never s from images g k (all_live s from images n f h))
-one_goal_case s from images n f g (inr h) (inr k) =
-    one_of_two f g faults.GoalOpenSelf faults.GoalOpenObjective (OwnOpen s from images n) (ObjectiveOpen s from images n) (λ own objective. own.1 objective.1) h k
+one_goal_case : (p : Opb) (s : State) (from : List NormalConstraint) (images : Images) (n : NormalConstraint) (f g : StepFault)
+    → LiveOpen p s from images n f ⊎ OtherOpen p s from images n f → LiveOpen p s from images n g ⊎ OtherOpen p s from images n g → f ≡ g
+one_goal_case p s from images n f g (inl h) (inl k) = one_live p s from images n f g h k
+one_goal_case p s from images n f g (inl h) (inr k) = absurd (live_never p s from images n f h (all_live p s from images n g k))
+one_goal_case p s from images n f g (inr h) (inl k) = absurd (live_never p s from images n g k (all_live p s from images n f h))
+one_goal_case p s from images n f g (inr h) (inr k) =
+    one_of_two f g faults.GoalOpenSelf faults.GoalOpenObjective (IsGoalFault p s from images n faults.GoalOpenSelf) (IsGoalFault p s from images n faults.GoalOpenObjective)
+    (λ own objective. own.1 objective.1) h k
+
+one_goal_fault : (p : Opb) (s : State) (from : List NormalConstraint) (images : Images) (n : NormalConstraint) (f g : StepFault)
+    → IsGoalFault p s from images n f → IsGoalFault p s from images n g → f ≡ g
+one_goal_fault p s from images n f g h k = one_goal_case p s from images n f g (goal_is p s from images n f h) (goal_is p s from images n g k)
 
 one_open_goal : (p : Opb) (s : State) (c : Signed) (images : Images) (f g : StepFault) → IsOpenGoal p s c images f → IsOpenGoal p s c images g → f ≡ g
 one_open_goal p s c images f g (n, m, admitted, room, negated, h) (k, j, admitted', room', negated', i) =
@@ -115,7 +110,7 @@ one_open_goal p s c images f g (n, m, admitted, room, negated, h) (k, j, admitte
     let other : j ≡ m = one_negation n j m admitted.form.rises (subst (λ z. IsNegation z j) same negated') negated in
     let goal : IsGoalFault p s (constraints s ++ m ∷ []) images n g =
     subst (λ z. IsGoalFault p s (constraints s ++ z ∷ []) images n g) other (subst (λ z. IsGoalFault p s (constraints s ++ j ∷ []) images z g) same i) in
-    one_goal_case s (constraints s ++ m ∷ []) images n f g (goal_is p s (constraints s ++ m ∷ []) images n f h) (goal_is p s (constraints s ++ m ∷ []) images n g goal)
+    one_goal_fault p s (constraints s ++ m ∷ []) images n f g h goal
 
 one_red_fault : (p : Opb) (s : State) (c : Signed) (images : Images) (f g : StepFault) → IsRedFault p s c images f → IsRedFault p s c images g → f ≡ g
 one_red_fault p s c images f g (inl h) (inl k) = one_admission_fault s c f g h k
@@ -126,14 +121,13 @@ one_red_fault p s c images f g (inr h) (inr k) = one_open_goal p s c images f g 
 -- sol
 
 abbrev Conflicts : Opb → State → List Lit → Type 0
-Conflicts p s listing =
-    (IsConsistent listing → ⊥) ⊎ (IsConsistent listing × (NamesAll (length p.names) listing → ⊥) × LeadsToConflict (constraints s) listing)
+Conflicts p s listing = IsSolFault p s listing faults.SolutionConflict
 
 abbrev Completed : Opb → State → List Lit → Type 0
 Completed p s listing = (g : List Bool) × Completes (constraints s) (length p.names) listing g
 
 abbrev IsPartial : Opb → State → List Lit → Type 0
-IsPartial p s listing = IsConsistent listing × (LeadsToConflict (constraints s) listing → ⊥) × ((g : List Bool) → Completes (constraints s) (length p.names) listing g → ⊥)
+IsPartial p s listing = IsSolFault p s listing faults.SolutionPartial
 
 sol_is : (p : Opb) (s : State) (listing : List Lit) (f : StepFault) → IsSolFault p s listing f
     → Case f faults.SolutionConflict (Conflicts p s listing) ⊎ (Case f faults.SolutionPartial (IsPartial p s listing) ⊎ Case f faults.SolutionFalse (Completed p s listing))
