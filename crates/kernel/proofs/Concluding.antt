@@ -1,5 +1,5 @@
 -- What a preserved state entitles to is true of the problem.
-use Rattle.std.proofs.Common.{◌≡◌, ◌≢◌, ℕ, ◌+◌, ◌<◌, ℤ, pos, ◌<ℤ◌, ◌≤ℤ◌, ◌⊎◌, inl, inr, Bool, true, false, int_le, List, [], ◌∷◌, ◌++◌, Option, None, Some, All, Any, IfSome, IsSome, IsSomeAnd, length, get_or, refl, sym, ap, subst, ◌∙◌, arith}
+use Rattle.std.proofs.Common.{◌≡◌, ◌<◌, ℤ, ◌<ℤ◌, ◌≤ℤ◌, ◌⊎◌, inl, inr, Bool, true, false, int_le, List, [], ◌∷◌, ◌++◌, Option, None, Some, All, Any, IfSome, length, get_or, refl, sym, ap, subst, arith}
 use Rattle.std.proofs.lemmas.Int.{ints}
 use Rattle.std.proofs.lemmas.List.{length-append}
 use Rattle.std.proofs.Math.Seq.{get_or-append_seam}
@@ -7,10 +7,10 @@ use Rattle.std.proofs.lemmas.Bool.Decides.{nat_tests}
 use Rattle.std.proofs.lemmas.List.Elements.{All-cons, All-append, All-weaker, All-contains}
 use Rattle.linear.specs.declared.term.Term.{Term}
 use Rattle.linear.specs.declared.term.Lit.{Lit}
-use Rattle.linear.specs.Valuation.{Valuation, valuation_of}
+use Rattle.linear.specs.Valuation.{Valuation}
 use Rattle.linear.specs.Sum.{sum_of}
 use Rattle.linear.specs.Opb.{Opb, Satisfies, value_of, objective_value}
-use Rattle.normal_form.specs.Normal.{NormalConstraint, Holds, Rises}
+use Rattle.normal_form.specs.Normal.{NormalConstraint, Holds}
 use Rattle.normal_form.specs.NormalOf.{IsNormalOf}
 use Rattle.normal_form.proofs.NormalForm.{form_meaning}
 use Rattle.kernel.specs.declared.conclusion.Lower.{Lower}
@@ -21,7 +21,7 @@ use Rattle.kernel.specs.declared.conclusion.Upper.TheVariants as uppers
 use Rattle.kernel.specs.declared.conclusion.Conclusion.TheVariants as conclusions
 use Rattle.kernel.specs.Claim.{Claim, Concludes, ClaimsLower, ClaimsUpper, IsSolution, IsUnsatisfiable}
 use Rattle.kernel.specs.Justified as justified
-use Rattle.kernel.specs.Justified.{IsExhausted, IsLowerBound, HoldsLower, HoldsUpper, hint_of, TakesHint, IsBest, IsJustified}
+use Rattle.kernel.specs.Justified.{IsExhausted, IsLowerBound, EntitlesLower, EntitlesUpper, hint_of, TakesHint, IsBest, IsJustified}
 use Rattle.kernel.specs.Legal.{worth_of}
 use Rattle.kernel.specs.Preserved.{IsPreserved, AreNormal}
 use Rattle.kernel.specs.Shown.{absurdity}
@@ -77,26 +77,26 @@ lower_bound p s objective bound n kept normal minimises low a satisfies = by s.i
       | inr above ↦ no_greater bound least (value_of a p) low' above
     ]
 
-claims_lower : (p : Opb) (s : State) (objective : List Term) (lower : Lower) → IsPreserved p s → AreNormal s → p.objective ≡ Some objective → HoldsLower s objective lower → ClaimsLower p lower
+claims_lower : (p : Opb) (s : State) (objective : List Term) (lower : Lower) → IsPreserved p s → AreNormal s → p.objective ≡ Some objective → EntitlesLower s objective lower → ClaimsLower p lower
 claims_lower p s objective lowers.MinusInf kept normal minimises h = tt
 claims_lower p s objective (lowers.At bound) kept normal minimises (n, low) = lower_bound p s objective bound n kept normal minimises low
 claims_lower p s objective lowers.Inf kept normal minimises h = exhausted p s kept normal h
 
 -- the best solution is worth no more than any
-best_least : (p : Opb) (logged : List (List Bool)) (g : List Bool) → IsBest p logged (Some g) → All (λ h. worth_of p g ≤ℤ worth_of p h) logged
+pub best_least : (p : Opb) (logged : List (List Bool)) (g : List Bool) → IsBest p logged (Some g) → All (λ h. worth_of p g ≤ℤ worth_of p h) logged
 best_least p logged g (before, behind, is, less, no_more) =
     let P : List Bool → Type 0 = λ h. worth_of p g ≤ℤ worth_of p h in
     subst (All P) (sym is)
     (All-append P before (g ∷ behind) (All-weaker (λ h. worth_of p g <ℤ worth_of p h) P (λ h lt. omega (arith, ints, lt)) before less)
     (All-cons P g behind (omega (arith, ints)) no_more))
 
-claims_upper : (p : Opb) (s : State) (upper : Upper) (best : Option (List Bool)) → HoldsUpper p s upper → IsBest p s.logged best → ClaimsUpper p upper best
+claims_upper : (p : Opb) (s : State) (upper : Upper) (best : Option (List Bool)) → EntitlesUpper p s upper → IsBest p s.logged best → ClaimsUpper p upper best
 claims_upper p s (uppers.At bound) None (i, g, below, is, worth) empty = absurd (omega (arith, below, ap length empty))
 claims_upper p s (uppers.At bound) (Some best) (i, g, below, is, worth) b =
     no_greater (worth_of p best) (worth_of p g) bound (All-contains (λ h. worth_of p best ≤ℤ worth_of p h) s.logged g (best_least p s.logged best b) (i, below, is)) worth
 claims_upper p s uppers.Inf best h b = tt
 
-concludes : (p : Opb) (s : State) (c : Conclusion) (best : Option (List Bool)) → IsPreserved p s → AreNormal s → justified.Holds p s c → IsBest p s.logged best → Concludes p c best
+concludes : (p : Opb) (s : State) (c : Conclusion) (best : Option (List Bool)) → IsPreserved p s → AreNormal s → justified.Entitles p s c → IsBest p s.logged best → Concludes p c best
 concludes p s conclusions.Nothing best kept normal h b = tt
 concludes p s (conclusions.Sat hint) None kept normal h b = absurd (h b)
 concludes p s (conclusions.Sat hint) (Some g) kept normal h b = refl

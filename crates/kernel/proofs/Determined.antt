@@ -1,17 +1,16 @@
 -- Items run in one way: what they lead to, and what the value of an expression is.
-use Rattle.std.proofs.Common.{◌≡◌, ◌≢◌, ℕ, ◌+◌, ◌<◌, ℤ, pos, ◌<ℤ◌, ◌⊎◌, inl, inr, List, [], ◌∷◌, ◌++◌, Some, None, length, unsigned_abs, refl, sym, ap, subst, ◌∙◌, arith}
+use Rattle.std.proofs.Common.{◌≡◌, inl, inr, List, [], ◌∷◌, ◌++◌, length, unsigned_abs, refl, sym, ap, subst, ◌∙◌, arith}
 use Rattle.std.proofs.lemmas.Int.{ints}
-use Rattle.linear.specs.declared.term.Lit.{Lit}
 use Rattle.normal_form.specs.Normal.{NormalConstraint, Fits}
-use Rattle.cut_rules.specs.Rules.{IsSum, IsMultiple, IsQuotient, IsSaturation, IsWeakening, IsTooLarge}
-use Rattle.cut_rules.proofs.Sum.{one_sum, sum_within}
+use Rattle.cut_rules.specs.Rules.{IsSum, IsMultiple, IsQuotient, IsSaturation, IsWeakening}
+use Rattle.cut_rules.proofs.Sum.{one_sum}
 use Rattle.cut_rules.proofs.Meaning.{one_multiple, one_quotient, one_saturation, one_weakening, one_axiom}
 use Rattle.kernel.specs.declared.fault.StepFault.{StepFault}
 use Rattle.kernel.specs.declared.fault.StepFault.TheVariants as faults
 use Rattle.kernel.specs.declared.step.Item.{Item}
 use Rattle.kernel.specs.declared.step.Item.TheVariants as items
 use Rattle.kernel.specs.Expression.{Given, Expression, cited, axiom_of, sum, multiple, quotient, saturated, weakened, postfix, HasValue, IsPolish, Steps}
-use Rattle.kernel.specs.Fault.{IsItemFault, StopsAtItem, LeavesOther, IsWritingFault}
+use Rattle.kernel.specs.Fault.{IsItemFault, StopsAtItem, IsWritingFault}
 use Rattle.kernel.specs.Running.{Runs}
 
 abbrev Stack : Type 0
@@ -31,7 +30,7 @@ one_top s u v P one d n e m rest more h k p q x y =
     x ∙ ap (λ z. z ∷ rest) same ∙ ap (λ z. m ∷ z) tops.1 ∙ sym y
 
 -- an item leads to one stack
-one_step : (given : Given) (i : Item) (s u v : Stack) → Steps given i s u → Steps given i s v → u ≡ v
+pub one_step : (given : Given) (i : Item) (s u v : Stack) → Steps given i s u → Steps given i s v → u ≡ v
 one_step given (items.Id id) s u v (n, is, x) (m, is', y) = let same : n ≡ m = cc in x ∙ ap (λ z. z ∷ s) same ∙ sym y
 one_step given (items.Axiom l) s u v (n, is, x) (m, is', y) = x ∙ ap (λ z. z ∷ s) (one_axiom l n m is is') ∙ sym y
 one_step given items.Add s u v (d, g, n, rest, is, sums, fits, x) (e, h, m, more, is', sums', fits', y) =
@@ -48,13 +47,13 @@ one_step given items.Saturate s u v (d, n, rest, is, rule, x) (e, m, more, is', 
 one_step given (items.Weaken w) s u v (d, n, rest, is, rule, x) (e, m, more, is', rule', y) =
     one_top s u v (IsWeakening (w.0)) (one_weakening (w.0)) d n e m rest more is is' rule rule' x y
 
-one_run : (given : Given) (written : List Item) (s u v : Stack) → Runs given written s u → Runs given written s v → u ≡ v
+pub one_run : (given : Given) (written : List Item) (s u v : Stack) → Runs given written s u → Runs given written s v → u ≡ v
 one_run given [] s u v x y = x ∙ sym y
 one_run given (i ∷ rest) s u v (a, first, more) (b, first', more') =
     one_run given rest a u v more (subst (λ z. Runs given rest z v) (sym (one_step given i s a b first first')) more')
 
 -- a run of two parts
-parts : (given : Given) (xs ys : List Item) (s u : Stack) → Runs given (xs ++ ys) s u → (between : Stack) × Runs given xs s between × Runs given ys between u
+pub parts : (given : Given) (xs ys : List Item) (s u : Stack) → Runs given (xs ++ ys) s u → (between : Stack) × Runs given xs s between × Runs given ys between u
 parts given [] ys s u runs = (s, refl, runs)
 parts given (i ∷ xs) ys s u (a, first, more) = let p = parts given xs ys a u more in (p.0, (a, first, p.1), p.2)
 
@@ -82,7 +81,7 @@ value_runs given (saturated e) n (d, ve, rule) s =
 value_runs given (weakened x e) n (d, ve, rule) s =
     joined given (postfix e) (items.Weaken x ∷ []) s (d ∷ s) (n ∷ s) (value_runs given e d ve s) (alone given (items.Weaken x) (d ∷ s) (n ∷ s) (d, n, s, refl, rule, refl))
 
-polish_runs : (given : Given) (written : List Item) (n : NormalConstraint) → IsPolish given written n → Runs given written [] (n ∷ [])
+pub polish_runs : (given : Given) (written : List Item) (n : NormalConstraint) → IsPolish given written n → Runs given written [] (n ∷ [])
 polish_runs given written n (e, is, value) = subst (λ w. Runs given w [] (n ∷ [])) is (value_runs given e n value [])
 
 -- the items write one value
@@ -90,11 +89,11 @@ pub one_polish : (given : Given) (written : List Item) (n m : NormalConstraint) 
 one_polish given written n m p q =
     let same : n ∷ [] ≡ m ∷ [] = one_run given written [] (n ∷ []) (m ∷ []) (polish_runs given written n p) (polish_runs given written m q) in cc
 
-empty_top : (s : Stack) (d : NormalConstraint) (rest : Stack) → s ≡ [] → s ≡ d ∷ rest → ⊥
+pub empty_top : (s : Stack) (d : NormalConstraint) (rest : Stack) → s ≡ [] → s ≡ d ∷ rest → ⊥
 empty_top s d rest h k = let same : [] ≡ d ∷ rest = sym h ∙ k in absurd (cc)
 
 -- an item that has a fault leads nowhere
-stuck : (given : Given) (i : Item) (s u : Stack) (f : StepFault) → IsItemFault given i s f → Steps given i s u → ⊥
+pub stuck : (given : Given) (i : Item) (s u : Stack) (f : StepFault) → IsItemFault given i s f → Steps given i s u → ⊥
 stuck given (items.Id id) s u faults.DeadId none (n, is, x) = absurd (cc)
 stuck given (items.Axiom l) s u f h step = h
 stuck given items.Add s u faults.StackShape few (d, g, n, rest, is, rule, fits, x) = omega (arith, few, ap length is)

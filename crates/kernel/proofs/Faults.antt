@@ -1,22 +1,21 @@
 -- Faults of `pol` steps: where a run stops, and that what has one is not legal.
-use Rattle.std.proofs.Common.{◌≡◌, ◌≢◌, ℕ, zero, suc, ◌+◌, ◌<◌, ℤ, pos, ◌<ℤ◌, ◌⊎◌, inl, inr, List, [], ◌∷◌, ◌++◌, Some, None, length, get_or, take, drop, unsigned_abs, refl, sym, ap, subst, ◌∙◌, arith}
-use Rattle.std.proofs.lemmas.Int.{ints}
+use Rattle.std.proofs.Common.{◌≡◌, ℕ, zero, suc, ◌+◌, ◌<◌, inl, inr, List, [], ◌∷◌, ◌++◌, length, get_or, take, drop, refl, sym, ap, subst, ◌∙◌, arith}
 use Rattle.std.proofs.lemmas.List.{take_more}
 use Rattle.normal_form.specs.Normal.{NormalConstraint}
 use Rattle.kernel.specs.declared.fault.StepFault.{StepFault}
 use Rattle.kernel.specs.declared.fault.StepFault.TheVariants as faults
 use Rattle.kernel.specs.declared.step.Item.{Item}
 use Rattle.kernel.specs.declared.step.Item.TheVariants as items
-use Rattle.kernel.specs.Expression.{Given, IsPolish, Steps}
+use Rattle.kernel.specs.Expression.{Given, Steps}
 use Rattle.kernel.specs.Fault.{OrMemory, IsItemFault, StopsAtItem, LeavesOther, IsWritingFault, IsPolFault}
 use Rattle.kernel.specs.Running.{Runs}
-use Rattle.kernel.specs.State.{State, constraint_of, HasRoom}
+use Rattle.kernel.specs.State.{State, constraint_of}
 
 pub or_memory : (f : StepFault) (P Q : Type 0) → (P → Q) → OrMemory f P → OrMemory f Q
 or_memory faults.OutOfMemory P Q h p = tt
 or_memory _ P Q h p = h p
 
-stops_writing : (given : Given) (written : List Item) (f : StepFault) → StopsAtItem given written f → IsWritingFault given written f
+pub stops_writing : (given : Given) (written : List Item) (f : StepFault) → StopsAtItem given written f → IsWritingFault given written f
 stops_writing given written faults.StackShape h = inl h
 stops_writing given written _ h = h
 

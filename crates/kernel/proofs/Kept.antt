@@ -1,5 +1,5 @@
 -- What a kernel whose constraints stand in a list keeps: its start, one more constraint, and its conclusions.
-use Rattle.std.proofs.Common.{◌≡◌, ℕ, ◌+◌, ◌*◌, ◌^◌, ◌<◌, ◌≤◌, ℤ, inl, None, List, [], ◌∷◌, ◌++◌, Any, length, refl, sym, ap, subst, ◌∙◌, arith}
+use Rattle.std.proofs.Common.{◌≡◌, ◌+◌, ◌*◌, ◌^◌, ◌<◌, ◌≤◌, inl, None, List, [], ◌∷◌, ◌++◌, Any, length, refl, sym, ap, subst, ◌∙◌, arith}
 use Rattle.linear.specs.Limits.{IsWithin}
 use Rattle.linear.specs.Opb.{Opb}
 use Rattle.normal_form.specs.Normal.{NormalConstraint}
@@ -15,7 +15,7 @@ use Rattle.kernel.specs.Justified.{IsJustified}
 use Rattle.kernel.specs.Legal.{LegalPol}
 use Rattle.kernel.specs.Places.{listed}
 use Rattle.kernel.specs.Shown.{absurdity}
-use Rattle.kernel.specs.State.{constraints, constraint_of, state_of}
+use Rattle.kernel.specs.State.{constraint_of, state_of}
 use Rattle.kernel.proofs.FileForms.{start_preserved, start_normal}
 use Rattle.kernel.proofs.Numbered.{constraint_listed, constraints_listed, state_push}
 use Rattle.kernel.proofs.Preserving.{pol_preserves, pol_normal}

@@ -1,15 +1,16 @@
 -- What holds of each live constraint, through changes of the map.
-use Rattle.std.proofs.Common.{◌≡◌, ℕ, ◌+◌, ◌<◌, Bool, true, false, cond, ◌&&◌, T, Ordering, Option, Some, None, List, [], ◌∷◌, map, All, refl, sym, ap, subst, ◌∙◌, arith}
+use Rattle.std.proofs.Common.{◌≡◌, ℕ, ◌+◌, ◌<◌, Bool, true, false, cond, ◌&&◌, T, Ordering, Option, Some, None, ◌⊎◌, inl, inr, ◌==◌, nat_lt, List, [], ◌∷◌, map, All, refl, sym, ap, subst, ◌∙◌, arith}
 use Rattle.std.specs.declared.cmp.Ordering.TheVariants.{Less, Equal, Greater}
 use Rattle.std.specs.Ordering.{nat_cmp, eq_by_cmp, is_lt, is_eq}
 use Rattle.std.specs.FinMap as fin
 use Rattle.std.specs.FinMap.Entries.{below_all}
-use Rattle.std.proofs.lemmas.Bool.{false≢true}
+use Rattle.std.proofs.lemmas.Bool.{false≢true, ltb-true}
 use Rattle.std.proofs.lemmas.Cmp.{nat_cmp_total}
 use Rattle.std.specs.Cmp.{tied_itself}
 use Rattle.std.proofs.lemmas.List.Elements.{All-nil, All-cons, All-head, All-tail}
 use Rattle.normal_form.specs.Normal.{NormalConstraint}
 use Rattle.kernel.specs.State.{Live, numbered}
+use Rattle.kernel.proofs.Deciding.{Decided}
 
 abbrev Entries : Type 0
 Entries = List (ℕ × NormalConstraint)
@@ -105,3 +106,72 @@ pub All-numbered : (P : NormalConstraint → Type 0) (id : ℕ) (ns : List Norma
 All-numbered P id ns all =
     All-from_get P (fin.from_entries (numbered id ns)) (λ q m is.
     found P (numbered id ns) q m (subst (All P) (sym (values_numbered id ns)) all) (sym (fin.get-from_entries nat_cmp_total (numbered id ns) q) ∙ is))
+
+-- what is found at or behind an entry has its key or a greater one
+
+less_keys : (b : Bool) (rest : Ordering) → T (is_lt (cond b Less rest)) → (is_lt rest ≡ false) → b ≡ true
+less_keys true rest h never = refl
+less_keys false rest h never = absurd (subst T never h)
+
+not_less : (b : Bool) → is_lt (cond b Equal Greater) ≡ false
+not_less true = refl
+not_less false = refl
+
+key_less : (x y : ℕ) → T (is_lt (nat_cmp x y)) → x < y
+key_less x y h = ltb-true x y (less_keys (nat_lt x y) (cond (x == y) Equal Greater) h (not_less (x == y)))
+
+key_found : (e : ℕ × NormalConstraint) (es : Entries) (k : ℕ) (d : NormalConstraint) → (b : Bool) → eq_by_cmp nat_cmp k e.0 ≡ b
+    → cond b (Some e.1) (fin.find nat_cmp k es) ≡ Some d → ((k ≡ e.0) × (d ≡ e.1)) ⊎ (fin.find nat_cmp k es ≡ Some d)
+key_found e es k d true same is = inl (same_key (nat_cmp k e.0) k e.0 (fin.nat_cmp-IsAntisymmetric k e.0) same, cc)
+key_found e es k d false same is = inr is
+
+found_above : (q : ℕ) (es : Entries) (k : ℕ) (d : NormalConstraint) → T (below_all nat_cmp q es) → fin.find nat_cmp k es ≡ Some d → q < k
+found_above q [] k d below is = absurd (cc)
+found_above q (e ∷ es) k d below is =
+    let parts = both (is_lt (nat_cmp q e.0)) (below_all nat_cmp q es) below in
+    elim (key_found e es k d (eq_by_cmp nat_cmp k e.0) refl is) as (λ _. q < k) [
+      | inl same ↦ omega (arith, key_less q e.0 parts.0, same.0)
+      | inr later ↦ found_above q es k d parts.1 later
+    ]
+
+-- something fails of the constraint of an id, and holds of those of all ids before
+abbrev FirstOpen : (NormalConstraint → Type 0) → (ℕ → Option NormalConstraint) → Type 0
+FirstOpen P found =
+    (id : ℕ) × (e : NormalConstraint) × (found id ≡ Some e) × (P e → ⊥) × ((k : ℕ) (d : NormalConstraint) → k < id → found k ≡ Some d → P d)
+
+open_here : (P : NormalConstraint → Type 0) (e : ℕ × NormalConstraint) (es : Entries) → T (below_all nat_cmp e.0 es) → (P e.1 → ⊥) → FirstOpen P (λ k. fin.find nat_cmp k (e ∷ es))
+open_here P e es below not = (e.0, e.1, found_first e es, not, before)
+  where
+    before : (k : ℕ) (d : NormalConstraint) → k < e.0 → fin.find nat_cmp k (e ∷ es) ≡ Some d → P d
+    before k d less is = elim (key_found e es k d (eq_by_cmp nat_cmp k e.0) refl is) as (λ _. P d) [
+      | inl same ↦ absurd (omega (arith, less, same.0))
+      | inr later ↦ absurd (omega (arith, less, found_above e.0 es k d below later))
+    ]
+
+open_later : (P : NormalConstraint → Type 0) (e : ℕ × NormalConstraint) (es : Entries) → T (below_all nat_cmp e.0 es) → P e.1 → FirstOpen P (λ k. fin.find nat_cmp k es) → FirstOpen P (λ k. fin.find nat_cmp k (e ∷ es))
+open_later P e es below here (id, x, is, not, before) = (id, x, found_later e es id x below is, not, earlier)
+  where
+    earlier : (k : ℕ) (d : NormalConstraint) → k < id → fin.find nat_cmp k (e ∷ es) ≡ Some d → P d
+    earlier k d less found = elim (key_found e es k d (eq_by_cmp nat_cmp k e.0) refl found) as (λ _. P d) [
+      | inl same ↦ subst P (sym same.1) here
+      | inr later ↦ before k d less later
+    ]
+
+all_or_open : (P : NormalConstraint → Type 0) → ((n : NormalConstraint) → Decided (P n)) → (es : Entries) → T (fin.is_sorted nat_cmp es) → All P (values es) ⊎ FirstOpen P (λ k. fin.find nat_cmp k es)
+all_or_open P d [] sorted = inl (All-nil P)
+all_or_open P d (e ∷ es) sorted =
+    let s = both (below_all nat_cmp e.0 es) (fin.is_sorted nat_cmp es) sorted in
+    elim (d e.1) as (λ _. All P (values (e ∷ es)) ⊎ FirstOpen P (λ k. fin.find nat_cmp k (e ∷ es))) [
+      | inr not ↦ inr (open_here P e es s.0 not)
+      | inl here ↦ elim (all_or_open P d es s.1) as (λ _. All P (values (e ∷ es)) ⊎ FirstOpen P (λ k. fin.find nat_cmp k (e ∷ es))) [
+        | inl all ↦ inl (All-cons P e.1 (values es) here all)
+        | inr first ↦ inr (open_later P e es s.0 here first)
+      ]
+    ]
+
+-- what is decided of each constraint holds of all live ones, or there is a first id where it does not
+pub All-or_open : (P : NormalConstraint → Type 0) → ((n : NormalConstraint) → Decided (P n)) → (live : Live) → All P (fin.values live) ⊎ FirstOpen P (fin.get live)
+All-or_open P d live = elim (all_or_open P d (fin.entries live) (fin.entries_sorted live)) as (λ _. All P (fin.values live) ⊎ FirstOpen P (fin.get live)) [
+  | inl all ↦ inl all
+  | inr (id, e, is, not, before) ↦ inr (id, e, fin.get-entries live id ∙ is, not, λ k d less found. before k d less (sym (fin.get-entries live k) ∙ found))
+]

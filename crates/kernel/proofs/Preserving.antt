@@ -1,17 +1,16 @@
 -- Each legal step preserves an answer to the problem, and keeps every live constraint normal.
-use Rattle.std.proofs.Common.{◌≡◌, ℕ, ◌+◌, ℤ, pos, ◌<ℤ◌, ◌≤ℤ◌, ◌-ℤ◌, neg_ℤ, ◌⊎◌, inl, inr, Bool, List, [], ◌∷◌, ◌++◌, map, Option, None, Some, All, Any, IfSome, length, refl, sym, ap, subst, ◌∙◌, arith}
+use Rattle.std.proofs.Common.{◌≡◌, ℕ, ℤ, pos, ◌<ℤ◌, ◌≤ℤ◌, ◌-ℤ◌, neg_ℤ, ◌⊎◌, inl, inr, Bool, List, [], ◌∷◌, ◌++◌, map, Option, None, Some, All, Any, IfSome, refl, sym, ap, subst, ◌∙◌, arith}
 use Rattle.std.proofs.lemmas.Int.{ints}
 use Rattle.std.proofs.lemmas.List.{get_or_append_left, length-append}
 use Rattle.std.proofs.lemmas.Option.{IfSome_then}
 use Rattle.std.proofs.lemmas.List.Elements.{All-push, All-weaker}
 use Rattle.std.proofs.lemmas.List.Quantifiers.{Any-push}
-use Rattle.std.specs.FinMap as fin
 use Rattle.linear.specs.declared.term.Term.{Term}
 use Rattle.linear.specs.declared.term.Lit.{Lit}
 use Rattle.linear.specs.declared.constraint.Signed.{Signed}
-use Rattle.linear.specs.Valuation.{Valuation, valuation_of}
+use Rattle.linear.specs.Valuation.{Valuation}
 use Rattle.linear.specs.Sum.{sum_of}
-use Rattle.linear.specs.Opb.{Opb, Satisfies, value_of, objective_value}
+use Rattle.linear.specs.Opb.{Opb, value_of, objective_value}
 use Rattle.normal_form.specs.Normal.{NormalConstraint, Holds, Rises}
 use Rattle.normal_form.specs.NormalOf.{IsNormalOf, opposite_term}
 use Rattle.normal_form.proofs.NormalForm.{form_meaning}
@@ -22,7 +21,7 @@ use Rattle.kernel.specs.declared.step.Item.{Item}
 use Rattle.kernel.specs.declared.step.Step.{Step}
 use Rattle.kernel.specs.declared.step.Step.TheVariants as steps
 use Rattle.kernel.specs.Claim.{IsSolution}
-use Rattle.kernel.specs.Legal.{Legal, LegalPol, LegalRup, LegalRed, LegalSol, LegalSoli, LegalDel, Leads, Adds, Redundant, IsShownUnder, IsShownNotRaised, Logs, worth_of, with_solution, with_improvement, without}
+use Rattle.kernel.specs.Legal.{Legal, LegalPol, LegalRup, LegalRed, LegalSol, LegalSoli, LegalDel, Leads, Redundant, IsShownUnder, IsShownNotRaised, Logs, worth_of, without}
 use Rattle.kernel.specs.Preserved.{IsPreserved, IsAsGood, AreNormal}
 use Rattle.kernel.specs.Solution.{at_most}
 use Rattle.kernel.specs.State.{State, constraints, constraint_of, id_of, with_constraint}

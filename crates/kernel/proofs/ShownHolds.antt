@@ -1,5 +1,5 @@
 -- What is shown from constraints holds wherever they do.
-use Rattle.std.proofs.Common.{◌≡◌, ℕ, ◌+◌, ◌-◌, ◌≤◌, ◌⊎◌, inl, inr, Bool, true, false, List, [], ◌∷◌, ◌++◌, All, Any, Contains, length, nat_le, refl, arith}
+use Rattle.std.proofs.Common.{◌≡◌, ◌⊎◌, inl, inr, Bool, true, false, List, [], ◌∷◌, ◌++◌, All, Contains, length, nat_le, refl, arith}
 use Rattle.std.proofs.lemmas.List.{length-append}
 use Rattle.std.proofs.Math.Seq.{get_or-append_seam}
 use Rattle.std.proofs.lemmas.Bool.{false≢true}
@@ -12,7 +12,6 @@ use Rattle.normal_form.proofs.Opposite.{negation, negation_is, negation_meaning}
 use Rattle.propagate.specs.Chain.{IsRefuted}
 use Rattle.propagate.proofs.Chains.{no_conflict_true}
 use Rattle.propagate.proofs.Zero.{zero_refuted}
-use Rattle.substitution.specs.Covering.{Covers}
 use Rattle.substitution.proofs.Covered.{covered_holds}
 use Rattle.kernel.specs.Shown.{IsShown, absurdity}
 

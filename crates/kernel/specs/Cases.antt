@@ -1,5 +1,5 @@
 -- Small problems and substitutions, to compute the definitions on.
-use Rattle.std.specs.Prelude.{None, Some, pos, List, [], ◌∷◌}
+use Rattle.std.specs.Prelude.{None, Some, pos, [], ◌∷◌}
 use Rattle.linear.specs.Opb.{Opb}
 use Rattle.normal_form.specs.Cases.{signed, plain, negated, normal}
 use Rattle.normal_form.specs.Normal.{NormalConstraint}

@@ -1,6 +1,6 @@
 -- The faults of steps and conclusions, in the order of judging: each one's condition says that none before it stands.
 -- Want of memory is no fault of a step.
-use Rattle.std.specs.Prelude.{◌≡◌, ◌≢◌, ℕ, ◌<◌, ◌≤◌, ◌⊎◌, ℤ, pos, ◌<ℤ◌, ◌≤ℤ◌, Bool, List, [], ◌∷◌, ◌++◌, Option, None, Some, All, Any, Contains, IfSome, length, unsigned_abs}
+use Rattle.std.specs.Prelude.{◌≡◌, ◌≢◌, ℕ, ◌<◌, ◌≤◌, ◌⊎◌, ℤ, pos, ◌<ℤ◌, ◌≤ℤ◌, Bool, List, [], ◌∷◌, ◌++◌, Option, None, Some, All, Contains, IfSome, length, unsigned_abs}
 use Rattle.std.specs.FinMap as map
 use Rattle.linear.specs.declared.constraint.Signed.{Signed}
 use Rattle.linear.specs.declared.term.Lit.{Lit}
@@ -27,7 +27,7 @@ use Rattle.kernel.specs.declared.step.Step.{Step}
 use Rattle.kernel.specs.declared.step.Step.TheVariants as steps
 use Rattle.kernel.specs.Expression.{Given, IsPolish}
 use Rattle.kernel.specs.Forms.{file_ids}
-use Rattle.kernel.specs.Justified.{IsExhausted, HoldsLower, HoldsUpper, hint_of, TakesHint}
+use Rattle.kernel.specs.Justified.{EntitlesLower, EntitlesUpper, TakesHint}
 use Rattle.kernel.specs.Legal.{IsShownUnder, IsShownNotRaised, Logs, LegalDel, worth_of}
 use Rattle.kernel.specs.Running.{Runs}
 use Rattle.kernel.specs.Shown.{IsShown, IsAdmitted, absurdity}
@@ -153,16 +153,16 @@ IsSoliFault p s listing faults.TooManyIds =
 IsSoliFault p s listing f = (p.objective ≢ None) × IsSolFault p s listing f
 
 -- an id that is not live, or that is not to be deleted
-abbrev pub IsKeptId : Opb → State → ℕ → StepFault → Type 0
-IsKeptId p s id faults.DeadId = map.get s.live id ≡ None
-IsKeptId p s id faults.FileConstraint = (map.get s.live id ≢ None) × ((id ≤ file_ids p.constraints) ⊎ Contains s.improving id)
-IsKeptId p s id _ = ⊥
+abbrev pub IsUndeletable : Opb → State → ℕ → StepFault → Type 0
+IsUndeletable p s id faults.DeadId = map.get s.live id ≡ None
+IsUndeletable p s id faults.FileConstraint = (map.get s.live id ≢ None) × ((id ≤ file_ids p.constraints) ⊎ Contains s.improving id)
+IsUndeletable p s id _ = ⊥
 
 -- del id: the ids from left to right, each judged with the earlier ones gone
 abbrev pub IsDelFault : Opb → State → List ℤ → StepFault → Type 0
 IsDelFault p s ids f =
     (before : List ℤ) × (id : ℤ) × (behind : List ℤ) × (between : State)
-    × (ids ≡ before ++ id ∷ behind) × LegalDel p s before between × IsKeptId p between (id_of between.next id) f
+    × (ids ≡ before ++ id ∷ behind) × LegalDel p s before between × IsUndeletable p between (id_of between.next id) f
 
 abbrev pub IsStepFault : Opb → State → Step → StepFault → Type 0
 IsStepFault p s (steps.Pol written) f = IsPolFault s written f
@@ -194,12 +194,12 @@ IsLowerFault s objective (lowers.At bound) f = IsBoundFault s objective bound f
 IsLowerFault s objective lowers.Inf f = IsUnsatFault s f
 
 abbrev pub IsUpperFault : Opb → State → Upper → StepFault → Type 0
-IsUpperFault p s upper faults.UpperNotLogged = HoldsUpper p s upper → ⊥
+IsUpperFault p s upper faults.UpperNotLogged = EntitlesUpper p s upper → ⊥
 IsUpperFault p s upper _ = ⊥
 
 -- BOUNDS behind its hint: the lower bound, then the upper one
 abbrev pub IsBoundsFault : Opb → State → List Term → Lower → Upper → StepFault → Type 0
-IsBoundsFault p s objective lower upper f = IsLowerFault s objective lower f ⊎ (HoldsLower s objective lower × IsUpperFault p s upper f)
+IsBoundsFault p s objective lower upper f = IsLowerFault s objective lower f ⊎ (EntitlesLower s objective lower × IsUpperFault p s upper f)
 
 -- SAT behind its hint: nothing is logged
 abbrev pub IsSatFault : State → StepFault → Type 0

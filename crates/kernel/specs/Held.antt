@@ -1,5 +1,5 @@
 -- What a kernel holds, and what it keeps.
-use Rattle.std.specs.Prelude.{◌≤◌, ◌^◌, ℕ, ⊤}
+use Rattle.std.specs.Prelude.{◌≤◌, ◌^◌, ⊤}
 use Rattle.linear.specs.Opb.{Opb}
 use Rattle.linear.specs.Limits.{IsWithin}
 use Rattle.kernel.specs.declared.step.Step.{Step}
@@ -22,9 +22,9 @@ pub record IsKept (k : Held) : Type 0 where
   pub numbered : k.state.next ≤ 2 ^ 32
 
 -- a step whose kind the kernel judges so far
-abbrev pub IsPol : Step → Type 0
-IsPol (steps.Pol written) = ⊤
-IsPol _ = ⊥
+abbrev pub IsJudgedStep : Step → Type 0
+IsJudgedStep (steps.Pol written) = ⊤
+IsJudgedStep _ = ⊥
 
 -- a conclusion whose kind the kernel judges so far
 abbrev pub IsJudged : Conclusion → Type 0

@@ -29,23 +29,23 @@ pub record IsLowerBound (s : State) (objective : List Term) (bound : ℤ) (n : N
   pub fits : Fits n
   pub shown : IsShown (constraints s) n
 
-abbrev pub HoldsLower : State → List Term → Lower → Type 0
-HoldsLower s objective lowers.MinusInf = ⊤
-HoldsLower s objective (lowers.At bound) = (n : NormalConstraint) × IsLowerBound s objective bound n
-HoldsLower s objective lowers.Inf = IsExhausted s
+abbrev pub EntitlesLower : State → List Term → Lower → Type 0
+EntitlesLower s objective lowers.MinusInf = ⊤
+EntitlesLower s objective (lowers.At bound) = (n : NormalConstraint) × IsLowerBound s objective bound n
+EntitlesLower s objective lowers.Inf = IsExhausted s
 
 -- some logged solution is worth no more
-abbrev pub HoldsUpper : Opb → State → Upper → Type 0
-HoldsUpper p s (uppers.At bound) = Any (λ g. worth_of p g ≤ℤ bound) s.logged
-HoldsUpper p s uppers.Inf = ⊤
+abbrev pub EntitlesUpper : Opb → State → Upper → Type 0
+EntitlesUpper p s (uppers.At bound) = Any (λ g. worth_of p g ≤ℤ bound) s.logged
+EntitlesUpper p s uppers.Inf = ⊤
 
--- what a conclusion asks of the state, its hint apart
-abbrev pub Holds : Opb → State → Conclusion → Type 0
-Holds p s conclusions.Nothing = ⊤
-Holds p s (conclusions.Sat hint) = s.logged ≢ []
-Holds p s conclusions.Unsat = IsExhausted s
-Holds p s (conclusions.Bounds lower upper hint) =
-    (objective : List Term) × (p.objective ≡ Some objective) × HoldsLower s objective lower × HoldsUpper p s upper
+-- the state entitles to the conclusion, its hint apart
+abbrev pub Entitles : Opb → State → Conclusion → Type 0
+Entitles p s conclusions.Nothing = ⊤
+Entitles p s (conclusions.Sat hint) = s.logged ≢ []
+Entitles p s conclusions.Unsat = IsExhausted s
+Entitles p s (conclusions.Bounds lower upper hint) =
+    (objective : List Term) × (p.objective ≡ Some objective) × EntitlesLower s objective lower × EntitlesUpper p s upper
 
 -- the literals that a conclusion gives as a hint
 abbrev pub hint_of : Conclusion → Option (List Lit)
@@ -67,7 +67,7 @@ IsBest p logged (Some g) =
 
 -- the state entitles to the conclusion, and this is the best solution
 abbrev pub IsJustified : Opb → State → Conclusion → Option (List Bool) → Type 0
-IsJustified p s c best = (t : State) × TakesHint p s (hint_of c) t × Holds p t c × IsBest p t.logged best
+IsJustified p s c best = (t : State) × TakesHint p s (hint_of c) t × Entitles p t c × IsBest p t.logged best
 
 -- the steps lead from the file to a state that entitles to the conclusion
 abbrev pub IsLegalProof : Opb → List Step → Conclusion → Option (List Bool) → Type 0

@@ -1,5 +1,5 @@
 -- The legal steps of a proof: `Legal p old step new` says that the step leads from one state to another.
-use Rattle.std.specs.Prelude.{◌≡◌, ℕ, ◌<◌, ℤ, pos, ◌<ℤ◌, ◌-ℤ◌, Bool, List, [], ◌∷◌, ◌++◌, Option, Some, All, Contains, IfSome, IsSome, length}
+use Rattle.std.specs.Prelude.{◌≡◌, ℕ, ◌<◌, ℤ, pos, ◌<ℤ◌, ◌-ℤ◌, Bool, List, [], ◌∷◌, ◌++◌, Some, All, Contains, IfSome, IsSome, length}
 use Rattle.std.specs.FinMap as map
 use Rattle.linear.specs.declared.constraint.Signed.{Signed}
 use Rattle.linear.specs.declared.term.Lit.{Lit}

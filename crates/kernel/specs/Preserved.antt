@@ -1,9 +1,8 @@
 -- What every legal step preserves: an answer to the problem.
-use Rattle.std.specs.Prelude.{◌≡◌, ◌<◌, ℕ, ℤ, ◌<ℤ◌, ◌≤ℤ◌, Bool, List, Option, Some, All, Any, IfSome, length}
-use Rattle.std.specs.FinMap as map
-use Rattle.linear.specs.Valuation.{Valuation, valuation_of}
+use Rattle.std.specs.Prelude.{◌≡◌, ◌<ℤ◌, ◌≤ℤ◌, All, Any, IfSome}
+use Rattle.linear.specs.Valuation.{Valuation}
 use Rattle.linear.specs.Opb.{Opb, Satisfies, value_of}
-use Rattle.normal_form.specs.Normal.{NormalConstraint, Holds, Rises}
+use Rattle.normal_form.specs.Normal.{Holds, Rises}
 use Rattle.kernel.specs.Claim.{IsSolution}
 use Rattle.kernel.specs.Legal.{worth_of}
 use Rattle.kernel.specs.State.{State, constraints}

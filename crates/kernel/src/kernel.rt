@@ -49,7 +49,7 @@ impl Kernel {
     ghost use Rattle.normal_form.specs.Normal.{NormalConstraint};
     ghost use Rattle.kernel.specs.Claim.{Claim};
     ghost use Rattle.kernel.specs.Fault.{OrMemory, IsStepFault, IsPolFault};
-    ghost use Rattle.kernel.specs.Held.{IsKept, IsPol, IsJudged};
+    ghost use Rattle.kernel.specs.Held.{IsKept, IsJudgedStep, IsJudged};
     ghost use Rattle.kernel.specs.Justified.{IsJustified};
     ghost use Rattle.kernel.specs.Legal.{Legal, LegalPol};
     ghost use Rattle.kernel.specs.State.{IsStart, constraints};
@@ -78,7 +78,7 @@ impl Kernel {
     /// Applies a `pol` step: the value of its expression is added. A refusal names the first fault in the order of judging,
     /// and leaves the kernel as before; a legal step is refused for want of memory alone.
     pub fn apply(&mut self, step: &Step) -> Result<Applied, StepFault>
-        requires { IsPol step.now }
+        requires { IsJudgedStep step.now }
         ensures problem { self.new.problem ≡ self.old.problem }
         ensures ok { OnOk result (Legal self.old.problem self.old.state step.now self.new.state) }
         ensures id { IfOk result (λ applied. applied.id ≡ Some self.old.state.next) }

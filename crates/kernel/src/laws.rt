@@ -1,7 +1,7 @@
 //! Laws of the definitions, each the contract of a function that does nothing: every legal step preserves an answer to
-//! the problem, so what a legal conclusion claims is true.
+//! the problem, so what a legal conclusion claims is true; and each step and each conclusion has one verdict.
 
-ghost use Rattle.std.specs.Prelude.{◌≡◌, ℤ, Bool, List, Option, All};
+ghost use Rattle.std.specs.Prelude.{◌≡◌, ◌⊎◌, ℤ, Bool, List, Option, All};
 ghost use Rattle.linear.specs.Opb.{Opb};
 ghost use Rattle.linear.specs.Valuation.{Valuation};
 ghost use Rattle.linear.specs.declared.constraint.Signed.{Signed};
@@ -107,4 +107,36 @@ pub fn faulty_is_not_legal()
 pub fn faulty_is_not_justified()
     ensures { (p : Opb) → (s : State) → (c : Conclusion) → (f : StepFault) → (best : Option (List Bool))
         → IsConclusionFault p s c f → IsJustified p s c best → ⊥ }
+{}
+
+/// Every step is legal or has a fault, where the variables of the live constraints rise, as they do in every state that
+/// legal steps lead to. By `faulty_is_not_legal` it is never both.
+pub fn every_step_is_judged()
+    ensures judged { (p : Opb) → (s : State) → (step : Step) → AreNormal s
+        → ((t : State) × Legal p s step t) ⊎ ((f : StepFault) × IsStepFault p s step f) }
+    ensures faultless { (p : Opb) → (s : State) → (step : Step) → AreNormal s
+        → ((f : StepFault) → IsStepFault p s step f → ⊥) → (t : State) × Legal p s step t }
+{}
+
+/// Every conclusion is justified, with the best logged solution, or has a fault. By `faulty_is_not_justified` it is never
+/// both.
+pub fn every_conclusion_is_judged()
+    ensures judged { (p : Opb) → (s : State) → (c : Conclusion)
+        → ((best : Option (List Bool)) × IsJustified p s c best) ⊎ ((f : StepFault) × IsConclusionFault p s c f) }
+    ensures faultless { (p : Opb) → (s : State) → (c : Conclusion)
+        → ((f : StepFault) → IsConclusionFault p s c f → ⊥) → (best : Option (List Bool)) × IsJustified p s c best }
+{}
+
+/// A legal step leads to one state, and a justified conclusion comes with one best solution.
+pub fn one_result()
+    ensures step { (p : Opb) → (s t u : State) → (step : Step) → Legal p s step t → Legal p s step u → t ≡ u }
+    ensures conclusion { (p : Opb) → (s : State) → (c : Conclusion) → (best other : Option (List Bool))
+        → IsJustified p s c best → IsJustified p s c other → best ≡ other }
+{}
+
+/// A step, or a conclusion, has at most one fault: the first in the order of judging.
+pub fn one_fault()
+    ensures step { (p : Opb) → (s : State) → (step : Step) → (f g : StepFault) → IsStepFault p s step f → IsStepFault p s step g → f ≡ g }
+    ensures conclusion { (p : Opb) → (s : State) → (c : Conclusion) → (f g : StepFault)
+        → IsConclusionFault p s c f → IsConclusionFault p s c g → f ≡ g }
 {}

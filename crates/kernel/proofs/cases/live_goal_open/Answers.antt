@@ -1,5 +1,4 @@
 use Rattle.std.proofs.Common.{◌≡◌, [], ◌∷◌, refl, subst, arith}
-use Rattle.normal_form.specs.Normal.{NormalConstraint}
 use Rattle.normal_form.proofs.NormalForm.{is_form, one_form}
 use Rattle.propagate.specs.Cases.{x, not_x, unit, unit_not}
 use Rattle.substitution.specs.Cases.{single}

@@ -1,6 +1,4 @@
-use Rattle.std.proofs.Common.{◌≡◌, pos, [], ◌∷◌, refl, subst, arith}
-use Rattle.std.proofs.lemmas.Int.{ints}
-use Rattle.normal_form.specs.Normal.{NormalConstraint}
+use Rattle.std.proofs.Common.{◌≡◌, [], ◌∷◌, refl, subst, arith}
 use Rattle.normal_form.proofs.NormalForm.{is_form, one_form}
 use Rattle.propagate.specs.Cases.{not_x, unit, unit_not}
 use Rattle.substitution.specs.Cases.{single, min_first}

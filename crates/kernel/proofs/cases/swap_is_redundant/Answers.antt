@@ -1,4 +1,4 @@
-use Rattle.std.proofs.Common.{[], ◌∷◌, refl, inl, All, arith}
+use Rattle.std.proofs.Common.{[], ◌∷◌, refl, inl, arith}
 use Rattle.std.proofs.lemmas.Int.{ints}
 use Rattle.std.proofs.lemmas.List.Elements.{All-nil, All-cons}
 use Rattle.normal_form.specs.Cases.{plain, negated, normal}

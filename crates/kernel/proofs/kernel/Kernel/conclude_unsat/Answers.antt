@@ -1,4 +1,4 @@
-use Rattle.std.proofs.Common.{List, Any, None, refl, sym, ap, subst}
+use Rattle.std.proofs.Common.{List, Any, refl, sym, ap, subst}
 use Rattle.std.proofs.lemmas.Bool.{false≢true}
 use Rattle.normal_form.specs.Normal.{NormalConstraint}
 use Rattle.kernel.specs.declared.conclusion.Conclusion.TheVariants as conclusions
