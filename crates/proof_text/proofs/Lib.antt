@@ -11,6 +11,7 @@ pub mod Stepping
 pub mod Counting
 pub mod Concluding
 pub mod Placing
+pub mod Writable
 pub mod Cuts
 pub mod Texts
 pub mod Numerals

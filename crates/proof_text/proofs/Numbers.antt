@@ -20,7 +20,7 @@ place_of-append (n ∷ ns) more name h = by (same_name name n) h (place_of-appen
     by true e rest = refl
     by false e rest = ap (λ k. 1 + k) (rest e)
 
-has_name-append : (names more : List (List ℕ)) (name : List ℕ) → has_name names name ≡ true → has_name (names ++ more) name ≡ true
+pub has_name-append : (names more : List (List ℕ)) (name : List ℕ) → has_name names name ≡ true → has_name (names ++ more) name ≡ true
 has_name-append [] more name h = cc
 has_name-append (n ∷ ns) more name h = by (same_name name n) h (has_name-append ns more name)
   where
@@ -28,7 +28,7 @@ has_name-append (n ∷ ns) more name h = by (same_name name n) h (has_name-appen
     by true e rest = refl
     by false e rest = rest e
 
-has_name-last : (names : List (List ℕ)) (name : List ℕ) → has_name (names ++ name ∷ []) name ≡ true
+pub has_name-last : (names : List (List ℕ)) (name : List ℕ) → has_name (names ++ name ∷ []) name ≡ true
 has_name-last [] name = ap (λ b. b || false) (nat_list_eq_equiv.refl name)
 has_name-last (n ∷ ns) name = by (same_name name n) (has_name-last ns name)
   where

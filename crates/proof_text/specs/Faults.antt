@@ -10,6 +10,7 @@ use Rattle.proof_text.specs.declared.fault.ProofFault.TheVariants as faults
 use Rattle.proof_text.specs.Words.{AreSmall}
 use Rattle.proof_text.specs.Numbering.{names_in}
 use Rattle.proof_text.specs.Steps.{step_by, counted_by, step_of, counted, IsProper}
+use Rattle.proof_text.specs.Denial.{IsPlain}
 use Rattle.proof_text.specs.Spells.{line_of, naming, measured, IsProperLine}
 
 -- a table with more names than 32 bits can number
@@ -67,14 +68,14 @@ DeniesPlaced faults.OutOfMemory place names ws = ⊤
 DeniesPlaced _ place names ws = ⊥
 
 -- What a fault says of a line at its place, `names` being the table before it. At the header the one fault is BadHeader:
--- the line is no header. At the count it is BadCount: the line is no count, or its integer is too large. Behind the end it
--- is TextAfterEnd.
+-- the line is no header. At the count it is BadCount: the line is no count, or its integer is too large. At the conclusion
+-- no rule is unknown or left out. Behind the end the fault is TextAfterEnd.
 abbrev pub DeniesLine : ProofFault → Place → List (List ℕ) → List (List ℕ) → Type 0
 DeniesLine fault places.Header names ws = (fault ≡ faults.BadHeader) × NoLine places.Header names ws
 DeniesLine fault places.Count names ws =
     (fault ≡ faults.BadCount) × ((line : Line) → line_of places.Count names ws ≡ Some line → AreSmall (measured places.Count ws) → ⊥)
 DeniesLine fault places.Step names ws = DeniesPlaced fault places.Step names ws
-DeniesLine fault places.Conclusion names ws = DeniesPlaced fault places.Conclusion names ws
+DeniesLine fault places.Conclusion names ws = IsPlain fault × DeniesPlaced fault places.Conclusion names ws
 DeniesLine fault places.End names ws = (fault ≡ faults.BadLine) × NoLine places.End names ws
 DeniesLine fault places.After names ws = fault ≡ faults.TextAfterEnd
 

@@ -35,7 +35,7 @@ impl Table {
     ghost use Rattle.proof_text.specs.Numbering.{met};
 
     /// The names as a line begins.
-    pub fn new(names: Names) -> Self
+    pub(crate) fn new(names: Names) -> Self
         ensures { result ≡ record { before = names; names = names; full = false } }
     {
         let before = names.len();
@@ -47,7 +47,7 @@ impl Table {
     }
 
     /// The literal that a word writes. A name that finds no number gets the one behind the last.
-    pub fn lit(&mut self, literal: Literal<'_>) -> Result<Lit, AllocError>
+    pub(crate) fn lit(&mut self, literal: Literal<'_>) -> Result<Lit, AllocError>
         ensures met { OnOk result (self.new ≡ met self.old literal.entry.name.now) }
         ensures variable { IfOk result (λ l. l.var.0 ≡ place_of self.new.names literal.entry.name.now) }
         ensures sign { IfOk result (λ l. l.negated ≡ literal.entry.negated) }
@@ -67,21 +67,21 @@ impl Table {
     }
 
     /// Whether a name found no number.
-    pub fn is_full(&self) -> bool
+    pub(crate) fn is_full(&self) -> bool
         ensures { result ≡ self.now.full }
     {
         self.full
     }
 
     /// The names as they are.
-    pub fn into_names(self) -> Names
+    pub(crate) fn into_names(self) -> Names
         ensures { result ≡ self.names }
     {
         self.names
     }
 
     /// The names as the line began.
-    pub fn undo(self) -> Names
+    pub(crate) fn undo(self) -> Names
         ensures { result ≡ self.before }
     {
         let mut names = self.names;

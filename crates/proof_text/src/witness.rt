@@ -1,9 +1,11 @@
 //! Substitutions: names and their images in turn.
 
-ghost use Rattle.std.specs.Prelude.{◌≡◌, [], ◌∷◌, IfOk, IfErr};
+ghost use Rattle.std.specs.Prelude.{◌≡◌, ℕ, List, [], ◌∷◌, false, ◌&&◌, None, Some, IfOk, IfErr, codes, bytes_eq};
+ghost use Rattle.substitution.specs.Images.{NamesOnce};
+ghost use Rattle.proof_text.specs.Kinds.{is_semicolon};
 ghost use Rattle.proof_text.specs.Forms as forms;
 ghost use Rattle.proof_text.specs.Reading.{Takes, IsRead, IsImageRead};
-ghost use Rattle.proof_text.specs.Denial.{Denies, IsForm};
+ghost use Rattle.proof_text.specs.Denial.{Denies};
 
 use crate::body::Body;
 use crate::fault::ProofFault;
@@ -12,7 +14,7 @@ use crate::table::Table;
 use linear::Var;
 use pb_text::{Kind, Symbol, Token};
 use std::alloc::Global;
-use substitution::Image;
+use substitution::{Image, Substitution};
 
 /// The image that a word writes: a literal, or the very text `0` or `1`.
 fn image(token: Token<'_>, table: &mut Table) -> Result<Image, ProofFault>
@@ -32,16 +34,30 @@ fn image(token: Token<'_>, table: &mut Table) -> Result<Image, ProofFault>
     Err(ProofFault::BadLine)
 }
 
-/// The fault of a word that is no name, where a name is due. A `;` with `begin` behind it begins a subproof, which is
-/// left out.
-fn name_fault(token: Token<'_>, behind: Option<Token<'_>>) -> ProofFault
-    ensures { IsForm result }
+/// Whether a subproof begins: a `;` with `begin` behind it. Subproofs are left out.
+fn begins_subproof(token: Token<'_>, behind: Option<Token<'_>>) -> bool
+    ensures { result ≡ (is_semicolon token.entry.kind && elim behind.entry [ None ↦ false | Some t ↦ bytes_eq t.text.now (codes "begin") ]) }
 {
     match (token.kind, behind) {
-        (Kind::Symbol(Symbol::Semicolon), Some(behind)) if behind.text == b"begin".as_slice() => {
+        (Kind::Symbol(Symbol::Semicolon), Some(behind)) => behind.text == b"begin".as_slice(),
+        _ => false,
+    }
+}
+
+/// The fault of a subproof behind these images. A name that stands twice on their left came first.
+fn subproof_fault(alloc: Global, images: Vec<(Var, Image)>) -> ProofFault
+    ensures denies { (ws : List (List ℕ)) → Denies result false ws }
+    ensures once { result ≡ ProofFault.BadLine → NamesOnce images.items → ⊥ }
+    ensures left_out { result ≡ ProofFault.RuleLeftOut → NamesOnce images.items }
+{
+    match Substitution::new(alloc, images) {
+        Ok(Some(witness)) => {
+            // That no variable stands twice is known by the type; this makes it known here.
+            let _images = witness.as_slice();
             ProofFault::RuleLeftOut
         }
-        _ => ProofFault::BadLine,
+        Ok(None) => ProofFault::BadLine,
+        Err(_) => ProofFault::OutOfMemory,
     }
 }
 
@@ -56,7 +72,7 @@ fn pair(
     ensures denies { let ws = token.entry.text.now ∷ words.old in IfErr result (λ f. Denies f (forms.are_images ws) ws) }
 {
     let Kind::Literal = token.kind else {
-        return Err(name_fault(token, words.next()));
+        return Err(ProofFault::BadLine);
     };
     let lit = lit(token, table)?;
     if lit.negated {
@@ -82,6 +98,9 @@ pub(crate) fn images(
 {
     let mut images = Vec::new(alloc);
     while let Some(token) = words.take() {
+        if begins_subproof(token, words.next()) {
+            return Err(subproof_fault(alloc, images));
+        }
         let pair = pair(token, &mut words, table)?;
         images.push(pair)?;
     }

@@ -1,11 +1,21 @@
-use Rattle.std.proofs.Common.{◌≡◌, ◌∷◌, [], ◌++◌, sym, refl, subst, arith}
+use Rattle.std.proofs.Common.{◌≡◌, ◌∷◌, [], ◌++◌, sym, refl, ◌∙◌, subst, arith}
 use Rattle.std.proofs.lemmas.Grind.{common_steps}
 use Rattle.std.proofs.lemmas.Result.{err_from_is_err_and}
 use Rattle.proof_text.specs.Forms.{are_images, images_of}
 use Rattle.proof_text.specs.Reading.{Takes}
 use Rattle.proof_text.specs.Denial.{Denies}
 use Rattle.proof_text.proofs.Loops.{one_more, denied_left, all_read}
+use Rattle.proof_text.proofs.Substituted.{no_subproof}
 use Rattle.proof_text.proofs.witness.images.Goals as goal
+
+pub returns-then-begins_subproof-clause-denies : goal.returns-then-begins_subproof-clause-denies
+returns-then-begins_subproof-clause-denies c =
+    let l = c.loop-token in
+    let t = c.in-Some.token in
+    let f = c.subproof_fault.result in
+    denied_left are_images images_of c.args.table.now c.args.words l.images.items l.table l.words f l.invariant
+    (subst (λ ws. Denies f (are_images ws) ws) (sym c.in-Some.ensures)
+    (no_subproof f t.text.now c.take.new.self t.kind _ t.kind_is (sym c.begins_subproof.ensures ∙ c.if-begins_subproof.true) c.subproof_fault.ensures.denies))
 
 pub returns-in_err-pair-clause-denies : goal.returns-in_err-pair-clause-denies
 returns-in_err-pair-clause-denies c =
