@@ -1,5 +1,5 @@
 -- Tables of names: what the keys of the index set say of the names, and that a table stays one.
-use Rattle.std.proofs.Common.{◌≡◌, ℕ, ◌+◌, ◌<◌, ◌^◌, Bool, true, false, not, cond, ◌||◌, List, [], ◌∷◌, ◌++◌, map, length, take, if◌then◌else◌, ltb, get_or, zero, suc, Some, None, is_some, refl, sym, ap, subst, ◌∙◌, arith, lit<}
+use Rattle.std.proofs.Common.{◌≡◌, ℕ, ◌+◌, ◌<◌, ◌^◌, Bool, true, false, not, cond, ◌||◌, List, [], ◌∷◌, ◌++◌, map, length, take, if◌then◌else◌, ltb, get_or, zero, suc, Some, None, is_some, refl, sym, ap, subst, ◌∙◌, arith}
 use Rattle.std.specs.List.{list_any, position_or_len, position, IsDistinct, AllByRecursion}
 use Rattle.std.specs.Cmp.Lexicographic.{nat_list_eq_equiv}
 use Rattle.std.proofs.lemmas.List.{length-append, length-take, map-append, take_more, get_or-map, length-map}
@@ -54,7 +54,7 @@ place_of-new (n ∷ ns) name h = by (same_name name n) h (place_of-new ns name)
 
 pub IsTable-empty : IsTable []
 unfolding IsDistinct
-IsTable-empty = record { spelled = λ k d h. absurd (omega arith); distinct = tt; numbered = lit< tt }
+IsTable-empty = record { spelled = λ k d h. absurd (omega arith); distinct = tt; numbered = omega arith }
 
 -- a new name beside distinct ones
 distinct-push : (names : List (List ℕ)) (name : List ℕ) → has_name names name ≡ false → IsDistinct same_name names → IsDistinct same_name (names ++ name ∷ [])
@@ -70,7 +70,7 @@ distinct-push (n ∷ ns) name h d = by (same_name name n) refl (distinct-push ns
     by true e rest = absurd (true≢false (sym (ap (λ b. b || has_name ns name) e) ∙ h))
     by false e rest = (pushed ns (nat_list_eq_equiv.symm n name ∙ e) d.0, rest (sym (ap (λ b. b || has_name ns name) e) ∙ h) d.1)
 
-pub IsTable-with_name : (names : List (List ℕ)) (name : List ℕ) → IsTable names → is_name name ≡ true → length names + 1 < 2 ^ 32 → IsTable (with_name names name)
+pub IsTable-with_name : (names : List (List ℕ)) (name : List ℕ) → IsTable names → is_name name ≡ true → length names < 2 ^ 32 → IsTable (with_name names name)
 IsTable-with_name names name t spelled room = by (has_name names name) refl
   where
     by : (b : Bool) → has_name names name ≡ b → IsTable (if b then names else names ++ name ∷ [])

@@ -1,5 +1,5 @@
 -- Tables of names: an ordered list of names, none twice. A name's number is its place.
-use Rattle.std.specs.Prelude.{◌≡◌, ℕ, ◌++◌, ◌<◌, ◌^◌, Bool, true, List, [], ◌∷◌, nat_eq, length, All, if◌then◌else◌}
+use Rattle.std.specs.Prelude.{◌≡◌, ℕ, ◌++◌, ◌≤◌, ◌^◌, Bool, true, List, [], ◌∷◌, nat_eq, length, All, if◌then◌else◌}
 use Rattle.std.specs.List.{list_any, position_or_len, IsDistinct}
 use Rattle.std.specs.Cmp.Lexicographic.{pointwise}
 use Rattle.pb_text.specs.Name.{is_name}
@@ -24,4 +24,4 @@ with_name names name = if has_name names name then names else names ++ name ∷ 
 pub record IsTable (names : List (List ℕ)) : Type 0 where
   pub spelled : All (λ name. is_name name ≡ true) names
   pub distinct : IsDistinct same_name names
-  pub numbered : length names < 2 ^ 32
+  pub numbered : length names ≤ 2 ^ 32

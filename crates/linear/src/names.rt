@@ -78,7 +78,7 @@ impl Names {
     /// memory the table stays as it was.
     pub fn intern(&mut self, name: &[u8]) -> Result<Var, AllocError>
         requires spelled { is_name name.now ≡ true }
-        requires room { length self.old + 1 < 2 ^ 32 }
+        requires room { length self.old < 2 ^ 32 }
         ensures ok { OnOk result (self.new ≡ with_name self.old name.now) }
         ensures number { IfOk result (λ v. v.0 ≡ place_of self.old name.now) }
         ensures err { OnErr result (self.new ≡ self.old) }

@@ -26,7 +26,7 @@ fn worth(assignment: &Assignment, term: Term) -> i128
 }
 
 /// The sum of the terms whose literals are true.
-pub fn sum(assignment: &Assignment, terms: &[Term]) -> i128
+pub(crate) fn sum(assignment: &Assignment, terms: &[Term]) -> i128
     requires { IsSumWithin (length assignment.now) terms.now }
     ensures { result ≡ sum_of (valuation_of assignment.now) terms.now }
 {
@@ -38,7 +38,7 @@ pub fn sum(assignment: &Assignment, terms: &[Term]) -> i128
 }
 
 /// Whether an assignment meets a constraint.
-pub fn meets(assignment: &Assignment, constraint: &Signed) -> bool
+pub(crate) fn meets(assignment: &Assignment, constraint: &Signed) -> bool
     requires { IsConstraintWithin (length assignment.now) constraint.now }
     ensures { IsTrue result ↔ Meets (valuation_of assignment.now) constraint.now }
 {
