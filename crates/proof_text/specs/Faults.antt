@@ -1,5 +1,5 @@
 -- What the faults of a line say of it.
-use Rattle.std.specs.Prelude.{◌≡◌, ℕ, ◌^◌, ◌≤◌, Some, List, length, codes, ⊤}
+use Rattle.std.specs.Prelude.{◌≡◌, ℕ, ◌^◌, ◌<◌, Some, List, length, codes, ⊤}
 use Rattle.kernel.specs.declared.step.Step.{Step}
 use Rattle.proof_text.specs.declared.rule.Rule.{Rule}
 use Rattle.proof_text.specs.declared.line.Place.{Place}
@@ -15,7 +15,7 @@ use Rattle.proof_text.specs.Spells.{line_of, naming, measured, IsProperLine}
 
 -- a table with more names than 32 bits can number
 abbrev pub AreTooMany : List (List ℕ) → Type 0
-AreTooMany names = 2 ^ 32 ≤ length names
+AreTooMany names = 2 ^ 32 < length names
 
 -- the words behind a rule's own word are no step
 abbrev pub NoStepBy : Rule → List (List ℕ) → List (List ℕ) → Type 0

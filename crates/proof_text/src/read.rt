@@ -44,7 +44,7 @@ fn step_line(alloc: Global, mut words: Lookahead<'_>, table: &mut Table) -> Resu
 /// over.
 ///
 /// `UnknownRule`, `RuleLeftOut` and `BadLine` come only where the line says no step, `IntegerTooLarge` only where an
-/// integer is too large, `TooManyIds` only where the line is well formed and the table would have 2^32 names or more.
+/// integer is too large, `TooManyIds` only where the line is well formed and the table would have more than 2^32 names.
 pub fn read_step(alloc: Global, line: &[u8], names: &mut Names) -> Result<Step, ProofFault>
     ensures step { IfOk result (λ s. IsStep names.old (words line.now) s names.new) }
     ensures writable { IfOk result (λ s. IsStepWritable (length names.new) s) }
