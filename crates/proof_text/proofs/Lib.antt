@@ -7,11 +7,12 @@ pub mod Items
 pub mod Halves
 pub mod Written
 pub mod Substituted
+pub mod Writable
+pub mod Apart
 pub mod Stepping
 pub mod Counting
 pub mod Concluding
 pub mod Placing
-pub mod Writable
 pub mod Cuts
 pub mod Texts
 pub mod Numerals

@@ -82,7 +82,7 @@ one_no_arrow : is_arrow (kind_of (codes "1")) ≡ false
 unfolding kind_of kind_of_word integer_word literal_word is_misspelt is_name
 one_no_arrow = refl
 
-image_no_arrow : (w : List ℕ) → is_image w ≡ true → is_arrow (kind_of w) ≡ false
+pub image_no_arrow : (w : List ℕ) → is_image w ≡ true → is_arrow (kind_of w) ≡ false
 image_no_arrow w h = by (is_literal (kind_of w)) (bytes_eq w (codes "0")) (bytes_eq w (codes "1")) refl refl refl h
   where
     by : (l z o : Bool) → is_literal (kind_of w) ≡ l → bytes_eq w (codes "0") ≡ z → bytes_eq w (codes "1") ≡ o → (l || z || o) ≡ true → is_arrow (kind_of w) ≡ false

@@ -41,7 +41,7 @@ use Rattle.proof_text.proofs.Parts.{first_small, rest_small, none_small}
 use Rattle.proof_text.proofs.Numbers.{has_name-append, has_name-last}
 use Rattle.proof_text.proofs.Items.{same_word}
 
-both : (p q : Bool) → (p && q) ≡ true → (p ≡ true) × (q ≡ true)
+pub both : (p q : Bool) → (p && q) ≡ true → (p ≡ true) × (q ≡ true)
 both true q h = (refl, h)
 both false q h = cc
 

@@ -28,7 +28,9 @@ DeniesRule faults.RuleLeftOut rule names ws = NoStepBy rule names ws
 DeniesRule faults.BadLine rule names ws = NoStepBy rule names ws
 DeniesRule faults.IntegerTooLarge rule names ws = AreSmall (counted_by rule ws) → ⊥
 DeniesRule faults.TooManyIds rule names ws =
-    AreSmall (counted_by rule ws) × ((step : Step) × (step_by rule (names_in names (counted_by rule ws)) ws ≡ Some step)) × AreTooMany (names_in names (counted_by rule ws))
+    AreSmall (counted_by rule ws)
+    × ((step : Step) × (step_by rule (names_in names (counted_by rule ws)) ws ≡ Some step) × IsProper step)
+    × AreTooMany (names_in names (counted_by rule ws))
 DeniesRule faults.OutOfMemory rule names ws = ⊤
 DeniesRule _ rule names ws = ⊥
 
@@ -37,16 +39,17 @@ abbrev pub NoStep : List (List ℕ) → List (List ℕ) → Type 0
 NoStep names ws = (step : Step) → step_of (names_in names (counted ws)) ws ≡ Some step → IsProper step → ⊥
 
 -- What a fault in reading a step says, `names` being the table before the line. Codes 3, 4 and 5: the words are no step.
--- Code 8: an integer among those that count is above 2^120 in size. Code 29: the words are a step (but for a name that
--- may stand twice on the left of its substitution), and its names are too many. Want of memory says nothing. No other
--- fault comes.
+-- Code 8: an integer among those that count is above 2^120 in size. Code 29: the words are a step, and its names are too
+-- many. Want of memory says nothing. No other fault comes.
 abbrev pub DeniesStep : ProofFault → List (List ℕ) → List (List ℕ) → Type 0
 DeniesStep faults.UnknownRule names ws = NoStep names ws
 DeniesStep faults.RuleLeftOut names ws = NoStep names ws
 DeniesStep faults.BadLine names ws = NoStep names ws
 DeniesStep faults.IntegerTooLarge names ws = AreSmall (counted ws) → ⊥
 DeniesStep faults.TooManyIds names ws =
-    AreSmall (counted ws) × ((step : Step) × (step_of (names_in names (counted ws)) ws ≡ Some step)) × AreTooMany (names_in names (counted ws))
+    AreSmall (counted ws)
+    × ((step : Step) × (step_of (names_in names (counted ws)) ws ≡ Some step) × IsProper step)
+    × AreTooMany (names_in names (counted ws))
 DeniesStep faults.OutOfMemory names ws = ⊤
 DeniesStep _ names ws = ⊥
 
@@ -62,7 +65,7 @@ DeniesPlaced faults.BadLine place names ws = NoLine place names ws
 DeniesPlaced faults.IntegerTooLarge place names ws = AreSmall (measured place ws) → ⊥
 DeniesPlaced faults.TooManyIds place names ws =
     AreSmall (measured place ws)
-    × ((line : Line) × (line_of place (names_in names (naming place ws)) ws ≡ Some line))
+    × ((line : Line) × (line_of place (names_in names (naming place ws)) ws ≡ Some line) × IsProperLine line)
     × AreTooMany (names_in names (naming place ws))
 DeniesPlaced faults.OutOfMemory place names ws = ⊤
 DeniesPlaced _ place names ws = ⊥

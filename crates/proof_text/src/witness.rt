@@ -1,6 +1,7 @@
 //! Substitutions: names and their images in turn.
 
-ghost use Rattle.std.specs.Prelude.{◌≡◌, ℕ, List, [], ◌∷◌, false, ◌&&◌, None, Some, IfOk, IfErr, codes, bytes_eq};
+ghost use Rattle.std.specs.Prelude.{◌≡◌, ℕ, List, [], ◌∷◌, true, false, ◌&&◌, map, None, Some, if◌then◌else◌, IfOk, IfErr, OnOk, codes, bytes_eq};
+ghost use Rattle.std.specs.List.{list_any};
 ghost use Rattle.substitution.specs.Images.{NamesOnce};
 ghost use Rattle.proof_text.specs.Kinds.{is_semicolon};
 ghost use Rattle.proof_text.specs.Forms as forms;
@@ -15,6 +16,43 @@ use linear::Var;
 use pb_text::{Kind, Symbol, Token};
 use std::alloc::Global;
 use substitution::{Image, Substitution};
+
+/// A substitution as it is read.
+#[derive(Drop)]
+pub(crate) struct Witness<'a> {
+    /// The variables on the left, with their images.
+    pub(crate) images: Vec<(Var, Image)>,
+    /// The names on the left.
+    names: Vec<&'a [u8]>,
+}
+
+/// Whether a word is among these.
+fn is_among(word: &[u8], words: &[&[u8]]) -> bool
+    ensures { result ≡ list_any (λ v. bytes_eq v word.now) (map (λ s. s.now) words.now) }
+{
+    let mut rest = words;
+    while let [other, more @ ..] = rest {
+        if *other == word {
+            return true;
+        }
+        rest = more;
+    }
+    false
+}
+
+/// Whether a word stands twice among these. It compares each two of them.
+fn repeats(words: &[&[u8]]) -> bool
+    ensures { result ≡ forms.repeats (map (λ s. s.now) words.now) }
+{
+    let mut rest = words;
+    while let [word, more @ ..] = rest {
+        if is_among(word, more) {
+            return true;
+        }
+        rest = more;
+    }
+    false
+}
 
 /// The image that a word writes: a literal, or the very text `0` or `1`.
 fn image(token: Token<'_>, table: &mut Table) -> Result<Image, ProofFault>
@@ -44,13 +82,22 @@ fn begins_subproof(token: Token<'_>, behind: Option<Token<'_>>) -> bool
     }
 }
 
-/// The fault of a subproof behind these images. A name that stands twice on their left came first.
-fn subproof_fault(alloc: Global, images: Vec<(Var, Image)>) -> ProofFault
+/// The fault of a subproof behind a substitution. A name that stands twice on the left came first; where names found no
+/// number, the words tell.
+fn subproof_fault(alloc: Global, witness: Witness<'_>, full: bool) -> ProofFault
     ensures denies { (ws : List (List ℕ)) → Denies result false ws }
-    ensures once { result ≡ ProofFault.BadLine → NamesOnce images.items → ⊥ }
-    ensures left_out { result ≡ ProofFault.RuleLeftOut → NamesOnce images.items }
+    ensures once { full ≡ false → result ≡ ProofFault.BadLine → NamesOnce witness.entry.images.items → ⊥ }
+    ensures left_out { full ≡ false → result ≡ ProofFault.RuleLeftOut → NamesOnce witness.entry.images.items }
+    ensures full { full ≡ true → result ≡ (if forms.repeats (map (λ s. s.now) witness.entry.names.items) then ProofFault.BadLine else ProofFault.RuleLeftOut) }
 {
-    match Substitution::new(alloc, images) {
+    if full {
+        return if repeats(witness.names.as_slice()) {
+            ProofFault::BadLine
+        } else {
+            ProofFault::RuleLeftOut
+        };
+    }
+    match Substitution::new(alloc, witness.images) {
         Ok(Some(witness)) => {
             // That no variable stands twice is known by the type; this makes it known here.
             let _images = witness.as_slice();
@@ -61,6 +108,18 @@ fn subproof_fault(alloc: Global, images: Vec<(Var, Image)>) -> ProofFault
     }
 }
 
+/// The fault of a substitution that reads well, and has names that found no number. A name that stands twice on the left
+/// came first.
+pub(crate) fn full_fault(witness: &Witness<'_>) -> ProofFault
+    ensures { result ≡ (if forms.repeats (map (λ s. s.now) witness.now.names.items) then ProofFault.BadLine else ProofFault.TooManyIds) }
+{
+    if repeats(witness.names.as_slice()) {
+        ProofFault::BadLine
+    } else {
+        ProofFault::TooManyIds
+    }
+}
+
 /// A name and its image; between the two an arrow may stand.
 fn pair(
     token: Token<'_>,
@@ -68,6 +127,7 @@ fn pair(
     table: &mut Table,
 ) -> Result<(Var, Image), ProofFault>
     ensures takes { IfOk result (λ p. Takes forms.are_images forms.images_of table.old (token.entry.text.now ∷ words.old) p table.new words.new) }
+    ensures left { OnOk result (forms.lefts (token.entry.text.now ∷ words.old) ≡ token.entry.text.now ∷ forms.lefts words.new) }
     ensures kept { table.new.before ≡ table.old.before }
     ensures denies { let ws = token.entry.text.now ∷ words.old in IfErr result (λ f. Denies f (forms.are_images ws) ws) }
 {
@@ -87,22 +147,26 @@ fn pair(
 }
 
 /// Names and images up to the end of a line.
-pub(crate) fn images(
+pub(crate) fn images<'a>(
     alloc: Global,
-    mut words: Body<'_>,
+    mut words: Body<'a>,
     table: &mut Table,
-) -> Result<Vec<(Var, Image)>, ProofFault>
-    ensures read { IfOk result (λ v. IsRead forms.are_images forms.images_of table.old words.entry v.items table.new) }
+) -> Result<Witness<'a>, ProofFault>
+    ensures read { IfOk result (λ w. IsRead forms.are_images forms.images_of table.old words.entry w.images.items table.new) }
+    ensures names { IfOk result (λ w. map (λ s. s.now) w.names.items ≡ forms.lefts words.entry) }
     ensures kept { table.new.before ≡ table.old.before }
     ensures denies { IfErr result (λ f. Denies f (forms.are_images words.entry) words.entry) }
 {
     let mut images = Vec::new(alloc);
+    let mut names = Vec::new(alloc);
     while let Some(token) = words.take() {
         if begins_subproof(token, words.next()) {
-            return Err(subproof_fault(alloc, images));
+            let witness = Witness { images, names };
+            return Err(subproof_fault(alloc, witness, table.is_full()));
         }
         let pair = pair(token, &mut words, table)?;
         images.push(pair)?;
+        names.push(token.text)?;
     }
-    Ok(images)
+    Ok(Witness { images, names })
 }
