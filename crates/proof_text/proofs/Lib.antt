@@ -7,6 +7,8 @@ pub mod Items
 pub mod Halves
 pub mod Written
 pub mod Substituted
+pub mod Writable
+pub mod Apart
 pub mod Stepping
 pub mod Counting
 pub mod Concluding

@@ -8,7 +8,7 @@ use Rattle.pb_text.specs.Word.{name_of}
 use Rattle.linear.specs.declared.term.Lit.{Lit}
 use Rattle.linear.specs.Table.{same_name, has_name, place_of, with_name}
 use Rattle.proof_text.specs.Kinds.{is_literal}
-use Rattle.proof_text.specs.Numbering.{Known, met, met_in, names_in, most_names}
+use Rattle.proof_text.specs.Numbering.{Known, met, met_in, names_in, most_names, but_last}
 
 -- a name that is there keeps its number
 pub place_of-append : (names more : List (List ℕ)) (name : List ℕ) → has_name names name ≡ true → place_of (names ++ more) name ≡ place_of names name
@@ -20,7 +20,7 @@ place_of-append (n ∷ ns) more name h = by (same_name name n) h (place_of-appen
     by true e rest = refl
     by false e rest = ap (λ k. 1 + k) (rest e)
 
-has_name-append : (names more : List (List ℕ)) (name : List ℕ) → has_name names name ≡ true → has_name (names ++ more) name ≡ true
+pub has_name-append : (names more : List (List ℕ)) (name : List ℕ) → has_name names name ≡ true → has_name (names ++ more) name ≡ true
 has_name-append [] more name h = cc
 has_name-append (n ∷ ns) more name h = by (same_name name n) h (has_name-append ns more name)
   where
@@ -28,7 +28,7 @@ has_name-append (n ∷ ns) more name h = by (same_name name n) h (has_name-appen
     by true e rest = refl
     by false e rest = rest e
 
-has_name-last : (names : List (List ℕ)) (name : List ℕ) → has_name (names ++ name ∷ []) name ≡ true
+pub has_name-last : (names : List (List ℕ)) (name : List ℕ) → has_name (names ++ name ∷ []) name ≡ true
 has_name-last [] name = ap (λ b. b || false) (nat_list_eq_equiv.refl name)
 has_name-last (n ∷ ns) name = by (same_name name n) (has_name-last ns name)
   where
@@ -67,35 +67,62 @@ place_of-added names name = by (has_name names name) refl
     by true e = refl
     by false e = place_of-last names name e
 
--- a name's number is settled: the table has it, or has no room
-abbrev Settled : Known → List ℕ → Type 0
-Settled k name = (has_name k.names name ≡ true) ⊎ (nat_lt (length k.names) most_names ≡ false)
+-- all names but the last number every name as before
+pub place_of-but_last : (names : List (List ℕ)) (name : List ℕ) → has_name names name ≡ true → place_of (but_last names) name ≡ place_of names name
+place_of-but_last [] name h = refl
+place_of-but_last (n ∷ []) name h = by (same_name name n) h
+  where
+    by : (b : Bool) → (b || false) ≡ true → 0 ≡ cond (not b) (1 + 0) 0
+    by true e = refl
+    by false e = cc
+place_of-but_last (n ∷ m ∷ rest) name h = by (same_name name n) h (place_of-but_last (m ∷ rest) name)
+  where
+    by : (b : Bool) → (b || has_name (m ∷ rest) name) ≡ true → (has_name (m ∷ rest) name ≡ true → place_of (but_last (m ∷ rest)) name ≡ place_of (m ∷ rest) name)
+        → cond (not b) (1 + place_of (but_last (m ∷ rest)) name) 0 ≡ cond (not b) (1 + place_of (m ∷ rest) name) 0
+    by true e f = refl
+    by false e f = ap (λ k. 1 + k) (f e)
 
--- the three things that can become of a table at a name
-abbrev by_tests : Bool → Bool → Known → List ℕ → Known
-by_tests has room k name =
-    if has then k
+-- and a name that is not there has the number of the last
+pub place_of-beyond : (names : List (List ℕ)) (name : List ℕ) → has_name names name ≡ false → 0 < length names → 1 + place_of (but_last names) name ≡ length names
+place_of-beyond [] name h some = absurd (omega arith)
+place_of-beyond (n ∷ []) name h some = refl
+place_of-beyond (n ∷ m ∷ rest) name h some = by (same_name name n) h (λ e. place_of-beyond (m ∷ rest) name e (omega arith))
+  where
+    by : (b : Bool) → (b || has_name (m ∷ rest) name) ≡ false → (has_name (m ∷ rest) name ≡ false → 1 + place_of (but_last (m ∷ rest)) name ≡ length (m ∷ rest))
+        → 1 + cond (not b) (1 + place_of (but_last (m ∷ rest)) name) 0 ≡ length (n ∷ m ∷ rest)
+    by true e f = cc
+    by false e f = let k : 1 + place_of (but_last (m ∷ rest)) name ≡ length (m ∷ rest) = f e in omega (arith, k)
+
+-- a name's number is settled: the table has it, or a name was met for which there was no room
+abbrev Settled : Known → List ℕ → Type 0
+Settled k name = (has_name k.names name ≡ true) ⊎ (k.full ≡ true)
+
+-- the four things that can become of a table at a name
+abbrev by_tests : Bool → Bool → Bool → Known → List ℕ → Known
+by_tests full has room k name =
+    if full || has then k
     else if room then record { before = k.before; names = k.names ++ name ∷ []; full = k.full }
-    else record { before = k.before; names = k.names; full = true }
+    else record { before = k.before; names = but_last k.names; full = true }
 
 settled_met : (k : Known) (name : List ℕ) → Settled (met k name) name
-settled_met k name = by (has_name k.names name) (nat_lt (length k.names) most_names) refl refl
+settled_met k name = by k.full (has_name k.names name) (nat_lt (length k.names) most_names) refl refl
   where
-    by : (h r : Bool) → has_name k.names name ≡ h → nat_lt (length k.names) most_names ≡ r → Settled (by_tests h r k name) name
-    by true r e f = inl e
-    by false true e f = inl (has_name-last k.names name)
-    by false false e f = inr f
+    by : (f h r : Bool) → k.full ≡ f → has_name k.names name ≡ h → Settled (by_tests f h r k name) name
+    by true h r d e = inr d
+    by false true r d e = inl e
+    by false false true d e = inl (has_name-last k.names name)
+    by false false false d e = inr refl
 
 -- a settled number stays
 stays : (k : Known) (name other : List ℕ) → Settled k name → Settled (met k other) name × (place_of (met k other).names name ≡ place_of k.names name)
-stays k name other s = by (has_name k.names other) (nat_lt (length k.names) most_names) refl s
+stays k name other s = by k.full (has_name k.names other) (nat_lt (length k.names) most_names) refl s
   where
-    by : (h r : Bool) → nat_lt (length k.names) most_names ≡ r → Settled k name
-        → Settled (by_tests h r k other) name × (place_of (by_tests h r k other).names name ≡ place_of k.names name)
-    by true r f t = (t, refl)
-    by false true f (inl has) = (inl (has_name-append k.names (other ∷ []) name has), place_of-append k.names (other ∷ []) name has)
-    by false true f (inr full) = absurd (cc (sym f ∙ full))
-    by false false f t = (t, refl)
+    by : (f h r : Bool) → k.full ≡ f → Settled k name → Settled (by_tests f h r k other) name × (place_of (by_tests f h r k other).names name ≡ place_of k.names name)
+    by true h r d t = (t, refl)
+    by false true r d t = (t, refl)
+    by false false true d (inl has) = (inl (has_name-append k.names (other ∷ []) name has), place_of-append k.names (other ∷ []) name has)
+    by false false false d (inl has) = (inr refl, place_of-but_last k.names name has)
+    by false false r d (inr full) = absurd (cc (sym d ∙ full))
 
 stay : (k : Known) (name : List ℕ) (ws : List (List ℕ)) → Settled k name → place_of (met_in k ws).names name ≡ place_of k.names name
 stay k name [] s = refl
@@ -129,12 +156,13 @@ pub met_other : (k : Known) (w : List ℕ) (ws : List (List ℕ)) → is_literal
 met_other k w ws h = ap (λ t. met_in (if t then met k (name_of w) else k) ws) h
 
 met_before : (k : Known) (name : List ℕ) → (met k name).before ≡ k.before
-met_before k name = by (has_name k.names name) (nat_lt (length k.names) most_names)
+met_before k name = by k.full (has_name k.names name) (nat_lt (length k.names) most_names)
   where
-    by : (h r : Bool) → (by_tests h r k name).before ≡ k.before
-    by true r = refl
-    by false true = refl
-    by false false = refl
+    by : (f h r : Bool) → (by_tests f h r k name).before ≡ k.before
+    by true h r = refl
+    by false true r = refl
+    by false false true = refl
+    by false false false = refl
 
 -- the names from before a line stay
 pub before_stays : (k : Known) (ws : List (List ℕ)) → (met_in k ws).before ≡ k.before
@@ -146,12 +174,7 @@ before_stays k (w ∷ ws) = by (is_literal (kind_of w)) (before_stays (met k (na
     by false e f = f
 
 met_full : (k : Known) (name : List ℕ) → k.full ≡ true → (met k name).full ≡ true
-met_full k name h = by (has_name k.names name) (nat_lt (length k.names) most_names)
-  where
-    by : (t r : Bool) → (by_tests t r k name).full ≡ true
-    by true r = h
-    by false true = h
-    by false false = refl
+met_full k name h = ap (λ f. (by_tests f (has_name k.names name) (nat_lt (length k.names) most_names) k name).full) h ∙ h
 
 full_stays : (k : Known) (ws : List (List ℕ)) → k.full ≡ true → (met_in k ws).full ≡ true
 full_stays k [] h = h
@@ -180,14 +203,15 @@ names_in-more names (w ∷ ws) = by (is_literal (kind_of w)) (names_in-more (wit
 -- what one name does to a table that had room so far
 one : (k : Known) (name : List ℕ) → k.full ≡ false
     → ((met k name).full ≡ false) × ((met k name).names ≡ with_name k.names name) ⊎ ((met k name).full ≡ true) × (most_names < length (with_name k.names name))
-one k name none = by (has_name k.names name) (nat_lt (length k.names) most_names) refl
+one k name none = by k.full (has_name k.names name) (nat_lt (length k.names) most_names) refl refl
   where
-    by : (h r : Bool) → nat_lt (length k.names) most_names ≡ r
-        → ((by_tests h r k name).full ≡ false) × ((by_tests h r k name).names ≡ (if h then k.names else k.names ++ name ∷ []))
-        ⊎ ((by_tests h r k name).full ≡ true) × (most_names < length (if h then k.names else k.names ++ name ∷ []))
-    by true r f = inl (none, refl)
-    by false true f = inl (none, refl)
-    by false false f =
+    by : (f h r : Bool) → k.full ≡ f → nat_lt (length k.names) most_names ≡ r
+        → ((by_tests f h r k name).full ≡ false) × ((by_tests f h r k name).names ≡ (if h then k.names else k.names ++ name ∷ []))
+        ⊎ ((by_tests f h r k name).full ≡ true) × (most_names < length (if h then k.names else k.names ++ name ∷ []))
+    by true h r d e = absurd (cc (sym none ∙ d))
+    by false true r d e = inl (d, refl)
+    by false false true d e = inl (d, refl)
+    by false false false d e =
         let full : most_names ≤ length k.names = grind (arith, nat_tests) in
         inr (refl, omega (arith, full, length-append k.names (name ∷ [])))
 
@@ -222,3 +246,8 @@ too_many k (w ∷ ws) h e = by (is_literal (kind_of w)) e (λ n f. too_many (met
           | inl p ↦ subst (λ n. most_names < length (names_in n ws)) p.1 (f p.0 e)
           | inr p ↦ let more : length (with_name k.names (name_of w)) ≤ length (names_in (with_name k.names (name_of w)) ws) = names_in-more (with_name k.names (name_of w)) ws in omega (arith, p.1, more)
         ]
+
+-- the number of a name that is there, whether or not the last name is kept
+pub seen_number : (names : List (List ℕ)) (full : Bool) (name : List ℕ) → has_name names name ≡ true → place_of (if full then but_last names else names) name ≡ place_of names name
+seen_number names true name h = place_of-but_last names name h
+seen_number names false name h = refl

@@ -18,7 +18,7 @@ use Rattle.proof_text.specs.Words.{is_first, is_empty, are_words, unclosed, AreS
 use Rattle.proof_text.specs.Numbering.{Known, met_in, names_in, most_names}
 use Rattle.proof_text.specs.Frame.{count_of, output}
 use Rattle.proof_text.specs.Rules.{rule_of}
-use Rattle.proof_text.specs.Steps.{step_by, counted_by, step_of, counted, IsStepRead, IsStepLineRead, IsStep}
+use Rattle.proof_text.specs.Steps.{step_by, counted_by, step_of, counted, IsProper, IsStepRead, IsStepLineRead, IsStep}
 use Rattle.proof_text.specs.Conclusions.{verdict_of, is_hint, hint_of, past_id, is_upper, upper_of, is_lower, lower_of, bounds_by, bounds_of, conclusion_by, judgement_of, conclusion_of, conclusion_literals, IsConclusionLineRead}
 use Rattle.proof_text.specs.Spells.{line_of, IsProperLine, IsLine}
 use Rattle.proof_text.specs.Denial.{Denies, IsForm}
@@ -28,7 +28,8 @@ use Rattle.proof_text.specs.declared.fault.ProofFault.TheVariants as faults
 use Rattle.proof_text.proofs.Items.{first_word}
 use Rattle.proof_text.proofs.Parts.{none_small}
 use Rattle.proof_text.proofs.Numbers.{too_many}
-use Rattle.proof_text.proofs.Stepping.{said_anyway, table_whole}
+use Rattle.proof_text.proofs.Writable.{HasNames, has_names}
+use Rattle.proof_text.proofs.Stepping.{said_anyway, apart, table_whole}
 
 -- the names as a line begins
 abbrev pub fresh : List (List ℕ) → Known
@@ -77,7 +78,7 @@ step_denied faults.OutOfMemory rule names w rest h d = d
 step_denied faults.TooManyIds rule names w rest h d =
     let c : counted (w ∷ rest) ≡ counted_by rule rest = counted_at w rest (Some rule) h in (
       subst AreSmall (sym c) d.0,
-      (d.1.0, step_at (names_in names (counted (w ∷ rest))) w rest (Some rule) h ∙ ap (λ x. step_by rule (names_in names x) rest) c ∙ d.1.1),
+      (d.1.0, step_at (names_in names (counted (w ∷ rest))) w rest (Some rule) h ∙ ap (λ x. step_by rule (names_in names x) rest) c ∙ d.1.1, d.1.2),
       subst (λ x. AreTooMany (names_in names x)) (sym c) d.2,
     )
 
@@ -122,20 +123,20 @@ step_read names k new ws step e r full =
       small = q.small;
     }
 
-step_anyway : (names others ws : List (List ℕ)) (step : Step) → step_of names ws ≡ Some step → (q : Step) × (step_of others ws ≡ Some q)
-unfolding step_of
-step_anyway names others [] step h = cc
-step_anyway names others (w ∷ rest) step h = by (rule_of w) h
+step_anyway : (names others ws : List (List ℕ)) (step : Step) → step_of names ws ≡ Some step → IsProper step → HasNames others (counted ws) → (q : Step) × (step_of others ws ≡ Some q) × IsProper q
+unfolding step_of counted
+step_anyway names others [] step h proper has = cc
+step_anyway names others (w ∷ rest) step h proper has = by (rule_of w) h has
   where
-    by : (o : Option Rule) → step_by_rule names rest o ≡ Some step → (q : Step) × (step_by_rule others rest o ≡ Some q)
-    by None h = cc
-    by (Some rule) h = said_anyway rule names others rest step h
+    by : (o : Option Rule) → step_by_rule names rest o ≡ Some step → HasNames others (counted_by_rule rest o) → (q : Step) × (step_by_rule others rest o ≡ Some q) × IsProper q
+    by None h has = cc
+    by (Some rule) h has = said_anyway rule names others rest step h (apart rule names rest step h proper) has
 
 pub step_full : (names : List (List ℕ)) (k new : Known) (ws : List (List ℕ)) (step : Step) → k ≡ fresh names → IsStepLineRead k ws step new → new.full ≡ true → DeniesStep faults.TooManyIds names ws
 step_full names k new ws step e r full =
     let q : IsStepLineRead (fresh names) ws step new = subst (λ x. IsStepLineRead x ws step new) e r in
     let far : most_names < length (names_in names (counted ws)) = too_many (fresh names) (counted ws) refl (sym (ap (λ (m : Known). m.full) q.known) ∙ full) in
-    (q.small, step_anyway new.names (names_in names (counted ws)) ws step q.says, omega (arith, far))
+    (q.small, step_anyway new.names (names_in names (counted ws)) ws step q.says q.proper (has_names names (counted ws)), omega (arith, far))
 
 -- a conclusion's line
 pub conclusion_placed : (names : List (List ℕ)) (k new : Known) (ws : List (List ℕ)) (c : Conclusion) → k ≡ fresh names → IsConclusionLineRead k ws c new → new.full ≡ false
@@ -199,7 +200,7 @@ conclusion_full names k new ws c e r full =
     let q : IsConclusionLineRead (fresh names) ws c new = subst (λ x. IsConclusionLineRead x ws c new) e r in
     let far : most_names < length (names_in names (conclusion_literals ws)) = too_many (fresh names) (conclusion_literals ws) refl (sym (ap (λ (m : Known). m.full) q.known) ∙ full) in
     let a = conclusion_anyway new.names (names_in names (conclusion_literals ws)) ws c q.says in
-    (q.small, (lines.Conclusion a.0, ap (λ o. option_map (λ x. lines.Conclusion x) o) a.1), omega (arith, far))
+    (q.small, (lines.Conclusion a.0, ap (λ o. option_map (λ x. lines.Conclusion x) o) a.1, tt), omega (arith, far))
 
 mapped : (o : Option Conclusion) (l : Line) → option_map (λ x. lines.Conclusion x) o ≡ Some l → (c : Conclusion) × (o ≡ Some c)
 mapped None l h = cc
@@ -317,6 +318,7 @@ step_denied_here faults.TooManyIds names ws h d =
       (
         lines.Step d.1.0,
         ap (λ t. if t then Some lines.Output else option_map (λ s. lines.Step s) (step_of n ws)) (not_output ws h) ∙ ap (λ o. option_map (λ s. lines.Step s) o) d.1.1,
+        d.1.2,
       ),
       d.2,
     )

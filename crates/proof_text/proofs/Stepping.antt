@@ -15,7 +15,7 @@ use Rattle.proof_text.specs.declared.rule.Rule.{Rule}
 use Rattle.proof_text.specs.declared.rule.Rule.TheVariants as rules
 use Rattle.proof_text.specs.Words.{halves, unclosed, IsSmall, AreSmall}
 use Rattle.proof_text.specs.Numbering.{Known, met_in, names_in, most_names}
-use Rattle.proof_text.specs.Forms.{are_literals, literals_of, are_integers, integers_of, terms_of, behind_terms, closing_of, are_items, items_of, are_images, images_of}
+use Rattle.proof_text.specs.Forms.{are_literals, literals_of, are_integers, integers_of, terms_of, behind_terms, closing_of, are_items, items_of, are_images, images_of, lefts, repeats}
 use Rattle.proof_text.specs.Reading.{IsRead}
 use Rattle.proof_text.specs.Steps.{constraint_of, IsConstraintRead, rup_by, red_by, red_with, is_deletion, witness_words, step_by, counted_by, IsProper, IsStepRead}
 use Rattle.proof_text.specs.Denial.{Denies}
@@ -26,7 +26,10 @@ use Rattle.std.specs.Str.{bytes_eq}
 use Rattle.pb_text.specs.Lexeme.{kind_of}
 use Rattle.proof_text.specs.Kinds.{is_integer}
 use Rattle.proof_text.proofs.Parts.{none_small, all_small, first_small, rest_small, integer_alone}
+use Rattle.std.specs.Prelude.{⊤}
 use Rattle.proof_text.proofs.Numbers.{met_in-append, met_other, all_found, too_many}
+use Rattle.proof_text.proofs.Writable.{HasNames, HasNames-back, has_names}
+use Rattle.proof_text.proofs.Apart.{no_name_twice, no_variable_twice}
 
 pub pol_read : (k new : Known) (ws : List (List ℕ)) (xs : List Item) → IsRead are_items items_of k (unclosed ws) xs new → IsStepRead rules.Pol k ws (steps.Pol xs) new
 pol_read k new ws xs r = record {
@@ -121,54 +124,79 @@ red_read k mid new ws witness c images r b i once = record {
   small = red_small ws witness b r.small i.small;
 }
 
--- whether a line has the form of its rule does not depend on the table
-pub record Said (rule : Rule) (names : List (List ℕ)) (ws : List (List ℕ)) : Type 0 where
-  pub step : Step
-  pub is : step_by rule names ws ≡ Some step
+-- no name stands twice on the left of a substitution
+abbrev pub IsApart : Rule → List (List ℕ) → Type 0
+IsApart rules.Red ws = repeats (lefts (witness_words (halves ws).behind)) ≡ false
+IsApart _ ws = ⊤
 
-choice : (t : Bool) (s r : Step) → (if t then Some s else None) ≡ Some r → (if t then Some s else None) ≡ Some s
-choice true s r h = refl
-choice false s r h = cc
+-- what a step's line says by a table, where no variable stands twice
+abbrev pub Said : Rule → List (List ℕ) → List (List ℕ) → Type 0
+Said rule names ws = (step : Step) × (step_by rule names ws ≡ Some step) × IsProper step
 
 choose : (t : Bool) (s r q : Step) → (if t then Some s else None) ≡ Some r → (if t then Some q else None) ≡ Some q
 choose true s r q h = refl
 choose false s r q h = cc
 
-map_choose : {A : Type 0} (o : Option A) (f g : A → Step) (r : Step) → option_map f o ≡ Some r → (q : Step) × (option_map g o ≡ Some q)
-map_choose None f g r h = cc
-map_choose (Some x) f g r h = (g x, refl)
-
-twice_map : {A B : Type 0} (o : Option A) (f : A → B) (g : B → Step) → option_map g (option_map f o) ≡ option_map (λ x. g (f x)) o
-twice_map None f g = refl
-twice_map (Some x) f g = refl
+test : (t : Bool) (s r : Step) → (if t then Some s else None) ≡ Some r → (t ≡ true) × (s ≡ r)
+test true s r h = (refl, cc)
+test false s r h = cc
 
 abbrev signed : List (List ℕ) → List (List ℕ) → ℤ → Signed
 signed names front right = record { terms = terms_of names front; relation = relations.AtLeast; right = right }
 
-rup_said : (names others front : List (List ℕ)) (b : Option (List (List ℕ))) (step : Step) → rup_by names front b ≡ Some step → (q : Step) × (rup_by others front b ≡ Some q)
+rup_said : (names others front : List (List ℕ)) (b : Option (List (List ℕ))) (step : Step) → rup_by names front b ≡ Some step → (q : Step) × (rup_by others front b ≡ Some q) × IsProper q
 rup_said names others front None step h = cc
-rup_said names others front (Some hints) step h =
-    let o = closing_of (behind_terms front) in
-    let q = map_choose o (λ n. steps.Rup (signed names front n)) (λ n. steps.Rup (signed others front n)) step (sym (twice_map o (signed names front) (λ x. steps.Rup x)) ∙ h) in
-    (q.0, twice_map o (signed others front) (λ x. steps.Rup x) ∙ q.1)
+rup_said names others front (Some hints) step h = by (closing_of (behind_terms front)) h
+  where
+    by : (o : Option ℤ) → option_map (λ c. steps.Rup c) (option_map (signed names front) o) ≡ Some step → (q : Step) × (option_map (λ c. steps.Rup c) (option_map (signed others front) o) ≡ Some q) × IsProper q
+    by None h = cc
+    by (Some n) h = (steps.Rup (signed others front n), refl, tt)
 
-red_with_said : (names others front ws : List (List ℕ)) (o : Option ℤ) (step : Step) → red_with names ws (option_map (signed names front) o) ≡ Some step → (q : Step) × (red_with others ws (option_map (signed others front) o) ≡ Some q)
-red_with_said names others front ws None step h = cc
-red_with_said names others front ws (Some n) step h =
-    let q : Step = steps.Red (signed others front n) (images_of others ws) in
-    (q, choose (are_images ws) (steps.Red (signed names front n) (images_of names ws)) step q h)
+red_said : (names others front : List (List ℕ)) (b : Option (List (List ℕ))) (step : Step) → red_by names front b ≡ Some step → repeats (lefts (witness_words b)) ≡ false → HasNames others (front ++ witness_words b)
+    → (q : Step) × (red_by others front b ≡ Some q) × IsProper q
+red_said names others front None step h apart has = cc
+red_said names others front (Some witness) step h apart has = by (closing_of (behind_terms front)) h
+  where
+    by : (o : Option ℤ) → red_with names (unclosed witness) (option_map (signed names front) o) ≡ Some step → (q : Step) × (red_with others (unclosed witness) (option_map (signed others front) o) ≡ Some q) × IsProper q
+    by None h = cc
+    by (Some n) h =
+        let u = unclosed witness in
+        let s : Step = steps.Red (signed names front n) (images_of names u) in
+        let q : Step = steps.Red (signed others front n) (images_of others u) in
+        (q, choose (are_images u) s step q h, no_variable_twice others u apart (test (are_images u) s step h).0 (HasNames-back others front u has))
 
-red_said : (names others front : List (List ℕ)) (b : Option (List (List ℕ))) (step : Step) → red_by names front b ≡ Some step → (q : Step) × (red_by others front b ≡ Some q)
-red_said names others front None step h = cc
-red_said names others front (Some witness) step h = red_with_said names others front (unclosed witness) (closing_of (behind_terms front)) step h
+-- whether a line has the form of its rule does not depend on the table
+pub said_anyway : (rule : Rule) (names others ws : List (List ℕ)) (step : Step) → step_by rule names ws ≡ Some step → IsApart rule ws → HasNames others (counted_by rule ws) → Said rule others ws
+said_anyway rules.Pol names others ws step h apart has =
+    (steps.Pol (items_of others (unclosed ws)), choose (are_items (unclosed ws)) (steps.Pol (items_of names (unclosed ws))) step (steps.Pol (items_of others (unclosed ws))) h, tt)
+said_anyway rules.Rup names others ws step h apart has = rup_said names others (halves ws).front (halves ws).behind step h
+said_anyway rules.Red names others ws step h apart has = red_said names others (halves ws).front (halves ws).behind step h apart has
+said_anyway rules.Sol names others ws step h apart has =
+    (steps.Sol (literals_of others (unclosed ws)), choose (are_literals (unclosed ws)) (steps.Sol (literals_of names (unclosed ws))) step (steps.Sol (literals_of others (unclosed ws))) h, tt)
+said_anyway rules.Soli names others ws step h apart has =
+    (steps.Soli (literals_of others (unclosed ws)), choose (are_literals (unclosed ws)) (steps.Soli (literals_of names (unclosed ws))) step (steps.Soli (literals_of others (unclosed ws))) h, tt)
+said_anyway rules.Del names others ws step h apart has =
+    (steps.Del (integers_of (unclosed (drop 1 ws))), choose (is_deletion ws) (steps.Del (integers_of (unclosed (drop 1 ws)))) step (steps.Del (integers_of (unclosed (drop 1 ws)))) h, tt)
 
-pub said_anyway : (rule : Rule) (names others ws : List (List ℕ)) (step : Step) → step_by rule names ws ≡ Some step → (q : Step) × (step_by rule others ws ≡ Some q)
-said_anyway rules.Pol names others ws step h = (steps.Pol (items_of others (unclosed ws)), choose (are_items (unclosed ws)) (steps.Pol (items_of names (unclosed ws))) step (steps.Pol (items_of others (unclosed ws))) h)
-said_anyway rules.Rup names others ws step h = rup_said names others (halves ws).front (halves ws).behind step h
-said_anyway rules.Red names others ws step h = red_said names others (halves ws).front (halves ws).behind step h
-said_anyway rules.Sol names others ws step h = (steps.Sol (literals_of others (unclosed ws)), choose (are_literals (unclosed ws)) (steps.Sol (literals_of names (unclosed ws))) step (steps.Sol (literals_of others (unclosed ws))) h)
-said_anyway rules.Soli names others ws step h = (steps.Soli (literals_of others (unclosed ws)), choose (are_literals (unclosed ws)) (steps.Soli (literals_of names (unclosed ws))) step (steps.Soli (literals_of others (unclosed ws))) h)
-said_anyway rules.Del names others ws step h = (steps.Del (integers_of (unclosed (drop 1 ws))), choose (is_deletion ws) (steps.Del (integers_of (unclosed (drop 1 ws)))) step (steps.Del (integers_of (unclosed (drop 1 ws)))) h)
+red_apart : (names front : List (List ℕ)) (b : Option (List (List ℕ))) (step : Step) → red_by names front b ≡ Some step → IsProper step → repeats (lefts (witness_words b)) ≡ false
+red_apart names front None step h proper = cc
+red_apart names front (Some witness) step h proper = by (closing_of (behind_terms front)) h
+  where
+    by : (o : Option ℤ) → red_with names (unclosed witness) (option_map (signed names front) o) ≡ Some step → repeats (lefts (unclosed witness)) ≡ false
+    by None h = cc
+    by (Some n) h =
+        let u = unclosed witness in
+        let s : Step = steps.Red (signed names front n) (images_of names u) in
+        no_name_twice names u (subst IsProper (sym (test (are_images u) s step h).1) proper)
+
+-- where no variable stands twice, no name does
+pub apart : (rule : Rule) (names ws : List (List ℕ)) (step : Step) → step_by rule names ws ≡ Some step → IsProper step → IsApart rule ws
+apart rules.Pol names ws step h proper = tt
+apart rules.Rup names ws step h proper = tt
+apart rules.Red names ws step h proper = red_apart names (halves ws).front (halves ws).behind step h proper
+apart rules.Sol names ws step h proper = tt
+apart rules.Soli names ws step h proper = tt
+apart rules.Del names ws step h proper = tt
 
 -- a fault of a form is one of the rule's words
 pub denied_rule : (f : ProofFault) (rule : Rule) (form : Bool) (part names ws : List (List ℕ)) → ((step : Step) → step_by rule (names_in names (counted_by rule ws)) ws ≡ Some step → form ≡ true)
@@ -209,13 +237,9 @@ denied_red f names ws d =
 images_form : (names front witness : List (List ℕ)) (step : Step) → red_by names front (Some witness) ≡ Some step → are_images (unclosed witness) ≡ true
 images_form names front witness step h = by (closing_of (behind_terms front)) h
   where
-    test : (t : Bool) (s r : Step) → (if t then Some s else None) ≡ Some r → t ≡ true
-    test true s r h = refl
-    test false s r h = cc
-
     by : (o : Option ℤ) → red_with names (unclosed witness) (option_map (signed names front) o) ≡ Some step → are_images (unclosed witness) ≡ true
     by None h = cc
-    by (Some n) h = test (are_images (unclosed witness)) _ step h
+    by (Some n) h = (test (are_images (unclosed witness)) _ step h).0
 
 pub denied_images : (f : ProofFault) (names ws witness : List (List ℕ)) → (halves ws).behind ≡ Some witness → Denies f (are_images (unclosed witness)) (unclosed witness) → DeniesRule f rules.Red names ws
 denied_images f names ws witness b d =
@@ -224,11 +248,22 @@ denied_images f names ws witness b d =
     (λ s. back_small (halves ws).front (unclosed witness) (subst (λ o. AreSmall ((halves ws).front ++ witness_words o)) b s)) d
 
 -- a name found no number
-pub denied_full : (rule : Rule) (k new : Known) (ws : List (List ℕ)) (step : Step) → k.full ≡ false → new ≡ met_in k (counted_by rule ws) → new.full ≡ true → AreSmall (counted_by rule ws)
-    → step_by rule new.names ws ≡ Some step → DeniesRule faults.TooManyIds rule k.names ws
-denied_full rule k new ws step none known full small said =
-    let far : most_names < length (names_in k.names (counted_by rule ws)) = too_many k (counted_by rule ws) none (sym (ap (λ (m : Known). m.full) known) ∙ full) in
-    (small, said_anyway rule new.names (names_in k.names (counted_by rule ws)) ws step said, omega (arith, far))
+pub denied_full : (f : ProofFault) (k new : Known) (ws witness : List (List ℕ)) (step : Step) → f ≡ (if repeats (lefts (unclosed witness)) then faults.BadLine else faults.TooManyIds) → (halves ws).behind ≡ Some witness
+    → k.full ≡ false → new ≡ met_in k (counted_by rules.Red ws) → new.full ≡ true → AreSmall (counted_by rules.Red ws) → step_by rules.Red new.names ws ≡ Some step → DeniesRule f rules.Red k.names ws
+denied_full f k new ws witness step is b none known full small said = by (repeats (lefts (unclosed witness))) refl is
+  where
+    there : repeats (lefts (witness_words (halves ws).behind)) ≡ repeats (lefts (unclosed witness))
+    there = ap (λ o. repeats (lefts (witness_words o))) b
+
+    by : (t : Bool) → repeats (lefts (unclosed witness)) ≡ t → f ≡ (if t then faults.BadLine else faults.TooManyIds) → DeniesRule f rules.Red k.names ws
+    by true e is =
+        subst (λ g. DeniesRule g rules.Red k.names ws) (sym is)
+        (λ s h proper. absurd (cc (sym e ∙ sym there ∙ apart rules.Red (names_in k.names (counted_by rules.Red ws)) ws s h proper)))
+    by false e is =
+        let all = names_in k.names (counted_by rules.Red ws) in
+        let far : most_names < length all = too_many k (counted_by rules.Red ws) none (sym (ap (λ (m : Known). m.full) known) ∙ full) in
+        subst (λ g. DeniesRule g rules.Red k.names ws) (sym is)
+        (small, said_anyway rules.Red new.names all ws step said (there ∙ e) (has_names k.names (counted_by rules.Red ws)), omega (arith, far))
 
 -- where every name found one, the table is the one that has them all
 pub table_whole : (k new : Known) (ws : List (List ℕ)) → k.full ≡ false → new ≡ met_in k ws → new.full ≡ false → new.names ≡ names_in k.names ws

@@ -11,14 +11,14 @@ use Rattle.linear.specs.declared.term.Lit.{Lit}
 use Rattle.linear.specs.declared.term.Var.{Var}
 use Rattle.substitution.specs.declared.image.Image.{Image}
 use Rattle.substitution.specs.declared.image.Image.TheVariants as images
-use Rattle.proof_text.specs.Kinds.{is_integer, is_literal, is_arrow}
+use Rattle.proof_text.specs.Kinds.{is_integer, is_literal, is_semicolon, is_arrow}
 use Rattle.proof_text.specs.Words.{AreSmall, past_arrow}
 use Rattle.proof_text.specs.Numbering.{Known, met, met_in, lit_of}
 use Rattle.proof_text.specs.Forms.{is_variable, variable_of, is_image, image_of, are_images, images_of}
 use Rattle.proof_text.specs.Reading.{Takes, IsImageRead}
 use Rattle.proof_text.specs.Denial.{Denies}
 use Rattle.proof_text.specs.declared.fault.ProofFault.{ProofFault}
-use Rattle.proof_text.proofs.Parts.{all_small, rest_small, only_small, small_other, literal_alone, denied_more}
+use Rattle.proof_text.proofs.Parts.{all_small, rest_small, only_small, small_other, literal_alone, semicolon_alone, denied_more}
 use Rattle.proof_text.proofs.Numbers.{met_literal, met_other, met_in-append}
 use Rattle.proof_text.proofs.Loops.{lit_met}
 use Rattle.proof_text.proofs.Items.{same_word}
@@ -82,7 +82,7 @@ one_no_arrow : is_arrow (kind_of (codes "1")) ≡ false
 unfolding kind_of kind_of_word integer_word literal_word is_misspelt is_name
 one_no_arrow = refl
 
-image_no_arrow : (w : List ℕ) → is_image w ≡ true → is_arrow (kind_of w) ≡ false
+pub image_no_arrow : (w : List ℕ) → is_image w ≡ true → is_arrow (kind_of w) ≡ false
 image_no_arrow w h = by (is_literal (kind_of w)) (bytes_eq w (codes "0")) (bytes_eq w (codes "1")) refl refl refl h
   where
     by : (l z o : Bool) → is_literal (kind_of w) ≡ l → bytes_eq w (codes "0") ≡ z → bytes_eq w (codes "1") ≡ o → (l || z || o) ≡ true → is_arrow (kind_of w) ≡ false
@@ -256,3 +256,15 @@ not_plain x h = by (is_literal (kind_of x)) h
 
 pub not_named : (x : List ℕ) → is_literal (kind_of x) ≡ false → is_variable x ≡ false
 not_named x h = ap (λ t. t && not (is_negated x)) h
+
+-- a subproof begins where a name is due
+pub no_subproof : (f : ProofFault) (x : List ℕ) (left : List (List ℕ)) (kind : Kind) (begin : Bool) → kind ≡ kind_of x → (is_semicolon kind && begin) ≡ true → ((ws : List (List ℕ)) → Denies f false ws)
+    → Denies f (are_images (x ∷ left)) (x ∷ left)
+no_subproof f x left kind begin k h d = subst (λ t. Denies f t (x ∷ left)) (sym none) (d (x ∷ left))
+  where
+    first : (p q : Bool) → (p && q) ≡ true → p ≡ true
+    first true q e = refl
+    first false q e = cc
+
+    none : are_images (x ∷ left) ≡ false
+    none = no_name x left (not_named x (semicolon_alone (kind_of x) (ap is_semicolon (sym k) ∙ first (is_semicolon kind) begin h)).1)

@@ -20,3 +20,11 @@ Denies faults.BadLine form ws = form ≡ false
 Denies faults.IntegerTooLarge form ws = AreSmall ws → ⊥
 Denies faults.OutOfMemory form ws = ⊤
 Denies _ form ws = ⊥
+
+-- a fault where no rule is due, so that none is unknown or left out
+abbrev pub IsPlain : ProofFault → Type 0
+IsPlain faults.BadLine = ⊤
+IsPlain faults.IntegerTooLarge = ⊤
+IsPlain faults.TooManyIds = ⊤
+IsPlain faults.OutOfMemory = ⊤
+IsPlain _ = ⊥

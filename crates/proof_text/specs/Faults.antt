@@ -1,5 +1,5 @@
 -- What the faults of a line say of it.
-use Rattle.std.specs.Prelude.{◌≡◌, ℕ, ◌^◌, ◌≤◌, Some, List, length, codes, ⊤}
+use Rattle.std.specs.Prelude.{◌≡◌, ℕ, ◌^◌, ◌<◌, Some, List, length, codes, ⊤}
 use Rattle.kernel.specs.declared.step.Step.{Step}
 use Rattle.proof_text.specs.declared.rule.Rule.{Rule}
 use Rattle.proof_text.specs.declared.line.Place.{Place}
@@ -10,11 +10,12 @@ use Rattle.proof_text.specs.declared.fault.ProofFault.TheVariants as faults
 use Rattle.proof_text.specs.Words.{AreSmall}
 use Rattle.proof_text.specs.Numbering.{names_in}
 use Rattle.proof_text.specs.Steps.{step_by, counted_by, step_of, counted, IsProper}
+use Rattle.proof_text.specs.Denial.{IsPlain}
 use Rattle.proof_text.specs.Spells.{line_of, naming, measured, IsProperLine}
 
 -- a table with more names than 32 bits can number
 abbrev pub AreTooMany : List (List ℕ) → Type 0
-AreTooMany names = 2 ^ 32 ≤ length names
+AreTooMany names = 2 ^ 32 < length names
 
 -- the words behind a rule's own word are no step
 abbrev pub NoStepBy : Rule → List (List ℕ) → List (List ℕ) → Type 0
@@ -27,7 +28,9 @@ DeniesRule faults.RuleLeftOut rule names ws = NoStepBy rule names ws
 DeniesRule faults.BadLine rule names ws = NoStepBy rule names ws
 DeniesRule faults.IntegerTooLarge rule names ws = AreSmall (counted_by rule ws) → ⊥
 DeniesRule faults.TooManyIds rule names ws =
-    AreSmall (counted_by rule ws) × ((step : Step) × (step_by rule (names_in names (counted_by rule ws)) ws ≡ Some step)) × AreTooMany (names_in names (counted_by rule ws))
+    AreSmall (counted_by rule ws)
+    × ((step : Step) × (step_by rule (names_in names (counted_by rule ws)) ws ≡ Some step) × IsProper step)
+    × AreTooMany (names_in names (counted_by rule ws))
 DeniesRule faults.OutOfMemory rule names ws = ⊤
 DeniesRule _ rule names ws = ⊥
 
@@ -36,16 +39,17 @@ abbrev pub NoStep : List (List ℕ) → List (List ℕ) → Type 0
 NoStep names ws = (step : Step) → step_of (names_in names (counted ws)) ws ≡ Some step → IsProper step → ⊥
 
 -- What a fault in reading a step says, `names` being the table before the line. Codes 3, 4 and 5: the words are no step.
--- Code 8: an integer among those that count is above 2^120 in size. Code 29: the words are a step (but for a name that
--- may stand twice on the left of its substitution), and its names are too many. Want of memory says nothing. No other
--- fault comes.
+-- Code 8: an integer among those that count is above 2^120 in size. Code 29: the words are a step, and its names are too
+-- many. Want of memory says nothing. No other fault comes.
 abbrev pub DeniesStep : ProofFault → List (List ℕ) → List (List ℕ) → Type 0
 DeniesStep faults.UnknownRule names ws = NoStep names ws
 DeniesStep faults.RuleLeftOut names ws = NoStep names ws
 DeniesStep faults.BadLine names ws = NoStep names ws
 DeniesStep faults.IntegerTooLarge names ws = AreSmall (counted ws) → ⊥
 DeniesStep faults.TooManyIds names ws =
-    AreSmall (counted ws) × ((step : Step) × (step_of (names_in names (counted ws)) ws ≡ Some step)) × AreTooMany (names_in names (counted ws))
+    AreSmall (counted ws)
+    × ((step : Step) × (step_of (names_in names (counted ws)) ws ≡ Some step) × IsProper step)
+    × AreTooMany (names_in names (counted ws))
 DeniesStep faults.OutOfMemory names ws = ⊤
 DeniesStep _ names ws = ⊥
 
@@ -61,20 +65,20 @@ DeniesPlaced faults.BadLine place names ws = NoLine place names ws
 DeniesPlaced faults.IntegerTooLarge place names ws = AreSmall (measured place ws) → ⊥
 DeniesPlaced faults.TooManyIds place names ws =
     AreSmall (measured place ws)
-    × ((line : Line) × (line_of place (names_in names (naming place ws)) ws ≡ Some line))
+    × ((line : Line) × (line_of place (names_in names (naming place ws)) ws ≡ Some line) × IsProperLine line)
     × AreTooMany (names_in names (naming place ws))
 DeniesPlaced faults.OutOfMemory place names ws = ⊤
 DeniesPlaced _ place names ws = ⊥
 
 -- What a fault says of a line at its place, `names` being the table before it. At the header the one fault is BadHeader:
--- the line is no header. At the count it is BadCount: the line is no count, or its integer is too large. Behind the end it
--- is TextAfterEnd.
+-- the line is no header. At the count it is BadCount: the line is no count, or its integer is too large. At the conclusion
+-- no rule is unknown or left out. Behind the end the fault is TextAfterEnd.
 abbrev pub DeniesLine : ProofFault → Place → List (List ℕ) → List (List ℕ) → Type 0
 DeniesLine fault places.Header names ws = (fault ≡ faults.BadHeader) × NoLine places.Header names ws
 DeniesLine fault places.Count names ws =
     (fault ≡ faults.BadCount) × ((line : Line) → line_of places.Count names ws ≡ Some line → AreSmall (measured places.Count ws) → ⊥)
 DeniesLine fault places.Step names ws = DeniesPlaced fault places.Step names ws
-DeniesLine fault places.Conclusion names ws = DeniesPlaced fault places.Conclusion names ws
+DeniesLine fault places.Conclusion names ws = IsPlain fault × DeniesPlaced fault places.Conclusion names ws
 DeniesLine fault places.End names ws = (fault ≡ faults.BadLine) × NoLine places.End names ws
 DeniesLine fault places.After names ws = fault ≡ faults.TextAfterEnd
 

@@ -1,7 +1,7 @@
 -- The forms of which the lines of a proof are made: for each, whether words have it and what they then say. `names` is
 -- the table that numbers the variables.
 use Rattle.std.specs.Prelude.{ℕ, ℤ, Bool, true, false, not, ◌&&◌, ◌||◌, if◌then◌else◌, Option, Some, None, List, [], ◌∷◌, map, codes, bytes_eq}
-use Rattle.std.specs.List.{list_all}
+use Rattle.std.specs.List.{list_all, list_any}
 use Rattle.pb_text.specs.Lexeme.{kind_of}
 use Rattle.pb_text.specs.Word.{is_negated, name_of}
 use Rattle.pb_text.specs.Number.{integer_value}
@@ -126,3 +126,15 @@ images_of names (x ∷ i ∷ []) = (variable_of names x, image_of names i) ∷ [
 images_of names (x ∷ i ∷ j ∷ rest) =
     if is_arrow (kind_of i) then (variable_of names x, image_of names j) ∷ images_of names rest
     else (variable_of names x, image_of names i) ∷ images_of names (j ∷ rest)
+
+-- the names on the left of a substitution
+abbrev pub lefts : List (List ℕ) → List (List ℕ)
+lefts [] = []
+lefts (x ∷ []) = []
+lefts (x ∷ i ∷ []) = x ∷ []
+lefts (x ∷ i ∷ j ∷ rest) = x ∷ (if is_arrow (kind_of i) then lefts rest else lefts (j ∷ rest))
+
+-- does a word stand twice
+abbrev pub repeats : List (List ℕ) → Bool
+repeats [] = false
+repeats (w ∷ ws) = list_any (λ v. bytes_eq v w) ws || repeats ws

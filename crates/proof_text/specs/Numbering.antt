@@ -1,5 +1,5 @@
 -- How names get their numbers: those that a table does not have yet go to its end, in order of first occurrence.
-use Rattle.std.specs.Prelude.{ℕ, ◌^◌, ◌-◌, ◌++◌, Bool, true, nat_lt, if◌then◌else◌, List, [], ◌∷◌, length}
+use Rattle.std.specs.Prelude.{ℕ, ◌^◌, ◌++◌, Bool, ◌||◌, true, nat_lt, if◌then◌else◌, List, [], ◌∷◌, length}
 use Rattle.pb_text.specs.Lexeme.{kind_of}
 use Rattle.pb_text.specs.Word.{name_of, is_negated}
 use Rattle.linear.specs.Table.{has_name, place_of, with_name}
@@ -17,10 +17,17 @@ lit_of names w = record { var = record { 0 = place_of names (name_of w) }; negat
 
 -- how many names a table can number
 abbrev pub most_names : ℕ
-most_names = 2 ^ 32 - 1
+most_names = 2 ^ 32
 
--- what the code keeps of a table while it reads a line: the names that were there before the line, those that have a
--- number by now, and whether a name was met that found no number
+-- the names but for the last
+abbrev pub but_last : List (List ℕ) → List (List ℕ)
+but_last [] = []
+but_last (n ∷ []) = []
+but_last (n ∷ m ∷ rest) = n ∷ but_last (m ∷ rest)
+
+-- What the code keeps of a table while it reads a line: the names that were there before the line, those that number the
+-- literals, and whether a name was met that found no number. Then the line is refused, and which numbers are given no
+-- longer counts; a name that found none shares the greatest one with the last name, as behind all names but the last.
 pub record Known : Type 0 where
   pub before : List (List ℕ)
   pub names : List (List ℕ)
@@ -29,9 +36,9 @@ pub record Known : Type 0 where
 -- a name that is met
 abbrev pub met : Known → List ℕ → Known
 met k name =
-    if has_name k.names name then k
+    if k.full || has_name k.names name then k
     else if nat_lt (length k.names) most_names then record { before = k.before; names = k.names ++ name ∷ []; full = k.full }
-    else record { before = k.before; names = k.names; full = true }
+    else record { before = k.before; names = but_last k.names; full = true }
 
 -- the names of literals that are met
 abbrev pub met_in : Known → List (List ℕ) → Known

@@ -21,6 +21,7 @@ use Rattle.kernel.specs.declared.conclusion.Conclusion.{Conclusion}
 use Rattle.kernel.specs.declared.conclusion.Conclusion.TheVariants as conclusions
 use Rattle.proof_text.specs.Words.{words}
 use Rattle.proof_text.specs.Lines.{parted}
+use Rattle.proof_text.specs.declared.line.Line.{Line}
 use Rattle.proof_text.specs.declared.line.Line.TheVariants as lines
 use Rattle.proof_text.specs.declared.line.Place.TheVariants as places
 use Rattle.proof_text.specs.Spells.{IsLine}
@@ -169,17 +170,26 @@ IsConclusionWritable count (conclusions.Sat hint) = IsHintWritable count hint
 IsConclusionWritable count conclusions.Unsat = ⊤
 IsConclusionWritable count (conclusions.Bounds l u hint) = IsLowerWritable l × IsUpperWritable u × IsHintWritable count hint
 
--- what is appended is one line with its LF, which spells this step and brings no name
+-- what a line says can be written, where it is a step or a conclusion
+abbrev pub IsLineWritable : ℕ → Line → Type 0
+IsLineWritable count (lines.Step step) = IsStepWritable count step
+IsLineWritable count (lines.Conclusion c) = IsConclusionWritable count c
+IsLineWritable count _ = ⊤
+
+-- what is appended is one line with its LF: the words of this step, single spaces between them. It spells this step and
+-- brings no name
 pub record IsStepWritten (names : List (List ℕ)) (old : List ℕ) (step : Step) (new : List ℕ) : Type 0 where
   pub line : List ℕ
+  pub text : line ≡ line_text (step_words names step)
   pub appended : new ≡ old ++ line ++ 10 ∷ []
   pub one : (parted line).others ≡ []
   pub says : IsStep names (words line) step names
 
--- what is appended are the lines `output NONE`, one that spells this conclusion and brings no name, and
--- `end pseudo-Boolean proof`
+-- what is appended are the lines `output NONE`, one of the word `conclusion` and the words of this conclusion, and
+-- `end pseudo-Boolean proof`. The second spells this conclusion and brings no name
 pub record IsEndWritten (names : List (List ℕ)) (old : List ℕ) (c : Conclusion) (new : List ℕ) : Type 0 where
   pub line : List ℕ
+  pub text : line ≡ codes "conclusion" ++ spaced (judgement_words names c)
   pub appended : new ≡ old ++ codes "output NONE\n" ++ line ++ codes "\nend pseudo-Boolean proof\n"
   pub one : (parted line).others ≡ []
   pub says : IsLine places.Conclusion names (words line) (lines.Conclusion c) names

@@ -24,7 +24,7 @@ impl<'a> Body<'a> {
     ghost use Rattle.proof_text.specs.Words as words;
 
     /// The words that are left of a line.
-    pub fn new(left: Lookahead<'a>) -> Self
+    pub(crate) fn new(left: Lookahead<'a>) -> Self
         ensures { result ≡ words.unclosed left.entry }
     {
         Body { left }
@@ -32,7 +32,7 @@ impl<'a> Body<'a> {
 
     /// The next word; `None` at the end.
     #[tactic(auto, using(crate::proofs::Unclosed::closed, crate::proofs::Unclosed::opened))]
-    pub fn next(&self) -> Option<Token<'a>>
+    pub(crate) fn next(&self) -> Option<Token<'a>>
         ensures { MatchOption result (self.now ≡ []) (λ t. self.now ≡ t.text.now ∷ drop 1 self.now) }
     {
         if self.left.closes() {
@@ -41,14 +41,9 @@ impl<'a> Body<'a> {
         self.left.next()
     }
 
-    /// The word behind the next one, a closing `;` included.
-    pub fn after(&self) -> Option<Token<'a>> {
-        self.left.after()
-    }
-
     /// Passes the next word, and gives it.
     #[tactic(auto, using(crate::proofs::Unclosed::closed, crate::proofs::Unclosed::opened))]
-    pub fn take(&mut self) -> Option<Token<'a>>
+    pub(crate) fn take(&mut self) -> Option<Token<'a>>
         ensures { MatchOption result ((self.old ≡ []) × (self.new ≡ [])) (λ t. self.old ≡ t.text.now ∷ self.new) }
     {
         if self.left.closes() {
@@ -58,7 +53,7 @@ impl<'a> Body<'a> {
     }
 
     /// Passes the next word where it is this one, and says whether it is.
-    pub fn takes(&mut self, word: &[u8]) -> bool
+    pub(crate) fn takes(&mut self, word: &[u8]) -> bool
         ensures first { result ≡ words.is_first word.now self.old }
         ensures left { self.new ≡ (if words.is_first word.now self.old then drop 1 self.old else self.old) }
     {
@@ -72,7 +67,7 @@ impl<'a> Body<'a> {
     }
 
     /// Passes an arrow, if one stands next.
-    pub fn pass_arrow(&mut self)
+    pub(crate) fn pass_arrow(&mut self)
         ensures { self.new ≡ words.past_arrow self.old }
     {
         if let Some(token) = self.next() {
@@ -83,7 +78,7 @@ impl<'a> Body<'a> {
     }
 
     /// Whether no word is left.
-    pub fn is_empty(&self) -> bool
+    pub(crate) fn is_empty(&self) -> bool
         ensures { result ≡ words.is_empty self.now }
     {
         self.next().is_none()

@@ -6,7 +6,7 @@ ghost use Rattle.proof_text.specs.Forms.{are_literals, literals_of};
 ghost use Rattle.proof_text.specs.Conclusions as conclusions;
 ghost use Rattle.proof_text.specs.Conclusions.{IsHintRead, IsConclusionRead, IsJudgementRead, IsConclusionLineRead};
 ghost use Rattle.proof_text.specs.Numbering.{Known};
-ghost use Rattle.proof_text.specs.Denial.{Denies};
+ghost use Rattle.proof_text.specs.Denial.{Denies, IsPlain};
 
 use crate::body::Body;
 use crate::fault::ProofFault;
@@ -28,6 +28,7 @@ fn hint(
     ensures read { IfOk result (λ h. IsHintRead table.old words.entry h table.new) }
     ensures kept { table.new.before ≡ table.old.before }
     ensures denies { IfErr result (λ f. Denies f (conclusions.is_hint words.entry) words.entry) }
+    ensures plain { IfErr result IsPlain }
 {
     let Some(token) = words.take() else {
         return Ok(None);
@@ -44,6 +45,7 @@ fn pass_id(words: &mut Body<'_>) -> Result<(), ProofFault>
     ensures small { OnOk result (AreSmall words.new → AreSmall words.old) }
     ensures later { OnOk result (AreSmall words.old → AreSmall words.new) }
     ensures denies { IfErr result (λ f. Denies f (conclusions.begins_right words.old) words.old) }
+    ensures plain { IfErr result IsPlain }
 {
     let Some(token) = words.next() else {
         return Ok(());
@@ -65,6 +67,7 @@ fn lower(token: Token<'_>) -> Result<Lower, ProofFault>
     ensures value { IfOk result (λ l. l ≡ conclusions.lower_of token.entry.text.now) }
     ensures small { OnOk result (AreSmall (token.entry.text.now ∷ [])) }
     ensures denies { IfErr result (λ f. Denies f (conclusions.is_lower token.entry.text.now) (token.entry.text.now ∷ [])) }
+    ensures plain { IfErr result IsPlain }
 {
     if token.text == b"INF".as_slice() {
         return Ok(Lower::Inf);
@@ -81,6 +84,7 @@ fn upper(token: Token<'_>) -> Result<Upper, ProofFault>
     ensures value { IfOk result (λ l. l ≡ conclusions.upper_of token.entry.text.now) }
     ensures small { OnOk result (AreSmall (token.entry.text.now ∷ [])) }
     ensures denies { IfErr result (λ f. Denies f (conclusions.is_upper token.entry.text.now) (token.entry.text.now ∷ [])) }
+    ensures plain { IfErr result IsPlain }
 {
     if token.text == b"INF".as_slice() {
         return Ok(Upper::Inf);
@@ -92,6 +96,7 @@ fn upper(token: Token<'_>) -> Result<Upper, ProofFault>
 fn nothing(words: Body<'_>) -> Result<Conclusion, ProofFault>
     ensures read { IfOk result (λ c. (k : Known) → IsConclusionRead Verdict.Nothing k words.entry c k) }
     ensures denies { IfErr result (λ f. Denies f (conclusions.is_conclusion Verdict.Nothing words.entry) words.entry) }
+    ensures plain { IfErr result IsPlain }
 {
     if words.is_empty() {
         Ok(Conclusion::Nothing)
@@ -105,6 +110,7 @@ fn sat(alloc: Global, words: Body<'_>, table: &mut Table) -> Result<Conclusion, 
     ensures read { IfOk result (λ c. IsConclusionRead Verdict.Sat table.old words.entry c table.new) }
     ensures kept { table.new.before ≡ table.old.before }
     ensures denies { IfErr result (λ f. Denies f (conclusions.is_conclusion Verdict.Sat words.entry) words.entry) }
+    ensures plain { IfErr result IsPlain }
 {
     Ok(Conclusion::Sat(hint(alloc, words, table)?))
 }
@@ -113,6 +119,7 @@ fn sat(alloc: Global, words: Body<'_>, table: &mut Table) -> Result<Conclusion, 
 fn unsat(mut words: Body<'_>) -> Result<Conclusion, ProofFault>
     ensures read { IfOk result (λ c. (k : Known) → IsConclusionRead Verdict.Unsat k words.entry c k) }
     ensures denies { IfErr result (λ f. Denies f (conclusions.is_conclusion Verdict.Unsat words.entry) words.entry) }
+    ensures plain { IfErr result IsPlain }
 {
     pass_id(&mut words)?;
     if words.is_empty() {
@@ -127,6 +134,7 @@ fn bounds(alloc: Global, mut words: Body<'_>, table: &mut Table) -> Result<Concl
     ensures read { IfOk result (λ c. IsConclusionRead Verdict.Bounds table.old words.entry c table.new) }
     ensures kept { table.new.before ≡ table.old.before }
     ensures denies { IfErr result (λ f. Denies f (conclusions.is_conclusion Verdict.Bounds words.entry) words.entry) }
+    ensures plain { IfErr result IsPlain }
 {
     let Some(token) = words.take() else {
         return Err(ProofFault::BadLine);
@@ -150,6 +158,7 @@ fn judgement(
     ensures read { IfOk result (λ c. IsJudgementRead table.old words.entry c table.new) }
     ensures kept { table.new.before ≡ table.old.before }
     ensures denies { IfErr result (λ f. Denies f (is_some (conclusions.judgement_of [] words.entry)) (drop 1 words.entry)) }
+    ensures plain { IfErr result IsPlain }
 {
     let Some(token) = words.take() else {
         return Err(ProofFault::BadLine);
@@ -170,6 +179,7 @@ fn judged(
     ensures read { IfOk result (λ c. IsConclusionRead verdict table.old words.entry c table.new) }
     ensures kept { table.new.before ≡ table.old.before }
     ensures denies { IfErr result (λ f. Denies f (conclusions.is_conclusion verdict words.entry) words.entry) }
+    ensures plain { IfErr result IsPlain }
 {
     match verdict {
         Verdict::Nothing => nothing(words),
@@ -188,6 +198,7 @@ pub(crate) fn conclusion(
     ensures read { IfOk result (λ c. IsConclusionLineRead table.old words.entry c table.new) }
     ensures kept { table.new.before ≡ table.old.before }
     ensures denies { IfErr result (λ f. Denies f (is_some (conclusions.conclusion_of [] words.entry)) (drop 1 (unclosed (drop 1 words.entry)))) }
+    ensures plain { IfErr result IsPlain }
 {
     let Some(token) = words.take() else {
         return Err(ProofFault::BadLine);

@@ -23,7 +23,7 @@ impl<'a> Front<'a> {
     ghost use Rattle.proof_text.specs.Words as words;
 
     /// The words that are left of a line.
-    pub fn new(left: Lookahead<'a>) -> Self
+    pub(crate) fn new(left: Lookahead<'a>) -> Self
         ensures { result ≡ words.halves left.entry }
     {
         Front { left }
@@ -31,7 +31,7 @@ impl<'a> Front<'a> {
 
     /// The next word before the `;`, if there is one.
     #[tactic(auto, using(crate::proofs::Halves::no_front, crate::proofs::Halves::front_word))]
-    pub fn next(&self) -> Option<Token<'a>>
+    pub(crate) fn next(&self) -> Option<Token<'a>>
         ensures { MatchOption
             result
             (self.now.front ≡ [])
@@ -46,7 +46,7 @@ impl<'a> Front<'a> {
 
     /// Passes the next word before the `;`, and gives it.
     #[tactic(auto, using(crate::proofs::Halves::no_front, crate::proofs::Halves::front_word))]
-    pub fn take(&mut self) -> Option<Token<'a>>
+    pub(crate) fn take(&mut self) -> Option<Token<'a>>
         ensures word { MatchOption result ((self.old.front ≡ []) × (self.new.front ≡ [])) (λ t. self.old.front ≡ t.text.now ∷ self.new.front) }
         ensures behind { self.new.behind ≡ self.old.behind }
     {
@@ -58,7 +58,7 @@ impl<'a> Front<'a> {
     }
 
     /// Passes the next word before the `;` where it is an integer, and gives it.
-    pub fn take_integer(&mut self) -> Option<Token<'a>>
+    pub(crate) fn take_integer(&mut self) -> Option<Token<'a>>
         ensures word { MatchOption
             result
             ((words.begins_integer self.old.front ≡ false) × (self.new.front ≡ self.old.front))
@@ -73,14 +73,14 @@ impl<'a> Front<'a> {
     }
 
     /// Whether no word is left before the `;`.
-    pub fn is_empty(&self) -> bool
+    pub(crate) fn is_empty(&self) -> bool
         ensures { result ≡ words.is_empty self.now.front }
     {
         self.next().is_none()
     }
 
     /// The words behind the `;`, which stands next; `None` where it is missing.
-    pub fn into_behind(self) -> Option<Lookahead<'a>>
+    pub(crate) fn into_behind(self) -> Option<Lookahead<'a>>
         requires { self.front ≡ [] }
         ensures { MatchOption result (self.entry.behind ≡ None) (λ l. self.entry.behind ≡ Some l) }
     {

@@ -29,7 +29,7 @@ impl<'a> Lookahead<'a> {
 
     /// All words of a line.
     #[tactic(auto, unfolding(crate::specs::Words::words))]
-    pub fn new(line: &'a [u8]) -> Self
+    pub(crate) fn new(line: &'a [u8]) -> Self
         ensures { result ≡ words.words line.now }
     {
         let mut rest = Tokens::new(line);
@@ -39,21 +39,21 @@ impl<'a> Lookahead<'a> {
     }
 
     /// The next word; `None` at the end.
-    pub fn next(&self) -> Option<Token<'a>>
+    pub(crate) fn next(&self) -> Option<Token<'a>>
         ensures { MatchOption result (self.now ≡ []) (λ t. self.now ≡ t.text.now ∷ drop 1 self.now) }
     {
         self.next
     }
 
     /// The word behind the next one.
-    pub fn after(&self) -> Option<Token<'a>>
+    pub(crate) fn after(&self) -> Option<Token<'a>>
         ensures { MatchOption result (drop 1 self.now ≡ []) (λ t. drop 1 self.now ≡ t.text.now ∷ drop 2 self.now) }
     {
         self.after
     }
 
     /// Passes the next word, and gives it.
-    pub fn take(&mut self) -> Option<Token<'a>>
+    pub(crate) fn take(&mut self) -> Option<Token<'a>>
         ensures { MatchOption result ((self.old ≡ []) × (self.new ≡ [])) (λ t. self.old ≡ t.text.now ∷ self.new) }
     {
         let token = self.next;
@@ -63,7 +63,7 @@ impl<'a> Lookahead<'a> {
     }
 
     /// Whether this word stands next.
-    pub fn begins(&self, word: &[u8]) -> bool
+    pub(crate) fn begins(&self, word: &[u8]) -> bool
         ensures { result ≡ words.is_first word.now self.now }
     {
         match self.next() {
@@ -73,7 +73,7 @@ impl<'a> Lookahead<'a> {
     }
 
     /// Whether nothing is left but a closing `;`, which may be missing.
-    pub fn closes(&self) -> bool
+    pub(crate) fn closes(&self) -> bool
         ensures { result ≡ words.closes self.now }
     {
         match (self.next, self.after) {

@@ -10,7 +10,7 @@ ghost use Rattle.proof_text.specs.Numbering.{lit_of, met, met_in};
 ghost use Rattle.proof_text.specs.Forms.{are_literals, literals_of, are_integers, integers_of};
 ghost use Rattle.proof_text.specs.Words.{AreSmall};
 ghost use Rattle.proof_text.specs.Reading.{IsRead};
-ghost use Rattle.proof_text.specs.Denial.{Denies};
+ghost use Rattle.proof_text.specs.Denial.{Denies, IsPlain};
 
 use crate::body::Body;
 use crate::fault::ProofFault;
@@ -26,6 +26,7 @@ pub(crate) fn number(token: Token<'_>) -> Result<i128, ProofFault>
     ensures value { IfOk result (λ n. n ≡ integer_value token.entry.text.now) }
     ensures small { OnOk result (IsSmall token.entry.text.now) }
     ensures denies { IfErr result (λ f. Denies f (is_integer (kind_of token.entry.text.now)) (token.entry.text.now ∷ [])) }
+    ensures plain { IfErr result IsPlain }
     ensures memory { IfErr result (λ f. f ≡ ProofFault.OutOfMemory → ⊥) }
 {
     match integer(token) {
@@ -42,6 +43,7 @@ pub(crate) fn lit(token: Token<'_>, table: &mut Table) -> Result<Lit, ProofFault
     ensures met { OnOk result (table.new ≡ met table.old (name_of token.entry.text.now)) }
     ensures kept { table.new.before ≡ table.old.before }
     ensures denies { IfErr result (λ f. Denies f (is_literal (kind_of token.entry.text.now)) (token.entry.text.now ∷ [])) }
+    ensures plain { IfErr result IsPlain }
 {
     let Some(literal) = as_literal(token) else {
         return Err(ProofFault::BadLine);
@@ -61,6 +63,7 @@ pub(crate) fn lits(
     ensures read { IfOk result (λ v. IsRead are_literals literals_of table.old words.entry v table.new) }
     ensures kept { table.new.before ≡ table.old.before }
     ensures denies { IfErr result (λ f. Denies f (are_literals words.entry) words.entry) }
+    ensures plain { IfErr result IsPlain }
 {
     let mut lits = Vec::new(alloc);
     while let Some(token) = words.take() {

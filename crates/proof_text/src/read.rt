@@ -1,10 +1,11 @@
 //! What a line says at its place.
 
-ghost use Rattle.std.specs.Prelude.{◌≡◌, false, IfOk, IfErr, OnErr};
+ghost use Rattle.std.specs.Prelude.{◌≡◌, false, length, IfOk, IfErr, OnErr};
 ghost use Rattle.proof_text.specs.Words.{words};
 ghost use Rattle.proof_text.specs.Steps.{IsStep, IsStepLineRead};
 ghost use Rattle.proof_text.specs.Spells.{IsLine};
 ghost use Rattle.proof_text.specs.Faults.{DeniesStep, DeniesLine};
+ghost use Rattle.proof_text.specs.Writing.{IsStepWritable, IsLineWritable};
 
 use crate::body::Body;
 use crate::conclude::conclusion;
@@ -39,12 +40,14 @@ fn step_line(alloc: Global, mut words: Lookahead<'_>, table: &mut Table) -> Resu
 
 /// The step that a line says. Names that the table does not have are added in order; a refused line adds none.
 ///
-/// All integers are at most 2^120 in size. What stands behind the `;` of `rup` is passed over.
+/// All integers are at most 2^120 in size, so the step can be written again. What stands behind the `;` of `rup` is passed
+/// over.
 ///
 /// `UnknownRule`, `RuleLeftOut` and `BadLine` come only where the line says no step, `IntegerTooLarge` only where an
-/// integer is too large, `TooManyIds` only where the line is well formed and the table would have 2^32 names or more.
+/// integer is too large, `TooManyIds` only where the line is well formed and the table would have more than 2^32 names.
 pub fn read_step(alloc: Global, line: &[u8], names: &mut Names) -> Result<Step, ProofFault>
     ensures step { IfOk result (λ s. IsStep names.old (words line.now) s names.new) }
+    ensures writable { IfOk result (λ s. IsStepWritable (length names.new) s) }
     ensures err { OnErr result (names.new ≡ names.old) }
     ensures denies { IfErr result (λ f. DeniesStep f names.old (words line.now)) }
 {
@@ -104,10 +107,12 @@ fn read_step_or_output(alloc: Global, line: &[u8], names: &mut Names) -> Result<
 }
 
 /// What a line says at its place. Names that the table does not have are added in order; a refused line adds none.
+/// A step or a conclusion can be written again.
 ///
 /// The fault is `BadHeader` at the header, `BadCount` at the count (also for an integer above 2^120 in size),
-/// `TextAfterEnd` behind the end line, whatever the line is, and `BadLine` at the end. Elsewhere the faults are those of
-/// `read_step`.
+/// `TextAfterEnd` behind the end line, whatever the line is, and `BadLine` at the end. Among the steps and at the
+/// conclusion the faults are those of `read_step`; at the conclusion no rule is due, so `UnknownRule` and `RuleLeftOut` do
+/// not come.
 pub fn read_line(
     alloc: Global,
     place: Place,
@@ -115,6 +120,7 @@ pub fn read_line(
     names: &mut Names,
 ) -> Result<Line, ProofFault>
     ensures line { IfOk result (λ l. IsLine place names.old (words line.now) l names.new) }
+    ensures writable { IfOk result (λ l. IsLineWritable (length names.new) l) }
     ensures err { OnErr result (names.new ≡ names.old) }
     ensures denies { IfErr result (λ f. DeniesLine f place names.old (words line.now)) }
 {

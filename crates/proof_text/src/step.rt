@@ -13,7 +13,7 @@ use crate::part::{lits, numbers};
 use crate::pol::items;
 use crate::rule::Rule;
 use crate::table::Table;
-use crate::witness::images;
+use crate::witness::{full_fault, images};
 use kernel::Step;
 use std::alloc::Global;
 use substitution::Substitution;
@@ -45,12 +45,12 @@ fn red(alloc: Global, words: Lookahead<'_>, table: &mut Table) -> Result<Step, P
     ensures kept { table.new.before ≡ table.old.before }
     ensures denies { IfErr result (λ f. DeniesRule f Rule.Red table.old.names words.entry) }
 {
-    let (constraint, witness) = constraint(alloc, Front::new(words), table)?;
-    let images = images(alloc, Body::new(witness), table)?;
+    let (constraint, behind) = constraint(alloc, Front::new(words), table)?;
+    let witness = images(alloc, Body::new(behind), table)?;
     if table.is_full() {
-        return Err(ProofFault::TooManyIds);
+        return Err(full_fault(&witness));
     }
-    match Substitution::new(alloc, images)? {
+    match Substitution::new(alloc, witness.images)? {
         Some(witness) => {
             // That no variable stands twice is known by the type; this makes it known here.
             let _images = witness.as_slice();

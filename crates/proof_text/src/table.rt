@@ -7,7 +7,7 @@ use std::alloc::AllocError;
 use std::marker::Model;
 
 /// How many names a table can number.
-const MOST_NAMES: usize = (1 << 32) - 1;
+const MOST_NAMES: usize = 1 << 32;
 
 /// The names so far.
 #[derive(Drop)]
@@ -18,15 +18,19 @@ pub(crate) struct Table {
 }
 
 impl Model for Table {
-    ghost use Rattle.std.specs.Prelude.{◌≤◌, length, take};
+    ghost use Rattle.std.specs.Prelude.{◌≡◌, ◌≤◌, ◌^◌, true, length, take, if◌then◌else◌};
     ghost use Rattle.linear.specs.Table.{IsTable};
-    ghost use Rattle.proof_text.specs.Numbering.{Known};
+    ghost use Rattle.proof_text.specs.Numbering.{Known, but_last};
 
     ghost Value = { Known };
 
-    ghost view = { λ t. record { before = take t.before t.names; names = t.names; full = t.full } };
+    ghost view = { λ t. record {
+      before = take t.before t.names;
+      names = if t.full then but_last t.names else t.names;
+      full = t.full;
+    } };
 
-    ghost invariant = { λ t. (t.before ≤ length t.names) × IsTable t.names };
+    ghost invariant = { λ t. (t.before ≤ length t.names) × IsTable t.names × (t.full ≡ true → 2 ^ 32 ≤ length t.names) };
 }
 
 impl Table {
@@ -35,7 +39,7 @@ impl Table {
     ghost use Rattle.proof_text.specs.Numbering.{met};
 
     /// The names as a line begins.
-    pub fn new(names: Names) -> Self
+    pub(crate) fn new(names: Names) -> Self
         ensures { result ≡ record { before = names; names = names; full = false } }
     {
         let before = names.len();
@@ -46,8 +50,8 @@ impl Table {
         }
     }
 
-    /// The literal that a word writes. A name that finds no number gets the one behind the last.
-    pub fn lit(&mut self, literal: Literal<'_>) -> Result<Lit, AllocError>
+    /// The literal that a word writes. A name that finds no number gets the greatest one, which counts for nothing.
+    pub(crate) fn lit(&mut self, literal: Literal<'_>) -> Result<Lit, AllocError>
         ensures met { OnOk result (self.new ≡ met self.old literal.entry.name.now) }
         ensures variable { IfOk result (λ l. l.var.0 ≡ place_of self.new.names literal.entry.name.now) }
         ensures sign { IfOk result (λ l. l.negated ≡ literal.entry.negated) }
@@ -62,26 +66,29 @@ impl Table {
             return Ok(Lit { var, negated });
         }
         self.full = true;
-        let var = Var(self.names.len() as u32);
-        Ok(Lit { var, negated })
+        Ok(Lit {
+            var: Var(u32::MAX),
+            negated,
+        })
     }
 
     /// Whether a name found no number.
-    pub fn is_full(&self) -> bool
+    pub(crate) fn is_full(&self) -> bool
         ensures { result ≡ self.now.full }
     {
         self.full
     }
 
-    /// The names as they are.
-    pub fn into_names(self) -> Names
+    /// The names as they are, where each found a number.
+    pub(crate) fn into_names(self) -> Names
+        requires { self.full ≡ false }
         ensures { result ≡ self.names }
     {
         self.names
     }
 
     /// The names as the line began.
-    pub fn undo(self) -> Names
+    pub(crate) fn undo(self) -> Names
         ensures { result ≡ self.before }
     {
         let mut names = self.names;

@@ -205,6 +205,11 @@ fn substitutions(rt: HostRuntime) {
         row(b"red 1 x1 >= 1 ; x1 0 x2 ~x1 x3 -> 1", 0),
         row(b"red 1 x1 >= 1 ; x1 -> 1 ; begin", 4),
         row(b"red 1 x1 >= 1 ; ; begin", 4),
+        row(b"red 1 x1 >= 1 ; x1 -> 1 x2 0 x3->~x1; begin", 4),
+        row(b"red 1 x1 >= 1 ; x1 -> 1 x1 -> 0 ; begin", 5),
+        row(b"red 1 x1 >= 1 ; x1 1 x2 0 x1 1 ; begin", 5),
+        row(b"red 1 x1 >= 1 ; x1 1 x1 ; begin", 5),
+        row(b"red 1 x1 >= 1 ; x1 -> 1 ; ; begin", 5),
         row(b"red 1 x1 = 1 ; x1 -> 1", 4),
         row(b"red 1 x1 >= 1 ; begin", 5),
         row(b"red 1 x1 >= 1 ; x1 -> 1 x1 -> 0", 5),
@@ -450,4 +455,171 @@ fn lines_that_count(rt: HostRuntime) {
     assert_eq!(&rt; reader.end_number(), 8);
     assert_eq!(&rt; ProofReader::new(b"").end_number(), 1);
     assert_eq!(&rt; ProofReader::new(b"f 1\n").end_number(), 2);
+}
+
+/// A line, and how what it says is written.
+#[derive(Clone, Copy, Debug)]
+struct Rewriting {
+    line: &'static [u8],
+    written: &'static [u8],
+}
+
+fn written_as(line: &'static [u8], written: &'static [u8]) -> Rewriting {
+    Rewriting { line, written }
+}
+
+/// Reads a step and writes it.
+fn rewrite_step(
+    alloc: Global,
+    line: &[u8],
+    names: &mut Names,
+    out: &mut Vec<u8>,
+) -> Result<(), ProofFault> {
+    let step = read_step(alloc, line, names)?;
+    write_step(&step, names, out)?;
+    Ok(())
+}
+
+/// Reads a conclusion and writes the lines behind the steps.
+fn rewrite_end(
+    alloc: Global,
+    line: &[u8],
+    names: &mut Names,
+    out: &mut Vec<u8>,
+) -> Result<(), ProofFault> {
+    match read_line(alloc, Place::Conclusion, line, names)? {
+        Line::Conclusion(conclusion) => Ok(write_end(&conclusion, names, out)?),
+        _ => Err(ProofFault::BadLine),
+    }
+}
+
+#[test]
+fn written_steps(rt: HostRuntime) -> Result<(), ProofFault> {
+    let cases = [
+        written_as(
+            b"p 1 -2 + x1 +3 * 007 d s x2 w ~x1 -0 s;",
+            b"pol 1 -2 + x1 3 * 7 d s x2 w ~x1 0 s\n",
+        ),
+        written_as(
+            b"pol 1329227995784915872903807060280344576 -1329227995784915872903807060280344576 + 1329227995784915872903807060280344576 * -1329227995784915872903807060280344576 d",
+            b"pol 1329227995784915872903807060280344576 -1329227995784915872903807060280344576 + 1329227995784915872903807060280344576 * -1329227995784915872903807060280344576 d\n",
+        ),
+        written_as(b"pol ;", b"pol\n"),
+        written_as(
+            b"u +1 x1 -0 ~x2 -1329227995784915872903807060280344576 x1>=+1329227995784915872903807060280344576; 7 ~ 99",
+            b"rup 1 x1 0 ~x2 -1329227995784915872903807060280344576 x1 >= 1329227995784915872903807060280344576 ;\n",
+        ),
+        written_as(
+            b"rup\t>=-1329227995784915872903807060280344576;",
+            b"rup >= -1329227995784915872903807060280344576 ;\n",
+        ),
+        written_as(
+            b"red 2 x1 >= 01 ; x1 -> x2 x2 ~x1 x3 0 x4 -> 1 x5->~x5;",
+            b"red 2 x1 >= 1 ; x1 -> x2 x2 -> ~x1 x3 -> 0 x4 -> 1 x5 -> ~x5\n",
+        ),
+        written_as(
+            b"red 1329227995784915872903807060280344576 ~x1 -1329227995784915872903807060280344576 x2 >= -1329227995784915872903807060280344576 ;",
+            b"red 1329227995784915872903807060280344576 ~x1 -1329227995784915872903807060280344576 x2 >= -1329227995784915872903807060280344576 ;\n",
+        ),
+        written_as(b"sol x1 ~x2 ;", b"sol x1 ~x2\n"),
+        written_as(b"sol", b"sol\n"),
+        written_as(b"soli ~x[1]  _{a}^2-b", b"soli ~x[1] _{a}^2-b\n"),
+        written_as(
+            b"del id -1 0007 1329227995784915872903807060280344576 -1329227995784915872903807060280344576 ;",
+            b"del id -1 7 1329227995784915872903807060280344576 -1329227995784915872903807060280344576\n",
+        ),
+        written_as(b"del id", b"del id\n"),
+    ];
+    for case in &cases {
+        let alloc = rt.alloc();
+        let mut names = Names::new(alloc);
+        let mut out = Vec::new(alloc);
+        rewrite_step(alloc, case.line, &mut names, &mut out)?;
+        assert_eq!(&rt; out.as_slice(), case.written);
+        let mut reader = ProofReader::new(case.written);
+        let mut again = Vec::new(alloc);
+        if let Some(line) = reader.next() {
+            rewrite_step(alloc, line.text, &mut names, &mut again)?;
+        }
+        assert_eq!(&rt; again.as_slice(), case.written);
+        assert!(&rt; reader.next().is_none());
+    }
+    Ok(())
+}
+
+#[test]
+fn written_ends(rt: HostRuntime) -> Result<(), ProofFault> {
+    let cases = [
+        written_as(b"conclusion NONE ;", b"conclusion NONE"),
+        written_as(b"conclusion SAT", b"conclusion SAT"),
+        written_as(b"conclusion SAT :", b"conclusion SAT :"),
+        written_as(b"conclusion SAT:~x1 x2;", b"conclusion SAT : ~x1 x2"),
+        written_as(b"conclusion UNSAT", b"conclusion UNSAT"),
+        written_as(b"conclusion UNSAT : -3", b"conclusion UNSAT"),
+        written_as(b"conclusion BOUNDS -INF INF", b"conclusion BOUNDS -INF INF"),
+        written_as(
+            b"conclusion BOUNDS INF INF : x1 ~x2 ;",
+            b"conclusion BOUNDS INF INF : x1 ~x2",
+        ),
+        written_as(
+            b"conclusion BOUNDS +1329227995784915872903807060280344576 : 1 -1329227995784915872903807060280344576 : ~x1",
+            b"conclusion BOUNDS 1329227995784915872903807060280344576 -1329227995784915872903807060280344576 : ~x1",
+        ),
+        written_as(
+            b"conclusion BOUNDS -1329227995784915872903807060280344576 1329227995784915872903807060280344576",
+            b"conclusion BOUNDS -1329227995784915872903807060280344576 1329227995784915872903807060280344576",
+        ),
+        written_as(b"conclusion BOUNDS -INF -07", b"conclusion BOUNDS -INF -7"),
+        written_as(b"conclusion BOUNDS INF 7 :", b"conclusion BOUNDS INF 7 :"),
+        written_as(b"conclusion BOUNDS -0 INF", b"conclusion BOUNDS 0 INF"),
+    ];
+    for case in &cases {
+        let alloc = rt.alloc();
+        let mut names = Names::new(alloc);
+        let mut out = Vec::new(alloc);
+        rewrite_end(alloc, case.line, &mut names, &mut out)?;
+        let mut wanted = Vec::new(alloc);
+        wanted.extend_from_slice(b"output NONE\n")?;
+        wanted.extend_from_slice(case.written)?;
+        wanted.extend_from_slice(b"\nend pseudo-Boolean proof\n")?;
+        assert_eq!(&rt; out.as_slice(), wanted.as_slice());
+        let mut again = Vec::new(alloc);
+        rewrite_end(alloc, case.written, &mut names, &mut again)?;
+        assert_eq!(&rt; again.as_slice(), wanted.as_slice());
+    }
+    assert_eq!(&rt; fault_at(rt.alloc(), Place::Step, b"output NONE"), 0);
+    Ok(())
+}
+
+#[test]
+fn a_written_proof(rt: HostRuntime) -> Result<(), ProofFault> {
+    let alloc = rt.alloc();
+    let mut names = Names::new(alloc);
+    let mut out = Vec::new(alloc);
+    out.extend_from_slice(b"pseudo-Boolean proof version 2.0\nf 1\n")?;
+    rewrite_step(alloc, b"soli x1 ~x2 ;", &mut names, &mut out)?;
+    rewrite_step(alloc, b"p +1 2 + ;", &mut names, &mut out)?;
+    rewrite_end(alloc, b"conclusion BOUNDS 1 1", &mut names, &mut out)?;
+    let wanted =
+        b"pseudo-Boolean proof version 2.0\nf 1\nsoli x1 ~x2\npol 1 2 +\noutput NONE\nconclusion BOUNDS 1 1\nend pseudo-Boolean proof\n";
+    assert_eq!(&rt; out.as_slice(), wanted.as_slice());
+    let mut reader = ProofReader::new(wanted);
+    let places = [
+        Place::Header,
+        Place::Count,
+        Place::Step,
+        Place::Step,
+        Place::Step,
+        Place::Conclusion,
+        Place::End,
+    ];
+    for place in &places {
+        if let Some(line) = reader.next() {
+            assert_eq!(&rt; fault_at(alloc, *place, line.text), 0);
+        } else {
+            assert!(&rt; false);
+        }
+    }
+    assert!(&rt; reader.next().is_none());
+    Ok(())
 }

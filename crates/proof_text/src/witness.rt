@@ -1,9 +1,12 @@
 //! Substitutions: names and their images in turn.
 
-ghost use Rattle.std.specs.Prelude.{◌≡◌, [], ◌∷◌, IfOk, IfErr};
+ghost use Rattle.std.specs.Prelude.{◌≡◌, ℕ, List, [], ◌∷◌, true, false, ◌&&◌, map, None, Some, if◌then◌else◌, IfOk, IfErr, OnOk, codes, bytes_eq};
+ghost use Rattle.std.specs.List.{list_any};
+ghost use Rattle.substitution.specs.Images.{NamesOnce};
+ghost use Rattle.proof_text.specs.Kinds.{is_semicolon};
 ghost use Rattle.proof_text.specs.Forms as forms;
 ghost use Rattle.proof_text.specs.Reading.{Takes, IsRead, IsImageRead};
-ghost use Rattle.proof_text.specs.Denial.{Denies, IsForm};
+ghost use Rattle.proof_text.specs.Denial.{Denies};
 
 use crate::body::Body;
 use crate::fault::ProofFault;
@@ -12,7 +15,44 @@ use crate::table::Table;
 use linear::Var;
 use pb_text::{Kind, Symbol, Token};
 use std::alloc::Global;
-use substitution::Image;
+use substitution::{Image, Substitution};
+
+/// A substitution as it is read.
+#[derive(Drop)]
+pub(crate) struct Witness<'a> {
+    /// The variables on the left, with their images.
+    pub(crate) images: Vec<(Var, Image)>,
+    /// The names on the left.
+    names: Vec<&'a [u8]>,
+}
+
+/// Whether a word is among these.
+fn is_among(word: &[u8], words: &[&[u8]]) -> bool
+    ensures { result ≡ list_any (λ v. bytes_eq v word.now) (map (λ s. s.now) words.now) }
+{
+    let mut rest = words;
+    while let [other, more @ ..] = rest {
+        if *other == word {
+            return true;
+        }
+        rest = more;
+    }
+    false
+}
+
+/// Whether a word stands twice among these. It compares each two of them.
+fn repeats(words: &[&[u8]]) -> bool
+    ensures { result ≡ forms.repeats (map (λ s. s.now) words.now) }
+{
+    let mut rest = words;
+    while let [word, more @ ..] = rest {
+        if is_among(word, more) {
+            return true;
+        }
+        rest = more;
+    }
+    false
+}
 
 /// The image that a word writes: a literal, or the very text `0` or `1`.
 fn image(token: Token<'_>, table: &mut Table) -> Result<Image, ProofFault>
@@ -32,16 +72,51 @@ fn image(token: Token<'_>, table: &mut Table) -> Result<Image, ProofFault>
     Err(ProofFault::BadLine)
 }
 
-/// The fault of a word that is no name, where a name is due. A `;` with `begin` behind it begins a subproof, which is
-/// left out.
-fn name_fault(token: Token<'_>, behind: Option<Token<'_>>) -> ProofFault
-    ensures { IsForm result }
+/// Whether a subproof begins: a `;` with `begin` behind it. Subproofs are left out.
+fn begins_subproof(token: Token<'_>, behind: Option<Token<'_>>) -> bool
+    ensures { result ≡ (is_semicolon token.entry.kind && elim behind.entry [ None ↦ false | Some t ↦ bytes_eq t.text.now (codes "begin") ]) }
 {
     match (token.kind, behind) {
-        (Kind::Symbol(Symbol::Semicolon), Some(behind)) if behind.text == b"begin".as_slice() => {
+        (Kind::Symbol(Symbol::Semicolon), Some(behind)) => behind.text == b"begin".as_slice(),
+        _ => false,
+    }
+}
+
+/// The fault of a subproof behind a substitution. A name that stands twice on the left came first; where names found no
+/// number, the words tell.
+fn subproof_fault(alloc: Global, witness: Witness<'_>, full: bool) -> ProofFault
+    ensures denies { (ws : List (List ℕ)) → Denies result false ws }
+    ensures once { full ≡ false → result ≡ ProofFault.BadLine → NamesOnce witness.entry.images.items → ⊥ }
+    ensures left_out { full ≡ false → result ≡ ProofFault.RuleLeftOut → NamesOnce witness.entry.images.items }
+    ensures full { full ≡ true → result ≡ (if forms.repeats (map (λ s. s.now) witness.entry.names.items) then ProofFault.BadLine else ProofFault.RuleLeftOut) }
+{
+    if full {
+        return if repeats(witness.names.as_slice()) {
+            ProofFault::BadLine
+        } else {
+            ProofFault::RuleLeftOut
+        };
+    }
+    match Substitution::new(alloc, witness.images) {
+        Ok(Some(witness)) => {
+            // That no variable stands twice is known by the type; this makes it known here.
+            let _images = witness.as_slice();
             ProofFault::RuleLeftOut
         }
-        _ => ProofFault::BadLine,
+        Ok(None) => ProofFault::BadLine,
+        Err(_) => ProofFault::OutOfMemory,
+    }
+}
+
+/// The fault of a substitution that reads well, and has names that found no number. A name that stands twice on the left
+/// came first.
+pub(crate) fn full_fault(witness: &Witness<'_>) -> ProofFault
+    ensures { result ≡ (if forms.repeats (map (λ s. s.now) witness.now.names.items) then ProofFault.BadLine else ProofFault.TooManyIds) }
+{
+    if repeats(witness.names.as_slice()) {
+        ProofFault::BadLine
+    } else {
+        ProofFault::TooManyIds
     }
 }
 
@@ -52,11 +127,12 @@ fn pair(
     table: &mut Table,
 ) -> Result<(Var, Image), ProofFault>
     ensures takes { IfOk result (λ p. Takes forms.are_images forms.images_of table.old (token.entry.text.now ∷ words.old) p table.new words.new) }
+    ensures left { OnOk result (forms.lefts (token.entry.text.now ∷ words.old) ≡ token.entry.text.now ∷ forms.lefts words.new) }
     ensures kept { table.new.before ≡ table.old.before }
     ensures denies { let ws = token.entry.text.now ∷ words.old in IfErr result (λ f. Denies f (forms.are_images ws) ws) }
 {
     let Kind::Literal = token.kind else {
-        return Err(name_fault(token, words.next()));
+        return Err(ProofFault::BadLine);
     };
     let lit = lit(token, table)?;
     if lit.negated {
@@ -71,19 +147,26 @@ fn pair(
 }
 
 /// Names and images up to the end of a line.
-pub(crate) fn images(
+pub(crate) fn images<'a>(
     alloc: Global,
-    mut words: Body<'_>,
+    mut words: Body<'a>,
     table: &mut Table,
-) -> Result<Vec<(Var, Image)>, ProofFault>
-    ensures read { IfOk result (λ v. IsRead forms.are_images forms.images_of table.old words.entry v.items table.new) }
+) -> Result<Witness<'a>, ProofFault>
+    ensures read { IfOk result (λ w. IsRead forms.are_images forms.images_of table.old words.entry w.images.items table.new) }
+    ensures names { IfOk result (λ w. map (λ s. s.now) w.names.items ≡ forms.lefts words.entry) }
     ensures kept { table.new.before ≡ table.old.before }
     ensures denies { IfErr result (λ f. Denies f (forms.are_images words.entry) words.entry) }
 {
     let mut images = Vec::new(alloc);
+    let mut names = Vec::new(alloc);
     while let Some(token) = words.take() {
+        if begins_subproof(token, words.next()) {
+            let witness = Witness { images, names };
+            return Err(subproof_fault(alloc, witness, table.is_full()));
+        }
         let pair = pair(token, &mut words, table)?;
         images.push(pair)?;
+        names.push(token.text)?;
     }
-    Ok(images)
+    Ok(Witness { images, names })
 }

@@ -70,9 +70,14 @@ fn step_words(out: &mut Vec<u8>, names: &Names, step: &Step) -> Result<(), Alloc
     }
 }
 
-/// Writes a step as one line with its LF: single spaces, integers in plain decimal. The step's integers are at most 2^120
-/// in size, its relation is `>=`, and the table has its variables; then the line reads back as the step and brings no
-/// name. Where a growth is refused, nothing is written.
+/// Writes a step as one line with its LF: its words, single spaces between them, integers in plain decimal without `+`.
+///
+/// `pol`, `sol` and `soli` stand before their items and literals, `del id` before the ids as they stand in the step; `rup`
+/// and `red` before the terms, `>=`, the right side and `;`, behind which `red` has its names, each with `->` and its image.
+///
+/// The step's integers are at most 2^120 in size, its relation is `>=`, and the table has its variables, as is so of every
+/// step that was read by the table; then the line reads back as the step and brings no name. Where a growth is refused,
+/// nothing is written.
 pub fn write_step(step: &Step, names: &Names, out: &mut Vec<u8>) -> Result<(), AllocError>
     requires { writing.IsStepWritable (length names.now) step.now }
     ensures line { OnOk result (IsStepWritten names.now out.old.items step.now out.new.items) }
@@ -183,9 +188,13 @@ fn end_lines(conclusion: &Conclusion, names: &Names, out: &mut Vec<u8>) -> Resul
     begin(out, b"\nend pseudo-Boolean proof\n")
 }
 
-/// Writes the lines behind the steps: `output NONE`, the conclusion, and `end pseudo-Boolean proof`. The conclusion's
-/// integers are at most 2^120 in size, and the table has its variables; then its line reads back as the conclusion and
-/// brings no name. Where a growth is refused, nothing is written.
+/// Writes the lines behind the steps: `output NONE`, the conclusion, and `end pseudo-Boolean proof`, each of words with
+/// single spaces between them. Behind `conclusion` stands `NONE`, `SAT` or `UNSAT`, or `BOUNDS` and the two bounds, integers
+/// in plain decimal without `+`; then, where the conclusion has a hint of literals, `:` and the literals.
+///
+/// The conclusion's integers are at most 2^120 in size, and the table has its variables, as is so of every conclusion that
+/// was read by the table; then its line reads back as the conclusion and brings no name. Where a growth is refused,
+/// nothing is written.
 pub fn write_end(
     conclusion: &Conclusion,
     names: &Names,

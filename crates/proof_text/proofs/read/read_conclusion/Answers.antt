@@ -17,7 +17,7 @@ returns-then-is_full-clause-denies c =
     let x = c.in-Ok.conclusion in
     let start : k ≡ fresh names = c.new-table.ensures ∙ ap fresh c.replace.ensures.value in
     let r : IsConclusionLineRead k ws x new = subst (λ w. IsConclusionLineRead k w x new) c.new-2.ensures c.in-Ok.ensures.read in
-    conclusion_full names k new ws x start r (sym c.is_full.ensures ∙ c.if-is_full.true)
+    (tt, conclusion_full names k new ws x start r (sym c.is_full.ensures ∙ c.if-is_full.true))
 
 pub returns-else-is_full-clause-line : goal.returns-else-is_full-clause-line
 returns-else-is_full-clause-line c =
@@ -31,6 +31,8 @@ returns-else-is_full-clause-line c =
     subst (IsLine places.Conclusion names ws (lines.Conclusion x)) (sym c.into_names.ensures) (conclusion_placed names k new ws x start r (sym c.is_full.ensures ∙ c.if-is_full.false))
 
 pub returns-in-Err-clause-denies : goal.returns-in-Err-clause-denies
-returns-in-Err-clause-denies c =
-    conclusion_denied c.in-Err.fault c.args.names.now (words c.args.line.now)
-    (subst (λ w. Denies c.in-Err.fault (is_some (conclusion_of [] w)) (drop 1 (unclosed (drop 1 w)))) c.new-2.ensures c.in-Err.ensures.denies)
+returns-in-Err-clause-denies c = (
+  c.in-Err.ensures.plain,
+  conclusion_denied c.in-Err.fault c.args.names.now (words c.args.line.now)
+      (subst (λ w. Denies c.in-Err.fault (is_some (conclusion_of [] w)) (drop 1 (unclosed (drop 1 w)))) c.new-2.ensures c.in-Err.ensures.denies),
+)

@@ -2,6 +2,7 @@ use Rattle.std.proofs.Common.{◌≡◌, sym, ap, subst, ◌∙◌}
 use Rattle.proof_text.specs.Words.{words}
 use Rattle.proof_text.specs.Steps.{IsStepLineRead, IsStep}
 use Rattle.proof_text.proofs.Placing.{fresh, step_read, step_full}
+use Rattle.proof_text.proofs.Writable.{step_writable}
 use Rattle.proof_text.proofs.read.read_step.Goals as goal
 
 pub returns-then-is_full-clause-denies : goal.returns-then-is_full-clause-denies
@@ -23,3 +24,7 @@ returns-else-is_full-clause-step c =
     let start : k ≡ fresh names = c.new-table.ensures ∙ ap fresh c.replace.ensures.value in
     let r : IsStepLineRead k ws c.in-Ok.step new = subst (λ x. IsStepLineRead k x c.in-Ok.step new) c.new-2.ensures c.in-Ok.ensures.read in
     subst (IsStep names ws c.in-Ok.step) (sym c.into_names.ensures) (step_read names k new ws c.in-Ok.step start r (sym c.is_full.ensures ∙ c.if-is_full.false))
+
+pub returns-else-is_full-clause-writable : goal.returns-else-is_full-clause-writable
+returns-else-is_full-clause-writable c =
+    step_writable c.args.names.now (words c.args.line.now) c.into_names.result c.in-Ok.step (returns-else-is_full-clause-step c)

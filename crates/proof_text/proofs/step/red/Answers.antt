@@ -1,10 +1,11 @@
-use Rattle.std.proofs.Common.{◌≡◌, Some, is_some, ◌&&◌, true, false, sym, ap, subst, ◌∙◌}
+use Rattle.std.proofs.Common.{◌≡◌, Some, is_some, map, if◌then◌else◌, ◌&&◌, true, false, sym, ap, subst, ◌∙◌}
 use Rattle.std.proofs.lemmas.Result.{err_from_is_err_and}
 use Rattle.substitution.specs.Images.{NamesOnce}
 use Rattle.kernel.specs.declared.step.Step.TheVariants as steps
 use Rattle.proof_text.specs.declared.rule.Rule.TheVariants as rule
 use Rattle.proof_text.specs.Words.{Halves, halves, unclosed}
-use Rattle.proof_text.specs.Forms.{are_images, images_of, closing_of, behind_terms}
+use Rattle.proof_text.specs.Forms.{are_images, images_of, lefts, repeats, closing_of, behind_terms}
+use Rattle.proof_text.specs.declared.fault.ProofFault.TheVariants as faults
 use Rattle.proof_text.specs.Reading.{IsRead}
 use Rattle.proof_text.specs.Steps.{IsConstraintRead, IsStepRead}
 use Rattle.proof_text.specs.Denial.{Denies}
@@ -19,15 +20,15 @@ returns-in_err-constraint-clause-denies c =
     (denied_red f c.args.table.now.names c.args.words
     (subst (λ (h : Halves). Denies f (is_some h.behind && is_some (closing_of (behind_terms h.front))) h.front) c.new.ensures c.in_err-constraint.ensures.denies))
 
-pub returns-in_err-images-clause-denies : goal.returns-in_err-images-clause-denies
-returns-in_err-images-clause-denies c =
-    let f = c.in_err-images.field-0.0 in
-    let w = c.in_ok-constraint.witness in
+pub returns-in_err-witness-clause-denies : goal.returns-in_err-witness-clause-denies
+returns-in_err-witness-clause-denies c =
+    let f = c.in_err-witness.field-0.0 in
+    let w = c.in_ok-constraint.behind in
     let behind : (halves c.args.words).behind ≡ Some w = sym (ap (λ (h : Halves). h.behind) c.new.ensures) ∙ c.in_ok-constraint.ensures.behind in
-    let p = err_from_is_err_and c.from_residual-in_err-images.result c.from_residual-in_err-images.ensures.1 in
+    let p = err_from_is_err_and c.from_residual-in_err-witness.result c.from_residual-in_err-witness.ensures.1 in
     rw (p.1, p.2)
     (denied_images f c.args.table.now.names c.args.words w behind
-    (subst (λ ws. Denies f (are_images ws) ws) c.new-2.ensures c.in_err-images.ensures.denies))
+    (subst (λ ws. Denies f (are_images ws) ws) c.new-2.ensures c.in_err-witness.ensures.denies))
 
 pub returns-then-is_full-clause-denies : goal.returns-then-is_full-clause-denies
 returns-then-is_full-clause-denies c =
@@ -35,14 +36,17 @@ returns-then-is_full-clause-denies c =
     let mid = c.constraint.new.table in
     let new = c.images.new.table in
     let ws = c.args.words in
-    let w = c.in_ok-constraint.witness in
+    let w = c.in_ok-constraint.behind in
     let x = c.in_ok-constraint.constraint in
-    let images = c.in_ok-images.images.items in
+    let images = c.in_ok-witness.witness.images.items in
     let behind : (halves ws).behind ≡ Some w = sym (ap (λ (h : Halves). h.behind) c.new.ensures) ∙ c.in_ok-constraint.ensures.behind in
     let r : IsConstraintRead k (halves ws).front x mid = subst (λ (h : Halves). IsConstraintRead k h.front x mid) c.new.ensures c.in_ok-constraint.ensures.read in
-    let i : IsRead are_images images_of mid (unclosed w) images new = subst (λ u. IsRead are_images images_of mid u images new) c.new-2.ensures c.in_ok-images.ensures.read in
+    let i : IsRead are_images images_of mid (unclosed w) images new = subst (λ u. IsRead are_images images_of mid u images new) c.new-2.ensures c.in_ok-witness.ensures.read in
     let full : new.full ≡ true = sym c.is_full.ensures ∙ c.if-is_full.true in
-    denied_full rule.Red k new ws (steps.Red x images) c.requires (red_known k mid new ws w x images r behind i) full (red_small ws w behind r.small i.small) (red_says k mid new ws w x images r behind i)
+    let left : map (λ s. s.now) c.in_ok-witness.witness.names.items ≡ lefts (unclosed w) = c.in_ok-witness.ensures.names ∙ ap lefts c.new-2.ensures in
+    let f = c.full_fault.result in
+    denied_full f k new ws w (steps.Red x images) (c.full_fault.ensures ∙ ap (λ n. if repeats n then faults.BadLine else faults.TooManyIds) left) behind
+    c.requires (red_known k mid new ws w x images r behind i) full (red_small ws w behind r.small i.small) (red_says k mid new ws w x images r behind i)
 
 pub returns-in-Some-clause-read : goal.returns-in-Some-clause-read
 returns-in-Some-clause-read c =
@@ -50,14 +54,14 @@ returns-in-Some-clause-read c =
     let mid = c.constraint.new.table in
     let new = c.images.new.table in
     let ws = c.args.words in
-    let w = c.in_ok-constraint.witness in
+    let w = c.in_ok-constraint.behind in
     let x = c.in_ok-constraint.constraint in
-    let images = c.in_ok-images.images.items in
+    let images = c.in_ok-witness.witness.images.items in
     let behind : (halves ws).behind ≡ Some w = sym (ap (λ (h : Halves). h.behind) c.new.ensures) ∙ c.in_ok-constraint.ensures.behind in
     let r : IsConstraintRead k (halves ws).front x mid = subst (λ (h : Halves). IsConstraintRead k h.front x mid) c.new.ensures c.in_ok-constraint.ensures.read in
-    let i : IsRead are_images images_of mid (unclosed w) images new = subst (λ u. IsRead are_images images_of mid u images new) c.new-2.ensures c.in_ok-images.ensures.read in
+    let i : IsRead are_images images_of mid (unclosed w) images new = subst (λ u. IsRead are_images images_of mid u images new) c.new-2.ensures c.in_ok-witness.ensures.read in
     let s = c.in-Some.witness in
-    let made : s ≡ images = rw c.in-Some.is at c.in_ok-witness.ensures.some in
+    let made : s ≡ images = rw c.in-Some.is at c.in_ok-witness-2.ensures.some in
     subst (λ y. IsStepRead rule.Red k ws (steps.Red x y) new) (sym made)
     (red_read k mid new ws w x images r behind i (subst NamesOnce made c.as_slice-images.ensures.once))
 
@@ -67,11 +71,11 @@ returns-in-None-clause-denies c =
     let mid = c.constraint.new.table in
     let new = c.images.new.table in
     let ws = c.args.words in
-    let w = c.in_ok-constraint.witness in
+    let w = c.in_ok-constraint.behind in
     let x = c.in_ok-constraint.constraint in
-    let images = c.in_ok-images.images.items in
+    let images = c.in_ok-witness.witness.images.items in
     let behind : (halves ws).behind ≡ Some w = sym (ap (λ (h : Halves). h.behind) c.new.ensures) ∙ c.in_ok-constraint.ensures.behind in
     let r : IsConstraintRead k (halves ws).front x mid = subst (λ (h : Halves). IsConstraintRead k h.front x mid) c.new.ensures c.in_ok-constraint.ensures.read in
-    let i : IsRead are_images images_of mid (unclosed w) images new = subst (λ u. IsRead are_images images_of mid u images new) c.new-2.ensures c.in_ok-images.ensures.read in
+    let i : IsRead are_images images_of mid (unclosed w) images new = subst (λ u. IsRead are_images images_of mid u images new) c.new-2.ensures c.in_ok-witness.ensures.read in
     let full : new.full ≡ false = sym c.is_full.ensures ∙ c.if-is_full.false in
-    denied_twice k mid new ws w x images c.requires r behind i full (c.in_ok-witness.ensures.none c.in-None.is)
+    denied_twice k mid new ws w x images c.requires r behind i full (c.in_ok-witness-2.ensures.none c.in-None.is)

@@ -1,6 +1,7 @@
 use Rattle.std.proofs.Common.{◌≡◌, false, sym, ◌∙◌, rules, arith}
 use Rattle.std.proofs.lemmas.Result.{err_from_is_err_and}
 use Rattle.proof_text.proofs.Substituted.{next_pair, no_image_left, denied_image}
+use Rattle.proof_text.proofs.Apart.{next_left}
 use Rattle.proof_text.proofs.witness.pair.Goals as goal
 
 pub returns-in_default-take-clause-denies : goal.returns-in_default-take-clause-denies
@@ -20,3 +21,7 @@ returns-clause-takes c =
     let sign : c.in_ok-lit.lit.negated ≡ false = first_of (cc, search rules, grind arith) in
     next_pair c.args.table.now c.lit.new.table c.image.new.table c.args.token.text.now c.in-Some.token.text.now c.args.words.now c.take.new.self c.in_ok-lit.lit c.in_ok-image.image
     (sym c.pass_arrow.ensures ∙ c.in-Some.ensures) e.literal sign e.met e.value c.in_ok-image.ensures.read
+
+pub returns-clause-left : goal.returns-clause-left
+returns-clause-left c =
+    next_left c.args.token.text.now c.in-Some.token.text.now c.args.words.now c.take.new.self (sym c.pass_arrow.ensures ∙ c.in-Some.ensures) c.in_ok-image.ensures.read.form

@@ -1,4 +1,4 @@
-use Rattle.std.proofs.Common.{ap, ◌∙◌, codes, ◌∷◌, ◌++◌, append_assoc}
+use Rattle.std.proofs.Common.{refl, ap, ◌∙◌, codes, ◌∷◌, ◌++◌, append_assoc}
 use Rattle.proof_text.specs.Writing.{spaced, line_text, judgement_words}
 use Rattle.proof_text.proofs.EndBack.{end_back}
 use Rattle.proof_text.proofs.write.write_end.Goals as goal
@@ -12,6 +12,7 @@ returns-in-Ok-clause-lines c =
     let text = spaced (judgement_words names x) in
     record {
       line = line_text (codes "conclusion" ∷ judgement_words names x);
+      text = refl;
       appended = e.ok ∙ ap (λ t. t ++ codes "\nend pseudo-Boolean proof\n") (append_assoc (c.args.out.now.items ++ codes "output NONE\n") (codes "conclusion") text);
       one = b.one;
       says = b.says;

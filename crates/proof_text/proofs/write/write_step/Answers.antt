@@ -1,3 +1,4 @@
+use Rattle.std.proofs.Common.{refl}
 use Rattle.proof_text.specs.Writing.{line_text, step_words}
 use Rattle.proof_text.proofs.LinesBack.{step_back}
 use Rattle.proof_text.proofs.write.write_step.Goals as goal
@@ -8,4 +9,4 @@ returns-in-Ok-clause-line c =
     let step = c.args.step.now in
     let e = c.in-Ok.ensures in
     let b = step_back names step e.table c.requires e.proper in
-    record { line = line_text (step_words names step); appended = e.ok; one = b.one; says = b.says }
+    record { line = line_text (step_words names step); text = refl; appended = e.ok; one = b.one; says = b.says }
