@@ -9,6 +9,8 @@ mod laws;
 mod merging;
 mod multiplication;
 mod saturation;
+#[cfg(test)]
+mod tests;
 mod weakening;
 
 pub use addition::add;

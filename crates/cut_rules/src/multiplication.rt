@@ -7,11 +7,8 @@ ghost use Rattle.cut_rules.specs.Rules.{IsMultiple, IsTooLarge};
 ghost use Rattle.cut_rules.specs.Steps.{changed, times};
 
 use super::changes::push_kept;
-use normal_form::{CutFault, Normal, NormalBuilder};
+use normal_form::{CutFault, LARGEST, Normal, NormalBuilder};
 use std::alloc::{AllocError, Global};
-
-// The limit of coefficient sums and of degrees.
-const LARGEST: u128 = 1 << 120;
 
 // Whether a product is within the limit.
 fn product_fits(factor: u128, number: u128) -> bool

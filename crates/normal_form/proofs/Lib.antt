@@ -1,4 +1,5 @@
 pub mod Sums
+pub mod SetSums
 pub mod OneForm
 pub mod Merge
 pub mod Insertion

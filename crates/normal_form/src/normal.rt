@@ -10,7 +10,7 @@ use std::default::MadeWith;
 use std::marker::Model;
 
 /// The limit of coefficient sums and of degrees.
-pub(crate) const LARGEST: u128 = 1 << 120;
+pub const LARGEST: u128 = 1 << 120;
 
 /// A normal constraint: a degree, and terms with coefficients above 0 in strictly rising order of their
 /// variables. Its coefficient sum and its degree are at most `2^120`.

@@ -36,7 +36,7 @@ impl<'a> Reader<'a> {
     }
 
     /// The constraints that stand next, up to the end of the text.
-    pub fn constraints(&mut self, alloc: Global) -> Result<Vec<Signed>, OpbCode>
+    pub(crate) fn constraints(&mut self, alloc: Global) -> Result<Vec<Signed>, OpbCode>
         ensures constraints { IfOk result (λ v. constraints_ahead (names_in self.old.variables self.old.left) self.old.left ≡ Some v.items) }
         ensures names { OnOk result (names_in self.old.variables self.old.left ≡ self.new.variables) }
         ensures few { IfOk result (λ v. length v.items ≤ most_constraints) }

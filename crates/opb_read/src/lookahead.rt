@@ -43,7 +43,7 @@ impl<'a> Lookahead<'a> {
     ghost use Rattle.pb_text.specs.Token.{lexeme_of};
 
     /// All tokens of a text.
-    pub fn new(text: &'a [u8]) -> Self
+    pub(crate) fn new(text: &'a [u8]) -> Self
         ensures { result ≡ lexemes text.now }
     {
         let mut rest = Tokens::new(text);
@@ -53,21 +53,21 @@ impl<'a> Lookahead<'a> {
     }
 
     /// The next token; `None` at the end.
-    pub fn next(&self) -> Option<Token<'a>>
+    pub(crate) fn next(&self) -> Option<Token<'a>>
         ensures { MatchOption result (self.now ≡ []) (λ t. self.now ≡ lexeme_of t ∷ drop 1 self.now) }
     {
         self.next
     }
 
     /// The token behind the next one.
-    pub fn after(&self) -> Option<Token<'a>>
+    pub(crate) fn after(&self) -> Option<Token<'a>>
         ensures { MatchOption result (drop 1 self.now ≡ []) (λ t. drop 1 self.now ≡ lexeme_of t ∷ drop 2 self.now) }
     {
         self.after
     }
 
     /// The kind of the next token; `None` at the end.
-    pub fn kind(&self) -> Option<Kind>
+    pub(crate) fn kind(&self) -> Option<Kind>
         ensures { result ≡ next_kind self.now }
     {
         match self.next() {
@@ -77,7 +77,7 @@ impl<'a> Lookahead<'a> {
     }
 
     /// The kind of the token behind the next one; `None` at the end.
-    pub fn kind_after(&self) -> Option<Kind>
+    pub(crate) fn kind_after(&self) -> Option<Kind>
         ensures { result ≡ next_kind (drop 1 self.now) }
     {
         match self.after() {
@@ -87,7 +87,7 @@ impl<'a> Lookahead<'a> {
     }
 
     /// Whether `min` and `:` stand next.
-    pub fn begins_objective(&self) -> bool
+    pub(crate) fn begins_objective(&self) -> bool
         ensures { result ≡ kinds.begins_objective self.now }
     {
         let Some(token) = self.next() else {
@@ -100,7 +100,7 @@ impl<'a> Lookahead<'a> {
     }
 
     /// The next token, where it is an integer.
-    pub fn integer(&self) -> Option<Token<'a>>
+    pub(crate) fn integer(&self) -> Option<Token<'a>>
         ensures { MatchOption
             result
             (begins_integer self.now ≡ false)
@@ -114,7 +114,7 @@ impl<'a> Lookahead<'a> {
     }
 
     /// The relation that stands next, if one does.
-    pub fn relation(&self) -> Option<Relation>
+    pub(crate) fn relation(&self) -> Option<Relation>
         ensures { result ≡ next_relation self.now }
     {
         match self.kind()? {
@@ -125,7 +125,7 @@ impl<'a> Lookahead<'a> {
     }
 
     /// The line of the next token, or of the end, in the text of these tokens.
-    pub fn line(&self, text: &[u8]) -> u64
+    pub(crate) fn line(&self, text: &[u8]) -> u64
         ensures { result ≡ line_of_next text.now self.now }
     {
         match self.next() {
@@ -135,7 +135,7 @@ impl<'a> Lookahead<'a> {
     }
 
     /// Passes the next token.
-    pub fn advance(&mut self)
+    pub(crate) fn advance(&mut self)
         ensures { self.new ≡ drop 1 self.old }
     {
         self.next = self.after;

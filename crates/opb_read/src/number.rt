@@ -10,7 +10,7 @@ use pb_text::{Kind, Token, integer};
 const LARGEST: u128 = 1 << 62;
 
 /// The number of an integer token; `None` where it is above 2^62 in size.
-pub fn file_integer(token: Token<'_>) -> Option<i128>
+pub(crate) fn file_integer(token: Token<'_>) -> Option<i128>
     requires { token.kind ≡ Kind.Integer }
     ensures { MatchOption
         result

@@ -38,7 +38,7 @@ impl<'a> Reader<'a> {
     }
 
     /// The objective, if the text begins with one.
-    pub fn objective(&mut self, alloc: Global) -> Result<Option<Seq<Term>>, OpbCode>
+    pub(crate) fn objective(&mut self, alloc: Global) -> Result<Option<Seq<Term>>, OpbCode>
         requires { self.old.variables ≡ [] }
         ensures objective { IfOk result (λ o. FollowsObjective (names_in self.new.variables self.new.left) o self.old.left self.new.left) }
         ensures within { IfOk result (λ o. IfSome o (IsSumWithin (length (names_in self.new.variables self.new.left)))) }

@@ -30,7 +30,7 @@ pub enum Place {
 
 impl Place {
     /// The fault of a token of this kind, or of the end of the text.
-    pub fn fault(self, kind: Option<Kind>) -> OpbCode
+    pub(crate) fn fault(self, kind: Option<Kind>) -> OpbCode
         ensures { IsForm result }
     {
         match (self, kind) {
@@ -62,7 +62,7 @@ fn marked(word: &[u8]) -> OpbCode
 }
 
 /// The fault of a token that begins no constraint, at the start of a statement; `after` is the kind of the next one.
-pub fn fault_at_start(token: Token<'_>, after: Option<Kind>) -> OpbCode
+pub(crate) fn fault_at_start(token: Token<'_>, after: Option<Kind>) -> OpbCode
     ensures { IsForm result }
 {
     match (token.kind, token.text, after) {
@@ -73,7 +73,7 @@ pub fn fault_at_start(token: Token<'_>, after: Option<Kind>) -> OpbCode
 }
 
 /// Whether a token of this kind may begin a constraint.
-pub fn begins_constraint(kind: Kind) -> bool
+pub(crate) fn begins_constraint(kind: Kind) -> bool
     ensures { result ≡ ahead.begins_constraint kind }
 {
     match kind {

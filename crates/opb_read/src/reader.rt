@@ -16,7 +16,7 @@ pub struct Reader<'a> {
 
 impl<'a> Reader<'a> {
     /// A reader at the start of a text.
-    pub fn new(alloc: Global, text: &'a [u8]) -> Self
+    pub(crate) fn new(alloc: Global, text: &'a [u8]) -> Self
         ensures left { result.left ≡ lexemes text.now }
         ensures variables { result.variables ≡ [] }
     {

@@ -18,7 +18,7 @@ impl<'a> Reader<'a> {
     ghost use Rattle.opb_read.specs.Progress.{Progress, HoldsLimits, IsBehindSum, Reaches, StopsAt, at_start};
 
     /// Passes the `;` that closes a statement; `behind` is the place where it is due.
-    pub fn semicolon(&mut self, behind: Place) -> Result<(), OpbCode>
+    pub(crate) fn semicolon(&mut self, behind: Place) -> Result<(), OpbCode>
         ensures ok { OnOk result (begins_semicolon self.old.left ≡ true) }
         ensures left { OnOk result (self.new.left ≡ drop 1 self.old.left) }
         ensures variables { self.new.variables ≡ self.old.variables }
@@ -63,7 +63,7 @@ impl<'a> Reader<'a> {
     }
 
     /// The constraint that stands next.
-    pub fn constraint(&mut self, alloc: Global) -> Result<Signed, OpbCode>
+    pub(crate) fn constraint(&mut self, alloc: Global) -> Result<Signed, OpbCode>
         requires { self.old.left ≢ [] }
         ensures constraint { IfOk result (λ c. FollowsConstraint (names_in self.old.variables self.old.left) c self.old.left self.new.left) }
         ensures names { OnOk result (names_in self.old.variables self.old.left ≡ names_in self.new.variables self.new.left) }

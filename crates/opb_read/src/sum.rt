@@ -59,7 +59,7 @@ impl<'a> Reader<'a> {
     }
 
     /// The terms that stand next; `behind` is the place behind a coefficient.
-    pub fn sum(&mut self, alloc: Global, behind: Place) -> Result<Vec<Term>, OpbCode>
+    pub(crate) fn sum(&mut self, alloc: Global, behind: Place) -> Result<Vec<Term>, OpbCode>
         ensures terms { IfOk result (λ v. v.items ≡ terms_of (names_in self.old.variables self.old.left) self.old.left) }
         ensures left { OnOk result (self.new.left ≡ behind_terms self.old.left) }
         ensures end { OnOk result (begins_integer self.new.left ≡ false) }

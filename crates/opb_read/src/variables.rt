@@ -34,7 +34,7 @@ impl Variables {
     ghost use Rattle.opb_read.specs.Denial.{IsTooManyOr};
 
     /// No variables yet.
-    pub fn new(alloc: Global) -> Self
+    pub(crate) fn new(alloc: Global) -> Self
         ensures { result ≡ [] }
     {
         Variables {
@@ -45,7 +45,7 @@ impl Variables {
     /// The variable of a name, a new one where the name is new.
     ///
     /// `TooMany` comes where the name would be one too many.
-    pub fn number(&mut self, name: &[u8]) -> Result<Var, OpbCode>
+    pub(crate) fn number(&mut self, name: &[u8]) -> Result<Var, OpbCode>
         requires { is_name name.now ≡ true }
         ensures ok { OnOk result (self.new ≡ with_name self.old name.now) }
         ensures number { IfOk result (λ v. v.0 ≡ place_of self.old name.now) }
@@ -66,7 +66,7 @@ impl Variables {
     }
 
     /// The names, by the variables' numbers.
-    pub fn into_names(self) -> Names
+    pub(crate) fn into_names(self) -> Names
         ensures names { result ≡ self }
         ensures table { IsTable self }
         ensures few { length self ≤ most_variables }

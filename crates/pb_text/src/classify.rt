@@ -95,7 +95,7 @@ fn kind_of_word(text: &[u8]) -> Kind
 
 /// The kind of a token.
 #[tactic(auto, unfolding(crate::specs::Lexeme::kind_of))]
-pub fn kind_of(text: &[u8]) -> Kind
+pub(crate) fn kind_of(text: &[u8]) -> Kind
     ensures { result ≡ kinds.kind_of text.now }
 {
     match text {

@@ -75,7 +75,7 @@ fn past_gap(c: Cursor<'_>) -> Option<Cursor<'_>>
 }
 
 /// Passes all white space and all comment lines before the next token.
-pub fn past_gaps(c: Cursor<'_>) -> Cursor<'_>
+pub(crate) fn past_gaps(c: Cursor<'_>) -> Cursor<'_>
     ensures same { ahead result ≡ ahead c.entry }
     ensures at_token { IsAtToken result }
 {

@@ -59,7 +59,7 @@ fn word_length(text: &[u8]) -> usize
 }
 
 /// How many bytes the token has that stands at the front of a text; 0 at its end.
-pub fn token_length(text: &[u8]) -> usize
+pub(crate) fn token_length(text: &[u8]) -> usize
     requires { begins_white text.now ≡ false }
     ensures within { result ≤ length text.now }
     ensures end { result ≡ 0 → text.now ≡ [] }

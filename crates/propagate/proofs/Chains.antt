@@ -9,7 +9,7 @@ use Rattle.normal_form.specs.Normal.{NormalConstraint, Holds}
 use Rattle.propagate.specs.Literals.{opposite, among, lists, MakesTrue}
 use Rattle.propagate.specs.Slack.{not_false, IsBroken, IsForced}
 use Rattle.propagate.specs.Chain.{IsChain, LeadsToConflict, IsSettled}
-use Rattle.propagate.proofs.SetSums.{Within, sum_within, sum_apart}
+use Rattle.normal_form.proofs.SetSums.{Within, sum_within, sum_apart}
 use Rattle.propagate.proofs.Listings.{among_pushed, fewer_not_false, true_not_false}
 
 -- one constraint that has something has it of another that the same one has

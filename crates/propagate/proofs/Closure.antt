@@ -6,7 +6,7 @@ use Rattle.normal_form.specs.Normal.{NormalConstraint}
 use Rattle.propagate.specs.Literals.{among, lists}
 use Rattle.propagate.specs.Slack.{IsBroken, IsForced}
 use Rattle.propagate.specs.Chain.{LeadsToConflict, IsSettled, IsClosure}
-use Rattle.propagate.proofs.SetSums.{Within}
+use Rattle.normal_form.proofs.SetSums.{Within}
 use Rattle.propagate.proofs.Chains.{another, broken_more, forced_more, no_conflict_from}
 use Rattle.propagate.proofs.Ends.{by_set}
 use Rattle.propagate.proofs.Ending.{one_end_or_conflict}

@@ -6,7 +6,7 @@ use Rattle.linear.specs.declared.term.Lit.{Lit}
 use Rattle.normal_form.specs.Normal.{NormalConstraint, only}
 use Rattle.propagate.specs.Literals.{opposite, among, lists, IsConsistent}
 use Rattle.propagate.specs.Chain.{IsChain, IsClosure}
-use Rattle.propagate.proofs.SetSums.{only_is}
+use Rattle.normal_form.proofs.SetSums.{only_is}
 use Rattle.propagate.proofs.Listings.{among_cases, or_cases}
 
 pub only_here : (l : Lit) (v : ℕ) (s : Bool) → among (l ∷ []) v s ≡ true → (v ≡ l.var.0) × (s ≡ l.negated)

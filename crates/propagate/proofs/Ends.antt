@@ -10,7 +10,7 @@ use Rattle.propagate.specs.Literals.{among, lists}
 use Rattle.propagate.specs.Slack.{not_false, IsBroken}
 use Rattle.propagate.specs.Chain.{IsConflict, IsChain, LeadsToConflict, IsWholeChain, IsSettled}
 use Rattle.propagate.specs.Passes.{is_broken}
-use Rattle.propagate.proofs.SetSums.{Within}
+use Rattle.normal_form.proofs.SetSums.{Within}
 use Rattle.propagate.proofs.Listings.{among_left, among_right}
 use Rattle.propagate.proofs.Somewhere.{any_from_test, none_from_test}
 use Rattle.propagate.proofs.Chains.{chain_stays, no_conflict_from}

@@ -8,9 +8,9 @@ use Rattle.propagate.specs.Literals.{among, lists}
 use Rattle.propagate.specs.Slack.{IsBroken, IsForced}
 use Rattle.propagate.specs.Chain.{IsForcedByOne, IsChain, LeadsToConflict, IsReached}
 use Rattle.propagate.specs.Biting.{Bites}
-use Rattle.propagate.proofs.SetSums.{Within}
+use Rattle.normal_form.proofs.SetSums.{Within}
 use Rattle.propagate.proofs.Listings.{among_left, among_right, among_cases, among_head, among_tail, among_pushed, or_cases}
-use Rattle.propagate.proofs.SetSums.{only_is}
+use Rattle.normal_form.proofs.SetSums.{only_is}
 use Rattle.propagate.proofs.Chains.{another, along, broken_more, forced_more}
 use Rattle.propagate.proofs.Ends.{given_within}
 

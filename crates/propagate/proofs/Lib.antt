@@ -1,4 +1,3 @@
-pub mod SetSums
 pub mod Listings
 pub mod Somewhere
 pub mod Chains

@@ -7,7 +7,7 @@ use Rattle.linear.specs.Valuation.{Valuation, literal_true}
 use Rattle.normal_form.specs.Normal.{Literals, only}
 use Rattle.propagate.specs.Literals.{among, MakesTrue}
 use Rattle.propagate.specs.Slack.{not_false}
-use Rattle.propagate.proofs.SetSums.{Within, only_is, only_itself}
+use Rattle.normal_form.proofs.SetSums.{Within, only_is, only_itself}
 
 or_append : (b d e : Bool) → (b || (d || e)) ≡ ((b || d) || e)
 or_append true d e = refl

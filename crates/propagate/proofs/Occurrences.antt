@@ -9,7 +9,7 @@ use Rattle.normal_form.proofs.OneForm.{absent, counted_own}
 use Rattle.propagate.specs.Literals.{opposite, coefficient_of, lists}
 use Rattle.propagate.specs.Slack.{not_false, IsForced}
 use Rattle.propagate.specs.Passes.{literal_of}
-use Rattle.propagate.proofs.SetSums.{only_is}
+use Rattle.normal_form.proofs.SetSums.{only_is}
 
 later_variable : (low : ℕ) (ts : List NormalTerm) (i : ℕ) (d : NormalTerm) → Rises low ts → i < length ts → low ≤ (get_or ts i d).var.0
 later_variable low [] i d r h = absurd (omega (arith, h))

@@ -12,7 +12,7 @@ use Rattle.propagate.specs.Literals.{opposite, coefficient_of, among, lists}
 use Rattle.propagate.specs.Slack.{not_false, IsForced}
 use Rattle.propagate.specs.Chain.{IsForcedByOne, IsConflict, IsChain, LeadsToConflict, IsSettled, IsClosure}
 use Rattle.propagate.specs.Passes.{is_broken, is_forced, literal_of, first_forced, or_else, next_forced, Conflict, Settled, onward, outcome}
-use Rattle.propagate.proofs.SetSums.{only_is}
+use Rattle.normal_form.proofs.SetSums.{only_is}
 use Rattle.propagate.proofs.Listings.{among_left, among_right, among_cases}
 use Rattle.propagate.proofs.Somewhere.{any_here, any_there, any_split, any_none}
 use Rattle.propagate.proofs.Chains.{chain_stays, no_conflict_from}

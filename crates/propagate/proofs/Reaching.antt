@@ -11,7 +11,7 @@ use Rattle.propagate.specs.declared.next.Forced.{Forced}
 use Rattle.propagate.specs.Literals.{opposite, among, lists, Contradicts, IsConsistent, SameLiterals}
 use Rattle.propagate.specs.Chain.{IsConflict, LeadsToConflict, IsSettled, IsReached, IsClosure, IsImpossible}
 use Rattle.propagate.specs.Walk.{IsBrokenAt, IsReasonedChain, literals_of}
-use Rattle.propagate.proofs.SetSums.{Within}
+use Rattle.normal_form.proofs.SetSums.{Within}
 use Rattle.propagate.proofs.Listings.{among_append, among_right, among_head, among_tail, or_cases}
 use Rattle.propagate.proofs.Consistency.{only_here, at_literal, push_consistent}
 use Rattle.propagate.proofs.Chains.{chain_stays, no_conflict_from}

@@ -7,7 +7,7 @@ use Rattle.linear.specs.declared.term.Lit.{Lit}
 use Rattle.normal_form.specs.Normal.{only}
 use Rattle.propagate.specs.Literals.{opposite, among, lists}
 use Rattle.propagate.specs.Values.{is_value, Agrees}
-use Rattle.propagate.proofs.SetSums.{only_is}
+use Rattle.normal_form.proofs.SetSums.{only_is}
 use Rattle.propagate.proofs.Listings.{among_append, among_cases, or_cases}
 
 -- a variable is free in both signs

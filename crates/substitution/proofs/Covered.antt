@@ -6,22 +6,8 @@ use Rattle.linear.specs.Valuation.{Valuation, literal_true}
 use Rattle.normal_form.specs.declared.term.NormalTerm.{NormalTerm}
 use Rattle.normal_form.specs.Normal.{Literals, NormalConstraint, Holds, sum_over, only, coefficient, total, Rises}
 use Rattle.normal_form.proofs.OneForm.{counted_own}
+use Rattle.normal_form.proofs.SetSums.{Within, sum_within, sum_apart}
 use Rattle.substitution.specs.Covering.{excess, Covers}
-
-only_is : (v x : ℕ) (s y : Bool) → only v s x y ≡ true → (x ≡ v) × (y ≡ s)
-only_is v x true true h = (grind (arith, nat_tests), refl)
-only_is v x true false h = absurd (grind (arith, nat_tests))
-only_is v x false true h = absurd (grind (arith, nat_tests))
-only_is v x false false h = (grind (arith, nat_tests), refl)
-
-apart : (o b d : Bool) (c : ℕ) → (o ≡ true → b ≡ false) → (o ≡ true → d ≡ true) → (b ≡ true → d ≡ true) → cond o c 0 + cond b c 0 ≤ cond d c 0
-apart true true d c h k m = absurd (false≢true (cc (h refl)))
-apart true false true c h k m = omega arith
-apart true false false c h k m = absurd (false≢true (k refl))
-apart false true true c h k m = omega arith
-apart false true false c h k m = absurd (false≢true (m refl))
-apart false false true c h k m = omega arith
-apart false false false c h k m = omega arith
 
 -- the true literals whose variables are not below a number
 abbrev true_from : ℕ → Valuation → Literals
@@ -43,22 +29,14 @@ reached : (low v : ℕ) (b : Bool) → low ≤ v → b ≡ true → (b && nat_le
 reached low v true h e = grind (arith, nat_tests)
 reached low v false h e = absurd (false≢true e)
 
--- a true literal has its coefficient beside those of the variables above it
-beside : (a : Valuation) (low v : ℕ) (s : Bool) → low ≤ v → literal_true a v s ≡ true → (ns : List NormalTerm) → sum_over (only v s) ns + sum_over (true_from (v + 1) a) ns ≤ sum_over (true_from low a) ns
-beside a low v s h true' [] = omega arith
-beside a low v s h true' (t ∷ ts) =
-    let x = t.var.0 in
-    let y = t.negated in
-    let out : only v s x y ≡ true → true_from (v + 1) a x y ≡ false = λ o. let e = only_is v x s y o in let u = above v (literal_true a v s) in cc in
-    let in' : only v s x y ≡ true → true_from low a x y ≡ true = λ o. let e = only_is v x s y o in let u = reached low v (literal_true a v s) h true' in cc in
-    omega (arith, apart (only v s x y) (true_from (v + 1) a x y) (true_from low a x y) t.coef out in' (raise low v x (literal_true a x y) h), beside a low v s h true' ts)
+-- those from a number on are among those from a lower one on
+fewer : (a : Valuation) (low v : ℕ) → low ≤ v → Within (true_from (v + 1) a) (true_from low a)
+fewer a low v h x y = raise low v x (literal_true a x y) h
 
-fewer : (a : Valuation) (low v : ℕ) → low ≤ v → (ns : List NormalTerm) → sum_over (true_from (v + 1) a) ns ≤ sum_over (true_from low a) ns
-fewer a low v h [] = omega arith
-fewer a low v h (t ∷ ts) =
-    let x = t.var.0 in
-    let y = t.negated in
-    omega (arith, apart false (true_from (v + 1) a x y) (true_from low a x y) t.coef (λ e. absurd (false≢true e)) (λ e. absurd (false≢true e)) (raise low v x (literal_true a x y) h), fewer a low v h ts)
+-- a true literal has its coefficient beside those of the variables above it
+beside : (a : Valuation) (low v : ℕ) (s : Bool) → low ≤ v → literal_true a v s ≡ true → (ns : List NormalTerm) → sum_over (true_from (v + 1) a) ns + sum_over (only v s) ns ≤ sum_over (true_from low a) ns
+beside a low v s h true' =
+    sum_apart (true_from (v + 1) a) (true_from low a) v s (fewer a low v h) (above v (literal_true a v s)) (reached low v (literal_true a v s) h true')
 
 -- what a constraint has at the true literals of some terms
 abbrev matched : Valuation → NormalConstraint → List NormalTerm → ℕ
@@ -67,7 +45,7 @@ matched a n (t ∷ ts) = cond (literal_true a (t.var.0) t.negated) (coefficient 
 
 with_head : (a : Valuation) (n : NormalConstraint) (low v : ℕ) (s : Bool) → low ≤ v → (b : Bool) → literal_true a v s ≡ b → (m : ℕ) → m ≤ sum_over (true_from (v + 1) a) n.terms → cond b (coefficient n v s) 0 + m ≤ sum_over (true_from low a) n.terms
 with_head a n low v s h true e m k = omega (arith, beside a low v s h e n.terms, k)
-with_head a n low v s h false e m k = omega (arith, fewer a low v h n.terms, k)
+with_head a n low v s h false e m k = omega (arith, sum_within (true_from (v + 1) a) (true_from low a) (fewer a low v h) n.terms, k)
 
 matched_below : (a : Valuation) (n : NormalConstraint) (low : ℕ) (ts : List NormalTerm) → Rises low ts → matched a n ts ≤ sum_over (true_from low a) n.terms
 matched_below a n low [] r = omega arith
@@ -75,10 +53,7 @@ matched_below a n low (t ∷ ts) r =
     with_head a n low (t.var.0) t.negated r.0 (literal_true a (t.var.0) t.negated) refl (matched a n ts) (matched_below a n (t.var.0 + 1) ts r.2)
 
 true_of : (a : Valuation) (ns : List NormalTerm) → sum_over (true_from 0 a) ns ≤ sum_over (literal_true a) ns
-true_of a [] = omega arith
-true_of a (t ∷ ts) =
-    let b = literal_true a (t.var.0) t.negated in
-    omega (arith, apart false (true_from 0 a (t.var.0) t.negated) b t.coef (λ e. absurd (false≢true e)) (λ e. absurd (false≢true e)) (λ e. (both_true b (nat_le 0 (t.var.0)) e).0), true_of a ts)
+true_of a = sum_within (true_from 0 a) (literal_true a) (λ x y e. (both_true (literal_true a x y) (nat_le 0 x) e).0)
 
 parted : (b : Bool) (c k : ℕ) → cond b c 0 ≤ cond b k 0 + (c - k)
 parted true c k = omega arith

@@ -1,4 +1,4 @@
--- Sums over sets of literals, one set within the other.
+-- Sums over sets of literals, one set within the other, and the set of one literal.
 use Rattle.std.proofs.Common.{◌≡◌, ℕ, ◌+◌, ◌≤◌, Bool, true, false, cond, List, [], ◌∷◌, refl, arith}
 use Rattle.std.proofs.lemmas.Bool.{false≢true}
 use Rattle.std.proofs.lemmas.Bool.Decides.{nat_tests}
