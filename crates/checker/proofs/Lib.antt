@@ -1,3 +1,4 @@
 mod ValueLine
 mod Judging
 mod Stops
+mod Exact

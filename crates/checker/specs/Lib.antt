@@ -3,3 +3,4 @@ pub mod Printed
 pub mod ProofSpells
 pub mod Taking
 pub mod Stopping
+pub mod Kinds

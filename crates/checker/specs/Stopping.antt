@@ -3,7 +3,7 @@ use Rattle.std.specs.Prelude.{◌≡◌, ◌≢◌, ℕ, ℤ, pos, ◌+◌, ◌�
 use Rattle.linear.specs.Opb.{Opb}
 use Rattle.kernel.specs.Contradiction.{IsContradiction}
 use Rattle.kernel.specs.Fault.{OrMemory, IsStepFault}
-use Rattle.kernel.specs.Held.{IsPol, IsJudged}
+use Rattle.kernel.specs.Held.{IsJudgedStep, IsJudged}
 use Rattle.kernel.specs.Justified.{IsJustified}
 use Rattle.kernel.specs.State.{State, IsStart, constraints}
 use Rattle.kernel.specs.declared.conclusion.Conclusion.{Conclusion}
@@ -73,7 +73,7 @@ IsMiscounted s names left line code =
 -- a step is of a kind that is not judged yet, or has a fault
 abbrev pub IsRefusedStep : Opb → State → Step → Code → Type 0
 IsRefusedStep p s step code =
-    ((code ≡ Reading readings.RuleLeftOut) × (IsPol step → ⊥))
+    ((code ≡ Reading readings.RuleLeftOut) × (IsJudgedStep step → ⊥))
     ⊎ ((f : StepFault) × (code ≡ Judging f) × OrMemory f (IsStepFault p s step f))
 
 -- a conclusion is of a kind that is not judged yet, or it is UNSAT and no live constraint is a contradiction

@@ -2,7 +2,7 @@
 
 ghost use Rattle.std.specs.Prelude.{◌≡◌, ◌↔◌, [], IfOk, IfErr, OnOk, IsTrue};
 ghost use Rattle.kernel.specs.Claim.{Claim};
-ghost use Rattle.kernel.specs.Held.{IsPol, IsJudged};
+ghost use Rattle.kernel.specs.Held.{IsJudgedStep, IsJudged};
 ghost use Rattle.kernel.specs.Justified.{IsJustified};
 ghost use Rattle.kernel.specs.Legal.{Legal};
 ghost use Rattle.checker.specs.Headline.{IsProved};
@@ -119,6 +119,8 @@ pub(crate) fn judge(alloc: Global, problem: &Problem, proof: &[u8]) -> Result<Ac
     judge_count(&mut lines, &kernel)?;
     judge_steps(&mut lines, &mut kernel)?;
     let accepted = judge_conclusion(&mut lines, &mut kernel)?;
+    // That 32 bits number the names is known by their table's type; this makes it known here.
+    let _count = lines.names.len();
     lines.next(Place::End)?;
     lines.end()?;
     Ok(accepted)
@@ -186,7 +188,7 @@ fn judge_step(kernel: &mut Kernel, step: &Step, number: u64) -> Result<(), Stop>
 
 /// Whether the kernel judges steps of this kind so far.
 fn is_judged_step(step: &Step) -> bool
-    ensures { IsTrue result ↔ IsPol step.now }
+    ensures { IsTrue result ↔ IsJudgedStep step.now }
 {
     match step {
         Step::Pol(_) => true,

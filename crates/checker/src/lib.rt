@@ -5,6 +5,7 @@ mod checking;
 #[cfg(test)]
 mod damaged_tests;
 mod judge;
+pub mod laws;
 #[cfg(test)]
 mod tests;
 mod text;
