@@ -25,9 +25,9 @@ but_last [] = []
 but_last (n ∷ []) = []
 but_last (n ∷ m ∷ rest) = n ∷ but_last (m ∷ rest)
 
--- What the code keeps of a table while it reads a line: the names that were there before the line, those that number the
--- literals, and whether a name was met that found no number. Then the line is refused, and which numbers are given no
--- longer counts; a name that found none shares the greatest one with the last name, as behind all names but the last.
+-- What the code keeps of a table while it reads a line: the names that were there before the line, the names that number
+-- its literals, and whether a name was met that found no number. With such a name the line is refused in the end, and its
+-- numbers count for nothing: to stay below 2^32, the name takes the number behind all names but the last.
 pub record Known : Type 0 where
   pub before : List (List ℕ)
   pub names : List (List ℕ)
