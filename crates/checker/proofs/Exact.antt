@@ -1,31 +1,24 @@
 -- Where judging stops, the proof is none: lines say one thing, legal steps lead to one state, and what has a fault is not
 -- legal.
-use Rattle.std.proofs.Common.{◌≡◌, ◌≢◌, ℕ, ◌+◌, ◌^◌, ◌≤◌, ◌<◌, ℤ, pos, inl, inr, Bool, true, false, if◌then◌else◌, Option, Some, None, List, [], ◌∷◌, ◌++◌, All, Any, length, refl, sym, ap, subst, ◌∙◌, arith}
+use Rattle.std.proofs.Common.{◌≡◌, ◌≢◌, ℕ, ◌^◌, ◌≤◌, ℤ, pos, inl, inr, Bool, true, false, if◌then◌else◌, Option, Some, None, List, [], ◌∷◌, ◌++◌, length, refl, sym, ap, subst, ◌∙◌, arith}
 use Rattle.std.proofs.lemmas.List.{length-append}
 use Rattle.std.proofs.lemmas.List.Elements.{All-head, All-tail}
 use Rattle.linear.specs.Opb.{Opb}
 use Rattle.linear.specs.Table.{has_name, with_name}
-use Rattle.linear.specs.declared.constraint.Signed.{Signed}
-use Rattle.linear.specs.declared.constraint.Relation.{Relation}
-use Rattle.linear.specs.declared.constraint.Relation.TheVariants as relations
 use Rattle.pb_text.specs.Lexeme.{kind_of}
 use Rattle.pb_text.specs.Word.{name_of}
-use Rattle.normal_form.specs.Normal.{NormalConstraint}
-use Rattle.normal_form.specs.NormalOf.{opposite}
-use Rattle.normal_form.proofs.NormalForm.{one_form}
 use Rattle.kernel.specs.Accepted.{Judgement}
-use Rattle.kernel.specs.Contradiction.{IsContradiction}
 use Rattle.kernel.specs.Fault.{OrMemory}
-use Rattle.kernel.specs.Forms.{AreFormsAs, AreFormsOfAll, file_ids}
-use Rattle.kernel.specs.Held.{IsJudgedStep, IsJudged}
+use Rattle.kernel.specs.Forms.{file_ids}
+use Rattle.kernel.specs.Held.{IsJudgedStep}
 use Rattle.kernel.specs.Legal.{Legal, Leads}
-use Rattle.kernel.specs.State.{State, IsStart, constraints, state_of}
+use Rattle.kernel.specs.State.{State, IsStart}
 use Rattle.kernel.specs.declared.conclusion.Conclusion.{Conclusion}
-use Rattle.kernel.specs.declared.conclusion.Conclusion.TheVariants as conclusions
 use Rattle.kernel.specs.declared.fault.StepFault.{StepFault}
 use Rattle.kernel.specs.declared.fault.StepFault.TheVariants as judgings
 use Rattle.kernel.specs.declared.step.Step.{Step}
 use Rattle.kernel.proofs.NotLegal.{step_never}
+use Rattle.kernel.proofs.OneStart.{one_start}
 use Rattle.kernel.proofs.OneState.{one_state}
 use Rattle.proof_text.specs.Faults.{DeniesLine, DeniesPlaced}
 use Rattle.proof_text.specs.Kinds.{is_literal}
@@ -41,12 +34,11 @@ use Rattle.proof_text.specs.declared.line.Place.{Place}
 use Rattle.proof_text.specs.declared.line.Place.TheVariants as places
 use Rattle.checker.specs.Headline.{IsProved, IsRefusal}
 use Rattle.checker.specs.Kinds.{IsOfJudgedKinds}
-use Rattle.checker.specs.ProofSpells.{AreSteps, SpellsProof}
-use Rattle.checker.specs.Stopping.{AtHeader, AtCount, AtSteps, AtConclusion, AtEnd, BehindEnd, IsRead, IsUnread, IsTextAfterEnd, IsRefusedStep, IsRefusedConclusion, StopsAtCount, StopsAtStep, StopsAtConclusion, IsStopped}
+use Rattle.proof_text.specs.ProofSpells.{AreSteps}
+use Rattle.checker.specs.Stopping.{AtCount, AtSteps, AtConclusion, AtEnd, IsRead, IsUnread, IsRefusedStep, IsRefusedConclusion, StopsAtCount, StopsAtStep, StopsAtConclusion, IsStopped}
 use Rattle.checker.specs.Stopping.{at_header, at_count, at_step, at_conclusion, at_end, behind_end}
-use Rattle.checker.specs.Taking.{Takes, TakesCount, TakesSteps}
+use Rattle.checker.specs.Taking.{Takes}
 use Rattle.checker.specs.declared.verdict.Code.{Code}
-use Rattle.checker.specs.declared.verdict.Code.TheVariants.{Reading, Judging}
 use Rattle.checker.proofs.Judging.{counts_file}
 
 -- a line says one thing
@@ -99,7 +91,7 @@ steps_grow old (l ∷ ls) (s ∷ ss) new says =
 
 -- what a fault denies is no line, where its names can be numbered
 placed_never : (f : ProofFault) (place : Place) (old ws : List (List ℕ)) (line : Line) (new : List (List ℕ)) → DeniesPlaced f place old ws → f ≢ readings.OutOfMemory → length new ≤ 2 ^ 32 → IsLine place old ws line new → ⊥
-placed_never f place old ws line new denies no few is = by f denies no
+placed_never f place old ws line new denies sure few is = by f denies sure
   where
     says : line_of place (names_in old (naming place ws)) ws ≡ Some line
     says = ap (λ t. line_of place t ws) (sym is.names) ∙ is.says
@@ -117,12 +109,12 @@ placed_never f place old ws line new denies no few is = by f denies no
     by readings.TextAfterEnd d n = absurd d
 
 denied_never : (f : ProofFault) (place : Place) (old ws : List (List ℕ)) (line : Line) (new : List (List ℕ)) → DeniesLine f place old ws → f ≢ readings.OutOfMemory → length new ≤ 2 ^ 32 → IsLine place old ws line new → ⊥
-denied_never f places.Header old ws line new d no few is = d.1 line (ap (λ t. line_of places.Header t ws) (sym is.names) ∙ is.says) is.proper
-denied_never f places.Count old ws line new d no few is = d.1 line (ap (λ t. line_of places.Count t ws) (sym is.names) ∙ is.says) is.small
-denied_never f places.Step old ws line new d no few is = placed_never f places.Step old ws line new d no few is
-denied_never f places.Conclusion old ws line new d no few is = placed_never f places.Conclusion old ws line new d.1 no few is
-denied_never f places.End old ws line new d no few is = d.1 line (ap (λ t. line_of places.End t ws) (sym is.names) ∙ is.says) is.proper
-denied_never f places.After old ws line new d no few is = let none : ◌≡◌ {A = Option Line} None (Some line) = is.says in cc
+denied_never f places.Header old ws line new d sure few is = d.1 line (ap (λ t. line_of places.Header t ws) (sym is.names) ∙ is.says) is.proper
+denied_never f places.Count old ws line new d sure few is = d.1 line (ap (λ t. line_of places.Count t ws) (sym is.names) ∙ is.says) is.small
+denied_never f places.Step old ws line new d sure few is = placed_never f places.Step old ws line new d sure few is
+denied_never f places.Conclusion old ws line new d sure few is = placed_never f places.Conclusion old ws line new d.1 sure few is
+denied_never f places.End old ws line new d sure few is = d.1 line (ap (λ t. line_of places.End t ws) (sym is.names) ∙ is.says) is.proper
+denied_never f places.After old ws line new d sure few is = let none : ◌≡◌ {A = Option Line} None (Some line) = is.says in cc
 
 -- a line that stands next, and is a line at its place, cannot be unread
 unread_never : (place : Place) (names : List (List ℕ)) (left : List Numbered) (last line : ℕ) (code : Code) (l : Numbered) (rest : List Numbered) (said : Line) (new : List (List ℕ)) → IsRefusal code → length new ≤ 2 ^ 32
@@ -238,8 +230,8 @@ step_never_stops : (p : Opb) (a : Judgement) (s : State) (names : List (List ℕ
 step_never_stops p a s names left last line code refusal r stop = by r.between r.steps r.in_order r.says r.legal r.kinds stop
   where
     from_memory : (f : StepFault) (P : Type 0) → f ≢ judgings.OutOfMemory → OrMemory f P → P
-    from_memory judgings.OutOfMemory P no q = absurd (no refl)
-    from_memory _ P no q = q
+    from_memory judgings.OutOfMemory P not q = absurd (not refl)
+    from_memory _ P not q = q
 
     refused : (x : Step) (t : State) → Legal p s x t → IsJudgedStep x → IsRefusedStep p s x code → ⊥
     refused x t legal judged (inl why) = why.1 judged
@@ -316,29 +308,11 @@ conclusion_never_stops a s names left last line code refusal r (inr read) =
     refused (inl why) = why.1 r.kinds.conclusion_is
     refused (inr why) = why.2 (r.kinds.contradicted why.1)
 
--- a file has one state
-one_here : (r : Relation) (c : Signed) (ns ms : List NormalConstraint) → AreFormsAs r c ns → AreFormsAs r c ms → ns ≡ ms
-one_here relations.AtLeast c ns ms x y = x.1 ∙ ap (λ n. n ∷ []) (one_form c x.0 y.0 x.2 y.2) ∙ sym y.1
-one_here relations.Equal c ns ms x y =
-    let least = one_form c x.0 y.0 x.3.least y.3.least in
-    let most = one_form (opposite c) x.1 y.1 x.3.most y.3.most in
-    x.2 ∙ ap (λ n. n ∷ x.1 ∷ []) least ∙ ap (λ m. y.0 ∷ m ∷ []) most ∙ sym y.2
-
-one_file : (cs : List Signed) (ns ms : List NormalConstraint) → AreFormsOfAll cs ns → AreFormsOfAll cs ms → ns ≡ ms
-one_file [] ns ms x y = x ∙ sym y
-one_file (c ∷ cs) ns ms x y =
-    let here = one_here c.relation c x.0 y.0 x.3 y.3 in
-    let rest = one_file cs x.1 y.1 x.4 y.4 in
-    x.2 ∙ ap (λ n. n ++ x.1) here ∙ ap (λ n. y.0 ++ n) rest ∙ sym y.2
-
-one_start : (p : Opb) (s t : State) → IsStart p s → IsStart p t → s ≡ t
-one_start p s t x y = x.2 ∙ ap state_of (one_file p.constraints x.0 y.0 x.1 y.1) ∙ sym y.2
-
 -- the lines behind the header
-after_header : (p : Opb) (proof : List ℕ) (a : Judgement) (proved : IsProved p proof a) → List Numbered
+abbrev after_header : (p : Opb) (proof : List ℕ) (a : Judgement) (proved : IsProved p proof a) → List Numbered
 after_header p proof a proved = let sp = proved.spelled in sp.counted ∷ (sp.between ++ sp.output ∷ sp.concluded ∷ sp.ended ∷ [])
 
-after_count : (p : Opb) (proof : List ℕ) (a : Judgement) (proved : IsProved p proof a) → List Numbered
+abbrev after_count : (p : Opb) (proof : List ℕ) (a : Judgement) (proved : IsProved p proof a) → List Numbered
 after_count p proof a proved = let sp = proved.spelled in sp.between ++ sp.output ∷ sp.concluded ∷ sp.ended ∷ []
 
 -- the names of the file can be numbered
@@ -376,7 +350,7 @@ count_never_stops p proof a proved s names left last line code refusal at (inl u
     (count_line p proof a proved s names left at) unread
 count_never_stops p proof a proved s names left last line code refusal at (inr why) =
     let both = both_read places.Count names left line (lines.Count why.0) (lines.Count (pos (file_ids p.constraints))) proved.spelled.counted (after_count p proof a proved) p.names why.2 at.in_order
-        (count_line p proof a proved s names left at) in
+    (count_line p proof a proved s names left at) in
     why.4 (same_count why.0 (pos (file_ids p.constraints)) both ∙ ap pos (sym (counts_file p s why.1 at.start why.3)))
   where
     same_count : (x y : ℤ) → lines.Count x ≡ lines.Count y → x ≡ y
@@ -389,26 +363,26 @@ rest_of p proof a proved t names left kinds at =
     let sp = proved.spelled in
     let counted = header_on p proof a proved at.0 at.1 at.2 at.5 in
     let both = both_taken places.Count at.1 at.2 (lines.Count (pos at.6.0)) (lines.Count (pos (file_ids p.constraints))) at.3 p.names at.4 (after_count p proof a proved) sp.counted at.6.2 counted.in_order
-        (count_line p proof a proved at.0 at.1 at.2 counted) in
+    (count_line p proof a proved at.0 at.1 at.2 counted) in
     let begun : Rest p a at.0 at.3 at.4 = record {
-          steps = proved.steps;
-          between = sp.between;
-          output = sp.output;
-          concluded = sp.concluded;
-          ended = sp.ended;
-          named = sp.named;
-          after = sp.after;
-          all = sp.all;
-          end = proved.legal.1;
-          in_order = both.2;
-          says = subst (λ n. AreSteps n sp.between proved.steps sp.named) (sym both.0) sp.steps_are;
-          output_is = sp.output_is;
-          conclusion_is = sp.conclusion_is;
-          end_is = sp.end_is;
-          few = sp.few;
-          legal = subst (λ u. Leads p u proved.steps proved.legal.1) (one_start p proved.legal.0 at.0 proved.legal.2 counted.start) proved.legal.3;
-          kinds = kinds;
-        } in
+      steps = proved.steps;
+      between = sp.between;
+      output = sp.output;
+      concluded = sp.concluded;
+      ended = sp.ended;
+      named = sp.named;
+      after = sp.after;
+      all = sp.all;
+      end = proved.legal.1;
+      in_order = both.2;
+      says = subst (λ n. AreSteps n sp.between proved.steps sp.named) (sym both.0) sp.steps_are;
+      output_is = sp.output_is;
+      conclusion_is = sp.conclusion_is;
+      end_is = sp.end_is;
+      few = sp.few;
+      legal = subst (λ u. Leads p u proved.steps proved.legal.1) (one_start p proved.legal.0 at.0 proved.legal.2 counted.start) proved.legal.3;
+      kinds = kinds;
+    } in
     let taken = at.7 in
     steps_on p a at.0 t at.3 names at.4 left taken.before taken.steps taken.in_order taken.says taken.legal begun
 

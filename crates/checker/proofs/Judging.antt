@@ -17,7 +17,7 @@ use Rattle.proof_text.specs.Spells.{IsLine}
 use Rattle.proof_text.specs.declared.line.Line.TheVariants as lines
 use Rattle.proof_text.specs.declared.line.Place.TheVariants as places
 use Rattle.checker.specs.Headline.{IsProved}
-use Rattle.checker.specs.ProofSpells.{AreSteps}
+use Rattle.proof_text.specs.ProofSpells.{AreSteps}
 use Rattle.checker.specs.Stopping.{AtCount, AtConclusion}
 use Rattle.checker.specs.Taking.{Takes, TakesCount, TakesSteps, TakesToOutput}
 
@@ -48,7 +48,7 @@ one_more p s t u old named new left behind rest step before takes legal = record
 }
 
 -- the count of the state of a file
-counts_file : (p : Opb) (s : State) (count : ℕ) → IsStart p s → count + 1 ≡ s.next → count ≡ file_ids p.constraints
+pub counts_file : (p : Opb) (s : State) (count : ℕ) → IsStart p s → count + 1 ≡ s.next → count ≡ file_ids p.constraints
 counts_file p s count start next =
     let ns = start.0 in
     let at : s.next ≡ length ns + 1 = ap (λ (x : State). x.next) start.2 in

@@ -2,3 +2,4 @@ mod ValueLine
 mod Judging
 mod Stops
 mod Exact
+mod Refused

@@ -1,20 +1,15 @@
 -- Why judging stops, from the reason at a line to that of the whole proof.
 use Rattle.std.proofs.Common.{◌≡◌, ℕ, List, inr, sym, subst}
-use Rattle.linear.specs.Limits.{IsWithin}
 use Rattle.linear.specs.Opb.{Opb}
-use Rattle.opb_read.specs.Spells.{Spells}
 use Rattle.kernel.specs.State.{State}
 use Rattle.kernel.specs.declared.step.Step.{Step}
 use Rattle.proof_text.specs.Lines.{Numbered, lines_of}
 use Rattle.proof_text.specs.declared.line.Line.TheVariants as lines
 use Rattle.proof_text.specs.declared.line.Place.TheVariants as places
-use Rattle.checker.specs.Headline.{IsRefusal, IsRefusalAt, IsSound}
 use Rattle.checker.specs.Stopping.{AtHeader, AtCount, AtConclusion, AtEnd, BehindEnd, IsRead, IsUnread, IsTextAfterEnd, IsRefusedStep, StopsAtCount, StopsAtStep, StopsAmongSteps, StopsAtConclusion, IsStopped, StopsBy}
 use Rattle.checker.specs.Stopping.{at_header, at_count, at_step, at_conclusion, at_end, behind_end}
 use Rattle.checker.specs.Taking.{TakesCount, TakesSteps}
 use Rattle.checker.specs.declared.verdict.Code.{Code}
-use Rattle.checker.specs.declared.verdict.Verdict.{Verdict}
-use Rattle.checker.specs.declared.verdict.Verdict.TheVariants as verdicts
 use Rattle.checker.specs.declared.judge.Stop.{Stop}
 use Rattle.checker.specs.declared.judge.Stop.TheVariants as stops
 
@@ -69,17 +64,3 @@ stops_end p proof names left last stop at ends reason =
 
 pub stops_behind : (p : Opb) (proof : List ℕ) (left : List Numbered) (stop : Stop) → BehindEnd p proof left → StopsBy (IsTextAfterEnd left) stop → StopsBy (IsStopped p proof) stop
 stops_behind p proof left stop behind reason = stops_weaker (IsTextAfterEnd left) (IsStopped p proof) stop (λ line code why. behind_end left behind why) reason
-
--- the verdict at the line where judging stops is sound
-pub refused_there : (text proof : List ℕ) (p : Opb) (line : ℕ) (code : Code) (stop : Stop) (verdict : Verdict) → Spells text p → IsWithin p → StopsBy (IsStopped p proof) stop → stop ≡ stops.At line code
-    → IsRefusalAt line code verdict → IsSound text proof verdict
-refused_there text proof p line code stop (verdicts.Refused l c) spelled within stopped at refusal = record {
-  problem = p;
-  spelled = spelled;
-  within = within;
-  stopped = subst (λ k. IsStopped p proof k c) (sym refusal.0) (subst (IsStopped p proof line) (sym refusal.1) (subst (StopsBy (IsStopped p proof)) at stopped));
-  refusal = subst IsRefusal (sym refusal.1) refusal.2;
-}
-refused_there text proof p line code stop verdicts.NoMemory spelled within stopped at refusal = tt
-refused_there text proof p line code stop (verdicts.Accepted accepted) spelled within stopped at refusal = absurd refusal
-refused_there text proof p line code stop (verdicts.BadProblem fault) spelled within stopped at refusal = absurd refusal

@@ -14,7 +14,8 @@ use Rattle.kernel.specs.Claim.{Claim}
 use Rattle.kernel.specs.Forms.{file_ids}
 use Rattle.kernel.specs.Justified.{IsLegalProof}
 use Rattle.kernel.specs.declared.step.Step.{Step}
-use Rattle.checker.specs.ProofSpells.{SpellsProof}
+use Rattle.proof_text.specs.ProofSpells.{SpellsProof}
+use Rattle.checker.specs.Kinds.{IsOfJudgedKinds}
 use Rattle.checker.specs.Stopping.{IsStopped}
 use Rattle.checker.specs.declared.verdict.Code.{Code}
 use Rattle.checker.specs.declared.verdict.Code.TheVariants.{Reading, Judging}
@@ -54,13 +55,19 @@ IsRefusalAt line code (verdicts.Refused l c) = (l ≡ line) × (c ≡ code) × I
 IsRefusalAt line code verdicts.NoMemory = ⊤
 IsRefusalAt line code _ = ⊥
 
--- The text spells a problem, and judging the proof stops at this line with this code.
+-- the text is no legal proof, of any conclusion, of the kinds that are judged so far
+abbrev pub IsUnproved : Opb → List ℕ → Type 0
+IsUnproved p proof = (a : Judgement) (proved : IsProved p proof a) → IsOfJudgedKinds proved.steps proved.legal.1 a.conclusion → ⊥
+
+-- The text spells a problem, and judging the proof stops at this line with this code; so the proof is none of the kinds
+-- that are judged.
 pub record IsRefusedProof (text proof : List ℕ) (line : ℕ) (code : Code) : Type 0 where
   pub problem : Opb
   pub spelled : Spells text problem
   pub within : IsWithin problem
   pub stopped : IsStopped problem proof line code
   pub refusal : IsRefusal code
+  pub unproved : IsUnproved problem proof
 
 -- a verdict that accepts is true of the text, one that refuses a line of the proof has a problem before it, and one that
 -- refuses the problem says why

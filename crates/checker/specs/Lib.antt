@@ -1,6 +1,5 @@
 pub mod Headline
 pub mod Printed
-pub mod ProofSpells
 pub mod Taking
 pub mod Stopping
 pub mod Kinds

@@ -11,7 +11,7 @@ use Rattle.proof_text.specs.declared.line.Line.TheVariants as lines
 use Rattle.proof_text.specs.Lines.{Numbered}
 use Rattle.proof_text.specs.Words.{words}
 use Rattle.proof_text.specs.Spells.{IsLine}
-use Rattle.checker.specs.ProofSpells.{AreSteps}
+use Rattle.proof_text.specs.ProofSpells.{AreSteps}
 use Rattle.checker.specs.declared.judge.Taken.{Taken}
 use Rattle.checker.specs.declared.judge.Taken.TheVariants as taken
 

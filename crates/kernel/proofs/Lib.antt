@@ -12,6 +12,7 @@ pub mod NotLegal
 pub mod Numbered
 pub mod OneConclusionFault
 pub mod OneItemFault
+pub mod OneStart
 pub mod OneState
 pub mod OneStepFault
 pub mod Places

@@ -127,8 +127,9 @@ pub fn every_conclusion_is_judged()
         → ((f : StepFault) → IsConclusionFault p s c f → ⊥) → (best : Option (List Bool)) × IsJustified p s c best }
 {}
 
-/// A legal step leads to one state, and a justified conclusion comes with one best solution.
+/// A file has one state, a legal step leads to one, and a justified conclusion comes with one best solution.
 pub fn one_result()
+    ensures start { (p : Opb) → (s t : State) → IsStart p s → IsStart p t → s ≡ t }
     ensures step { (p : Opb) → (s t u : State) → (step : Step) → Legal p s step t → Legal p s step u → t ≡ u }
     ensures conclusion { (p : Opb) → (s : State) → (c : Conclusion) → (best other : Option (List Bool))
         → IsJustified p s c best → IsJustified p s c other → best ≡ other }

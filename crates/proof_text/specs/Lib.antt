@@ -15,3 +15,4 @@ pub mod Denial
 pub mod Reading
 pub mod Growth
 pub mod Writing
+pub mod ProofSpells

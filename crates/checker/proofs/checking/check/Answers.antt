@@ -1,5 +1,5 @@
 use Rattle.linear.specs.Opb.{Opb}
-use Rattle.checker.proofs.Stops.{refused_there}
+use Rattle.checker.proofs.Refused.{refused_there}
 use Rattle.opb_read.proofs.Spelled.{one_problem}
 use Rattle.checker.proofs.checking.check.Goals as goal
 
