@@ -1,12 +1,8 @@
 -- Where judging stops, the proof is none: lines say one thing, legal steps lead to one state, and what has a fault is not
 -- legal.
-use Rattle.std.proofs.Common.{◌≡◌, ◌≢◌, ℕ, ◌^◌, ◌≤◌, ℤ, pos, inl, inr, Bool, true, false, if◌then◌else◌, Option, Some, None, List, [], ◌∷◌, ◌++◌, length, refl, sym, ap, subst, ◌∙◌, arith}
-use Rattle.std.proofs.lemmas.List.{length-append}
+use Rattle.std.proofs.Common.{◌≡◌, ◌≢◌, ℕ, ℤ, pos, inl, inr, Option, Some, None, List, [], ◌∷◌, ◌++◌, length, refl, sym, ap, subst, ◌∙◌, arith}
 use Rattle.std.proofs.lemmas.List.Elements.{All-head, All-tail}
 use Rattle.linear.specs.Opb.{Opb}
-use Rattle.linear.specs.Table.{has_name, with_name}
-use Rattle.pb_text.specs.Lexeme.{kind_of}
-use Rattle.pb_text.specs.Word.{name_of}
 use Rattle.kernel.specs.Accepted.{Judgement}
 use Rattle.kernel.specs.Fault.{OrMemory}
 use Rattle.kernel.specs.Forms.{file_ids}
@@ -21,7 +17,6 @@ use Rattle.kernel.proofs.NotLegal.{step_never}
 use Rattle.kernel.proofs.OneStart.{one_start}
 use Rattle.kernel.proofs.OneState.{one_state}
 use Rattle.proof_text.specs.Faults.{DeniesLine, DeniesPlaced}
-use Rattle.proof_text.specs.Kinds.{is_literal}
 use Rattle.proof_text.specs.Lines.{Numbered, lines_of}
 use Rattle.proof_text.specs.Numbering.{names_in}
 use Rattle.proof_text.specs.Spells.{IsLine, line_of, naming}
@@ -32,7 +27,8 @@ use Rattle.proof_text.specs.declared.line.Line.{Line}
 use Rattle.proof_text.specs.declared.line.Line.TheVariants as lines
 use Rattle.proof_text.specs.declared.line.Place.{Place}
 use Rattle.proof_text.specs.declared.line.Place.TheVariants as places
-use Rattle.checker.specs.Headline.{IsProved, IsRefusal}
+use Rattle.checker.specs.Headline.{IsProved}
+use Rattle.checker.specs.Refusal.{IsRefusalCode}
 use Rattle.checker.specs.Kinds.{IsOfJudgedKinds}
 use Rattle.proof_text.specs.ProofSpells.{AreSteps}
 use Rattle.checker.specs.Stopping.{AtCount, AtSteps, AtConclusion, AtEnd, IsRead, IsUnread, IsRefusedStep, IsRefusedConclusion, StopsAtCount, StopsAtStep, StopsAtConclusion, IsStopped}
@@ -58,40 +54,9 @@ same_first l k ls ks e = (cc, cc)
 none_first : (l : Numbered) (ls : List Numbered) → [] ≡ (l ∷ ls) → ⊥
 none_first l ls e = cc
 
--- a table keeps its names
-grown_by : (names : List (List ℕ)) (name : List ℕ) → length names ≤ length (with_name names name)
-grown_by names name = by (has_name names name)
-  where
-    by : (b : Bool) → length names ≤ length (if b then names else names ++ name ∷ [])
-    by true = omega arith
-    by false = omega (arith, length-append names (name ∷ []))
-
-grown : (names ws : List (List ℕ)) → length names ≤ length (names_in names ws)
-grown names [] = omega arith
-grown names (w ∷ ws) =
-    let rest : length (if is_literal (kind_of w) then with_name names (name_of w) else names) ≤ length (names_in names (w ∷ ws)) = grown (if is_literal (kind_of w) then with_name names (name_of w) else names) ws in
-    let here : length names ≤ length (if is_literal (kind_of w) then with_name names (name_of w) else names) = by (is_literal (kind_of w)) in
-    omega (arith, here, rest)
-  where
-    by : (b : Bool) → length names ≤ length (if b then with_name names (name_of w) else names)
-    by true = grown_by names (name_of w)
-    by false = omega arith
-
-line_grows : (place : Place) (old ws : List (List ℕ)) (line : Line) (new : List (List ℕ)) → IsLine place old ws line new → length old ≤ length new
-line_grows place old ws line new is = subst (λ t. length old ≤ length t) (sym is.names) (grown old (naming place ws))
-
-steps_grow : (old : List (List ℕ)) (ls : List Numbered) (steps : List Step) (new : List (List ℕ)) → AreSteps old ls steps new → length old ≤ length new
-steps_grow old [] [] new says = subst (λ t. length old ≤ length t) (sym says) (omega arith)
-steps_grow old [] (s ∷ ss) new says = absurd says
-steps_grow old (l ∷ ls) [] new says = absurd says
-steps_grow old (l ∷ ls) (s ∷ ss) new says =
-    let here = line_grows places.Step old (words l.text) (lines.Step s) says.0 says.1 in
-    let rest = steps_grow says.0 ls ss new says.2 in
-    omega (arith, here, rest)
-
--- what a fault denies is no line, where its names can be numbered
-placed_never : (f : ProofFault) (place : Place) (old ws : List (List ℕ)) (line : Line) (new : List (List ℕ)) → DeniesPlaced f place old ws → f ≢ readings.OutOfMemory → length new ≤ 2 ^ 32 → IsLine place old ws line new → ⊥
-placed_never f place old ws line new denies sure few is = by f denies sure
+-- what a fault denies is no line
+placed_never : (f : ProofFault) (place : Place) (old ws : List (List ℕ)) (line : Line) (new : List (List ℕ)) → DeniesPlaced f place old ws → f ≢ readings.OutOfMemory → IsLine place old ws line new → ⊥
+placed_never f place old ws line new denies sure is = by f denies sure
   where
     says : line_of place (names_in old (naming place ws)) ws ≡ Some line
     says = ap (λ t. line_of place t ws) (sym is.names) ∙ is.says
@@ -101,27 +66,27 @@ placed_never f place old ws line new denies sure few is = by f denies sure
     by readings.RuleLeftOut d n = d line says is.proper
     by readings.BadLine d n = d line says is.proper
     by readings.IntegerTooLarge d n = d is.small
-    by readings.TooManyIds d n = let many = d.2 in let same = ap length is.names in absurd (omega (arith, many, same, few))
+    by readings.TooManyIds d n = let many = d.2 in let same = ap length is.names in let few = is.few in absurd (omega (arith, many, same, few))
     by readings.OutOfMemory d n = n refl
     by readings.BadHeader d n = absurd d
     by readings.BadCount d n = absurd d
     by readings.Truncated d n = absurd d
     by readings.TextAfterEnd d n = absurd d
 
-denied_never : (f : ProofFault) (place : Place) (old ws : List (List ℕ)) (line : Line) (new : List (List ℕ)) → DeniesLine f place old ws → f ≢ readings.OutOfMemory → length new ≤ 2 ^ 32 → IsLine place old ws line new → ⊥
-denied_never f places.Header old ws line new d sure few is = d.1 line (ap (λ t. line_of places.Header t ws) (sym is.names) ∙ is.says) is.proper
-denied_never f places.Count old ws line new d sure few is = d.1 line (ap (λ t. line_of places.Count t ws) (sym is.names) ∙ is.says) is.small
-denied_never f places.Step old ws line new d sure few is = placed_never f places.Step old ws line new d sure few is
-denied_never f places.Conclusion old ws line new d sure few is = placed_never f places.Conclusion old ws line new d.1 sure few is
-denied_never f places.End old ws line new d sure few is = d.1 line (ap (λ t. line_of places.End t ws) (sym is.names) ∙ is.says) is.proper
-denied_never f places.After old ws line new d sure few is = let none : ◌≡◌ {A = Option Line} None (Some line) = is.says in cc
+denied_never : (f : ProofFault) (place : Place) (old ws : List (List ℕ)) (line : Line) (new : List (List ℕ)) → DeniesLine f place old ws → f ≢ readings.OutOfMemory → IsLine place old ws line new → ⊥
+denied_never f places.Header old ws line new d sure is = d.1 line (ap (λ t. line_of places.Header t ws) (sym is.names) ∙ is.says) is.proper
+denied_never f places.Count old ws line new d sure is = d.1 line (ap (λ t. line_of places.Count t ws) (sym is.names) ∙ is.says) is.small
+denied_never f places.Step old ws line new d sure is = placed_never f places.Step old ws line new d sure is
+denied_never f places.Conclusion old ws line new d sure is = placed_never f places.Conclusion old ws line new d.1 sure is
+denied_never f places.End old ws line new d sure is = d.1 line (ap (λ t. line_of places.End t ws) (sym is.names) ∙ is.says) is.proper
+denied_never f places.After old ws line new d sure is = let none : ◌≡◌ {A = Option Line} None (Some line) = is.says in cc
 
 -- a line that stands next, and is a line at its place, cannot be unread
-unread_never : (place : Place) (names : List (List ℕ)) (left : List Numbered) (last line : ℕ) (code : Code) (l : Numbered) (rest : List Numbered) (said : Line) (new : List (List ℕ)) → IsRefusal code → length new ≤ 2 ^ 32
+unread_never : (place : Place) (names : List (List ℕ)) (left : List Numbered) (last line : ℕ) (code : Code) (l : Numbered) (rest : List Numbered) (said : Line) (new : List (List ℕ)) → IsRefusalCode code
     → left ≡ l ∷ rest → IsLine place names (words l.text) said new → IsUnread place names left last line code → ⊥
-unread_never place names left last line code l rest said new refusal few at is unread =
+unread_never place names left last line code l rest said new refusal at is unread =
     let u : IsUnread place names (l ∷ rest) last line code = subst (λ ls. IsUnread place names ls last line code) at unread in
-    denied_never u.0 place names (words l.text) said new u.3 (subst IsRefusal u.1 refusal) few is
+    denied_never u.0 place names (words l.text) said new u.3 (subst IsRefusalCode u.1 refusal) is
 
 -- two readings of the line that stands next
 both_read : (place : Place) (names : List (List ℕ)) (left : List Numbered) (line : ℕ) (x y : Line) (l : Numbered) (rest : List Numbered) (new : List (List ℕ)) → IsRead place names left line x
@@ -156,7 +121,6 @@ record Rest (p : Opb) (a : Judgement) (s : State) (names : List (List ℕ)) (lef
   output_is : IsLine places.Step named (words output.text) lines.Output after
   conclusion_is : IsLine places.Conclusion after (words concluded.text) (lines.Conclusion a.conclusion) all
   end_is : IsLine places.End all (words ended.text) lines.End all
-  few : length all ≤ 2 ^ 32
   legal : Leads p s steps end
   kinds : IsOfJudgedKinds steps end a.conclusion
 
@@ -167,13 +131,6 @@ later_kinds step steps end a kinds = record {
   conclusion_is = kinds.conclusion_is;
   contradicted = kinds.contradicted;
 }
-
--- the tables of the lines behind the steps can be numbered
-few_after : (p : Opb) (a : Judgement) (s : State) (names : List (List ℕ)) (left : List Numbered) (r : Rest p a s names left) → length r.after ≤ 2 ^ 32
-few_after p a s names left r = let grows = line_grows places.Conclusion r.after (words r.concluded.text) (lines.Conclusion a.conclusion) r.all r.conclusion_is in let few = r.few in omega (arith, grows, few)
-
-few_named : (p : Opb) (a : Judgement) (s : State) (names : List (List ℕ)) (left : List Numbered) (r : Rest p a s names left) → length r.named ≤ 2 ^ 32
-few_named p a s names left r = let grows = line_grows places.Step r.named (words r.output.text) lines.Output r.after r.output_is in let few = few_after p a s names left r in omega (arith, grows, few)
 
 -- one line further: a legal step that stands next is the first of the proof's
 one_on : (p : Opb) (a : Judgement) (s t : State) (names new : List (List ℕ)) (left behind : List Numbered) (step : Step) → Takes places.Step names left (lines.Step step) new behind → Legal p s step t
@@ -206,7 +163,6 @@ one_on p a s t names new left behind step takes legal r = by r.between r.steps r
           output_is = r.output_is;
           conclusion_is = r.conclusion_is;
           end_is = r.end_is;
-          few = r.few;
           legal = subst (λ u. Leads p u ss r.end) state leads.2;
           kinds = later_kinds x ss r.end a kinds;
         }
@@ -225,7 +181,7 @@ steps_on p a s t names named left behind (b ∷ bs) (x ∷ ss) order says leads 
     steps_on p a leads.0 t says.0 named (bs ++ behind) behind bs ss refl says.2 leads.2 (one_on p a s leads.0 names says.0 left (bs ++ behind) x takes leads.1 r)
 
 -- nothing stops at a step
-step_never_stops : (p : Opb) (a : Judgement) (s : State) (names : List (List ℕ)) (left : List Numbered) (last line : ℕ) (code : Code) → IsRefusal code → Rest p a s names left
+step_never_stops : (p : Opb) (a : Judgement) (s : State) (names : List (List ℕ)) (left : List Numbered) (last line : ℕ) (code : Code) → IsRefusalCode code → Rest p a s names left
     → StopsAtStep p s names left last line code → ⊥
 step_never_stops p a s names left last line code refusal r stop = by r.between r.steps r.in_order r.says r.legal r.kinds stop
   where
@@ -235,22 +191,20 @@ step_never_stops p a s names left last line code refusal r stop = by r.between r
 
     refused : (x : Step) (t : State) → Legal p s x t → IsJudgedStep x → IsRefusedStep p s x code → ⊥
     refused x t legal judged (inl why) = why.1 judged
-    refused x t legal judged (inr why) = step_never p s x why.0 t (from_memory why.0 _ (subst IsRefusal why.1 refusal) why.2) legal
+    refused x t legal judged (inr why) = step_never p s x why.0 t (from_memory why.0 _ (subst IsRefusalCode why.1 refusal) why.2) legal
 
     by : (bs : List Numbered) (ss : List Step) → left ≡ bs ++ r.output ∷ r.concluded ∷ r.ended ∷ [] → AreSteps names bs ss r.named → Leads p s ss r.end → IsOfJudgedKinds ss r.end a.conclusion
         → StopsAtStep p s names left last line code → ⊥
     by [] [] order says leads kinds (inl unread) =
         let here = subst (λ n. IsLine places.Step n (words r.output.text) lines.Output r.after) says r.output_is in
-        unread_never places.Step names left last line code r.output (r.concluded ∷ r.ended ∷ []) lines.Output r.after refusal (few_after p a s names left r) order here unread
+        unread_never places.Step names left last line code r.output (r.concluded ∷ r.ended ∷ []) lines.Output r.after refusal order here unread
     by [] [] order says leads kinds (inr read) =
         let here = subst (λ n. IsLine places.Step n (words r.output.text) lines.Output r.after) says r.output_is in
         step_is_no_output read.0 (both_read places.Step names left line (lines.Step read.0) lines.Output r.output (r.concluded ∷ r.ended ∷ []) r.after read.1 order here)
     by [] (x ∷ ss) order says leads kinds why = absurd says
     by (b ∷ bs) [] order says leads kinds why = absurd says
     by (b ∷ bs) (x ∷ ss) order says leads kinds (inl unread) =
-        let grows = steps_grow says.0 bs ss r.named says.2 in
-        let few = few_named p a s names left r in
-        unread_never places.Step names left last line code b (bs ++ r.output ∷ r.concluded ∷ r.ended ∷ []) (lines.Step x) says.0 refusal (omega (arith, grows, few)) order says.1 unread
+        unread_never places.Step names left last line code b (bs ++ r.output ∷ r.concluded ∷ r.ended ∷ []) (lines.Step x) says.0 refusal order says.1 unread
     by (b ∷ bs) (x ∷ ss) order says leads kinds (inr read) =
         let same = both_read places.Step names left line (lines.Step read.0) (lines.Step x) b (bs ++ r.output ∷ r.concluded ∷ r.ended ∷ []) says.0 read.1 order says.1 in
         refused x leads.0 leads.1 (All-head IsJudgedStep x ss kinds.steps_are) (subst (λ y. IsRefusedStep p s y code) (same_step read.0 x same) read.2)
@@ -266,7 +220,6 @@ record RestBehind (a : Judgement) (s : State) (names : List (List ℕ)) (left : 
   in_order : left ≡ concluded ∷ ended ∷ []
   conclusion_is : IsLine places.Conclusion names (words concluded.text) (lines.Conclusion a.conclusion) all
   end_is : IsLine places.End all (words ended.text) lines.End all
-  few : length all ≤ 2 ^ 32
   kinds : IsOfJudgedKinds [] s a.conclusion
 
 output_on : (p : Opb) (a : Judgement) (s : State) (names new : List (List ℕ)) (left behind : List Numbered) → Takes places.Step names left lines.Output new behind → Rest p a s names left → RestBehind a s new behind
@@ -283,7 +236,6 @@ output_on p a s names new left behind takes r = by r.between r.steps r.in_order 
           in_order = both.2;
           conclusion_is = subst (λ n. IsLine places.Conclusion n (words r.concluded.text) (lines.Conclusion a.conclusion) r.all) (sym both.0) r.conclusion_is;
           end_is = r.end_is;
-          few = r.few;
           kinds = subst (λ u. IsOfJudgedKinds [] u a.conclusion) leads kinds;
         }
     by [] (x ∷ ss) order says leads kinds = absurd says
@@ -293,10 +245,10 @@ output_on p a s names new left behind takes r = by r.between r.steps r.in_order 
         absurd (step_is_no_output x (sym both.1))
 
 -- nothing stops at the conclusion
-conclusion_never_stops : (a : Judgement) (s : State) (names : List (List ℕ)) (left : List Numbered) (last line : ℕ) (code : Code) → IsRefusal code → RestBehind a s names left
+conclusion_never_stops : (a : Judgement) (s : State) (names : List (List ℕ)) (left : List Numbered) (last line : ℕ) (code : Code) → IsRefusalCode code → RestBehind a s names left
     → StopsAtConclusion s names left last line code → ⊥
 conclusion_never_stops a s names left last line code refusal r (inl unread) =
-    unread_never places.Conclusion names left last line code r.concluded (r.ended ∷ []) (lines.Conclusion a.conclusion) r.all refusal r.few r.in_order r.conclusion_is unread
+    unread_never places.Conclusion names left last line code r.concluded (r.ended ∷ []) (lines.Conclusion a.conclusion) r.all refusal r.in_order r.conclusion_is unread
 conclusion_never_stops a s names left last line code refusal r (inr read) =
     let same = both_read places.Conclusion names left line (lines.Conclusion read.0) (lines.Conclusion a.conclusion) r.concluded (r.ended ∷ []) r.all read.1 r.in_order r.conclusion_is in
     refused (subst (λ c. IsRefusedConclusion s c code) (same_conclusion read.0 a.conclusion same) read.2)
@@ -314,16 +266,6 @@ after_header p proof a proved = let sp = proved.spelled in sp.counted ∷ (sp.be
 
 abbrev after_count : (p : Opb) (proof : List ℕ) (a : Judgement) (proved : IsProved p proof a) → List Numbered
 after_count p proof a proved = let sp = proved.spelled in sp.between ++ sp.output ∷ sp.concluded ∷ sp.ended ∷ []
-
--- the names of the file can be numbered
-few_of_file : (p : Opb) (proof : List ℕ) (a : Judgement) → IsProved p proof a → length p.names ≤ 2 ^ 32
-few_of_file p proof a proved =
-    let sp = proved.spelled in
-    let steps = steps_grow p.names sp.between proved.steps sp.named sp.steps_are in
-    let out = line_grows places.Step sp.named (words sp.output.text) lines.Output sp.after sp.output_is in
-    let end = line_grows places.Conclusion sp.after (words sp.concluded.text) (lines.Conclusion a.conclusion) sp.all sp.conclusion_is in
-    let few = sp.few in
-    omega (arith, steps, out, end, few)
 
 record AtCountOf (p : Opb) (proof : List ℕ) (a : Judgement) (proved : IsProved p proof a) (s : State) (names : List (List ℕ)) (left : List Numbered) : Type 0 where
   start : IsStart p s
@@ -343,10 +285,10 @@ count_line p proof a proved s names left at =
     let sp = proved.spelled in
     subst (λ n. IsLine places.Count n (words sp.counted.text) (lines.Count (pos (file_ids p.constraints))) p.names) (sym at.names_are) sp.count_is
 
-count_never_stops : (p : Opb) (proof : List ℕ) (a : Judgement) (proved : IsProved p proof a) (s : State) (names : List (List ℕ)) (left : List Numbered) (last line : ℕ) (code : Code) → IsRefusal code
+count_never_stops : (p : Opb) (proof : List ℕ) (a : Judgement) (proved : IsProved p proof a) (s : State) (names : List (List ℕ)) (left : List Numbered) (last line : ℕ) (code : Code) → IsRefusalCode code
     → AtCountOf p proof a proved s names left → StopsAtCount s names left last line code → ⊥
 count_never_stops p proof a proved s names left last line code refusal at (inl unread) =
-    unread_never places.Count names left last line code proved.spelled.counted (after_count p proof a proved) (lines.Count (pos (file_ids p.constraints))) p.names refusal (few_of_file p proof a proved) at.in_order
+    unread_never places.Count names left last line code proved.spelled.counted (after_count p proof a proved) (lines.Count (pos (file_ids p.constraints))) p.names refusal at.in_order
     (count_line p proof a proved s names left at) unread
 count_never_stops p proof a proved s names left last line code refusal at (inr why) =
     let both = both_read places.Count names left line (lines.Count why.0) (lines.Count (pos (file_ids p.constraints))) proved.spelled.counted (after_count p proof a proved) p.names why.2 at.in_order
@@ -379,7 +321,6 @@ rest_of p proof a proved t names left kinds at =
       output_is = sp.output_is;
       conclusion_is = sp.conclusion_is;
       end_is = sp.end_is;
-      few = sp.few;
       legal = subst (λ u. Leads p u proved.steps proved.legal.1) (one_start p proved.legal.0 at.0 proved.legal.2 counted.start) proved.legal.3;
       kinds = kinds;
     } in
@@ -395,7 +336,6 @@ record AtEndLine (names : List (List ℕ)) (left : List Numbered) : Type 0 where
   ended : Numbered
   in_order : left ≡ ended ∷ []
   end_is : IsLine places.End names (words ended.text) lines.End names
-  few : length names ≤ 2 ^ 32
 
 end_line : (p : Opb) (proof : List ℕ) (a : Judgement) (proved : IsProved p proof a) (names : List (List ℕ)) (left : List Numbered) → IsOfJudgedKinds proved.steps proved.legal.1 a.conclusion → AtEnd p proof names left
     → AtEndLine names left
@@ -406,15 +346,14 @@ end_line p proof a proved names left kinds at =
       ended = r.ended;
       in_order = both.2;
       end_is = subst (λ n. IsLine places.End n (words r.ended.text) lines.End n) (sym both.0) r.end_is;
-      few = subst (λ n. length n ≤ 2 ^ 32) (sym both.0) r.few;
     }
 
 -- where judging stops, the proof is none of the kinds that are judged
-pub stopped_never : (p : Opb) (proof : List ℕ) (line : ℕ) (code : Code) (a : Judgement) (proved : IsProved p proof a) → IsOfJudgedKinds proved.steps proved.legal.1 a.conclusion → IsRefusal code
+pub stopped_never : (p : Opb) (proof : List ℕ) (line : ℕ) (code : Code) (a : Judgement) (proved : IsProved p proof a) → IsOfJudgedKinds proved.steps proved.legal.1 a.conclusion → IsRefusalCode code
     → IsStopped p proof line code → ⊥
 stopped_never p proof line code a proved kinds refusal (at_header s names left at unread) =
     let sp = proved.spelled in
-    unread_never places.Header names left (lines_of proof).last line code sp.header (after_header p proof a proved) lines.Header p.names refusal (few_of_file p proof a proved) (at.2 ∙ sp.in_order)
+    unread_never places.Header names left (lines_of proof).last line code sp.header (after_header p proof a proved) lines.Header p.names refusal (at.2 ∙ sp.in_order)
     (subst (λ n. IsLine places.Header n (words sp.header.text) lines.Header p.names) (sym at.1) sp.header_is) unread
 stopped_never p proof line code a proved kinds refusal (at_count s names left at why) =
     count_never_stops p proof a proved s names left (lines_of proof).last line code refusal (header_on p proof a proved s names left at) why
@@ -424,7 +363,7 @@ stopped_never p proof line code a proved kinds refusal (at_conclusion s names le
     conclusion_never_stops a s names left (lines_of proof).last line code refusal (rest_behind p proof a proved s names left kinds at) why
 stopped_never p proof line code a proved kinds refusal (at_end names left at unread) =
     let r = end_line p proof a proved names left kinds at in
-    unread_never places.End names left (lines_of proof).last line code r.ended [] lines.End names refusal r.few r.in_order r.end_is unread
+    unread_never places.End names left (lines_of proof).last line code r.ended [] lines.End names refusal r.in_order r.end_is unread
 stopped_never p proof line code a proved kinds refusal (behind_end left behind why) =
     let r = end_line p proof a proved behind.0 behind.1 kinds behind.3 in
     let both = both_taken places.End behind.0 behind.1 lines.End lines.End behind.2 behind.0 left [] r.ended behind.4 r.in_order r.end_is in

@@ -1,5 +1,5 @@
 -- How lines that are judged one after another make a whole proof.
-use Rattle.std.proofs.Common.{◌≡◌, ℕ, ◌+◌, pos, Bool, true, false, if◌then◌else◌, Some, None, List, [], ◌∷◌, ◌++◌, length, refl, sym, ap, subst, ◌∙◌, arith, ◌^◌, ◌≤◌}
+use Rattle.std.proofs.Common.{◌≡◌, ℕ, ◌+◌, pos, Bool, true, false, if◌then◌else◌, Some, None, List, [], ◌∷◌, ◌++◌, length, refl, sym, ap, subst, ◌∙◌, arith}
 use Rattle.std.proofs.lemmas.List.{append_assoc}
 use Rattle.linear.specs.Opb.{Opb}
 use Rattle.kernel.specs.Accepted.{Judgement}
@@ -58,9 +58,9 @@ counts_file p s count start next =
 -- the lines of a whole proof, one after another
 pub proved_by : (p : Opb) (proof : List ℕ) (a : Judgement) (s t : State) (n1 n2 n3 n4 n5 : List (List ℕ)) (r1 r2 r3 r4 r5 : List Numbered) → IsStart p s
     → Takes places.Header p.names (lines_of proof).lines lines.Header n1 r1 → TakesCount s n1 r1 n2 r2 → TakesToOutput p s n2 r2 t n3 r3
-    → Takes places.Conclusion n3 r3 (lines.Conclusion a.conclusion) n4 r4 → length n4 ≤ 2 ^ 32 → Takes places.End n4 r4 lines.End n5 r5 → r5 ≡ [] → IsJustified p t a.conclusion a.best
+    → Takes places.Conclusion n3 r3 (lines.Conclusion a.conclusion) n4 r4 → Takes places.End n4 r4 lines.End n5 r5 → r5 ≡ [] → IsJustified p t a.conclusion a.best
     → IsProved p proof a
-proved_by p proof a s t n1 n2 n3 n4 n5 r1 r2 r3 r4 r5 start header counted output concluded few ended none justified =
+proved_by p proof a s t n1 n2 n3 n4 n5 r1 r2 r3 r4 r5 start header counted output concluded ended none justified =
     let taken : TakesSteps p s n2 r2 t output.0 output.1 = output.2 in
     let same1 : n1 ≡ p.names = header.2.names in
     let same2 : n2 ≡ p.names = counted.2.2.names ∙ same1 in
@@ -88,7 +88,6 @@ proved_by p proof a s t n1 n2 n3 n4 n5 r1 r2 r3 r4 r5 start header counted outpu
         steps_are = subst (λ n. AreSteps n taken.before taken.steps output.0) same2 taken.says;
         output_is = output.3.2;
         conclusion_is = concluded.2;
-        few = few;
         end_is = subst (λ n. IsLine places.End n4 (words ended.0.text) lines.End n) ended.2.names ended.2;
       };
       legal = (s, t, start, taken.legal, justified);
@@ -118,13 +117,13 @@ takes_end old new left rest line takes = subst (λ l. Takes places.End old left 
 -- the same in the words of the code: the names are a copy of the file's, and the kernel is that of the problem
 pub proved_from : (p q r : Opb) (proof : List ℕ) (a : Judgement) (s t : State) (n0 n1 n2 n3 n4 n5 : List (List ℕ)) (r0 r1 r2 r3 r4 r5 : List Numbered) (first last : Line) → q ≡ p → r ≡ q
     → n0 ≡ p.names → r0 ≡ (lines_of proof).lines → IsStart p s → Takes places.Header n0 r0 first n1 r1 → TakesCount s n1 r1 n2 r2 → TakesToOutput q s n2 r2 t n3 r3
-    → Takes places.Conclusion n3 r3 (lines.Conclusion a.conclusion) n4 r4 → length n4 ≤ 2 ^ 32 → Takes places.End n4 r4 last n5 r5 → r5 ≡ [] → IsJustified r t a.conclusion a.best
+    → Takes places.Conclusion n3 r3 (lines.Conclusion a.conclusion) n4 r4 → Takes places.End n4 r4 last n5 r5 → r5 ≡ [] → IsJustified r t a.conclusion a.best
     → IsProved p proof a
-proved_from p q r proof a s t n0 n1 n2 n3 n4 n5 r0 r1 r2 r3 r4 r5 first last same still names read start header counted output concluded few ended none justified =
+proved_from p q r proof a s t n0 n1 n2 n3 n4 n5 r0 r1 r2 r3 r4 r5 first last same still names read start header counted output concluded ended none justified =
     let begun : Takes places.Header p.names (lines_of proof).lines lines.Header n1 r1 =
     subst (λ n. Takes places.Header n (lines_of proof).lines lines.Header n1 r1) names
     (subst (λ ls. Takes places.Header n0 ls lines.Header n1 r1) read (takes_header n0 n1 r0 r1 first header)) in
-    proved_by p proof a s t n1 n2 n3 n4 n5 r1 r2 r3 r4 r5 start begun counted (subst (λ x. TakesToOutput x s n2 r2 t n3 r3) same output) concluded few (takes_end n4 n5 r4 r5 last ended) none
+    proved_by p proof a s t n1 n2 n3 n4 n5 r1 r2 r3 r4 r5 start begun counted (subst (λ x. TakesToOutput x s n2 r2 t n3 r3) same output) concluded (takes_end n4 n5 r4 r5 last ended) none
     (subst (λ x. IsJustified x t a.conclusion a.best) (still ∙ same) justified)
 
 -- the conclusion stands behind the steps and the output line

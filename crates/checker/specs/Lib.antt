@@ -3,3 +3,4 @@ pub mod Printed
 pub mod Taking
 pub mod Stopping
 pub mod Kinds
+pub mod Refusal

@@ -3,7 +3,8 @@
 ghost use Rattle.std.specs.Prelude.{ℕ, List};
 ghost use Rattle.opb_read.specs.Faults.{Denies};
 ghost use Rattle.opb_read.specs.FaultPlace.{IsFaultAt};
-ghost use Rattle.checker.specs.Headline.{IsRefusalAt, IsSound};
+ghost use Rattle.checker.specs.Headline.{IsVerdictOf};
+ghost use Rattle.checker.specs.Refusal.{IsRefusalAt};
 
 use super::judge::{Stop, judge};
 use super::verdict::{Code, Verdict};
@@ -14,12 +15,13 @@ use std::alloc::Global;
 
 /// Judges a proof (VeriPB 2.0, this product's profile) of a problem (the linear OPB format).
 ///
-/// Whenever the verdict is `Accepted`, for any two texts and whoever wrote the proof, the problem's text spells exactly
-/// one problem, and the accepted conclusion is true of that problem's own signed terms: under `UNSAT` no 0-1 assignment
-/// satisfies it; and the proof's text spells a legal proof of that conclusion. A line is refused only where the problem's text spells a problem, and `BadProblem` is the fault that
-/// `read` finds in it. Want of memory is never a refusal, but `NoMemory`.
+/// `Accepted`, for any two texts and whoever wrote the proof: the problem's text spells exactly one problem, the accepted
+/// conclusion is true of that problem's own signed terms (under `UNSAT` no 0-1 assignment satisfies it), and the proof's text
+/// spells a legal proof of it. `Refused` at a line: all lines before it are read and legal, and it is not; so the text is no
+/// legal proof of the kinds that are judged. `BadProblem` is the fault that `read` finds in the problem's text. Want of memory
+/// is never a refusal, but `NoMemory`.
 pub fn check(alloc: Global, opb: &[u8], proof: &[u8]) -> Verdict
-    ensures sound { IsSound opb.now proof.now result }
+    ensures sound { IsVerdictOf opb.now proof.now result }
 {
     match read(alloc, opb) {
         Ok(problem) => match judge(alloc, &problem, proof) {
@@ -45,7 +47,7 @@ fn refused(line: u64, code: Code) -> Verdict
 
 /// The verdict where the problem is not read.
 fn bad_problem(fault: OpbFault) -> Verdict
-    ensures { (text proof : List ℕ) → Denies fault.code text → IsFaultAt text fault.code fault.line → IsSound text proof result }
+    ensures { (text proof : List ℕ) → Denies fault.code text → IsFaultAt text fault.code fault.line → IsVerdictOf text proof result }
 {
     match fault.code {
         OpbCode::OutOfMemory => Verdict::NoMemory,

@@ -119,8 +119,6 @@ pub(crate) fn judge(alloc: Global, problem: &Problem, proof: &[u8]) -> Result<Ac
     judge_count(&mut lines, &kernel)?;
     judge_steps(&mut lines, &mut kernel)?;
     let accepted = judge_conclusion(&mut lines, &mut kernel)?;
-    // That 32 bits number the names is known by their table's type; this makes it known here.
-    let _count = lines.names.len();
     lines.next(Place::End)?;
     lines.end()?;
     Ok(accepted)
@@ -134,7 +132,7 @@ fn judge_count(lines: &mut Lines<'_>, kernel: &Kernel) -> Result<(), Stop>
 {
     let Read { number, line } = lines.next(Place::Count)?;
     let Line::Count(count) = line else {
-        return Err(stop_reading(number, ProofFault::BadCount));
+        unreachable!();
     };
     if count != kernel.given() as i128 {
         return Err(stop_reading(number, ProofFault::BadCount));
@@ -167,7 +165,7 @@ fn judge_line(lines: &mut Lines<'_>, kernel: &mut Kernel) -> Result<Taken, Stop>
             Ok(Taken::Step)
         }
         Line::Output => Ok(Taken::Output),
-        _ => Err(stop_reading(number, ProofFault::BadLine)),
+        _ => unreachable!(),
     }
 }
 
@@ -225,6 +223,6 @@ fn judge_conclusion(lines: &mut Lines<'_>, kernel: &mut Kernel) -> Result<Accept
                 Err(fault) => Err(stop_judging(number, fault)),
             }
         }
-        _ => Err(stop_reading(number, ProofFault::BadLine)),
+        _ => unreachable!(),
     }
 }

@@ -238,6 +238,7 @@ end_back names c t h =
     record {
       says = subst (λ x. IsLine places.Conclusion names x (lines.Conclusion c) names) (sym e) (record {
         names = sym b.known ∙ ap (λ u. names_in names (judgement_literals u)) (sym b.open_words);
+        few = t.numbered;
         says = ap (λ u. option_map (λ x. lines.Conclusion x) (judgement_of names u)) b.open_words ∙ ap (λ o. option_map (λ x. lines.Conclusion x) o) b.says;
         proper = tt;
         small = subst (λ u. AreSmall (drop 1 u)) (sym b.open_words) b.small;

@@ -90,12 +90,13 @@ pairs_back names (p ∷ ps) t h =
     )
 
 -- a line that begins with a rule's word
-line_read : (names : List (List ℕ)) (w : List ℕ) (ws : List (List ℕ)) (rule : Rule) (step : Step) → rule_of w ≡ Some rule → words (line_text (w ∷ ws)) ≡ w ∷ ws → step_by rule names ws ≡ Some step → IsProper step
+line_read : (names : List (List ℕ)) → IsTable names → (w : List ℕ) (ws : List (List ℕ)) (rule : Rule) (step : Step) → rule_of w ≡ Some rule → words (line_text (w ∷ ws)) ≡ w ∷ ws → step_by rule names ws ≡ Some step → IsProper step
     → names_in names (counted_by rule ws) ≡ names → AreSmall (counted_by rule ws) → IsStep names (words (line_text (w ∷ ws))) step names
-line_read names w ws rule step r e says proper known small =
+line_read names t w ws rule step r e says proper known small =
     let c : counted (w ∷ ws) ≡ counted_by rule ws = counted_at w ws (Some rule) r in
     subst (λ x. IsStep names x step names) (sym e) (record {
       names = sym known ∙ ap (names_in names) (sym c);
+      few = t.numbered;
       says = step_at names w ws (Some rule) r ∙ says;
       proper = proper;
       small = subst AreSmall (sym c) small;
@@ -132,7 +133,7 @@ step_back names (steps.Pol is) t h p =
     let b = items_back names is t h in
     let tok : IsToken (codes "pol") = plain_token (codes "pol") refl (omega arith) in
     record {
-      says = line_read names (codes "pol") ws rules.Pol (steps.Pol is) rule_words.0 (line_words (codes "pol") ws tok (good_tokens names ws g) refl)
+      says = line_read names t (codes "pol") ws rules.Pol (steps.Pol is) rule_words.0 (line_words (codes "pol") ws tok (good_tokens names ws g) refl)
           (ap (λ u. if are_items u then Some (steps.Pol (items_of names u)) else None) open_ws ∙ ap (λ x. if x then Some (steps.Pol (items_of names ws)) else None) b.0 ∙ ap (λ x. Some (steps.Pol x)) b.1)
           p (ap (names_in names) open_ws ∙ good_names names ws g) (subst AreSmall (sym open_ws) (good_small names ws g));
       one = line_alone (codes "pol") ws tok (good_tokens names ws g);
@@ -144,7 +145,7 @@ step_back names (steps.Sol ls) t h p =
     let b = lits_back names ls t h in
     let tok : IsToken (codes "sol") = plain_token (codes "sol") refl (omega arith) in
     record {
-      says = line_read names (codes "sol") ws rules.Sol (steps.Sol ls) rule_words.3 (line_words (codes "sol") ws tok (good_tokens names ws g) refl)
+      says = line_read names t (codes "sol") ws rules.Sol (steps.Sol ls) rule_words.3 (line_words (codes "sol") ws tok (good_tokens names ws g) refl)
           (ap (λ u. if are_literals u then Some (steps.Sol (literals_of names u)) else None) open_ws ∙ ap (λ x. if x then Some (steps.Sol (literals_of names ws)) else None) b.0 ∙ ap (λ x. Some (steps.Sol x)) b.1)
           p (ap (names_in names) open_ws ∙ good_names names ws g) (subst AreSmall (sym open_ws) (good_small names ws g));
       one = line_alone (codes "sol") ws tok (good_tokens names ws g);
@@ -156,7 +157,7 @@ step_back names (steps.Soli ls) t h p =
     let b = lits_back names ls t h in
     let tok : IsToken (codes "soli") = plain_token (codes "soli") refl (omega arith) in
     record {
-      says = line_read names (codes "soli") ws rules.Soli (steps.Soli ls) rule_words.4 (line_words (codes "soli") ws tok (good_tokens names ws g) refl)
+      says = line_read names t (codes "soli") ws rules.Soli (steps.Soli ls) rule_words.4 (line_words (codes "soli") ws tok (good_tokens names ws g) refl)
           (ap (λ u. if are_literals u then Some (steps.Soli (literals_of names u)) else None) open_ws ∙ ap (λ x. if x then Some (steps.Soli (literals_of names ws)) else None) b.0 ∙ ap (λ x. Some (steps.Soli x)) b.1)
           p (ap (names_in names) open_ws ∙ good_names names ws g) (subst AreSmall (sym open_ws) (good_small names ws g));
       one = line_alone (codes "soli") ws tok (good_tokens names ws g);
@@ -169,7 +170,7 @@ step_back names (steps.Del ids) t h p =
     let tok : IsToken (codes "del") = plain_token (codes "del") refl (omega arith) in
     let id_tok : IsToken (codes "id") = plain_token (codes "id") refl (omega arith) in
     record {
-      says = line_read names (codes "del") (codes "id" ∷ ws) rules.Del (steps.Del ids) rule_words.5 (line_words (codes "del") (codes "id" ∷ ws) tok (id_tok, good_tokens names ws g) refl)
+      says = line_read names t (codes "del") (codes "id" ∷ ws) rules.Del (steps.Del ids) rule_words.5 (line_words (codes "del") (codes "id" ∷ ws) tok (id_tok, good_tokens names ws g) refl)
           (ap (λ u. if are_integers u then Some (steps.Del (integers_of u)) else None) open_ws ∙ ap (λ x. if x then Some (steps.Del (integers_of ws)) else None) b.0 ∙ ap (λ x. Some (steps.Del x)) b.1)
           p (ap (names_in names) open_ws ∙ good_names names ws g) (subst AreSmall (sym open_ws) (good_small names ws g));
       one = line_alone (codes "del") (codes "id" ∷ ws) tok (id_tok, good_tokens names ws g);
@@ -182,7 +183,7 @@ step_back names (steps.Rup c) t h p =
     let tok : IsToken (codes "rup") = plain_token (codes "rup") refl (omega arith) in
     let g = front_good names c t h in
     record {
-      says = line_read names (codes "rup") ws rules.Rup (steps.Rup c) rule_words.1 (line_words (codes "rup") ws tok tokens refl)
+      says = line_read names t (codes "rup") ws rules.Rup (steps.Rup c) rule_words.1 (line_words (codes "rup") ws tok tokens refl)
           (ap (λ (x : Halves). rup_by names x.front x.behind) cut ∙ ap (λ o. option_map (λ x. steps.Rup x) o) (constraint_back names c t h))
           p (ap (λ (x : Halves). names_in names x.front) cut ∙ good_names names (front_words names c) g)
           (subst (λ (x : Halves). AreSmall x.front) (sym cut) (good_small names (front_words names c) g));
@@ -201,7 +202,7 @@ step_back names (steps.Red c images) t h p =
     let b = pairs_back names images t h.1 in
     let counts : counted_by rules.Red ws ≡ front ++ wit = ap (λ (x : Halves). x.front ++ witness_words x.behind) cut ∙ ap (λ u. front ++ u) open_wit in
     record {
-      says = line_read names (codes "red") ws rules.Red (steps.Red c images) rule_words.2 (line_words (codes "red") ws tok tokens refl)
+      says = line_read names t (codes "red") ws rules.Red (steps.Red c images) rule_words.2 (line_words (codes "red") ws tok tokens refl)
           (ap (λ (x : Halves). red_by names x.front x.behind) cut
           ∙ ap (λ u. red_with names u (constraint_of names front)) open_wit
           ∙ ap (red_with names wit) (constraint_back names c t h.0)

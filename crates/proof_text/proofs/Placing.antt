@@ -1,5 +1,5 @@
 -- What a line says at its place.
-use Rattle.std.proofs.Common.{◌≡◌, ℕ, ℤ, ◌<◌, Bool, true, false, ◌&&◌, if◌then◌else◌, Option, Some, None, List, [], ◌∷◌, drop, length, is_some, refl, sym, ap, subst, ◌∙◌, arith, codes}
+use Rattle.std.proofs.Common.{◌≡◌, ℕ, ℤ, ◌<◌, ◌≤◌, Bool, true, false, ◌&&◌, if◌then◌else◌, Option, Some, None, List, [], ◌∷◌, drop, length, is_some, refl, sym, ap, subst, ◌∙◌, arith, codes}
 use Rattle.std.specs.Option.{option_map}
 use Rattle.kernel.specs.declared.step.Step.{Step}
 use Rattle.kernel.specs.declared.conclusion.Lower.{Lower}
@@ -113,11 +113,13 @@ pub empty_denied : (names ws : List (List ℕ)) → ws ≡ [] → NoStep names w
 empty_denied names ws at = subst (NoStep names) (sym at) (no_words names)
 
 -- a step's line
-pub step_read : (names : List (List ℕ)) (k new : Known) (ws : List (List ℕ)) (step : Step) → k ≡ fresh names → IsStepLineRead k ws step new → new.full ≡ false → IsStep names ws step new.names
-step_read names k new ws step e r full =
+pub step_read : (names : List (List ℕ)) (k new : Known) (ws : List (List ℕ)) (step : Step) → k ≡ fresh names → IsStepLineRead k ws step new → new.full ≡ false → length new.names ≤ most_names
+    → IsStep names ws step new.names
+step_read names k new ws step e r full few =
     let q : IsStepLineRead (fresh names) ws step new = subst (λ x. IsStepLineRead x ws step new) e r in
     record {
       names = table_whole (fresh names) new (counted ws) refl q.known full;
+      few = few;
       says = q.says;
       proper = q.proper;
       small = q.small;
@@ -140,11 +142,12 @@ step_full names k new ws step e r full =
 
 -- a conclusion's line
 pub conclusion_placed : (names : List (List ℕ)) (k new : Known) (ws : List (List ℕ)) (c : Conclusion) → k ≡ fresh names → IsConclusionLineRead k ws c new → new.full ≡ false
-    → IsLine places.Conclusion names ws (lines.Conclusion c) new.names
-conclusion_placed names k new ws c e r full =
+    → length new.names ≤ most_names → IsLine places.Conclusion names ws (lines.Conclusion c) new.names
+conclusion_placed names k new ws c e r full few =
     let q : IsConclusionLineRead (fresh names) ws c new = subst (λ x. IsConclusionLineRead x ws c new) e r in
     record {
       names = table_whole (fresh names) new (conclusion_literals ws) refl q.known full;
+      few = few;
       says = ap (λ o. option_map (λ x. lines.Conclusion x) o) q.says;
       proper = tt;
       small = q.small;
@@ -234,11 +237,12 @@ output_counts ws rest at = ap counted at ∙ counted_at (codes "output") rest No
 
 -- the output line
 pub output_placed : (names ws : List (List ℕ)) → is_first (codes "output") ws ≡ true → are_words output (unclosed ws) ≡ true
-    → IsLine places.Step names ws lines.Output names
-output_placed names ws h all =
+    → length names ≤ most_names → IsLine places.Step names ws lines.Output names
+output_placed names ws h all few =
     let none : counted ws ≡ [] = output_counts ws (drop 1 ws) (first_word (codes "output") ws h) in
     record {
       names = ap (names_in names) (sym none);
+      few = few;
       says = ap (λ t. if t then Some lines.Output else option_map (λ s. lines.Step s) (step_of names ws)) all;
       proper = tt;
       small = subst AreSmall (sym none) none_small;
@@ -289,6 +293,7 @@ not_output ws h = ap (λ t. t && (is_first (codes "NONE") (drop 1 (unclosed ws))
 pub step_placed : (names new ws : List (List ℕ)) (step : Step) → is_first (codes "output") ws ≡ false → IsStep names ws step new → IsLine places.Step names ws (lines.Step step) new
 step_placed names new ws step h r = record {
   names = r.names;
+  few = r.few;
   says =
       ap (λ t. if t then Some lines.Output else option_map (λ s. lines.Step s) (step_of new ws)) (not_output ws h)
       ∙ ap (λ o. option_map (λ s. lines.Step s) o) r.says;

@@ -1,5 +1,5 @@
 -- What the faults of a line say of it.
-use Rattle.std.specs.Prelude.{◌≡◌, ℕ, ◌^◌, ◌<◌, Some, List, length, codes, ⊤}
+use Rattle.std.specs.Prelude.{◌≡◌, ℕ, ◌<◌, Some, List, length, codes, ⊤}
 use Rattle.kernel.specs.declared.step.Step.{Step}
 use Rattle.proof_text.specs.declared.rule.Rule.{Rule}
 use Rattle.proof_text.specs.declared.line.Place.{Place}
@@ -8,14 +8,14 @@ use Rattle.proof_text.specs.declared.line.Line.{Line}
 use Rattle.proof_text.specs.declared.fault.ProofFault.{ProofFault}
 use Rattle.proof_text.specs.declared.fault.ProofFault.TheVariants as faults
 use Rattle.proof_text.specs.Words.{AreSmall}
-use Rattle.proof_text.specs.Numbering.{names_in}
+use Rattle.proof_text.specs.Numbering.{names_in, most_names}
 use Rattle.proof_text.specs.Steps.{step_by, counted_by, step_of, counted, IsProper}
 use Rattle.proof_text.specs.Denial.{IsPlain}
 use Rattle.proof_text.specs.Spells.{line_of, naming, measured, IsProperLine}
 
 -- a table with more names than 32 bits can number
 abbrev pub AreTooMany : List (List ℕ) → Type 0
-AreTooMany names = 2 ^ 32 < length names
+AreTooMany names = most_names < length names
 
 -- the words behind a rule's own word are no step
 abbrev pub NoStepBy : Rule → List (List ℕ) → List (List ℕ) → Type 0

@@ -1,5 +1,5 @@
 -- What the text of a whole proof spells.
-use Rattle.std.specs.Prelude.{◌≡◌, ℕ, ◌^◌, ◌≤◌, ℤ, length, List, [], ◌∷◌, ◌++◌}
+use Rattle.std.specs.Prelude.{◌≡◌, ℕ, ℤ, List, [], ◌∷◌, ◌++◌}
 use Rattle.kernel.specs.declared.step.Step.{Step}
 use Rattle.kernel.specs.declared.conclusion.Conclusion.{Conclusion}
 use Rattle.proof_text.specs.declared.line.Line.TheVariants as lines
@@ -33,6 +33,4 @@ pub record SpellsProof (text : List ℕ) (file : List (List ℕ)) (count : ℤ) 
   pub steps_are : AreSteps file between steps named
   pub output_is : IsLine places.Step named (words output.text) lines.Output after
   pub conclusion_is : IsLine places.Conclusion after (words concluded.text) (lines.Conclusion c) all
-  -- the names of file and proof together can be numbered by 32 bits
-  pub few : length all ≤ 2 ^ 32
   pub end_is : IsLine places.End all (words ended.text) lines.End all

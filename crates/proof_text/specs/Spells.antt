@@ -1,12 +1,12 @@
 -- What it is for a line to spell something at its place.
-use Rattle.std.specs.Prelude.{◌≡◌, ℕ, if◌then◌else◌, Option, Some, None, List, [], drop, ⊤}
+use Rattle.std.specs.Prelude.{◌≡◌, ◌≤◌, ℕ, length, if◌then◌else◌, Option, Some, None, List, [], drop, ⊤}
 use Rattle.std.specs.Option.{option_map}
 use Rattle.proof_text.specs.declared.line.Place.{Place}
 use Rattle.proof_text.specs.declared.line.Place.TheVariants as places
 use Rattle.proof_text.specs.declared.line.Line.{Line}
 use Rattle.proof_text.specs.declared.line.Line.TheVariants as lines
 use Rattle.proof_text.specs.Words.{are_words, unclosed, AreSmall}
-use Rattle.proof_text.specs.Numbering.{names_in}
+use Rattle.proof_text.specs.Numbering.{names_in, most_names}
 use Rattle.proof_text.specs.Frame.{header, count_of, output, ending}
 use Rattle.proof_text.specs.Steps.{step_of, counted, IsProper}
 use Rattle.proof_text.specs.Conclusions.{conclusion_of, conclusion_literals}
@@ -39,9 +39,10 @@ IsProperLine (lines.Step step) = IsProper step
 IsProperLine _ = ⊤
 
 -- The words of a line are this at their place: the variables are numbered by the table `new`, which is the table `old`
--- and the names that the line brings, in order; and the integers are within 2^120.
+-- and the names that the line brings, in order, and has no more than can be numbered; and the integers are within 2^120.
 pub record IsLine (place : Place) (old : List (List ℕ)) (ws : List (List ℕ)) (line : Line) (new : List (List ℕ)) : Type 0 where
   pub names : new ≡ names_in old (naming place ws)
+  pub few : length new ≤ most_names
   pub says : line_of place new ws ≡ Some line
   pub proper : IsProperLine line
   pub small : AreSmall (measured place ws)

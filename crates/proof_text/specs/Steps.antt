@@ -1,5 +1,5 @@
 -- What the line of a step says.
-use Rattle.std.specs.Prelude.{◌≡◌, ℕ, ◌&&◌, Bool, if◌then◌else◌, Option, Some, None, List, [], ◌∷◌, ◌++◌, drop, codes, ⊤}
+use Rattle.std.specs.Prelude.{◌≡◌, ◌≤◌, ℕ, length, ◌&&◌, Bool, if◌then◌else◌, Option, Some, None, List, [], ◌∷◌, ◌++◌, drop, codes, ⊤}
 use Rattle.std.specs.Option.{option_map}
 use Rattle.linear.specs.declared.constraint.Signed.{Signed}
 use Rattle.linear.specs.declared.constraint.Relation.TheVariants as relations
@@ -9,7 +9,7 @@ use Rattle.kernel.specs.declared.step.Step.TheVariants as steps
 use Rattle.proof_text.specs.declared.rule.Rule.{Rule}
 use Rattle.proof_text.specs.declared.rule.Rule.TheVariants as rules
 use Rattle.proof_text.specs.Words.{is_first, unclosed, halves, AreSmall}
-use Rattle.proof_text.specs.Numbering.{Known, met_in, names_in}
+use Rattle.proof_text.specs.Numbering.{Known, met_in, names_in, most_names}
 use Rattle.proof_text.specs.Forms.{are_literals, literals_of, are_integers, integers_of, terms_of, behind_terms, closing_of, are_items, items_of, are_images, images_of}
 use Rattle.proof_text.specs.Rules.{rule_of}
 
@@ -95,9 +95,11 @@ pub record IsStepLineRead (k : Known) (ws : List (List ℕ)) (step : Step) (new 
   pub small : AreSmall (counted ws)
 
 -- The words of a line are this step: its variables are numbered by the table `new`, which is the table `old` and the
--- names that the step brings, in order; no name stands twice on the left; and the integers are within 2^120.
+-- names that the step brings, in order, and has no more than can be numbered; no name stands twice on the left; and the
+-- integers are within 2^120.
 pub record IsStep (old : List (List ℕ)) (ws : List (List ℕ)) (step : Step) (new : List (List ℕ)) : Type 0 where
   pub names : new ≡ names_in old (counted ws)
+  pub few : length new ≤ most_names
   pub says : step_of new ws ≡ Some step
   pub proper : IsProper step
   pub small : AreSmall (counted ws)

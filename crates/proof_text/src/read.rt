@@ -97,6 +97,8 @@ fn read_step_or_output(alloc: Global, line: &[u8], names: &mut Names) -> Result<
     ensures err { OnErr result (names.new ≡ names.old) }
     ensures denies { IfErr result (λ f. DeniesLine f Place.Step names.old (words line.now)) }
 {
+    // That the names so far can be numbered is known by their table's type; this makes it known here.
+    let _count = names.len();
     let words = Lookahead::new(line);
     if words.begins(b"output") {
         output(Body::new(words))?;
@@ -124,6 +126,8 @@ pub fn read_line(
     ensures err { OnErr result (names.new ≡ names.old) }
     ensures denies { IfErr result (λ f. DeniesLine f place names.old (words line.now)) }
 {
+    // That the names so far can be numbered is known by their table's type; this makes it known here.
+    let _count = names.len();
     match place {
         Place::Header => {
             if is_header(Body::new(Lookahead::new(line))) {

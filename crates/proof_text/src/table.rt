@@ -35,7 +35,7 @@ impl Model for Table {
 
 impl Table {
     ghost use Rattle.std.specs.Prelude.{◌≡◌, false, IfOk, OnOk, OnErr};
-    ghost use Rattle.linear.specs.Table.{place_of};
+    ghost use Rattle.linear.specs.Table.{place_of, IsTable};
     ghost use Rattle.proof_text.specs.Numbering.{met};
 
     /// The names as a line begins.
@@ -82,7 +82,8 @@ impl Table {
     /// The names as they are, where each found a number.
     pub(crate) fn into_names(self) -> Names
         requires { self.full ≡ false }
-        ensures { result ≡ self.names }
+        ensures names { result ≡ self.names }
+        ensures table { IsTable result }
     {
         self.names
     }

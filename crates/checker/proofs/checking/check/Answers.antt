@@ -10,6 +10,7 @@ returns-in-Ok-judge c =
       sound = record {
         problem = p;
         spelled = c.in-Ok.ensures.spells;
+        within = c.in-Ok.ensures.within;
         alone = λ other spells. one_problem c.args.opb.now other p spells c.in-Ok.ensures.spells;
         claim = c.in-Ok-judge.ensures.claim;
         proved = c.in-Ok-judge.ensures.proved;

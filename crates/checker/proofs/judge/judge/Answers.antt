@@ -21,7 +21,6 @@ returns-clause-proved c =
     c.in_ok-judge_count.ensures.count
     c.in_ok-judge_steps.ensures.steps
     c.in_ok-accepted.ensures.line
-    c.len-count.ensures.table.numbered
     c.in_ok-next-2.ensures.line
     c.in_ok-end.ensures.none
     c.in_ok-accepted.ensures.justified

@@ -1,4 +1,5 @@
-use Rattle.std.proofs.Common.{◌≡◌, [], drop, is_some, sym, ap, subst, ◌∙◌}
+use Rattle.std.proofs.Common.{◌≡◌, ◌≤◌, length, [], drop, is_some, sym, ap, subst, ◌∙◌}
+use Rattle.proof_text.specs.Numbering.{most_names}
 use Rattle.proof_text.specs.Words.{words, unclosed}
 use Rattle.proof_text.specs.Conclusions.{conclusion_of, IsConclusionLineRead}
 use Rattle.proof_text.specs.Spells.{IsLine}
@@ -28,7 +29,8 @@ returns-else-is_full-clause-line c =
     let x = c.in-Ok.conclusion in
     let start : k ≡ fresh names = c.new-table.ensures ∙ ap fresh c.replace.ensures.value in
     let r : IsConclusionLineRead k ws x new = subst (λ w. IsConclusionLineRead k w x new) c.new-2.ensures c.in-Ok.ensures.read in
-    subst (IsLine places.Conclusion names ws (lines.Conclusion x)) (sym c.into_names.ensures) (conclusion_placed names k new ws x start r (sym c.is_full.ensures ∙ c.if-is_full.false))
+    subst (IsLine places.Conclusion names ws (lines.Conclusion x)) (sym c.into_names.ensures.names) (conclusion_placed names k new ws x start r (sym c.is_full.ensures ∙ c.if-is_full.false)
+    (subst (λ ns. length ns ≤ most_names) c.into_names.ensures.names c.into_names.ensures.table.numbered))
 
 pub returns-in-Err-clause-denies : goal.returns-in-Err-clause-denies
 returns-in-Err-clause-denies c = (

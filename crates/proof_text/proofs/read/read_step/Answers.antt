@@ -1,4 +1,5 @@
-use Rattle.std.proofs.Common.{◌≡◌, sym, ap, subst, ◌∙◌}
+use Rattle.std.proofs.Common.{◌≡◌, ◌≤◌, length, sym, ap, subst, ◌∙◌}
+use Rattle.proof_text.specs.Numbering.{most_names}
 use Rattle.proof_text.specs.Words.{words}
 use Rattle.proof_text.specs.Steps.{IsStepLineRead, IsStep}
 use Rattle.proof_text.proofs.Placing.{fresh, step_read, step_full}
@@ -23,7 +24,8 @@ returns-else-is_full-clause-step c =
     let ws = words c.args.line.now in
     let start : k ≡ fresh names = c.new-table.ensures ∙ ap fresh c.replace.ensures.value in
     let r : IsStepLineRead k ws c.in-Ok.step new = subst (λ x. IsStepLineRead k x c.in-Ok.step new) c.new-2.ensures c.in-Ok.ensures.read in
-    subst (IsStep names ws c.in-Ok.step) (sym c.into_names.ensures) (step_read names k new ws c.in-Ok.step start r (sym c.is_full.ensures ∙ c.if-is_full.false))
+    subst (IsStep names ws c.in-Ok.step) (sym c.into_names.ensures.names) (step_read names k new ws c.in-Ok.step start r (sym c.is_full.ensures ∙ c.if-is_full.false)
+    (subst (λ ns. length ns ≤ most_names) c.into_names.ensures.names c.into_names.ensures.table.numbered))
 
 pub returns-else-is_full-clause-writable : goal.returns-else-is_full-clause-writable
 returns-else-is_full-clause-writable c =

@@ -19,6 +19,7 @@ returns-then-begins-clause-line c =
     let ws = words c.args.line.now in
     let first : is_first (codes "output") ws ≡ true = ap (is_first (codes "output")) (sym c.new-words.ensures) ∙ sym c.begins.ensures ∙ c.if-begins.true in
     output_placed c.args.names.now ws first (ap (are_words output) (sym (c.new.ensures ∙ ap unclosed c.new-words.ensures)) ∙ c.in_ok-output.ensures.ok)
+    c.len-count.ensures.table.numbered
 
 pub returns-in_err-step-clause-denies : goal.returns-in_err-step-clause-denies
 returns-in_err-step-clause-denies c =
