@@ -245,3 +245,76 @@ fn lines_that_are_not_read(rt: HostRuntime) -> Result<(), Fail> {
     third_line(&rt, "solx x1", "refused line 3 code 4 RuleLeftOut\n", 1)?;
     third_line(&rt, "f 1", "refused line 3 code 5 BadLine\n", 1)
 }
+
+/// What the format has and is not judged yet, and what this profile leaves out, are answered alike.
+#[test]
+fn lines_that_are_left_out(rt: HostRuntime) -> Result<(), Fail> {
+    let left_out = "refused line 3 code 4 RuleLeftOut\n";
+    third_line(&rt, "rup 1 x1 1 x2 >= 1 ; 7 ~ 99", left_out, 1)?;
+    third_line(&rt, "red 1 x1 >= 1 ; x1 1", left_out, 1)?;
+    third_line(&rt, "sol x1 ~x2", left_out, 1)?;
+    third_line(&rt, "soli x1 x2", left_out, 1)?;
+    third_line(&rt, "del id 1", left_out, 1)?;
+    third_line(&rt, "rup 1 x1 = 1 ;", left_out, 1)?;
+    third_line(&rt, "del range 1 2", left_out, 1)?;
+    third_line(&rt, "output ALL", left_out, 1)
+}
+
+/// Checks what is printed for a conclusion on a problem with an objective, behind no step.
+fn concluded<R: Abort + AllocGlobal>(
+    rt: &R,
+    conclusion: &str,
+    text: &str,
+    status: u8,
+) -> Result<(), Fail> {
+    let proof = format!(in rt.alloc();
+        "pseudo-Boolean proof version 2.0\nf 2\noutput NONE\nconclusion {conclusion}\nend pseudo-Boolean proof\n"
+    )?;
+    run(
+        rt,
+        &Case {
+            opb: "min: 1 x1 ; 1 x1 >= 2 ; >= 0 ;",
+            proof: proof.as_str(),
+            text,
+            status,
+        },
+    )
+}
+
+/// An objective changes nothing for `NONE` and `UNSAT`.
+#[test]
+fn conclusions_beside_an_objective(rt: HostRuntime) -> Result<(), Fail> {
+    let left_out = "refused line 4 code 4 RuleLeftOut\n";
+    concluded(&rt, "UNSAT : 1", "accepted UNSAT\n", 0)?;
+    concluded(&rt, "NONE", "accepted NONE\n", 0)?;
+    concluded(&rt, "SAT", left_out, 1)?;
+    concluded(&rt, "BOUNDS 1 INF", left_out, 1)?;
+    concluded(&rt, "MAYBE", "refused line 4 code 5 BadLine\n", 1)
+}
+
+/// A line that counts behind the end line is refused there; comments and blank lines are passed over.
+#[test]
+fn text_after_the_end(rt: HostRuntime) -> Result<(), Fail> {
+    let opb = "2 x1 2 x2 = 1 ;";
+    let counted_once = "pseudo-Boolean proof version 2.0\nf 1\n";
+    let more =
+        "pseudo-Boolean proof version 2.0\nf 2\noutput NONE\nconclusion NONE\nend pseudo-Boolean proof\n* done\n\nf 2";
+    run(
+        &rt,
+        &Case {
+            opb,
+            proof: more,
+            text: "refused line 8 code 7 TextAfterEnd\n",
+            status: 1,
+        },
+    )?;
+    run(
+        &rt,
+        &Case {
+            opb,
+            proof: counted_once,
+            text: "refused line 2 code 2 BadCount\n",
+            status: 1,
+        },
+    )
+}

@@ -44,7 +44,8 @@ fn statements(reader: &mut Reader<'_>, alloc: Global) -> Result<Statements, OpbC
 /// spells none within the limits. All before the fault's token is within the limits and can go on to a problem; with that
 /// token it can go on to none. With the token of a 7 or 8 it can go on to one, but to none within the limits: a 7 is an
 /// integer above 2^62 in size, an 8 makes the terms of a statement, the variables or the constraints too many. Which of
-/// the codes 1 to 6 a token has no clause says, and a refused growth is `OutOfMemory`, at the token where it came.
+/// the codes 1 to 6 a token has no clause says. A refused growth is `OutOfMemory`, with the line of the token where it came, which
+/// no clause fixes.
 pub fn read(alloc: Global, text: &[u8]) -> Result<Problem, OpbFault>
     ensures spells { IfOk result (λ p. Spells text.now p) }
     ensures within { IfOk result (λ p. IsWithin p) }
