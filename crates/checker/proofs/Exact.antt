@@ -8,7 +8,7 @@ use Rattle.kernel.specs.Fault.{OrMemory}
 use Rattle.kernel.specs.Forms.{file_ids}
 use Rattle.kernel.specs.Held.{IsJudgedStep}
 use Rattle.kernel.specs.Legal.{Legal, Leads}
-use Rattle.kernel.specs.State.{State, IsStart}
+use Rattle.kernel.specs.State.{State}
 use Rattle.kernel.specs.declared.conclusion.Conclusion.{Conclusion}
 use Rattle.kernel.specs.declared.fault.StepFault.{StepFault}
 use Rattle.kernel.specs.declared.fault.StepFault.TheVariants as judgings
@@ -35,7 +35,6 @@ use Rattle.checker.specs.Stopping.{AtCount, AtSteps, AtConclusion, AtEnd, IsRead
 use Rattle.checker.specs.Stopping.{at_header, at_count, at_step, at_conclusion, at_end, behind_end}
 use Rattle.checker.specs.Taking.{Takes}
 use Rattle.checker.specs.declared.verdict.Code.{Code}
-use Rattle.checker.proofs.Judging.{counts_file}
 
 -- a line says one thing
 same_line : (place : Place) (old ws : List (List ℕ)) (x y : Line) (n m : List (List ℕ)) → IsLine place old ws x n → IsLine place old ws y m → (n ≡ m) × (x ≡ y)
@@ -267,33 +266,32 @@ after_header p proof a proved = let sp = proved.spelled in sp.counted ∷ (sp.be
 abbrev after_count : (p : Opb) (proof : List ℕ) (a : Judgement) (proved : IsProved p proof a) → List Numbered
 after_count p proof a proved = let sp = proved.spelled in sp.between ++ sp.output ∷ sp.concluded ∷ sp.ended ∷ []
 
-record AtCountOf (p : Opb) (proof : List ℕ) (a : Judgement) (proved : IsProved p proof a) (s : State) (names : List (List ℕ)) (left : List Numbered) : Type 0 where
-  start : IsStart p s
+record AtCountOf (p : Opb) (proof : List ℕ) (a : Judgement) (proved : IsProved p proof a) (names : List (List ℕ)) (left : List Numbered) : Type 0 where
   names_are : names ≡ p.names
   in_order : left ≡ after_header p proof a proved
 
-header_on : (p : Opb) (proof : List ℕ) (a : Judgement) (proved : IsProved p proof a) (s : State) (names : List (List ℕ)) (left : List Numbered) → AtCount p proof s names left → AtCountOf p proof a proved s names left
-header_on p proof a proved s names left at =
+header_on : (p : Opb) (proof : List ℕ) (a : Judgement) (proved : IsProved p proof a) (names : List (List ℕ)) (left : List Numbered) → AtCount p proof names left → AtCountOf p proof a proved names left
+header_on p proof a proved names left at =
     let sp = proved.spelled in
-    let header = subst (λ n. IsLine places.Header n (words sp.header.text) lines.Header p.names) (sym at.2.1) sp.header_is in
-    let both = both_taken places.Header at.0 at.1 lines.Header lines.Header names p.names left (after_header p proof a proved) sp.header at.3 (at.2.2 ∙ sp.in_order) header in
-    record { start = at.2.0; names_are = both.0; in_order = both.2 }
+    let header = subst (λ n. IsLine places.Header n (words sp.header.text) lines.Header p.names) (sym at.2.0) sp.header_is in
+    let both = both_taken places.Header at.0 at.1 lines.Header lines.Header names p.names left (after_header p proof a proved) sp.header at.3 (at.2.1 ∙ sp.in_order) header in
+    record { names_are = both.0; in_order = both.2 }
 
-count_line : (p : Opb) (proof : List ℕ) (a : Judgement) (proved : IsProved p proof a) (s : State) (names : List (List ℕ)) (left : List Numbered) → AtCountOf p proof a proved s names left
+count_line : (p : Opb) (proof : List ℕ) (a : Judgement) (proved : IsProved p proof a) (names : List (List ℕ)) (left : List Numbered) → AtCountOf p proof a proved names left
     → IsLine places.Count names (words proved.spelled.counted.text) (lines.Count (pos (file_ids p.constraints))) p.names
-count_line p proof a proved s names left at =
+count_line p proof a proved names left at =
     let sp = proved.spelled in
     subst (λ n. IsLine places.Count n (words sp.counted.text) (lines.Count (pos (file_ids p.constraints))) p.names) (sym at.names_are) sp.count_is
 
-count_never_stops : (p : Opb) (proof : List ℕ) (a : Judgement) (proved : IsProved p proof a) (s : State) (names : List (List ℕ)) (left : List Numbered) (last line : ℕ) (code : Code) → IsRefusalCode code
-    → AtCountOf p proof a proved s names left → StopsAtCount s names left last line code → ⊥
-count_never_stops p proof a proved s names left last line code refusal at (inl unread) =
+count_never_stops : (p : Opb) (proof : List ℕ) (a : Judgement) (proved : IsProved p proof a) (names : List (List ℕ)) (left : List Numbered) (last line : ℕ) (code : Code) → IsRefusalCode code
+    → AtCountOf p proof a proved names left → StopsAtCount (file_ids p.constraints) names left last line code → ⊥
+count_never_stops p proof a proved names left last line code refusal at (inl unread) =
     unread_never places.Count names left last line code proved.spelled.counted (after_count p proof a proved) (lines.Count (pos (file_ids p.constraints))) p.names refusal at.in_order
-    (count_line p proof a proved s names left at) unread
-count_never_stops p proof a proved s names left last line code refusal at (inr why) =
-    let both = both_read places.Count names left line (lines.Count why.0) (lines.Count (pos (file_ids p.constraints))) proved.spelled.counted (after_count p proof a proved) p.names why.2 at.in_order
-    (count_line p proof a proved s names left at) in
-    why.4 (same_count why.0 (pos (file_ids p.constraints)) both ∙ ap pos (sym (counts_file p s why.1 at.start why.3)))
+    (count_line p proof a proved names left at) unread
+count_never_stops p proof a proved names left last line code refusal at (inr why) =
+    let both = both_read places.Count names left line (lines.Count why.0) (lines.Count (pos (file_ids p.constraints))) proved.spelled.counted (after_count p proof a proved) p.names why.1 at.in_order
+    (count_line p proof a proved names left at) in
+    why.2 (same_count why.0 (pos (file_ids p.constraints)) both)
   where
     same_count : (x y : ℤ) → lines.Count x ≡ lines.Count y → x ≡ y
     same_count x y e = cc
@@ -303,9 +301,9 @@ rest_of : (p : Opb) (proof : List ℕ) (a : Judgement) (proved : IsProved p proo
     → AtSteps p proof t names left → Rest p a t names left
 rest_of p proof a proved t names left kinds at =
     let sp = proved.spelled in
-    let counted = header_on p proof a proved at.0 at.1 at.2 at.5 in
-    let both = both_taken places.Count at.1 at.2 (lines.Count (pos at.6.0)) (lines.Count (pos (file_ids p.constraints))) at.3 p.names at.4 (after_count p proof a proved) sp.counted at.6.2 counted.in_order
-    (count_line p proof a proved at.0 at.1 at.2 counted) in
+    let counted = header_on p proof a proved at.1 at.2 at.5 in
+    let both = both_taken places.Count at.1 at.2 (lines.Count (pos (file_ids p.constraints))) (lines.Count (pos (file_ids p.constraints))) at.3 p.names at.4 (after_count p proof a proved) sp.counted at.6 counted.in_order
+    (count_line p proof a proved at.1 at.2 counted) in
     let begun : Rest p a at.0 at.3 at.4 = record {
       steps = proved.steps;
       between = sp.between;
@@ -321,10 +319,10 @@ rest_of p proof a proved t names left kinds at =
       output_is = sp.output_is;
       conclusion_is = sp.conclusion_is;
       end_is = sp.end_is;
-      legal = subst (λ u. Leads p u proved.steps proved.legal.1) (one_start p proved.legal.0 at.0 proved.legal.2 counted.start) proved.legal.3;
+      legal = subst (λ u. Leads p u proved.steps proved.legal.1) (one_start p proved.legal.0 at.0 proved.legal.2 at.7) proved.legal.3;
       kinds = kinds;
     } in
-    let taken = at.7 in
+    let taken = at.8 in
     steps_on p a at.0 t at.3 names at.4 left taken.before taken.steps taken.in_order taken.says taken.legal begun
 
 rest_behind : (p : Opb) (proof : List ℕ) (a : Judgement) (proved : IsProved p proof a) (t : State) (names : List (List ℕ)) (left : List Numbered) → IsOfJudgedKinds proved.steps proved.legal.1 a.conclusion
@@ -351,12 +349,12 @@ end_line p proof a proved names left kinds at =
 -- where judging stops, the proof is none of the kinds that are judged
 pub stopped_never : (p : Opb) (proof : List ℕ) (line : ℕ) (code : Code) (a : Judgement) (proved : IsProved p proof a) → IsOfJudgedKinds proved.steps proved.legal.1 a.conclusion → IsRefusalCode code
     → IsStopped p proof line code → ⊥
-stopped_never p proof line code a proved kinds refusal (at_header s names left at unread) =
+stopped_never p proof line code a proved kinds refusal (at_header names left at unread) =
     let sp = proved.spelled in
-    unread_never places.Header names left (lines_of proof).last line code sp.header (after_header p proof a proved) lines.Header p.names refusal (at.2 ∙ sp.in_order)
-    (subst (λ n. IsLine places.Header n (words sp.header.text) lines.Header p.names) (sym at.1) sp.header_is) unread
-stopped_never p proof line code a proved kinds refusal (at_count s names left at why) =
-    count_never_stops p proof a proved s names left (lines_of proof).last line code refusal (header_on p proof a proved s names left at) why
+    unread_never places.Header names left (lines_of proof).last line code sp.header (after_header p proof a proved) lines.Header p.names refusal (at.1 ∙ sp.in_order)
+    (subst (λ n. IsLine places.Header n (words sp.header.text) lines.Header p.names) (sym at.0) sp.header_is) unread
+stopped_never p proof line code a proved kinds refusal (at_count names left at why) =
+    count_never_stops p proof a proved names left (lines_of proof).last line code refusal (header_on p proof a proved names left at) why
 stopped_never p proof line code a proved kinds refusal (at_step s names left at why) =
     step_never_stops p a s names left (lines_of proof).last line code refusal (rest_of p proof a proved s names left kinds at) why
 stopped_never p proof line code a proved kinds refusal (at_conclusion s names left at why) =

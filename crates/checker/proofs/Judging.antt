@@ -18,8 +18,8 @@ use Rattle.proof_text.specs.declared.line.Line.TheVariants as lines
 use Rattle.proof_text.specs.declared.line.Place.TheVariants as places
 use Rattle.checker.specs.Headline.{IsProved}
 use Rattle.proof_text.specs.ProofSpells.{AreSteps}
-use Rattle.checker.specs.Stopping.{AtCount, AtConclusion}
-use Rattle.checker.specs.Taking.{Takes, TakesCount, TakesSteps, TakesToOutput}
+use Rattle.checker.specs.Stopping.{AtCount, AtConclusion, TakesCount}
+use Rattle.checker.specs.Taking.{Takes, TakesSteps, TakesToOutput}
 
 -- a legal step behind others
 Leads-push : (p : Opb) (s t u : State) (steps : List Step) (step : Step) → Leads p s steps t → Legal p t step u → Leads p s (steps ++ step ∷ []) u
@@ -55,36 +55,40 @@ counts_file p s count start next =
     let long : length ns ≡ file_ids p.constraints = all_count p.constraints ns start.1 in
     omega (arith, next, at, long)
 
+-- the count of the code
+pub takes_count : (p : Opb) (s : State) (ids : ℕ) (old new : List (List ℕ)) (left rest : List Numbered) → IsStart p s → ids + 1 ≡ s.next → Takes places.Count old left (lines.Count (pos ids)) new rest
+    → TakesCount p old left new rest
+takes_count p s ids old new left rest start next takes = subst (λ k. Takes places.Count old left (lines.Count (pos k)) new rest) (counts_file p s ids start next) takes
+
 -- the lines of a whole proof, one after another
 pub proved_by : (p : Opb) (proof : List ℕ) (a : Judgement) (s t : State) (n1 n2 n3 n4 n5 : List (List ℕ)) (r1 r2 r3 r4 r5 : List Numbered) → IsStart p s
-    → Takes places.Header p.names (lines_of proof).lines lines.Header n1 r1 → TakesCount s n1 r1 n2 r2 → TakesToOutput p s n2 r2 t n3 r3
+    → Takes places.Header p.names (lines_of proof).lines lines.Header n1 r1 → TakesCount p n1 r1 n2 r2 → TakesToOutput p s n2 r2 t n3 r3
     → Takes places.Conclusion n3 r3 (lines.Conclusion a.conclusion) n4 r4 → Takes places.End n4 r4 lines.End n5 r5 → r5 ≡ [] → IsJustified p t a.conclusion a.best
     → IsProved p proof a
 proved_by p proof a s t n1 n2 n3 n4 n5 r1 r2 r3 r4 r5 start header counted output concluded ended none justified =
     let taken : TakesSteps p s n2 r2 t output.0 output.1 = output.2 in
     let same1 : n1 ≡ p.names = header.2.names in
-    let same2 : n2 ≡ p.names = counted.2.2.names ∙ same1 in
-    let count = counts_file p s counted.0 start counted.1 in
-    let count_line : IsLine places.Count p.names (words counted.2.0.text) (lines.Count (pos counted.0)) p.names =
-    subst (λ n. IsLine places.Count n (words counted.2.0.text) (lines.Count (pos counted.0)) p.names) same1
-    (subst (λ n. IsLine places.Count n1 (words counted.2.0.text) (lines.Count (pos counted.0)) n) same2 counted.2.2) in
+    let same2 : n2 ≡ p.names = counted.2.names ∙ same1 in
+    let count_line : IsLine places.Count p.names (words counted.0.text) (lines.Count (pos (file_ids p.constraints))) p.names =
+    subst (λ n. IsLine places.Count n (words counted.0.text) (lines.Count (pos (file_ids p.constraints))) p.names) same1
+    (subst (λ n. IsLine places.Count n1 (words counted.0.text) (lines.Count (pos (file_ids p.constraints))) n) same2 counted.2) in
     record {
       steps = taken.steps;
       spelled = record {
         header = header.0;
-        counted = counted.2.0;
+        counted = counted.0;
         output = output.3.0;
         concluded = concluded.0;
         ended = ended.0;
         between = taken.before;
-        in_order = header.1 ∙ ap (λ ls. header.0 ∷ ls) (counted.2.1 ∙ ap (λ ls. counted.2.0 ∷ ls)
+        in_order = header.1 ∙ ap (λ ls. header.0 ∷ ls) (counted.1 ∙ ap (λ ls. counted.0 ∷ ls)
             (taken.in_order ∙ ap (λ ls. taken.before ++ ls) (output.3.1 ∙ ap (λ ls. output.3.0 ∷ ls)
             (concluded.1 ∙ ap (λ ls. concluded.0 ∷ ls) (ended.1 ∙ ap (λ ls. ended.0 ∷ ls) none)))));
         named = output.0;
         after = n3;
         all = n4;
         header_is = subst (λ n. IsLine places.Header p.names (words header.0.text) lines.Header n) same1 header.2;
-        count_is = subst (λ k. IsLine places.Count p.names (words counted.2.0.text) (lines.Count (pos k)) p.names) count count_line;
+        count_is = count_line;
         steps_are = subst (λ n. AreSteps n taken.before taken.steps output.0) same2 taken.says;
         output_is = output.3.2;
         conclusion_is = concluded.2;
@@ -116,7 +120,7 @@ takes_end old new left rest line takes = subst (λ l. Takes places.End old left 
 
 -- the same in the words of the code: the names are a copy of the file's, and the kernel is that of the problem
 pub proved_from : (p q r : Opb) (proof : List ℕ) (a : Judgement) (s t : State) (n0 n1 n2 n3 n4 n5 : List (List ℕ)) (r0 r1 r2 r3 r4 r5 : List Numbered) (first last : Line) → q ≡ p → r ≡ q
-    → n0 ≡ p.names → r0 ≡ (lines_of proof).lines → IsStart p s → Takes places.Header n0 r0 first n1 r1 → TakesCount s n1 r1 n2 r2 → TakesToOutput q s n2 r2 t n3 r3
+    → n0 ≡ p.names → r0 ≡ (lines_of proof).lines → IsStart p s → Takes places.Header n0 r0 first n1 r1 → TakesCount p n1 r1 n2 r2 → TakesToOutput q s n2 r2 t n3 r3
     → Takes places.Conclusion n3 r3 (lines.Conclusion a.conclusion) n4 r4 → Takes places.End n4 r4 last n5 r5 → r5 ≡ [] → IsJustified r t a.conclusion a.best
     → IsProved p proof a
 proved_from p q r proof a s t n0 n1 n2 n3 n4 n5 r0 r1 r2 r3 r4 r5 first last same still names read start header counted output concluded ended none justified =
@@ -127,8 +131,8 @@ proved_from p q r proof a s t n0 n1 n2 n3 n4 n5 r0 r1 r2 r3 r4 r5 first last sam
     (subst (λ x. IsJustified x t a.conclusion a.best) (still ∙ same) justified)
 
 -- the conclusion stands behind the steps and the output line
-pub at_conclusion_from : (p q : Opb) (proof : List ℕ) (s t : State) (n1 n2 n3 : List (List ℕ)) (r1 r2 r3 : List Numbered) → q ≡ p → AtCount p proof s n1 r1 → TakesCount s n1 r1 n2 r2 → TakesToOutput q s n2 r2 t n3 r3
+pub at_conclusion_from : (p q : Opb) (proof : List ℕ) (s t : State) (n1 n2 n3 : List (List ℕ)) (r1 r2 r3 : List Numbered) → q ≡ p → AtCount p proof n1 r1 → IsStart p s → TakesCount p n1 r1 n2 r2 → TakesToOutput q s n2 r2 t n3 r3
     → AtConclusion p proof t n3 r3
-at_conclusion_from p q proof s t n1 n2 n3 r1 r2 r3 same at counted output =
+at_conclusion_from p q proof s t n1 n2 n3 r1 r2 r3 same at start counted output =
     let steps : TakesSteps p s n2 r2 t output.0 output.1 = subst (λ x. TakesSteps x s n2 r2 t output.0 output.1) same output.2 in
-    (output.0, output.1, (s, n1, r1, n2, r2, at, counted, steps), output.3)
+    (output.0, output.1, (s, n1, r1, n2, r2, at, counted, start, steps), output.3)

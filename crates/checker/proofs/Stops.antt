@@ -1,14 +1,15 @@
 -- Why judging stops, from the reason at a line to that of the whole proof.
 use Rattle.std.proofs.Common.{◌≡◌, ℕ, List, inr, sym, subst}
 use Rattle.linear.specs.Opb.{Opb}
-use Rattle.kernel.specs.State.{State}
+use Rattle.kernel.specs.Forms.{file_ids}
+use Rattle.kernel.specs.State.{State, IsStart}
 use Rattle.kernel.specs.declared.step.Step.{Step}
 use Rattle.proof_text.specs.Lines.{Numbered, lines_of}
 use Rattle.proof_text.specs.declared.line.Line.TheVariants as lines
 use Rattle.proof_text.specs.declared.line.Place.TheVariants as places
-use Rattle.checker.specs.Stopping.{AtHeader, AtCount, AtConclusion, AtEnd, BehindEnd, IsRead, IsUnread, IsTextAfterEnd, IsRefusedStep, StopsAtCount, StopsAtStep, StopsAmongSteps, StopsAtConclusion, IsStopped, StopsBy}
+use Rattle.checker.specs.Stopping.{AtHeader, TakesCount, AtCount, AtConclusion, AtEnd, BehindEnd, IsRead, IsUnread, IsTextAfterEnd, IsRefusedStep, StopsAtCount, StopsAtStep, StopsAmongSteps, StopsAtConclusion, IsStopped, StopsBy}
 use Rattle.checker.specs.Stopping.{at_header, at_count, at_step, at_conclusion, at_end, behind_end}
-use Rattle.checker.specs.Taking.{TakesCount, TakesSteps}
+use Rattle.checker.specs.Taking.{TakesSteps}
 use Rattle.checker.specs.declared.verdict.Code.{Code}
 use Rattle.checker.specs.declared.judge.Stop.{Stop}
 use Rattle.checker.specs.declared.judge.Stop.TheVariants as stops
@@ -33,23 +34,25 @@ stops_weaker why more (stops.At line code) part reason = part line code reason
 stops_weaker why more stops.NoMemory part reason = tt
 
 -- what stops at a place stops the proof; `last` is the line at which its text ends
-pub stops_header : (p : Opb) (proof : List ℕ) (s : State) (names : List (List ℕ)) (left : List Numbered) (last : ℕ) (stop : Stop) → AtHeader p proof s names left → last ≡ (lines_of proof).last
+pub stops_header : (p : Opb) (proof : List ℕ) (names : List (List ℕ)) (left : List Numbered) (last : ℕ) (stop : Stop) → AtHeader p proof names left → last ≡ (lines_of proof).last
     → StopsBy (IsUnread places.Header names left last) stop → StopsBy (IsStopped p proof) stop
-stops_header p proof s names left last stop at ends reason =
-    stops_weaker (IsUnread places.Header names left last) (IsStopped p proof) stop (λ line code why. at_header s names left at (subst (λ n. IsUnread places.Header names left n line code) ends why)) reason
+stops_header p proof names left last stop at ends reason =
+    stops_weaker (IsUnread places.Header names left last) (IsStopped p proof) stop (λ line code why. at_header names left at (subst (λ n. IsUnread places.Header names left n line code) ends why)) reason
 
-pub stops_count : (p : Opb) (proof : List ℕ) (s : State) (names : List (List ℕ)) (left : List Numbered) (last : ℕ) (stop : Stop) → AtCount p proof s names left → last ≡ (lines_of proof).last
-    → StopsBy (StopsAtCount s names left last) stop → StopsBy (IsStopped p proof) stop
-stops_count p proof s names left last stop at ends reason =
-    stops_weaker (StopsAtCount s names left last) (IsStopped p proof) stop (λ line code why. at_count s names left at (subst (λ n. StopsAtCount s names left n line code) ends why)) reason
+pub stops_count : (p : Opb) (proof : List ℕ) (ids : ℕ) (names : List (List ℕ)) (left : List Numbered) (last : ℕ) (stop : Stop) → AtCount p proof names left → ids ≡ file_ids p.constraints → last ≡ (lines_of proof).last
+    → StopsBy (StopsAtCount ids names left last) stop → StopsBy (IsStopped p proof) stop
+stops_count p proof ids names left last stop at file ends reason =
+    stops_weaker (StopsAtCount ids names left last) (IsStopped p proof) stop
+    (λ line code why. at_count names left at
+    (subst (λ k. StopsAtCount k names left (lines_of proof).last line code) file (subst (λ n. StopsAtCount ids names left n line code) ends why))) reason
 
 -- the steps begin behind the count line, in the state of the file
-pub stops_steps : (p q : Opb) (proof : List ℕ) (s : State) (names counted : List (List ℕ)) (left behind : List Numbered) (last : ℕ) (stop : Stop) → q ≡ p → AtCount p proof s names left
-    → TakesCount s names left counted behind → last ≡ (lines_of proof).last → StopsBy (StopsAmongSteps q s counted behind last) stop → StopsBy (IsStopped p proof) stop
-stops_steps p q proof s names counted left behind last stop same at takes ends reason =
+pub stops_steps : (p q : Opb) (proof : List ℕ) (s : State) (names counted : List (List ℕ)) (left behind : List Numbered) (last : ℕ) (stop : Stop) → q ≡ p → AtCount p proof names left
+    → IsStart p s → TakesCount p names left counted behind → last ≡ (lines_of proof).last → StopsBy (StopsAmongSteps q s counted behind last) stop → StopsBy (IsStopped p proof) stop
+stops_steps p q proof s names counted left behind last stop same at start takes ends reason =
     stops_weaker (StopsAmongSteps q s counted behind last) (IsStopped p proof) stop
     (λ line code why. let w = subst (λ n. StopsAmongSteps p s counted behind n line code) ends (subst (λ x. StopsAmongSteps x s counted behind last line code) same why) in
-    at_step w.0 w.1 w.2 (s, names, left, counted, behind, at, takes, w.3) w.4) reason
+    at_step w.0 w.1 w.2 (s, names, left, counted, behind, at, takes, start, w.3) w.4) reason
 
 pub stops_conclusion : (p : Opb) (proof : List ℕ) (t : State) (names : List (List ℕ)) (left : List Numbered) (last : ℕ) (stop : Stop) → AtConclusion p proof t names left → last ≡ (lines_of proof).last
     → StopsBy (StopsAtConclusion t names left last) stop → StopsBy (IsStopped p proof) stop

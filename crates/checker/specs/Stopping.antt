@@ -1,8 +1,9 @@
 -- Where judging a proof stops, and why: the lines before one are read and legal, and that one is not.
-use Rattle.std.specs.Prelude.{◌≡◌, ◌≢◌, ℕ, ℤ, pos, ◌+◌, ◌⊎◌, Bool, Option, List, [], ◌∷◌, Any, ⊤}
+use Rattle.std.specs.Prelude.{◌≡◌, ◌≢◌, ℕ, ℤ, pos, ◌⊎◌, Bool, Option, List, [], ◌∷◌, Any, ⊤}
 use Rattle.linear.specs.Opb.{Opb}
 use Rattle.kernel.specs.Contradiction.{IsContradiction}
 use Rattle.kernel.specs.Fault.{OrMemory, IsStepFault}
+use Rattle.kernel.specs.Forms.{file_ids}
 use Rattle.kernel.specs.Held.{IsJudgedStep, IsJudged}
 use Rattle.kernel.specs.Justified.{IsJustified}
 use Rattle.kernel.specs.State.{State, IsStart, constraints}
@@ -21,25 +22,29 @@ use Rattle.proof_text.specs.declared.line.Line.{Line}
 use Rattle.proof_text.specs.declared.line.Line.TheVariants as lines
 use Rattle.proof_text.specs.declared.line.Place.{Place}
 use Rattle.proof_text.specs.declared.line.Place.TheVariants as places
-use Rattle.checker.specs.Taking.{Takes, TakesCount, TakesSteps}
+use Rattle.checker.specs.Taking.{Takes, TakesSteps}
 use Rattle.checker.specs.declared.judge.Stop.{Stop}
 use Rattle.checker.specs.declared.judge.Stop.TheVariants as stops
 use Rattle.checker.specs.declared.verdict.Code.{Code}
 use Rattle.checker.specs.declared.verdict.Code.TheVariants.{Reading, Judging}
 
--- What stands at a place of a proof where all before it is read and legal: the state, the table of names, and the lines
--- that are left.
-abbrev pub AtHeader : Opb → List ℕ → State → List (List ℕ) → List Numbered → Type 0
-AtHeader p proof s names left = IsStart p s × (names ≡ p.names) × (left ≡ (lines_of proof).lines)
+-- What stands at a place of a proof where all before it is read and legal: the table of names, the lines that are left, and
+-- among the steps and behind them the state.
+abbrev pub AtHeader : Opb → List ℕ → List (List ℕ) → List Numbered → Type 0
+AtHeader p proof names left = (names ≡ p.names) × (left ≡ (lines_of proof).lines)
 
-abbrev pub AtCount : Opb → List ℕ → State → List (List ℕ) → List Numbered → Type 0
-AtCount p proof s names left =
-    (old : List (List ℕ)) × (before : List Numbered) × AtHeader p proof s old before × Takes places.Header old before lines.Header names left
+abbrev pub AtCount : Opb → List ℕ → List (List ℕ) → List Numbered → Type 0
+AtCount p proof names left =
+    (old : List (List ℕ)) × (before : List Numbered) × AtHeader p proof old before × Takes places.Header old before lines.Header names left
+
+-- the count is that of the file's constraints, an equality counted twice
+abbrev pub TakesCount : Opb → List (List ℕ) → List Numbered → List (List ℕ) → List Numbered → Type 0
+TakesCount p old left new rest = Takes places.Count old left (lines.Count (pos (file_ids p.constraints))) new rest
 
 abbrev pub AtSteps : Opb → List ℕ → State → List (List ℕ) → List Numbered → Type 0
 AtSteps p proof t names left =
     (s : State) × (old : List (List ℕ)) × (before : List Numbered) × (counted : List (List ℕ)) × (behind : List Numbered)
-    × AtCount p proof s old before × TakesCount s old before counted behind × TakesSteps p s counted behind t names left
+    × AtCount p proof old before × TakesCount p old before counted behind × IsStart p s × TakesSteps p s counted behind t names left
 
 abbrev pub AtConclusion : Opb → List ℕ → State → List (List ℕ) → List Numbered → Type 0
 AtConclusion p proof t names left =
@@ -65,10 +70,10 @@ abbrev pub IsRead : Place → List (List ℕ) → List Numbered → ℕ → Line
 IsRead place names left line said =
     (l : Numbered) × (rest : List Numbered) × (new : List (List ℕ)) × (left ≡ l ∷ rest) × (line ≡ l.number) × IsLine place names (words l.text) said new
 
--- the count is not that of the ids given so far
-abbrev pub IsMiscounted : State → List (List ℕ) → List Numbered → ℕ → Code → Type 0
-IsMiscounted s names left line code =
-    (count : ℤ) × (ids : ℕ) × IsRead places.Count names left line (lines.Count count) × (ids + 1 ≡ s.next) × (count ≢ pos ids) × (code ≡ Reading readings.BadCount)
+-- another count than this is given
+abbrev pub IsMiscounted : ℕ → List (List ℕ) → List Numbered → ℕ → Code → Type 0
+IsMiscounted ids names left line code =
+    (count : ℤ) × IsRead places.Count names left line (lines.Count count) × (count ≢ pos ids) × (code ≡ Reading readings.BadCount)
 
 -- a step is of a kind that is not judged yet, or has a fault
 abbrev pub IsRefusedStep : Opb → State → Step → Code → Type 0
@@ -83,8 +88,8 @@ IsRefusedConclusion s c code =
     ⊎ ((code ≡ Judging judgings.LowerNotShown) × (c ≡ conclusions.Unsat) × (Any IsContradiction (constraints s) → ⊥))
 
 -- why judging stops at each place
-abbrev pub StopsAtCount : State → List (List ℕ) → List Numbered → ℕ → ℕ → Code → Type 0
-StopsAtCount s names left last line code = IsUnread places.Count names left last line code ⊎ IsMiscounted s names left line code
+abbrev pub StopsAtCount : ℕ → List (List ℕ) → List Numbered → ℕ → ℕ → Code → Type 0
+StopsAtCount ids names left last line code = IsUnread places.Count names left last line code ⊎ IsMiscounted ids names left line code
 
 abbrev pub StopsAtStep : Opb → State → List (List ℕ) → List Numbered → ℕ → ℕ → Code → Type 0
 StopsAtStep p s names left last line code =
@@ -109,10 +114,10 @@ StopsAmongSteps p s names left last line code =
 -- Judging the proof of a problem stops at this line with this code: at the header, the count, a step, the conclusion, the
 -- end line, or behind it.
 pub data IsStopped (p : Opb) (proof : List ℕ) (line : ℕ) (code : Code) : Type 0 where
-  at_header : (s : State) (names : List (List ℕ)) (left : List Numbered) → AtHeader p proof s names left
+  at_header : (names : List (List ℕ)) (left : List Numbered) → AtHeader p proof names left
       → IsUnread places.Header names left (lines_of proof).last line code → IsStopped p proof line code
-  at_count : (s : State) (names : List (List ℕ)) (left : List Numbered) → AtCount p proof s names left
-      → StopsAtCount s names left (lines_of proof).last line code → IsStopped p proof line code
+  at_count : (names : List (List ℕ)) (left : List Numbered) → AtCount p proof names left
+      → StopsAtCount (file_ids p.constraints) names left (lines_of proof).last line code → IsStopped p proof line code
   at_step : (s : State) (names : List (List ℕ)) (left : List Numbered) → AtSteps p proof s names left
       → StopsAtStep p s names left (lines_of proof).last line code → IsStopped p proof line code
   at_conclusion : (s : State) (names : List (List ℕ)) (left : List Numbered) → AtConclusion p proof s names left

@@ -1,5 +1,5 @@
 -- What the judge takes from the lines of a proof that are left.
-use Rattle.std.specs.Prelude.{◌≡◌, ℕ, pos, ◌+◌, List, ◌∷◌, ◌++◌}
+use Rattle.std.specs.Prelude.{◌≡◌, ℕ, List, ◌∷◌, ◌++◌}
 use Rattle.linear.specs.Opb.{Opb}
 use Rattle.kernel.specs.State.{State}
 use Rattle.kernel.specs.Legal.{Legal, Leads}
@@ -18,10 +18,6 @@ use Rattle.checker.specs.declared.judge.Taken.TheVariants as taken
 -- the next line, which says this at its place
 abbrev pub Takes : Place → List (List ℕ) → List Numbered → Line → List (List ℕ) → List Numbered → Type 0
 Takes place old left line new rest = (l : Numbered) × (left ≡ l ∷ rest) × IsLine place old (words l.text) line new
-
--- the count line, which gives the number of the ids that a state has given
-abbrev pub TakesCount : State → List (List ℕ) → List Numbered → List (List ℕ) → List Numbered → Type 0
-TakesCount s old left new rest = (count : ℕ) × (count + 1 ≡ s.next) × Takes places.Count old left (lines.Count (pos count)) new rest
 
 -- the next line among the steps: a legal step, or the output line
 abbrev pub TakesLine : Opb → State → List (List ℕ) → List Numbered → Taken → State → List (List ℕ) → List Numbered → Type 0

@@ -1,13 +1,13 @@
 //! Judging a proof line by line: each line is read and then judged, so the first line with a fault decides.
 
-ghost use Rattle.std.specs.Prelude.{◌≡◌, ◌↔◌, [], IfOk, IfErr, OnOk, IsTrue};
+ghost use Rattle.std.specs.Prelude.{◌≡◌, ◌↔◌, pos, [], IfOk, IfErr, OnOk, IsTrue};
 ghost use Rattle.kernel.specs.Claim.{Claim};
 ghost use Rattle.kernel.specs.Held.{IsJudgedStep, IsJudged};
 ghost use Rattle.kernel.specs.Justified.{IsJustified};
 ghost use Rattle.kernel.specs.Legal.{Legal};
 ghost use Rattle.checker.specs.Headline.{IsProved};
 ghost use Rattle.checker.specs.Stopping.{IsRead, IsUnread, IsTextAfterEnd, IsRefusedStep, IsStopped, StopsBy, StopsAtCount, StopsAtStep, StopsAmongSteps, StopsAtConclusion};
-ghost use Rattle.checker.specs.Taking.{Takes, TakesCount, TakesLine, TakesToOutput};
+ghost use Rattle.checker.specs.Taking.{Takes, TakesLine, TakesToOutput};
 
 use super::verdict::Code;
 use kernel::{Accepted, Conclusion, Kernel, Step, StepFault};
@@ -116,7 +116,7 @@ pub(crate) fn judge(alloc: Global, problem: &Problem, proof: &[u8]) -> Result<Ac
         names: problem.names().copy(alloc)?,
     };
     lines.next(Place::Header)?;
-    judge_count(&mut lines, &kernel)?;
+    judge_count(&mut lines, kernel.given())?;
     judge_steps(&mut lines, &mut kernel)?;
     let accepted = judge_conclusion(&mut lines, &mut kernel)?;
     lines.next(Place::End)?;
@@ -125,16 +125,16 @@ pub(crate) fn judge(alloc: Global, problem: &Problem, proof: &[u8]) -> Result<Ac
 }
 
 /// The count line gives the number of the file's constraints, an equality counted twice.
-fn judge_count(lines: &mut Lines<'_>, kernel: &Kernel) -> Result<(), Stop>
-    ensures count { OnOk result (TakesCount kernel.now.state lines.old.names lines.old.reader.lines lines.new.names lines.new.reader.lines) }
+fn judge_count(lines: &mut Lines<'_>, given: usize) -> Result<(), Stop>
+    ensures count { OnOk result (Takes Place.Count lines.old.names lines.old.reader.lines (Line.Count (pos given)) lines.new.names lines.new.reader.lines) }
     ensures last { lines.new.reader.last ≡ lines.old.reader.last }
-    ensures stop { IfErr result (StopsBy (StopsAtCount kernel.now.state lines.old.names lines.old.reader.lines lines.old.reader.last)) }
+    ensures stop { IfErr result (StopsBy (StopsAtCount given lines.old.names lines.old.reader.lines lines.old.reader.last)) }
 {
     let Read { number, line } = lines.next(Place::Count)?;
     let Line::Count(count) = line else {
         unreachable!();
     };
-    if count != kernel.given() as i128 {
+    if count != given as i128 {
         return Err(stop_reading(number, ProofFault::BadCount));
     }
     Ok(())
