@@ -99,4 +99,19 @@ impl<'a> Stack<'a> {
             Operand::Made(constraint) => constraint,
         }
     }
+
+    /// The constraint that an operand names, to keep: a result is handed over as it is, a live constraint is copied.
+    pub(crate) fn owned_constraint(
+        &self,
+        alloc: Global,
+        operand: Operand,
+    ) -> Result<Normal, AllocError>
+        requires { IsThere self.now.live operand }
+        ensures { IfOk result (λ n. n ≡ operand_value self.now.live operand) }
+    {
+        match operand {
+            Operand::Live(place) => self.live[place].copy(alloc),
+            Operand::Made(constraint) => Ok(constraint),
+        }
+    }
 }
