@@ -1,4 +1,4 @@
-//! The stack of a `pol` step. A live constraint that an item cites is only read, and not copied.
+//! The stack of a `pol` step. A live constraint that an item cites is only read; it is copied where it is the value itself.
 
 use normal_form::Normal;
 use smallvec::SmallVec;
