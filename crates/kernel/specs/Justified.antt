@@ -70,5 +70,9 @@ abbrev pub IsJustified : Opb → State → Conclusion → Option (List Bool) →
 IsJustified p s c best = (t : State) × TakesHint p s (hint_of c) t × Entitles p t c × IsBest p t.logged best
 
 -- the steps lead from the file to a state that entitles to the conclusion
-abbrev pub IsLegalProof : Opb → List Step → Conclusion → Option (List Bool) → Type 0
-IsLegalProof p steps c best = (start : State) × (end : State) × IsStart p start × Leads p start steps end × IsJustified p end c best
+pub record IsLegalProof (p : Opb) (steps : List Step) (c : Conclusion) (best : Option (List Bool)) : Type 0 where
+  pub start : State
+  pub end : State
+  pub starts : IsStart p start
+  pub leads : Leads p start steps end
+  pub justified : IsJustified p end c best

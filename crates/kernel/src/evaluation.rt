@@ -27,7 +27,7 @@ pub(crate) fn evaluate(alloc: Global, live: &[Normal], items: &[Item]) -> Result
     only(alloc, &mut stack)
 }
 
-/// The one constraint on the stack.
+/// The one constraint on the stack. A result is not copied.
 fn only(alloc: Global, stack: &mut Stack<'_>) -> Result<Normal, StepFault>
     ensures one { IfOk result (λ n. stack.old.stack ≡ n ∷ []) }
     ensures fault { IfErr result (λ f. OrMemory f ((f ≡ StepFault.StackShape) × (length stack.old.stack ≢ 1))) }
@@ -38,7 +38,7 @@ fn only(alloc: Global, stack: &mut Stack<'_>) -> Result<Normal, StepFault>
     if stack.pop().is_some() {
         return Err(StepFault::StackShape);
     }
-    Ok(stack.constraint(&top).copy(alloc)?)
+    Ok(stack.owned_constraint(alloc, top)?)
 }
 
 /// What one item does to the stack.

@@ -12,6 +12,8 @@ mod kernel;
 pub mod laws;
 mod stack;
 mod step;
+#[cfg(test)]
+mod tests;
 
 pub use accepted::Accepted;
 pub use conclusion::{Conclusion, Lower, Upper};

@@ -1,4 +1,4 @@
-//! The stack of a `pol` step. A live constraint that an item cites is only read, and not copied.
+//! The stack of a `pol` step. A live constraint that an item cites is only read; it is copied where it is the value itself.
 
 use normal_form::Normal;
 use smallvec::SmallVec;
@@ -97,6 +97,21 @@ impl<'a> Stack<'a> {
         match operand {
             Operand::Live(place) => &self.live[*place],
             Operand::Made(constraint) => constraint,
+        }
+    }
+
+    /// The constraint that an operand names, to keep: a result is handed over as it is, a live constraint is copied.
+    pub(crate) fn owned_constraint(
+        &self,
+        alloc: Global,
+        operand: Operand,
+    ) -> Result<Normal, AllocError>
+        requires { IsThere self.now.live operand }
+        ensures { IfOk result (λ n. n ≡ operand_value self.now.live operand) }
+    {
+        match operand {
+            Operand::Live(place) => self.live[place].copy(alloc),
+            Operand::Made(constraint) => Ok(constraint),
         }
     }
 }

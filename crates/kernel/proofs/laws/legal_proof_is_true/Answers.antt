@@ -4,6 +4,6 @@ use Rattle.kernel.proofs.Preserving.{steps_preserve}
 use Rattle.kernel.proofs.laws.legal_proof_is_true.Goals as goal
 
 pub returns : goal.returns
-returns _ p steps c best (start, end, is_start, leads, justified) =
-    let kept = steps_preserve p start steps end (start_preserved p start is_start) (start_normal p start is_start) leads in
-    justified_claim p end c best kept.0 kept.1 justified
+returns _ p steps c best proof =
+    let kept = steps_preserve p proof.start steps proof.end (start_preserved p proof.start proof.starts) (start_normal p proof.start proof.starts) proof.leads in
+    justified_claim p proof.end c best kept.0 kept.1 proof.justified
