@@ -21,3 +21,4 @@ pub mod ReadBack
 pub mod LinesBack
 pub mod EndBack
 mod Examples
+mod TextExamples
