@@ -20,3 +20,5 @@ pub mod Named
 pub mod ReadBack
 pub mod LinesBack
 pub mod EndBack
+mod Examples
+mod TextExamples
