@@ -1,6 +1,6 @@
 # The door for people. `make` builds the programs into bin/, from nothing too; `make test` runs the gate: every proof from
 # nothing, the edits that must fail, and the tests; `make demo` runs the checker on three pigeons in two holes.
-.PHONY: all test demo check layout refused-growths statuses
+.PHONY: all test demo check layout refused-growths statuses figures
 
 all: bin/pbcheck
 
@@ -32,3 +32,7 @@ refused-growths: bin/pbcheck
 # Exit statuses and texts, failing reads and writes among them. Beside the gate: it wants a C compiler.
 statuses: bin/pbcheck
 	scripts/statuses
+
+# Times the checker on large problems and proofs.
+figures: bin/pbcheck
+	scripts/figures

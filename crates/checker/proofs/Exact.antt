@@ -297,7 +297,7 @@ count_never_stops p proof a proved names left last line code refusal at (inr why
     same_count x y e = cc
 
 -- what is left among the steps
-rest_of : (p : Opb) (proof : List ℕ) (a : Judgement) (proved : IsProved p proof a) (t : State) (names : List (List ℕ)) (left : List Numbered) → IsOfJudgedKinds proved.steps proved.legal.1 a.conclusion
+rest_of : (p : Opb) (proof : List ℕ) (a : Judgement) (proved : IsProved p proof a) (t : State) (names : List (List ℕ)) (left : List Numbered) → IsOfJudgedKinds proved.steps proved.legal.end a.conclusion
     → AtSteps p proof t names left → Rest p a t names left
 rest_of p proof a proved t names left kinds at =
     let sp = proved.spelled in
@@ -313,19 +313,19 @@ rest_of p proof a proved t names left kinds at =
       named = sp.named;
       after = sp.after;
       all = sp.all;
-      end = proved.legal.1;
+      end = proved.legal.end;
       in_order = both.2;
       says = subst (λ n. AreSteps n sp.between proved.steps sp.named) (sym both.0) sp.steps_are;
       output_is = sp.output_is;
       conclusion_is = sp.conclusion_is;
       end_is = sp.end_is;
-      legal = subst (λ u. Leads p u proved.steps proved.legal.1) (one_start p proved.legal.0 at.0 proved.legal.2 at.7) proved.legal.3;
+      legal = subst (λ u. Leads p u proved.steps proved.legal.end) (one_start p proved.legal.start at.0 proved.legal.starts at.7) proved.legal.leads;
       kinds = kinds;
     } in
     let taken = at.8 in
     steps_on p a at.0 t at.3 names at.4 left taken.before taken.steps taken.in_order taken.says taken.legal begun
 
-rest_behind : (p : Opb) (proof : List ℕ) (a : Judgement) (proved : IsProved p proof a) (t : State) (names : List (List ℕ)) (left : List Numbered) → IsOfJudgedKinds proved.steps proved.legal.1 a.conclusion
+rest_behind : (p : Opb) (proof : List ℕ) (a : Judgement) (proved : IsProved p proof a) (t : State) (names : List (List ℕ)) (left : List Numbered) → IsOfJudgedKinds proved.steps proved.legal.end a.conclusion
     → AtConclusion p proof t names left → RestBehind a t names left
 rest_behind p proof a proved t names left kinds at = output_on p a t at.0 names at.1 left at.3 (rest_of p proof a proved t at.0 at.1 kinds at.2)
 
@@ -335,7 +335,7 @@ record AtEndLine (names : List (List ℕ)) (left : List Numbered) : Type 0 where
   in_order : left ≡ ended ∷ []
   end_is : IsLine places.End names (words ended.text) lines.End names
 
-end_line : (p : Opb) (proof : List ℕ) (a : Judgement) (proved : IsProved p proof a) (names : List (List ℕ)) (left : List Numbered) → IsOfJudgedKinds proved.steps proved.legal.1 a.conclusion → AtEnd p proof names left
+end_line : (p : Opb) (proof : List ℕ) (a : Judgement) (proved : IsProved p proof a) (names : List (List ℕ)) (left : List Numbered) → IsOfJudgedKinds proved.steps proved.legal.end a.conclusion → AtEnd p proof names left
     → AtEndLine names left
 end_line p proof a proved names left kinds at =
     let r = rest_behind p proof a proved at.0 at.1 at.2 kinds at.5 in
@@ -347,7 +347,7 @@ end_line p proof a proved names left kinds at =
     }
 
 -- where judging stops, the proof is none of the kinds that are judged
-pub stopped_never : (p : Opb) (proof : List ℕ) (line : ℕ) (code : Code) (a : Judgement) (proved : IsProved p proof a) → IsOfJudgedKinds proved.steps proved.legal.1 a.conclusion → IsRefusalCode code
+pub stopped_never : (p : Opb) (proof : List ℕ) (line : ℕ) (code : Code) (a : Judgement) (proved : IsProved p proof a) → IsOfJudgedKinds proved.steps proved.legal.end a.conclusion → IsRefusalCode code
     → IsStopped p proof line code → ⊥
 stopped_never p proof line code a proved kinds refusal (at_header names left at unread) =
     let sp = proved.spelled in

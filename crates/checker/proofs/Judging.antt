@@ -94,7 +94,7 @@ proved_by p proof a s t n1 n2 n3 n4 n5 r1 r2 r3 r4 r5 start header counted outpu
         conclusion_is = concluded.2;
         end_is = subst (λ n. IsLine places.End n4 (words ended.0.text) lines.End n) ended.2.names ended.2;
       };
-      legal = (s, t, start, taken.legal, justified);
+      legal = record { start = s; end = t; starts = start; leads = taken.legal; justified = justified };
     }
 
 -- a line at the header's place, or at the end's, says one thing

@@ -117,40 +117,40 @@ all_items : Spells StepPlace (codes "pol 1 2 + 3 d s x3 w ~x1 4 * ;")
     (lines.Step (steps.Pol (Id (pos 1) ∷ Id (pos 2) ∷ Add ∷ Divide (pos 3) ∷ Saturate ∷ Weaken (variable 2) ∷ Axiom (negated 0) ∷ Multiply (pos 4) ∷ [])))
     (codes "x1" ∷ codes "x2" ∷ codes "x3" ∷ [])
 unfolding words step_of counted rule_of lexemes lexemes_from kind_of kind_of_word integer_word literal_word is_misspelt is_name integer_size integer_value
-all_items = record { names = refl; says = refl; proper = tt; small = all_small (measured StepPlace (words (codes "pol 1 2 + 3 d s x3 w ~x1 4 * ;"))) refl }
+all_items = record { names = refl; few = omega arith; says = refl; proper = tt; small = all_small (measured StepPlace (words (codes "pol 1 2 + 3 d s x3 w ~x1 4 * ;"))) refl }
 
 -- the short word, leading zeros, an id from the end, and no space before `;`
 dense : Spells StepPlace (codes "p 007 -1 +;") (lines.Step (steps.Pol (Id (pos 7) ∷ Id (minus 1) ∷ Add ∷ []))) file
 unfolding words step_of counted rule_of lexemes lexemes_from kind_of kind_of_word integer_word literal_word is_misspelt is_name integer_size integer_value
-dense = record { names = refl; says = refl; proper = tt; small = all_small (measured StepPlace (words (codes "p 007 -1 +;"))) refl }
+dense = record { names = refl; few = omega arith; says = refl; proper = tt; small = all_small (measured StepPlace (words (codes "p 007 -1 +;"))) refl }
 
 -- an integer before `d` is its factor
 factor : Spells StepPlace (codes "pol 1 d") (lines.Step (steps.Pol (Divide (pos 1) ∷ []))) file
 unfolding words step_of counted rule_of lexemes lexemes_from kind_of kind_of_word integer_word literal_word is_misspelt is_name integer_size integer_value
-factor = record { names = refl; says = refl; proper = tt; small = all_small (measured StepPlace (words (codes "pol 1 d"))) refl }
+factor = record { names = refl; few = omega arith; says = refl; proper = tt; small = all_small (measured StepPlace (words (codes "pol 1 d"))) refl }
 
 -- there may be no items
 no_items : Spells StepPlace (codes "pol") (lines.Step (steps.Pol [])) file
 unfolding words step_of counted rule_of lexemes lexemes_from kind_of kind_of_word integer_word literal_word is_misspelt is_name integer_size integer_value
-no_items = record { names = refl; says = refl; proper = tt; small = all_small (measured StepPlace (words (codes "pol"))) refl }
+no_items = record { names = refl; few = omega arith; says = refl; proper = tt; small = all_small (measured StepPlace (words (codes "pol"))) refl }
 
 -- a name before `w` belongs to it, and one before `s` does not
 axiom_alone : Spells StepPlace (codes "pol x1 s x2 w") (lines.Step (steps.Pol (Axiom (plain 0) ∷ Saturate ∷ Weaken (variable 1) ∷ []))) file
 unfolding words step_of counted rule_of lexemes lexemes_from kind_of kind_of_word integer_word literal_word is_misspelt is_name integer_size integer_value
-axiom_alone = record { names = refl; says = refl; proper = tt; small = all_small (measured StepPlace (words (codes "pol x1 s x2 w"))) refl }
+axiom_alone = record { names = refl; few = omega arith; says = refl; proper = tt; small = all_small (measured StepPlace (words (codes "pol x1 s x2 w"))) refl }
 
 -- names are numbered behind those of the file, in order of first occurrence
 in_order : Spells StepPlace (codes "pol zz ~x2 yy zz ~xx")
     (lines.Step (steps.Pol (Axiom (plain 2) ∷ Axiom (negated 1) ∷ Axiom (plain 3) ∷ Axiom (plain 2) ∷ Axiom (negated 4) ∷ [])))
     (codes "x1" ∷ codes "x2" ∷ codes "zz" ∷ codes "yy" ∷ codes "xx" ∷ [])
 unfolding words step_of counted rule_of lexemes lexemes_from kind_of kind_of_word integer_word literal_word is_misspelt is_name integer_size integer_value
-in_order = record { names = refl; says = refl; proper = tt; small = all_small (measured StepPlace (words (codes "pol zz ~x2 yy zz ~xx"))) refl }
+in_order = record { names = refl; few = omega arith; says = refl; proper = tt; small = all_small (measured StepPlace (words (codes "pol zz ~x2 yy zz ~xx"))) refl }
 
 -- an integer may be as large as 2^120
 largest : Spells StepPlace (codes "pol 1 -1329227995784915872903807060280344576 *")
     (lines.Step (steps.Pol (Id (pos 1) ∷ Multiply (minus (2 ^ 120)) ∷ []))) file
 unfolding words step_of counted rule_of lexemes lexemes_from kind_of kind_of_word integer_word literal_word is_misspelt is_name integer_size integer_value
-largest = record { names = refl; says = refl; proper = tt; small = all_small (measured StepPlace (words (codes "pol 1 -1329227995784915872903807060280344576 *"))) refl }
+largest = record { names = refl; few = omega arith; says = refl; proper = tt; small = all_small (measured StepPlace (words (codes "pol 1 -1329227995784915872903807060280344576 *"))) refl }
 
 -- nor larger
 too_large : SpellsNothing StepPlace (codes "pol 1 1329227995784915872903807060280344577 *")
@@ -210,23 +210,23 @@ too_late = nothing ConclusionPlace (codes "pol 1") (λ names. refl)
 hints : Spells StepPlace (codes "rup 1 x1 1 x2 >= 1 ; 7 ~ 99")
     (lines.Step (steps.Rup (at_least (term (pos 1) (plain 0) ∷ term (pos 1) (plain 1) ∷ []) (pos 1)))) file
 unfolding words step_of counted rule_of lexemes lexemes_from kind_of kind_of_word integer_word literal_word is_misspelt is_name integer_size integer_value
-hints = record { names = refl; says = refl; proper = tt; small = all_small (measured StepPlace (words (codes "rup 1 x1 1 x2 >= 1 ; 7 ~ 99"))) refl }
+hints = record { names = refl; few = omega arith; says = refl; proper = tt; small = all_small (measured StepPlace (words (codes "rup 1 x1 1 x2 >= 1 ; 7 ~ 99"))) refl }
 
 -- it brings no name, and its integers may be of any size
 hinted_names : Spells StepPlace (codes "u 1 x1 1 x2 >= 1 ; x3 1329227995784915872903807060280344577")
     (lines.Step (steps.Rup (at_least (term (pos 1) (plain 0) ∷ term (pos 1) (plain 1) ∷ []) (pos 1)))) file
 unfolding words step_of counted rule_of lexemes lexemes_from kind_of kind_of_word integer_word literal_word is_misspelt is_name integer_size integer_value
-hinted_names = record { names = refl; says = refl; proper = tt; small = all_small (measured StepPlace (words (codes "u 1 x1 1 x2 >= 1 ; x3 1329227995784915872903807060280344577"))) refl }
+hinted_names = record { names = refl; few = omega arith; says = refl; proper = tt; small = all_small (measured StepPlace (words (codes "u 1 x1 1 x2 >= 1 ; x3 1329227995784915872903807060280344577"))) refl }
 
 -- terms stay as they are written
 any_terms : Spells StepPlace (codes "rup 0 x2 -2 ~x2 +3 x2 >= -0 ;")
     (lines.Step (steps.Rup (at_least (term (pos 0) (plain 1) ∷ term (minus 2) (negated 1) ∷ term (pos 3) (plain 1) ∷ []) (pos 0)))) file
 unfolding words step_of counted rule_of lexemes lexemes_from kind_of kind_of_word integer_word literal_word is_misspelt is_name integer_size integer_value
-any_terms = record { names = refl; says = refl; proper = tt; small = all_small (measured StepPlace (words (codes "rup 0 x2 -2 ~x2 +3 x2 >= -0 ;"))) refl }
+any_terms = record { names = refl; few = omega arith; says = refl; proper = tt; small = all_small (measured StepPlace (words (codes "rup 0 x2 -2 ~x2 +3 x2 >= -0 ;"))) refl }
 
 no_terms : Spells StepPlace (codes "rup >= 1 ;") (lines.Step (steps.Rup (at_least [] (pos 1)))) file
 unfolding words step_of counted rule_of lexemes lexemes_from kind_of kind_of_word integer_word literal_word is_misspelt is_name integer_size integer_value
-no_terms = record { names = refl; says = refl; proper = tt; small = all_small (measured StepPlace (words (codes "rup >= 1 ;"))) refl }
+no_terms = record { names = refl; few = omega arith; says = refl; proper = tt; small = all_small (measured StepPlace (words (codes "rup >= 1 ;"))) refl }
 
 -- no constraint of a proof is `=`
 equality : SpellsNothing StepPlace (codes "rup 1 x1 = 1 ;")
@@ -259,24 +259,24 @@ two_right_sides = nothing StepPlace (codes "rup 1 x1 >= 1 1 ;") (λ names. refl)
 no_arrow : Spells StepPlace (codes "red 1 x1 >= 1 ; x1 1")
     (lines.Step (steps.Red (at_least (term (pos 1) (plain 0) ∷ []) (pos 1)) ((variable 0, images.One) ∷ []))) file
 unfolding words step_of counted rule_of lexemes lexemes_from kind_of kind_of_word integer_word literal_word is_misspelt is_name integer_size integer_value
-no_arrow = record { names = refl; says = refl; proper = one_left images.One; small = all_small (measured StepPlace (words (codes "red 1 x1 >= 1 ; x1 1"))) refl }
+no_arrow = record { names = refl; few = omega arith; says = refl; proper = one_left images.One; small = all_small (measured StepPlace (words (codes "red 1 x1 >= 1 ; x1 1"))) refl }
 
 arrow : Spells StepPlace (codes "red 1 x1 >= 1 ; x1 -> 1")
     (lines.Step (steps.Red (at_least (term (pos 1) (plain 0) ∷ []) (pos 1)) ((variable 0, images.One) ∷ []))) file
 unfolding words step_of counted rule_of lexemes lexemes_from kind_of kind_of_word integer_word literal_word is_misspelt is_name integer_size integer_value
-arrow = record { names = refl; says = refl; proper = one_left images.One; small = all_small (measured StepPlace (words (codes "red 1 x1 >= 1 ; x1 -> 1"))) refl }
+arrow = record { names = refl; few = omega arith; says = refl; proper = one_left images.One; small = all_small (measured StepPlace (words (codes "red 1 x1 >= 1 ; x1 -> 1"))) refl }
 
 -- each kind of image, and the closing `;`
 every_image : Spells StepPlace (codes "red 1 x1 >= 1 ; x1 -> ~x3 x3 -> x2 x2 0 ;")
     (lines.Step (steps.Red (at_least (term (pos 1) (plain 0) ∷ []) (pos 1)) ((variable 0, images.Lit (negated 2)) ∷ (variable 2, images.Lit (plain 1)) ∷ (variable 1, images.Zero) ∷ [])))
     (codes "x1" ∷ codes "x2" ∷ codes "x3" ∷ [])
 unfolding words step_of counted rule_of lexemes lexemes_from kind_of kind_of_word integer_word literal_word is_misspelt is_name integer_size integer_value
-every_image = record { names = refl; says = refl; proper = three_left _ _ _; small = all_small (measured StepPlace (words (codes "red 1 x1 >= 1 ; x1 -> ~x3 x3 -> x2 x2 0 ;"))) refl }
+every_image = record { names = refl; few = omega arith; says = refl; proper = three_left _ _ _; small = all_small (measured StepPlace (words (codes "red 1 x1 >= 1 ; x1 -> ~x3 x3 -> x2 x2 0 ;"))) refl }
 
 -- a substitution may be empty
 no_images : Spells StepPlace (codes "red 1 x1 >= 1 ;") (lines.Step (steps.Red (at_least (term (pos 1) (plain 0) ∷ []) (pos 1)) [])) file
 unfolding words step_of counted rule_of lexemes lexemes_from kind_of kind_of_word integer_word literal_word is_misspelt is_name integer_size integer_value
-no_images = record { names = refl; says = refl; proper = λ i j d lt below. absurd (omega arith); small = all_small (measured StepPlace (words (codes "red 1 x1 >= 1 ;"))) refl }
+no_images = record { names = refl; few = omega arith; says = refl; proper = λ i j d lt below. absurd (omega arith); small = all_small (measured StepPlace (words (codes "red 1 x1 >= 1 ;"))) refl }
 
 -- the `;` before a substitution is due
 no_substitution : SpellsNothing StepPlace (codes "red 1 x1 >= 1")
@@ -317,15 +317,15 @@ name_twice old line new l = twice_left _ _ line l.says l.proper
 
 improving : Spells StepPlace (codes "soli x1 ~x2") (lines.Step (steps.Soli (plain 0 ∷ negated 1 ∷ []))) file
 unfolding words step_of counted rule_of lexemes lexemes_from kind_of kind_of_word integer_word literal_word is_misspelt is_name integer_size integer_value
-improving = record { names = refl; says = refl; proper = tt; small = all_small (measured StepPlace (words (codes "soli x1 ~x2"))) refl }
+improving = record { names = refl; few = omega arith; says = refl; proper = tt; small = all_small (measured StepPlace (words (codes "soli x1 ~x2"))) refl }
 
 solution : Spells StepPlace (codes "sol ~x3 x1 ;") (lines.Step (steps.Sol (negated 2 ∷ plain 0 ∷ []))) (codes "x1" ∷ codes "x2" ∷ codes "x3" ∷ [])
 unfolding words step_of counted rule_of lexemes lexemes_from kind_of kind_of_word integer_word literal_word is_misspelt is_name integer_size integer_value
-solution = record { names = refl; says = refl; proper = tt; small = all_small (measured StepPlace (words (codes "sol ~x3 x1 ;"))) refl }
+solution = record { names = refl; few = omega arith; says = refl; proper = tt; small = all_small (measured StepPlace (words (codes "sol ~x3 x1 ;"))) refl }
 
 empty_solution : Spells StepPlace (codes "sol") (lines.Step (steps.Sol [])) file
 unfolding words step_of counted rule_of lexemes lexemes_from kind_of kind_of_word integer_word literal_word is_misspelt is_name integer_size integer_value
-empty_solution = record { names = refl; says = refl; proper = tt; small = all_small (measured StepPlace (words (codes "sol"))) refl }
+empty_solution = record { names = refl; few = omega arith; says = refl; proper = tt; small = all_small (measured StepPlace (words (codes "sol"))) refl }
 
 solution_of_integers : SpellsNothing StepPlace (codes "sol 1")
 unfolding words step_of counted rule_of lexemes lexemes_from kind_of kind_of_word integer_word literal_word is_misspelt is_name integer_size integer_value
@@ -333,11 +333,11 @@ solution_of_integers = nothing StepPlace (codes "sol 1") (λ names. refl)
 
 deletion : Spells StepPlace (codes "del id 2 -1") (lines.Step (steps.Del (pos 2 ∷ minus 1 ∷ []))) file
 unfolding words step_of counted rule_of lexemes lexemes_from kind_of kind_of_word integer_word literal_word is_misspelt is_name integer_size integer_value
-deletion = record { names = refl; says = refl; proper = tt; small = all_small (measured StepPlace (words (codes "del id 2 -1"))) refl }
+deletion = record { names = refl; few = omega arith; says = refl; proper = tt; small = all_small (measured StepPlace (words (codes "del id 2 -1"))) refl }
 
 empty_deletion : Spells StepPlace (codes "del id ;") (lines.Step (steps.Del [])) file
 unfolding words step_of counted rule_of lexemes lexemes_from kind_of kind_of_word integer_word literal_word is_misspelt is_name integer_size integer_value
-empty_deletion = record { names = refl; says = refl; proper = tt; small = all_small (measured StepPlace (words (codes "del id ;"))) refl }
+empty_deletion = record { names = refl; few = omega arith; says = refl; proper = tt; small = all_small (measured StepPlace (words (codes "del id ;"))) refl }
 
 -- nothing but ids is deleted
 deletion_of_range : SpellsNothing StepPlace (codes "del range 1 2")
@@ -354,11 +354,11 @@ deletion_without_word = nothing StepPlace (codes "del 1") (λ names. refl)
 
 header : Spells Header (codes "pseudo-Boolean proof version 2.0") lines.Header file
 unfolding words lexemes lexemes_from kind_of kind_of_word integer_word literal_word is_misspelt is_name
-header = record { names = refl; says = refl; proper = tt; small = all_small (measured Header (words (codes "pseudo-Boolean proof version 2.0"))) refl }
+header = record { names = refl; few = omega arith; says = refl; proper = tt; small = all_small (measured Header (words (codes "pseudo-Boolean proof version 2.0"))) refl }
 
 header_closed : Spells Header (codes "pseudo-Boolean proof version 2.0 ;") lines.Header file
 unfolding words lexemes lexemes_from kind_of kind_of_word integer_word literal_word is_misspelt is_name
-header_closed = record { names = refl; says = refl; proper = tt; small = all_small (measured Header (words (codes "pseudo-Boolean proof version 2.0 ;"))) refl }
+header_closed = record { names = refl; few = omega arith; says = refl; proper = tt; small = all_small (measured Header (words (codes "pseudo-Boolean proof version 2.0 ;"))) refl }
 
 header_of_other_version : SpellsNothing Header (codes "pseudo-Boolean proof version 1.2")
 unfolding words lexemes lexemes_from kind_of kind_of_word integer_word literal_word is_misspelt is_name
@@ -375,11 +375,11 @@ header_late = nothing StepPlace (codes "pseudo-Boolean proof version 2.0") (λ n
 
 count : Spells Count (codes "f 5 ;") (lines.Count (pos 5)) file
 unfolding words lexemes lexemes_from kind_of kind_of_word integer_word literal_word is_misspelt is_name integer_size integer_value
-count = record { names = refl; says = refl; proper = tt; small = all_small (measured Count (words (codes "f 5 ;"))) refl }
+count = record { names = refl; few = omega arith; says = refl; proper = tt; small = all_small (measured Count (words (codes "f 5 ;"))) refl }
 
 count_open : Spells Count (codes "f 5") (lines.Count (pos 5)) file
 unfolding words lexemes lexemes_from kind_of kind_of_word integer_word literal_word is_misspelt is_name integer_size integer_value
-count_open = record { names = refl; says = refl; proper = tt; small = all_small (measured Count (words (codes "f 5"))) refl }
+count_open = record { names = refl; few = omega arith; says = refl; proper = tt; small = all_small (measured Count (words (codes "f 5"))) refl }
 
 no_count : SpellsNothing Count (codes "f")
 unfolding words lexemes lexemes_from kind_of kind_of_word integer_word literal_word is_misspelt is_name integer_size integer_value
@@ -395,11 +395,11 @@ second_count = nothing StepPlace (codes "f 5") (λ names. refl)
 
 output : Spells StepPlace (codes "output NONE") lines.Output file
 unfolding words step_of counted rule_of lexemes lexemes_from kind_of kind_of_word integer_word literal_word is_misspelt is_name integer_size integer_value
-output = record { names = refl; says = refl; proper = tt; small = all_small (measured StepPlace (words (codes "output NONE"))) refl }
+output = record { names = refl; few = omega arith; says = refl; proper = tt; small = all_small (measured StepPlace (words (codes "output NONE"))) refl }
 
 output_closed : Spells StepPlace (codes "output NONE ;") lines.Output file
 unfolding words step_of counted rule_of lexemes lexemes_from kind_of kind_of_word integer_word literal_word is_misspelt is_name integer_size integer_value
-output_closed = record { names = refl; says = refl; proper = tt; small = all_small (measured StepPlace (words (codes "output NONE ;"))) refl }
+output_closed = record { names = refl; few = omega arith; says = refl; proper = tt; small = all_small (measured StepPlace (words (codes "output NONE ;"))) refl }
 
 other_output : SpellsNothing StepPlace (codes "output DERIVABLE")
 unfolding words step_of counted rule_of lexemes lexemes_from kind_of kind_of_word integer_word literal_word is_misspelt is_name integer_size integer_value
@@ -411,11 +411,11 @@ no_output = nothing StepPlace (codes "output") (λ names. refl)
 
 ending : Spells End (codes "end pseudo-Boolean proof") lines.End file
 unfolding words lexemes lexemes_from kind_of kind_of_word integer_word literal_word is_misspelt is_name
-ending = record { names = refl; says = refl; proper = tt; small = all_small (measured End (words (codes "end pseudo-Boolean proof"))) refl }
+ending = record { names = refl; few = omega arith; says = refl; proper = tt; small = all_small (measured End (words (codes "end pseudo-Boolean proof"))) refl }
 
 ending_closed : Spells End (codes "end pseudo-Boolean proof ;") lines.End file
 unfolding words lexemes lexemes_from kind_of kind_of_word integer_word literal_word is_misspelt is_name
-ending_closed = record { names = refl; says = refl; proper = tt; small = all_small (measured End (words (codes "end pseudo-Boolean proof ;"))) refl }
+ending_closed = record { names = refl; few = omega arith; says = refl; proper = tt; small = all_small (measured End (words (codes "end pseudo-Boolean proof ;"))) refl }
 
 end_alone : SpellsNothing End (codes "end")
 unfolding words lexemes lexemes_from kind_of kind_of_word integer_word literal_word is_misspelt is_name
@@ -423,60 +423,60 @@ end_alone = nothing End (codes "end") (λ names. refl)
 
 nothing_concluded : Spells ConclusionPlace (codes "conclusion NONE") (lines.Conclusion (conclusions.Nothing)) file
 unfolding words conclusion_of conclusion_literals verdict_of lexemes lexemes_from kind_of kind_of_word integer_word literal_word is_misspelt is_name integer_size integer_value
-nothing_concluded = record { names = refl; says = refl; proper = tt; small = all_small (measured ConclusionPlace (words (codes "conclusion NONE"))) refl }
+nothing_concluded = record { names = refl; few = omega arith; says = refl; proper = tt; small = all_small (measured ConclusionPlace (words (codes "conclusion NONE"))) refl }
 
 satisfiable : Spells ConclusionPlace (codes "conclusion SAT") (lines.Conclusion (conclusions.Sat None)) file
 unfolding words conclusion_of conclusion_literals verdict_of lexemes lexemes_from kind_of kind_of_word integer_word literal_word is_misspelt is_name integer_size integer_value
-satisfiable = record { names = refl; says = refl; proper = tt; small = all_small (measured ConclusionPlace (words (codes "conclusion SAT"))) refl }
+satisfiable = record { names = refl; few = omega arith; says = refl; proper = tt; small = all_small (measured ConclusionPlace (words (codes "conclusion SAT"))) refl }
 
 satisfied : Spells ConclusionPlace (codes "conclusion SAT : x1 ~x2") (lines.Conclusion (conclusions.Sat (Some (plain 0 ∷ negated 1 ∷ [])))) file
 unfolding words conclusion_of conclusion_literals verdict_of lexemes lexemes_from kind_of kind_of_word integer_word literal_word is_misspelt is_name integer_size integer_value
-satisfied = record { names = refl; says = refl; proper = tt; small = all_small (measured ConclusionPlace (words (codes "conclusion SAT : x1 ~x2"))) refl }
+satisfied = record { names = refl; few = omega arith; says = refl; proper = tt; small = all_small (measured ConclusionPlace (words (codes "conclusion SAT : x1 ~x2"))) refl }
 
 -- a hint without literals is a hint
 satisfied_by_nothing : Spells ConclusionPlace (codes "conclusion SAT : ;") (lines.Conclusion (conclusions.Sat (Some []))) file
 unfolding words conclusion_of conclusion_literals verdict_of lexemes lexemes_from kind_of kind_of_word integer_word literal_word is_misspelt is_name integer_size integer_value
-satisfied_by_nothing = record { names = refl; says = refl; proper = tt; small = all_small (measured ConclusionPlace (words (codes "conclusion SAT : ;"))) refl }
+satisfied_by_nothing = record { names = refl; few = omega arith; says = refl; proper = tt; small = all_small (measured ConclusionPlace (words (codes "conclusion SAT : ;"))) refl }
 
 satisfied_by_new : Spells ConclusionPlace (codes "conclusion SAT : x3")
     (lines.Conclusion (conclusions.Sat (Some (plain 2 ∷ []))))
     (codes "x1" ∷ codes "x2" ∷ codes "x3" ∷ [])
 unfolding words conclusion_of conclusion_literals verdict_of lexemes lexemes_from kind_of kind_of_word integer_word literal_word is_misspelt is_name integer_size integer_value
-satisfied_by_new = record { names = refl; says = refl; proper = tt; small = all_small (measured ConclusionPlace (words (codes "conclusion SAT : x3"))) refl }
+satisfied_by_new = record { names = refl; few = omega arith; says = refl; proper = tt; small = all_small (measured ConclusionPlace (words (codes "conclusion SAT : x3"))) refl }
 
 unsatisfiable : Spells ConclusionPlace (codes "conclusion UNSAT") (lines.Conclusion (conclusions.Unsat)) file
 unfolding words conclusion_of conclusion_literals verdict_of lexemes lexemes_from kind_of kind_of_word integer_word literal_word is_misspelt is_name integer_size integer_value
-unsatisfiable = record { names = refl; says = refl; proper = tt; small = all_small (measured ConclusionPlace (words (codes "conclusion UNSAT"))) refl }
+unsatisfiable = record { names = refl; few = omega arith; says = refl; proper = tt; small = all_small (measured ConclusionPlace (words (codes "conclusion UNSAT"))) refl }
 
 unsatisfiable_by_id : Spells ConclusionPlace (codes "conclusion UNSAT : 7") (lines.Conclusion (conclusions.Unsat)) file
 unfolding words conclusion_of conclusion_literals verdict_of lexemes lexemes_from kind_of kind_of_word integer_word literal_word is_misspelt is_name integer_size integer_value
-unsatisfiable_by_id = record { names = refl; says = refl; proper = tt; small = all_small (measured ConclusionPlace (words (codes "conclusion UNSAT : 7"))) refl }
+unsatisfiable_by_id = record { names = refl; few = omega arith; says = refl; proper = tt; small = all_small (measured ConclusionPlace (words (codes "conclusion UNSAT : 7"))) refl }
 
 bounds : Spells ConclusionPlace (codes "conclusion BOUNDS 1 1")
     (lines.Conclusion (conclusions.Bounds (lowers.At (pos 1)) (uppers.At (pos 1)) None)) file
 unfolding words conclusion_of conclusion_literals verdict_of lexemes lexemes_from kind_of kind_of_word integer_word literal_word is_misspelt is_name integer_size integer_value
-bounds = record { names = refl; says = refl; proper = tt; small = all_small (measured ConclusionPlace (words (codes "conclusion BOUNDS 1 1"))) refl }
+bounds = record { names = refl; few = omega arith; says = refl; proper = tt; small = all_small (measured ConclusionPlace (words (codes "conclusion BOUNDS 1 1"))) refl }
 
 -- `: 3` hints at an id
 bounds_by_id : Spells ConclusionPlace (codes "conclusion BOUNDS 1 : 3 1")
     (lines.Conclusion (conclusions.Bounds (lowers.At (pos 1)) (uppers.At (pos 1)) None)) file
 unfolding words conclusion_of conclusion_literals verdict_of lexemes lexemes_from kind_of kind_of_word integer_word literal_word is_misspelt is_name integer_size integer_value
-bounds_by_id = record { names = refl; says = refl; proper = tt; small = all_small (measured ConclusionPlace (words (codes "conclusion BOUNDS 1 : 3 1"))) refl }
+bounds_by_id = record { names = refl; few = omega arith; says = refl; proper = tt; small = all_small (measured ConclusionPlace (words (codes "conclusion BOUNDS 1 : 3 1"))) refl }
 
 bounds_by_both : Spells ConclusionPlace (codes "conclusion BOUNDS -1 : 3 2 : ~x1 ;")
     (lines.Conclusion (conclusions.Bounds (lowers.At (minus 1)) (uppers.At (pos 2)) (Some (negated 0 ∷ [])))) file
 unfolding words conclusion_of conclusion_literals verdict_of lexemes lexemes_from kind_of kind_of_word integer_word literal_word is_misspelt is_name integer_size integer_value
-bounds_by_both = record { names = refl; says = refl; proper = tt; small = all_small (measured ConclusionPlace (words (codes "conclusion BOUNDS -1 : 3 2 : ~x1 ;"))) refl }
+bounds_by_both = record { names = refl; few = omega arith; says = refl; proper = tt; small = all_small (measured ConclusionPlace (words (codes "conclusion BOUNDS -1 : 3 2 : ~x1 ;"))) refl }
 
 no_bounds : Spells ConclusionPlace (codes "conclusion BOUNDS -INF INF : x1")
     (lines.Conclusion (conclusions.Bounds lowers.MinusInf uppers.Inf (Some (plain 0 ∷ [])))) file
 unfolding words conclusion_of conclusion_literals verdict_of lexemes lexemes_from kind_of kind_of_word integer_word literal_word is_misspelt is_name integer_size integer_value
-no_bounds = record { names = refl; says = refl; proper = tt; small = all_small (measured ConclusionPlace (words (codes "conclusion BOUNDS -INF INF : x1"))) refl }
+no_bounds = record { names = refl; few = omega arith; says = refl; proper = tt; small = all_small (measured ConclusionPlace (words (codes "conclusion BOUNDS -INF INF : x1"))) refl }
 
 infinite_lower_bound : Spells ConclusionPlace (codes "conclusion BOUNDS INF 2")
     (lines.Conclusion (conclusions.Bounds lowers.Inf (uppers.At (pos 2)) None)) file
 unfolding words conclusion_of conclusion_literals verdict_of lexemes lexemes_from kind_of kind_of_word integer_word literal_word is_misspelt is_name integer_size integer_value
-infinite_lower_bound = record { names = refl; says = refl; proper = tt; small = all_small (measured ConclusionPlace (words (codes "conclusion BOUNDS INF 2"))) refl }
+infinite_lower_bound = record { names = refl; few = omega arith; says = refl; proper = tt; small = all_small (measured ConclusionPlace (words (codes "conclusion BOUNDS INF 2"))) refl }
 
 -- an upper bound is due
 no_upper_bound : SpellsNothing ConclusionPlace (codes "conclusion BOUNDS 1 : 3")

@@ -1,5 +1,5 @@
 -- Texts of several lines, whole proofs, and how steps and conclusions are written, computed by the definitions.
-use Rattle.std.proofs.Common.{◌≡◌, ℕ, ℤ, pos, true, Option, Some, None, List, [], ◌∷◌, ◌++◌, length, length-append, drop, refl, sym, subst, ap, codes, arith}
+use Rattle.std.proofs.Common.{◌≡◌, ◌≤◌, ◌^◌, ℕ, ℤ, pos, true, Option, Some, None, List, [], ◌∷◌, ◌++◌, length, length-append, drop, refl, sym, subst, ap, codes, arith}
 use Rattle.std.specs.List.{list_all}
 use Rattle.std.specs.Fmt.{digits}
 use Rattle.pb_text.specs.Lexeme.{lexemes, lexemes_from, kind_of, kind_of_word}
@@ -119,8 +119,9 @@ nothing_written = refl
 
 -- a line is what the words say, each condition by computing
 read : {place : Place} {old ws : List (List ℕ)} {line : Line} {new : List (List ℕ)}
-    → new ≡ names_in old (naming place ws) → line_of place new ws ≡ Some line → IsProperLine line → list_all is_small (measured place ws) ≡ true → IsLine place old ws line new
-read {place} {old} {ws} n s p m = record { names = n; says = s; proper = p; small = all_small (measured place ws) m }
+    → new ≡ names_in old (naming place ws) → line_of place new ws ≡ Some line → IsProperLine line → list_all is_small (measured place ws) ≡ true → length new ≤ 2 ^ 32
+    → IsLine place old ws line new
+read {place} {old} {ws} n s p m few = record { names = n; few = few; says = s; proper = p; small = all_small (measured place ws) m }
 
 -- an improving solution, a sum, and bounds
 abbrev improving_proof : List ℕ
@@ -145,13 +146,12 @@ improving_spelt = record {
   named = file;
   after = file;
   all = file;
-  header_is = read refl refl tt refl;
-  count_is = read refl refl tt refl;
-  steps_are = (file, read refl refl tt refl, (file, read refl refl tt refl, refl));
-  output_is = read refl refl tt refl;
-  conclusion_is = read refl refl tt refl;
-  few = omega arith;
-  end_is = read refl refl tt refl;
+  header_is = read refl refl tt refl (omega arith);
+  count_is = read refl refl tt refl (omega arith);
+  steps_are = (file, read refl refl tt refl (omega arith), (file, read refl refl tt refl (omega arith), refl));
+  output_is = read refl refl tt refl (omega arith);
+  conclusion_is = read refl refl tt refl (omega arith);
+  end_is = read refl refl tt refl (omega arith);
 }
 
 -- it is what is written for these steps and this conclusion behind its first two lines
@@ -173,19 +173,19 @@ with_fifth = file ++ codes "x3" ∷ codes "x4" ∷ codes "x5" ∷ []
 
 third_met : IsLine StepPlace file (words (codes "pol 1 ~x3 +")) (lines.Step (steps.Pol (Id (pos 1) ∷ Axiom (negated 2) ∷ Add ∷ []))) with_third
 unfolding words step_of step_words_counted rule_of lexemes lexemes_from kind_of kind_of_word integer_word literal_word is_misspelt is_name integer_size integer_value
-third_met = read refl refl tt refl
+third_met = read refl refl tt refl (omega arith)
 
 fourth_met : IsLine StepPlace with_third (words (codes "pol x4 x3 w ;")) (lines.Step (steps.Pol (Axiom (plain 3) ∷ Weaken (variable 2) ∷ []))) with_fourth
 unfolding words step_of step_words_counted rule_of lexemes lexemes_from kind_of kind_of_word integer_word literal_word is_misspelt is_name integer_size integer_value
-fourth_met = read refl refl tt refl
+fourth_met = read refl refl tt refl (omega arith)
 
 fifth_met : IsLine ConclusionPlace with_fourth (words (codes "conclusion SAT : x5 ~x3")) (lines.Conclusion (conclusions.Sat (Some (plain 4 ∷ negated 2 ∷ [])))) with_fifth
 unfolding words conclusion_of conclusion_literals verdict_of lexemes lexemes_from kind_of kind_of_word integer_word literal_word is_misspelt is_name
-fifth_met = record { names = refl; says = refl; proper = tt; small = all_small (measured ConclusionPlace (words (codes "conclusion SAT : x5 ~x3"))) refl }
+fifth_met = record { names = refl; few = omega arith; says = refl; proper = tt; small = all_small (measured ConclusionPlace (words (codes "conclusion SAT : x5 ~x3"))) refl }
 
 output_among : IsLine StepPlace with_fourth (words (codes "output NONE ;")) lines.Output with_fourth
 unfolding words step_of step_words_counted rule_of lexemes lexemes_from kind_of kind_of_word integer_word literal_word is_misspelt is_name integer_size integer_value
-output_among = read refl refl tt refl
+output_among = read refl refl tt refl (omega arith)
 
 -- each line's new names stand behind those of the lines before; comments and blank lines part the lines, and the last has no LF
 growing_spelt : SpellsProof
@@ -203,13 +203,12 @@ growing_spelt = record {
   named = with_fourth;
   after = with_fourth;
   all = with_fifth;
-  header_is = read refl refl tt refl;
-  count_is = read refl refl tt refl;
+  header_is = read refl refl tt refl (omega arith);
+  count_is = read refl refl tt refl (omega arith);
   steps_are = (with_third, third_met, (with_fourth, fourth_met, refl));
   output_is = output_among;
   conclusion_is = fifth_met;
-  few = omega arith;
-  end_is = read refl refl tt refl;
+  end_is = read refl refl tt refl (omega arith);
 }
 
 three_are_due : (between : List Numbered) (a b c x y : Numbered) → between ++ a ∷ b ∷ c ∷ [] ≡ x ∷ y ∷ [] → ⊥
