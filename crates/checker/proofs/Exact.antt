@@ -4,18 +4,18 @@ use Rattle.std.proofs.Common.{◌≡◌, ◌≢◌, ℕ, ℤ, pos, inl, inr, Opt
 use Rattle.std.proofs.lemmas.List.Elements.{All-head, All-tail}
 use Rattle.linear.specs.Opb.{Opb}
 use Rattle.kernel.specs.Accepted.{Judgement}
-use Rattle.kernel.specs.Fault.{OrMemory}
-use Rattle.kernel.specs.Forms.{file_ids}
+use Rattle.proof_rules.specs.Fault.{OrMemory}
+use Rattle.proof_rules.specs.Forms.{file_ids}
 use Rattle.kernel.specs.Held.{IsJudgedStep}
-use Rattle.kernel.specs.Legal.{Legal, Leads}
-use Rattle.kernel.specs.State.{State}
-use Rattle.kernel.specs.declared.conclusion.Conclusion.{Conclusion}
-use Rattle.kernel.specs.declared.fault.StepFault.{StepFault}
-use Rattle.kernel.specs.declared.fault.StepFault.TheVariants as judgings
-use Rattle.kernel.specs.declared.step.Step.{Step}
-use Rattle.kernel.proofs.NotLegal.{step_never}
-use Rattle.kernel.proofs.OneStart.{one_start}
-use Rattle.kernel.proofs.OneState.{one_state}
+use Rattle.proof_rules.specs.Legal.{Legal, Leads}
+use Rattle.proof_rules.specs.State.{State}
+use Rattle.proof_steps.specs.declared.conclusion.Conclusion.{Conclusion}
+use Rattle.proof_rules.specs.declared.fault.StepFault.{StepFault}
+use Rattle.proof_rules.specs.declared.fault.StepFault.TheVariants as judgings
+use Rattle.proof_steps.specs.declared.step.Step.{Step}
+use Rattle.proof_rules.proofs.NotLegal.{step_never}
+use Rattle.proof_rules.proofs.OneStart.{one_start}
+use Rattle.proof_rules.proofs.OneState.{one_state}
 use Rattle.proof_text.specs.Faults.{DeniesLine, DeniesPlaced}
 use Rattle.proof_text.specs.Lines.{Numbered, lines_of}
 use Rattle.proof_text.specs.Numbering.{names_in}

@@ -3,12 +3,12 @@ use Rattle.std.proofs.Common.{◌≡◌, ℕ, ◌+◌, pos, Bool, true, false, i
 use Rattle.std.proofs.lemmas.List.{append_assoc}
 use Rattle.linear.specs.Opb.{Opb}
 use Rattle.kernel.specs.Accepted.{Judgement}
-use Rattle.kernel.specs.Forms.{file_ids}
-use Rattle.kernel.specs.Justified.{IsJustified}
-use Rattle.kernel.specs.Legal.{Legal, Leads}
-use Rattle.kernel.specs.State.{State, IsStart}
-use Rattle.kernel.specs.declared.step.Step.{Step}
-use Rattle.kernel.proofs.FileForms.{all_count}
+use Rattle.proof_rules.specs.Forms.{file_ids}
+use Rattle.proof_rules.specs.Justified.{IsJustified}
+use Rattle.proof_rules.specs.Legal.{Legal, Leads}
+use Rattle.proof_rules.specs.State.{State, IsStart}
+use Rattle.proof_steps.specs.declared.step.Step.{Step}
+use Rattle.proof_rules.proofs.FileForms.{all_count}
 use Rattle.proof_text.specs.Lines.{Numbered, lines_of}
 use Rattle.proof_text.specs.Words.{words, are_words, unclosed}
 use Rattle.proof_text.specs.Frame as frame

@@ -1,9 +1,9 @@
 -- Why judging stops, from the reason at a line to that of the whole proof.
 use Rattle.std.proofs.Common.{◌≡◌, ℕ, List, inr, sym, subst}
 use Rattle.linear.specs.Opb.{Opb}
-use Rattle.kernel.specs.Forms.{file_ids}
-use Rattle.kernel.specs.State.{State, IsStart}
-use Rattle.kernel.specs.declared.step.Step.{Step}
+use Rattle.proof_rules.specs.Forms.{file_ids}
+use Rattle.proof_rules.specs.State.{State, IsStart}
+use Rattle.proof_steps.specs.declared.step.Step.{Step}
 use Rattle.proof_text.specs.Lines.{Numbered, lines_of}
 use Rattle.proof_text.specs.declared.line.Line.TheVariants as lines
 use Rattle.proof_text.specs.declared.line.Place.TheVariants as places

@@ -8,10 +8,10 @@ use Rattle.opb_read.specs.FaultPlace.{IsFaultAt}
 use Rattle.opb_read.specs.declared.fault.OpbFault.{OpbFault}
 use Rattle.opb_read.specs.declared.fault.OpbCode.TheVariants as problems
 use Rattle.kernel.specs.Accepted.{Judgement}
-use Rattle.kernel.specs.Claim.{Claim}
-use Rattle.kernel.specs.Forms.{file_ids}
-use Rattle.kernel.specs.Justified.{IsLegalProof}
-use Rattle.kernel.specs.declared.step.Step.{Step}
+use Rattle.proof_rules.specs.Claim.{Claim}
+use Rattle.proof_rules.specs.Forms.{file_ids}
+use Rattle.proof_rules.specs.Justified.{IsLegalProof}
+use Rattle.proof_steps.specs.declared.step.Step.{Step}
 use Rattle.proof_text.specs.ProofSpells.{SpellsProof}
 use Rattle.checker.specs.Kinds.{IsOfJudgedKinds}
 use Rattle.checker.specs.Refusal.{IsRefusalCode}

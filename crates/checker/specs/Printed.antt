@@ -1,14 +1,14 @@
 -- What is printed for a verdict, and the exit status that stands for it.
 use Rattle.std.specs.Prelude.{◌≡◌, ◌⊎◌, ℕ, Bool, true, false, List, [], ◌∷◌, ◌++◌, MatchOption, codes, length}
 use Rattle.std.specs.Fmt.{decimal, signed_decimal}
-use Rattle.kernel.specs.declared.conclusion.Conclusion.{Conclusion}
-use Rattle.kernel.specs.declared.conclusion.Lower.{Lower}
-use Rattle.kernel.specs.declared.conclusion.Upper.{Upper}
-use Rattle.kernel.specs.declared.conclusion.Conclusion.TheVariants as conclusions
-use Rattle.kernel.specs.declared.conclusion.Lower.TheVariants as lowers
-use Rattle.kernel.specs.declared.conclusion.Upper.TheVariants as uppers
+use Rattle.proof_steps.specs.declared.conclusion.Conclusion.{Conclusion}
+use Rattle.proof_steps.specs.declared.conclusion.Lower.{Lower}
+use Rattle.proof_steps.specs.declared.conclusion.Upper.{Upper}
+use Rattle.proof_steps.specs.declared.conclusion.Conclusion.TheVariants as conclusions
+use Rattle.proof_steps.specs.declared.conclusion.Lower.TheVariants as lowers
+use Rattle.proof_steps.specs.declared.conclusion.Upper.TheVariants as uppers
 use Rattle.kernel.specs.Accepted.{Judgement}
-use Rattle.kernel.specs.Printed as steps
+use Rattle.proof_rules.specs.Printed as steps
 use Rattle.linear.specs.Opb.{Opb}
 use Rattle.linear.specs.Limits.{IsWithin}
 use Rattle.opb_read.specs.Spells.{Spells}

@@ -1,7 +1,7 @@
 -- The codes of refusals: want of memory is a verdict of its own.
 use Rattle.std.specs.Prelude.{◌≡◌, ◌≢◌, ℕ, ⊤}
 use Rattle.proof_text.specs.declared.fault.ProofFault.TheVariants as readings
-use Rattle.kernel.specs.declared.fault.StepFault.TheVariants as judgings
+use Rattle.proof_rules.specs.declared.fault.StepFault.TheVariants as judgings
 use Rattle.checker.specs.declared.verdict.Code.{Code}
 use Rattle.checker.specs.declared.verdict.Code.TheVariants.{Reading, Judging}
 use Rattle.checker.specs.declared.verdict.Verdict.{Verdict}

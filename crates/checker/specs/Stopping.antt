@@ -1,17 +1,17 @@
 -- Where judging a proof stops, and why: the lines before one are read and legal, and that one is not.
 use Rattle.std.specs.Prelude.{◌≡◌, ◌≢◌, ℕ, ℤ, pos, ◌⊎◌, Bool, Option, List, [], ◌∷◌, Any, ⊤}
 use Rattle.linear.specs.Opb.{Opb}
-use Rattle.kernel.specs.Contradiction.{IsContradiction}
-use Rattle.kernel.specs.Fault.{OrMemory, IsStepFault}
-use Rattle.kernel.specs.Forms.{file_ids}
+use Rattle.proof_rules.specs.Contradiction.{IsContradiction}
+use Rattle.proof_rules.specs.Fault.{OrMemory, IsStepFault}
+use Rattle.proof_rules.specs.Forms.{file_ids}
 use Rattle.kernel.specs.Held.{IsJudgedStep, IsJudged}
-use Rattle.kernel.specs.Justified.{IsJustified}
-use Rattle.kernel.specs.State.{State, IsStart, constraints}
-use Rattle.kernel.specs.declared.conclusion.Conclusion.{Conclusion}
-use Rattle.kernel.specs.declared.conclusion.Conclusion.TheVariants as conclusions
-use Rattle.kernel.specs.declared.fault.StepFault.{StepFault}
-use Rattle.kernel.specs.declared.fault.StepFault.TheVariants as judgings
-use Rattle.kernel.specs.declared.step.Step.{Step}
+use Rattle.proof_rules.specs.Justified.{IsJustified}
+use Rattle.proof_rules.specs.State.{State, IsStart, constraints}
+use Rattle.proof_steps.specs.declared.conclusion.Conclusion.{Conclusion}
+use Rattle.proof_steps.specs.declared.conclusion.Conclusion.TheVariants as conclusions
+use Rattle.proof_rules.specs.declared.fault.StepFault.{StepFault}
+use Rattle.proof_rules.specs.declared.fault.StepFault.TheVariants as judgings
+use Rattle.proof_steps.specs.declared.step.Step.{Step}
 use Rattle.proof_text.specs.Faults.{DeniesLine}
 use Rattle.proof_text.specs.Lines.{Numbered, lines_of}
 use Rattle.proof_text.specs.Spells.{IsLine}

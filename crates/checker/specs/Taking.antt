@@ -1,9 +1,9 @@
 -- What the judge takes from the lines of a proof that are left.
 use Rattle.std.specs.Prelude.{◌≡◌, ℕ, List, ◌∷◌, ◌++◌}
 use Rattle.linear.specs.Opb.{Opb}
-use Rattle.kernel.specs.State.{State}
-use Rattle.kernel.specs.Legal.{Legal, Leads}
-use Rattle.kernel.specs.declared.step.Step.{Step}
+use Rattle.proof_rules.specs.State.{State}
+use Rattle.proof_rules.specs.Legal.{Legal, Leads}
+use Rattle.proof_steps.specs.declared.step.Step.{Step}
 use Rattle.proof_text.specs.declared.line.Place.{Place}
 use Rattle.proof_text.specs.declared.line.Place.TheVariants as places
 use Rattle.proof_text.specs.declared.line.Line.{Line}

@@ -8,8 +8,8 @@ ghost use Rattle.checker.specs.Refusal.{IsRefusalAt};
 
 use super::judge::{Stop, judge};
 use super::verdict::{Code, Verdict};
-use kernel::StepFault;
 use opb_read::{OpbCode, OpbFault, read};
+use proof_rules::StepFault;
 use proof_text::ProofFault;
 use std::alloc::Global;
 

@@ -1,17 +1,19 @@
 //! Judging a proof line by line: each line is read and then judged, so the first line with a fault decides.
 
 ghost use Rattle.std.specs.Prelude.{◌≡◌, ◌↔◌, pos, [], IfOk, IfErr, OnOk, IsTrue};
-ghost use Rattle.kernel.specs.Claim.{Claim};
+ghost use Rattle.proof_rules.specs.Claim.{Claim};
 ghost use Rattle.kernel.specs.Held.{IsJudgedStep, IsJudged};
-ghost use Rattle.kernel.specs.Justified.{IsJustified};
-ghost use Rattle.kernel.specs.Legal.{Legal};
+ghost use Rattle.proof_rules.specs.Justified.{IsJustified};
+ghost use Rattle.proof_rules.specs.Legal.{Legal};
 ghost use Rattle.checker.specs.Headline.{IsProved};
 ghost use Rattle.checker.specs.Stopping.{IsRead, IsUnread, IsTextAfterEnd, IsRefusedStep, IsStopped, StopsBy, StopsAtCount, StopsAtStep, StopsAmongSteps, StopsAtConclusion};
 ghost use Rattle.checker.specs.Taking.{Takes, TakesLine, TakesToOutput};
 
 use super::verdict::Code;
-use kernel::{Accepted, Conclusion, Kernel, Step, StepFault};
+use kernel::{Accepted, Kernel};
 use linear::{Names, Problem};
+use proof_rules::StepFault;
+use proof_steps::{Conclusion, Step};
 use proof_text::{Line, Place, ProofFault, ProofReader, read_line};
 use std::alloc::{AllocError, Global};
 

@@ -5,9 +5,10 @@ ghost use Rattle.checker.specs.Printed.{IsPrinted, IsAcceptedText, IsWithBest, w
 
 use super::verdict::Verdict;
 use itoa::Buffer;
-use kernel::{Accepted, Conclusion, Lower, Upper};
+use kernel::Accepted;
 use linear::{Assignment, Names, Var};
 use opb_read::{OpbCode, read};
+use proof_steps::{Conclusion, Lower, Upper};
 use std::alloc::{AllocError, Global};
 
 /// The text of a verdict, each line ended by LF: `accepted ..` and the `v` line of the best assignment where there is one,

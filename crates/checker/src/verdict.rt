@@ -3,8 +3,9 @@
 ghost use Rattle.std.specs.Prelude.{◌≡◌};
 ghost use Rattle.checker.specs.Printed.{status_of};
 
-use kernel::{Accepted, StepFault};
+use kernel::Accepted;
 use opb_read::OpbFault;
+use proof_rules::StepFault;
 use proof_text::ProofFault;
 
 /// Why a line of a proof is refused: it is not read, or its step or conclusion is not accepted.

@@ -5,20 +5,20 @@ use Rattle.linear.specs.Opb.{Opb}
 use Rattle.normal_form.specs.Normal.{NormalConstraint}
 use Rattle.substitution.specs.Covering.{Covers}
 use Rattle.substitution.proofs.Covered.{covers_falsity}
-use Rattle.kernel.specs.declared.step.Item.{Item}
-use Rattle.kernel.specs.declared.conclusion.Conclusion.TheVariants as conclusions
-use Rattle.kernel.specs.Contradiction.{IsContradiction}
-use Rattle.kernel.specs.Expression.{IsPolish}
-use Rattle.kernel.specs.Forms.{AreFormsOfAll}
+use Rattle.proof_steps.specs.declared.step.Item.{Item}
+use Rattle.proof_steps.specs.declared.conclusion.Conclusion.TheVariants as conclusions
+use Rattle.proof_rules.specs.Contradiction.{IsContradiction}
+use Rattle.proof_rules.specs.Expression.{IsPolish}
+use Rattle.proof_rules.specs.Forms.{AreFormsOfAll}
 use Rattle.kernel.specs.Held.{IsKept}
-use Rattle.kernel.specs.Justified.{IsJustified}
-use Rattle.kernel.specs.Legal.{LegalPol}
+use Rattle.proof_rules.specs.Justified.{IsJustified}
+use Rattle.proof_rules.specs.Legal.{LegalPol}
 use Rattle.kernel.specs.Places.{listed}
-use Rattle.kernel.specs.Shown.{absurdity}
-use Rattle.kernel.specs.State.{constraint_of, state_of}
-use Rattle.kernel.proofs.FileForms.{start_preserved, start_normal}
+use Rattle.proof_rules.specs.Shown.{absurdity}
+use Rattle.proof_rules.specs.State.{constraint_of, state_of}
+use Rattle.proof_rules.proofs.FileForms.{start_preserved, start_normal}
 use Rattle.kernel.proofs.Numbered.{constraint_listed, constraints_listed, state_push}
-use Rattle.kernel.proofs.Preserving.{pol_preserves, pol_normal}
+use Rattle.proof_rules.proofs.Preserving.{pol_preserves, pol_normal}
 
 -- the kernel of a file
 pub kept_start : (p q : Opb) (live : List NormalConstraint) → q ≡ p → IsWithin p → AreFormsOfAll p.constraints live → length live ≤ 2 * 2 ^ 20

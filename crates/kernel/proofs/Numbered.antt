@@ -12,7 +12,7 @@ use Rattle.std.proofs.lemmas.Cmp.{nat_cmp_total}
 use Rattle.std.proofs.lemmas.List.{length-append}
 use Rattle.normal_form.specs.Normal.{NormalConstraint}
 use Rattle.kernel.specs.Places.{listed}
-use Rattle.kernel.specs.State.{constraints, constraint_of, numbered, state_of, with_constraint}
+use Rattle.proof_rules.specs.State.{constraints, constraint_of, numbered, state_of, with_constraint}
 
 -- keys that are the same, and keys that are not
 same_key : (k q : ℕ) → k ≡ q → eq_by_cmp nat_cmp k q ≡ true

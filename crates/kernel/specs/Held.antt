@@ -2,12 +2,12 @@
 use Rattle.std.specs.Prelude.{◌≤◌, ◌^◌, ⊤}
 use Rattle.linear.specs.Opb.{Opb}
 use Rattle.linear.specs.Limits.{IsWithin}
-use Rattle.kernel.specs.declared.step.Step.{Step}
-use Rattle.kernel.specs.declared.step.Step.TheVariants as steps
-use Rattle.kernel.specs.declared.conclusion.Conclusion.{Conclusion}
-use Rattle.kernel.specs.declared.conclusion.Conclusion.TheVariants as conclusions
-use Rattle.kernel.specs.Preserved.{IsPreserved, AreNormal}
-use Rattle.kernel.specs.State.{State}
+use Rattle.proof_steps.specs.declared.step.Step.{Step}
+use Rattle.proof_steps.specs.declared.step.Step.TheVariants as steps
+use Rattle.proof_steps.specs.declared.conclusion.Conclusion.{Conclusion}
+use Rattle.proof_steps.specs.declared.conclusion.Conclusion.TheVariants as conclusions
+use Rattle.proof_rules.specs.Preserved.{IsPreserved, AreNormal}
+use Rattle.proof_rules.specs.State.{State}
 
 -- a problem, and the state of a proof of it
 pub record Held : Type 0 where

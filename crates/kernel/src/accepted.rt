@@ -3,8 +3,8 @@
 ghost use Rattle.std.specs.Prelude.{◌≡◌};
 ghost use Rattle.std.specs.Option.{option_copied};
 
-use super::conclusion::Conclusion;
 use linear::Assignment;
+use proof_steps::Conclusion;
 use std::marker::Model;
 
 /// An accepted conclusion, and the best solution that was logged: that of least value, the earliest among equals.

@@ -1,16 +1,16 @@
 //! The value of the expression that a `pol` step writes in postfix: item after item, over a stack.
 
 ghost use Rattle.std.specs.Prelude.{◌≡◌, ◌≢◌, ◌∷◌, [], IfOk, IfErr, OnOk, OnErr, length};
-ghost use Rattle.kernel.specs.Expression.{IsPolish, Steps};
-ghost use Rattle.kernel.specs.Fault.{OrMemory, IsItemFault, IsIdFault, IsAddFault, IsMultiplyFault, IsFactorFault, IsShapeFault, IsWritingFault};
+ghost use Rattle.proof_rules.specs.Expression.{IsPolish, Steps};
+ghost use Rattle.proof_rules.specs.Fault.{OrMemory, IsItemFault, IsIdFault, IsAddFault, IsMultiplyFault, IsFactorFault, IsShapeFault, IsWritingFault};
 ghost use Rattle.kernel.specs.Places.{place_of, listed};
 
-use super::fault::StepFault;
 use super::stack::Stack;
-use super::step::Item;
 use cut_rules::{add, axiom, divide, multiply, saturate, weaken};
 use linear::{Lit, Var};
 use normal_form::Normal;
+use proof_rules::StepFault;
+use proof_steps::Item;
 use std::alloc::Global;
 
 /// The value of the one expression that the items write. The items are judged from left to right; for one item a dead

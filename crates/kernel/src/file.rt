@@ -4,11 +4,11 @@ ghost use Rattle.std.specs.Prelude.{◌≡◌, ◌+◌, ◌*◌, ◌≤◌, ◌^
 ghost use Rattle.linear.specs.Limits.{IsWithin};
 ghost use Rattle.normal_form.specs.Normal.{largest_sum};
 ghost use Rattle.normal_form.specs.NormalOf.{size_sum};
-ghost use Rattle.kernel.specs.Forms.{AreFormsOfAll, AddsForms, file_ids};
+ghost use Rattle.proof_rules.specs.Forms.{AreFormsOfAll, AddsForms, file_ids};
 
-use super::fault::StepFault;
 use linear::{Problem, Relation, Signed};
 use normal_form::{Normal, both, normalize};
+use proof_rules::StepFault;
 use std::alloc::Global;
 
 /// The normal constraints of all constraints of a problem, in order. Want of memory is the only fault.

@@ -1,16 +1,15 @@
 //! The kernel: a problem, and the constraints that a proof has derived from it. A step is applied whole or not at all.
 
 ghost use Rattle.std.specs.Prelude.{◌↔◌, Any, IsTrue};
-ghost use Rattle.kernel.specs.Contradiction.{IsContradiction};
+ghost use Rattle.proof_rules.specs.Contradiction.{IsContradiction};
 
 use super::accepted::Accepted;
-use super::conclusion::Conclusion;
 use super::evaluation::evaluate;
-use super::fault::StepFault;
 use super::file::file_constraints;
-use super::step::{Item, Step};
 use linear::Problem;
 use normal_form::{Normal, is_contradiction};
+use proof_rules::StepFault;
+use proof_steps::{Conclusion, Item, Step};
 use std::alloc::Global;
 use std::marker::Model;
 
@@ -31,9 +30,9 @@ pub struct Kernel {
 
 impl Model for Kernel {
     ghost use Rattle.std.specs.Coded.{codes};
-    ghost use Rattle.kernel.specs.Codes.{state_code};
+    ghost use Rattle.proof_rules.specs.Codes.{state_code};
     ghost use Rattle.kernel.specs.Held.{Held, IsKept};
-    ghost use Rattle.kernel.specs.State.{state_of};
+    ghost use Rattle.proof_rules.specs.State.{state_of};
 
     ghost Value = { Held };
 
@@ -47,12 +46,12 @@ impl Model for Kernel {
 impl Kernel {
     ghost use Rattle.std.specs.Prelude.{◌≡◌, ◌+◌, ◌<◌, ◌≤◌, ◌^◌, ◌∷◌, ◌++◌, [], Some, IfOk, IfErr, OnOk, OnErr, IsErrOf, Any};
     ghost use Rattle.normal_form.specs.Normal.{NormalConstraint};
-    ghost use Rattle.kernel.specs.Claim.{Claim};
-    ghost use Rattle.kernel.specs.Fault.{OrMemory, IsStepFault, IsPolFault};
+    ghost use Rattle.proof_rules.specs.Claim.{Claim};
+    ghost use Rattle.proof_rules.specs.Fault.{OrMemory, IsStepFault, IsPolFault};
     ghost use Rattle.kernel.specs.Held.{IsKept, IsJudgedStep, IsJudged};
-    ghost use Rattle.kernel.specs.Justified.{IsJustified};
-    ghost use Rattle.kernel.specs.Legal.{Legal, LegalPol};
-    ghost use Rattle.kernel.specs.State.{IsStart, constraints};
+    ghost use Rattle.proof_rules.specs.Justified.{IsJustified};
+    ghost use Rattle.proof_rules.specs.Legal.{Legal, LegalPol};
+    ghost use Rattle.proof_rules.specs.State.{IsStart, constraints};
 
     /// The kernel of a problem's file. Want of memory is the only fault.
     pub fn new(alloc: Global, problem: &Problem) -> Result<Self, StepFault>

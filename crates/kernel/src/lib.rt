@@ -1,22 +1,14 @@
-//! Steps of a proof and its conclusions: what they are, and the kernel that judges them. It keeps a problem and the
-//! constraints derived so far; a step is applied whole or not at all.
+//! The judge of steps and conclusions. It keeps the state of a proof, and applies a step whole or not at all: `Ok` where the
+//! step is legal by the rules of `proof_rules`, else the first fault in the order of judging. No law is proved here.
 #![tactic(auto)]
 
 mod accepted;
-pub mod cases;
-mod conclusion;
 mod evaluation;
-mod fault;
 mod file;
 mod kernel;
-pub mod laws;
 mod stack;
-mod step;
 #[cfg(test)]
 mod tests;
 
 pub use accepted::Accepted;
-pub use conclusion::{Conclusion, Lower, Upper};
-pub use fault::StepFault;
 pub use kernel::{Applied, Kernel};
-pub use step::{Item, Step};

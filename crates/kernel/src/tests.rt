@@ -4,8 +4,10 @@
 ghost use Rattle.std.specs.Prelude.{IfOk};
 ghost use Rattle.linear.specs.Limits.{IsConstraintWithin};
 
-use super::{Conclusion, Item, Kernel, Step, StepFault};
+use super::Kernel;
 use linear::{Lit, Names, Problem, Relation, Seq, Signed, Var};
+use proof_rules::StepFault;
+use proof_steps::{Conclusion, Item, Step};
 use std::alloc::{AllocError, Global};
 use std::process::Abort;
 

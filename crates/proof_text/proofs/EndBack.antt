@@ -13,12 +13,12 @@ use Rattle.pb_text.specs.declared.kind.Kind.TheVariants.{Symbol, Literal, Other}
 use Rattle.pb_text.specs.declared.kind.Symbol.TheVariants.{Colon}
 use Rattle.linear.specs.Table.{IsTable}
 use Rattle.linear.specs.declared.term.Lit.{Lit}
-use Rattle.kernel.specs.declared.conclusion.Lower.{Lower}
-use Rattle.kernel.specs.declared.conclusion.Lower.TheVariants as lowers
-use Rattle.kernel.specs.declared.conclusion.Upper.{Upper}
-use Rattle.kernel.specs.declared.conclusion.Upper.TheVariants as uppers
-use Rattle.kernel.specs.declared.conclusion.Conclusion.{Conclusion}
-use Rattle.kernel.specs.declared.conclusion.Conclusion.TheVariants as conclusions
+use Rattle.proof_steps.specs.declared.conclusion.Lower.{Lower}
+use Rattle.proof_steps.specs.declared.conclusion.Lower.TheVariants as lowers
+use Rattle.proof_steps.specs.declared.conclusion.Upper.{Upper}
+use Rattle.proof_steps.specs.declared.conclusion.Upper.TheVariants as uppers
+use Rattle.proof_steps.specs.declared.conclusion.Conclusion.{Conclusion}
+use Rattle.proof_steps.specs.declared.conclusion.Conclusion.TheVariants as conclusions
 use Rattle.proof_text.specs.declared.rule.Verdict.{Verdict}
 use Rattle.proof_text.specs.declared.rule.Verdict.TheVariants as verdicts
 use Rattle.proof_text.specs.declared.line.Line.TheVariants as lines

@@ -7,8 +7,8 @@ use Rattle.pb_text.specs.Name.{is_name}
 use Rattle.pb_text.specs.Word.{name_of, is_negated, is_integer as integer_word, is_literal as literal_word, is_misspelt}
 use Rattle.pb_text.specs.Number.{integer_value}
 use Rattle.linear.specs.declared.term.Lit.{Lit}
-use Rattle.kernel.specs.declared.step.Item.{Item}
-use Rattle.kernel.specs.declared.step.Item.TheVariants as items
+use Rattle.proof_steps.specs.declared.step.Item.{Item}
+use Rattle.proof_steps.specs.declared.step.Item.TheVariants as items
 use Rattle.proof_text.specs.Kinds.{is_integer, is_literal}
 use Rattle.proof_text.specs.Words.{IsSmall, is_first}
 use Rattle.proof_text.specs.Numbering.{Known, met, met_in, lit_of}

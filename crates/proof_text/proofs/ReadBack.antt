@@ -19,8 +19,8 @@ use Rattle.linear.specs.declared.term.Lit.{Lit}
 use Rattle.linear.specs.declared.term.Term.{Term}
 use Rattle.linear.specs.declared.constraint.Signed.{Signed}
 use Rattle.linear.specs.declared.constraint.Relation.TheVariants as relations
-use Rattle.kernel.specs.declared.step.Item.{Item}
-use Rattle.kernel.specs.declared.step.Item.TheVariants as items
+use Rattle.proof_steps.specs.declared.step.Item.{Item}
+use Rattle.proof_steps.specs.declared.step.Item.TheVariants as items
 use Rattle.proof_text.specs.Kinds.{is_integer, is_literal, is_semicolon, is_at_least}
 use Rattle.proof_text.specs.Words.{Halves, halves, unclosed, is_first, IsSmall, AreSmall}
 use Rattle.proof_text.specs.Numbering.{names_in, lit_of}

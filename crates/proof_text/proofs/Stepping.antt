@@ -8,9 +8,9 @@ use Rattle.linear.specs.declared.constraint.Signed.{Signed}
 use Rattle.linear.specs.declared.constraint.Relation.TheVariants as relations
 use Rattle.substitution.specs.declared.image.Image.{Image}
 use Rattle.substitution.specs.Images.{NamesOnce}
-use Rattle.kernel.specs.declared.step.Item.{Item}
-use Rattle.kernel.specs.declared.step.Step.{Step}
-use Rattle.kernel.specs.declared.step.Step.TheVariants as steps
+use Rattle.proof_steps.specs.declared.step.Item.{Item}
+use Rattle.proof_steps.specs.declared.step.Step.{Step}
+use Rattle.proof_steps.specs.declared.step.Step.TheVariants as steps
 use Rattle.proof_text.specs.declared.rule.Rule.{Rule}
 use Rattle.proof_text.specs.declared.rule.Rule.TheVariants as rules
 use Rattle.proof_text.specs.Words.{halves, unclosed, IsSmall, AreSmall}

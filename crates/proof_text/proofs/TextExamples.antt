@@ -7,13 +7,13 @@ use Rattle.pb_text.specs.Word.{is_integer as integer_word, is_literal as literal
 use Rattle.pb_text.specs.Name.{is_name}
 use Rattle.pb_text.specs.Number.{integer_size, integer_value}
 use Rattle.substitution.specs.declared.image.Image.TheVariants as images
-use Rattle.kernel.specs.declared.step.Item.TheVariants.{Id, Axiom, Add, Multiply, Divide, Saturate, Weaken}
-use Rattle.kernel.specs.declared.step.Step.{Step}
-use Rattle.kernel.specs.declared.step.Step.TheVariants as steps
-use Rattle.kernel.specs.declared.conclusion.Lower.TheVariants as lowers
-use Rattle.kernel.specs.declared.conclusion.Upper.TheVariants as uppers
-use Rattle.kernel.specs.declared.conclusion.Conclusion.{Conclusion}
-use Rattle.kernel.specs.declared.conclusion.Conclusion.TheVariants as conclusions
+use Rattle.proof_steps.specs.declared.step.Item.TheVariants.{Id, Axiom, Add, Multiply, Divide, Saturate, Weaken}
+use Rattle.proof_steps.specs.declared.step.Step.{Step}
+use Rattle.proof_steps.specs.declared.step.Step.TheVariants as steps
+use Rattle.proof_steps.specs.declared.conclusion.Lower.TheVariants as lowers
+use Rattle.proof_steps.specs.declared.conclusion.Upper.TheVariants as uppers
+use Rattle.proof_steps.specs.declared.conclusion.Conclusion.{Conclusion}
+use Rattle.proof_steps.specs.declared.conclusion.Conclusion.TheVariants as conclusions
 use Rattle.proof_text.specs.Lines.{Numbered, counting_from, lines_of}
 use Rattle.proof_text.specs.Words.{words}
 use Rattle.proof_text.specs.Numbering.{names_in}

@@ -11,14 +11,14 @@ use Rattle.linear.specs.Table.{same_name, has_name, place_of, with_name}
 use Rattle.linear.specs.declared.constraint.Signed.{Signed}
 use Rattle.linear.specs.declared.constraint.Relation.TheVariants as relations
 use Rattle.substitution.specs.declared.image.Image.TheVariants as images
-use Rattle.kernel.specs.declared.step.Item.TheVariants as items
-use Rattle.kernel.specs.declared.step.Step.{Step}
-use Rattle.kernel.specs.declared.step.Step.TheVariants as steps
-use Rattle.kernel.specs.declared.conclusion.Lower.{Lower}
-use Rattle.kernel.specs.declared.conclusion.Lower.TheVariants as lowers
-use Rattle.kernel.specs.declared.conclusion.Upper.TheVariants as uppers
-use Rattle.kernel.specs.declared.conclusion.Conclusion.{Conclusion}
-use Rattle.kernel.specs.declared.conclusion.Conclusion.TheVariants as conclusions
+use Rattle.proof_steps.specs.declared.step.Item.TheVariants as items
+use Rattle.proof_steps.specs.declared.step.Step.{Step}
+use Rattle.proof_steps.specs.declared.step.Step.TheVariants as steps
+use Rattle.proof_steps.specs.declared.conclusion.Lower.{Lower}
+use Rattle.proof_steps.specs.declared.conclusion.Lower.TheVariants as lowers
+use Rattle.proof_steps.specs.declared.conclusion.Upper.TheVariants as uppers
+use Rattle.proof_steps.specs.declared.conclusion.Conclusion.{Conclusion}
+use Rattle.proof_steps.specs.declared.conclusion.Conclusion.TheVariants as conclusions
 use Rattle.proof_text.specs.declared.rule.Rule.{Rule}
 use Rattle.proof_text.specs.declared.rule.Rule.TheVariants as rules
 use Rattle.proof_text.specs.declared.rule.Verdict.{Verdict}

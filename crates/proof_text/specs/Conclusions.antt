@@ -3,12 +3,12 @@ use Rattle.std.specs.Prelude.{◌≡◌, ℕ, ◌&&◌, ◌||◌, not, Bool, tru
 use Rattle.pb_text.specs.Lexeme.{kind_of}
 use Rattle.pb_text.specs.Number.{integer_value}
 use Rattle.linear.specs.declared.term.Lit.{Lit}
-use Rattle.kernel.specs.declared.conclusion.Lower.{Lower}
-use Rattle.kernel.specs.declared.conclusion.Lower.TheVariants as lowers
-use Rattle.kernel.specs.declared.conclusion.Upper.{Upper}
-use Rattle.kernel.specs.declared.conclusion.Upper.TheVariants as uppers
-use Rattle.kernel.specs.declared.conclusion.Conclusion.{Conclusion}
-use Rattle.kernel.specs.declared.conclusion.Conclusion.TheVariants as conclusions
+use Rattle.proof_steps.specs.declared.conclusion.Lower.{Lower}
+use Rattle.proof_steps.specs.declared.conclusion.Lower.TheVariants as lowers
+use Rattle.proof_steps.specs.declared.conclusion.Upper.{Upper}
+use Rattle.proof_steps.specs.declared.conclusion.Upper.TheVariants as uppers
+use Rattle.proof_steps.specs.declared.conclusion.Conclusion.{Conclusion}
+use Rattle.proof_steps.specs.declared.conclusion.Conclusion.TheVariants as conclusions
 use Rattle.proof_text.specs.declared.rule.Verdict.{Verdict}
 use Rattle.proof_text.specs.declared.rule.Verdict.TheVariants as verdicts
 use Rattle.proof_text.specs.Kinds.{is_integer, is_colon}

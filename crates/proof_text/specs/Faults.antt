@@ -1,6 +1,6 @@
 -- What the faults of a line say of it.
 use Rattle.std.specs.Prelude.{◌≡◌, ℕ, ◌<◌, Some, List, length, codes, ⊤}
-use Rattle.kernel.specs.declared.step.Step.{Step}
+use Rattle.proof_steps.specs.declared.step.Step.{Step}
 use Rattle.proof_text.specs.declared.rule.Rule.{Rule}
 use Rattle.proof_text.specs.declared.line.Place.{Place}
 use Rattle.proof_text.specs.declared.line.Place.TheVariants as places

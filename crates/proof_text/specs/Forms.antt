@@ -11,8 +11,8 @@ use Rattle.linear.specs.declared.term.Var.{Var}
 use Rattle.linear.specs.declared.term.Term.{Term}
 use Rattle.substitution.specs.declared.image.Image.{Image}
 use Rattle.substitution.specs.declared.image.Image.TheVariants as images
-use Rattle.kernel.specs.declared.step.Item.{Item}
-use Rattle.kernel.specs.declared.step.Item.TheVariants as items
+use Rattle.proof_steps.specs.declared.step.Item.{Item}
+use Rattle.proof_steps.specs.declared.step.Item.TheVariants as items
 use Rattle.proof_text.specs.Kinds.{is_integer, is_literal, is_at_least, is_arrow}
 use Rattle.proof_text.specs.Numbering.{lit_of}
 

@@ -1,7 +1,7 @@
 -- What the text of a whole proof spells.
 use Rattle.std.specs.Prelude.{◌≡◌, ℕ, ℤ, List, [], ◌∷◌, ◌++◌}
-use Rattle.kernel.specs.declared.step.Step.{Step}
-use Rattle.kernel.specs.declared.conclusion.Conclusion.{Conclusion}
+use Rattle.proof_steps.specs.declared.step.Step.{Step}
+use Rattle.proof_steps.specs.declared.conclusion.Conclusion.{Conclusion}
 use Rattle.proof_text.specs.declared.line.Line.TheVariants as lines
 use Rattle.proof_text.specs.declared.line.Place.TheVariants as places
 use Rattle.proof_text.specs.Lines.{Numbered, lines_of}

@@ -4,8 +4,8 @@ use Rattle.std.specs.Option.{option_map}
 use Rattle.linear.specs.declared.constraint.Signed.{Signed}
 use Rattle.linear.specs.declared.constraint.Relation.TheVariants as relations
 use Rattle.substitution.specs.Images.{NamesOnce}
-use Rattle.kernel.specs.declared.step.Step.{Step}
-use Rattle.kernel.specs.declared.step.Step.TheVariants as steps
+use Rattle.proof_steps.specs.declared.step.Step.{Step}
+use Rattle.proof_steps.specs.declared.step.Step.TheVariants as steps
 use Rattle.proof_text.specs.declared.rule.Rule.{Rule}
 use Rattle.proof_text.specs.declared.rule.Rule.TheVariants as rules
 use Rattle.proof_text.specs.Words.{is_first, unclosed, halves, AreSmall}

@@ -9,16 +9,16 @@ use Rattle.linear.specs.declared.constraint.Signed.{Signed}
 use Rattle.linear.specs.declared.constraint.Relation.TheVariants as relations
 use Rattle.substitution.specs.declared.image.Image.{Image}
 use Rattle.substitution.specs.declared.image.Image.TheVariants as images
-use Rattle.kernel.specs.declared.step.Item.{Item}
-use Rattle.kernel.specs.declared.step.Item.TheVariants as items
-use Rattle.kernel.specs.declared.step.Step.{Step}
-use Rattle.kernel.specs.declared.step.Step.TheVariants as steps
-use Rattle.kernel.specs.declared.conclusion.Lower.{Lower}
-use Rattle.kernel.specs.declared.conclusion.Lower.TheVariants as lowers
-use Rattle.kernel.specs.declared.conclusion.Upper.{Upper}
-use Rattle.kernel.specs.declared.conclusion.Upper.TheVariants as uppers
-use Rattle.kernel.specs.declared.conclusion.Conclusion.{Conclusion}
-use Rattle.kernel.specs.declared.conclusion.Conclusion.TheVariants as conclusions
+use Rattle.proof_steps.specs.declared.step.Item.{Item}
+use Rattle.proof_steps.specs.declared.step.Item.TheVariants as items
+use Rattle.proof_steps.specs.declared.step.Step.{Step}
+use Rattle.proof_steps.specs.declared.step.Step.TheVariants as steps
+use Rattle.proof_steps.specs.declared.conclusion.Lower.{Lower}
+use Rattle.proof_steps.specs.declared.conclusion.Lower.TheVariants as lowers
+use Rattle.proof_steps.specs.declared.conclusion.Upper.{Upper}
+use Rattle.proof_steps.specs.declared.conclusion.Upper.TheVariants as uppers
+use Rattle.proof_steps.specs.declared.conclusion.Conclusion.{Conclusion}
+use Rattle.proof_steps.specs.declared.conclusion.Conclusion.TheVariants as conclusions
 use Rattle.proof_text.specs.Words.{words}
 use Rattle.proof_text.specs.Lines.{parted}
 use Rattle.proof_text.specs.declared.line.Line.{Line}

@@ -14,9 +14,9 @@ use crate::lookahead::Lookahead;
 use crate::part::{lits, number};
 use crate::rule::{Verdict, verdict_of};
 use crate::table::Table;
-use kernel::{Conclusion, Lower, Upper};
 use linear::{Lit, Seq};
 use pb_text::{Kind, Symbol, Token};
+use proof_steps::{Conclusion, Lower, Upper};
 use std::alloc::Global;
 
 /// A hint of literals, if one stands here.

@@ -1,6 +1,6 @@
 //! What the lines of a proof say, and where each may stand.
 
-use kernel::{Conclusion, Step};
+use proof_steps::{Conclusion, Step};
 
 /// Where in a proof a line stands: the lines that count are, in order, the header, the count, the steps and the output,
 /// the conclusion and the end.

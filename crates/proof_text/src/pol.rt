@@ -13,9 +13,9 @@ use crate::body::Body;
 use crate::fault::ProofFault;
 use crate::part::{lit, number};
 use crate::table::Table;
-use kernel::Item;
 use linear::Seq;
 use pb_text::{Kind, Token};
+use proof_steps::Item;
 use std::alloc::Global;
 
 /// An id, or a factor with its operation.

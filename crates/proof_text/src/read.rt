@@ -17,8 +17,8 @@ use crate::refusal::rule_fault;
 use crate::rule::rule_of;
 use crate::step::step;
 use crate::table::Table;
-use kernel::Step;
 use linear::Names;
+use proof_steps::Step;
 use std::alloc::Global;
 use std::mem;
 

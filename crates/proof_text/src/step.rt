@@ -14,7 +14,7 @@ use crate::pol::items;
 use crate::rule::Rule;
 use crate::table::Table;
 use crate::witness::{full_fault, images};
-use kernel::Step;
+use proof_steps::Step;
 use std::alloc::Global;
 use substitution::Substitution;
 

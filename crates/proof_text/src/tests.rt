@@ -1,8 +1,8 @@
 //! Lines with the answers that the format gives them.
 
 use super::*;
-use kernel::{Conclusion, Item, Lower, Step, Upper};
 use linear::{Lit, Names, Relation, Term, Var};
+use proof_steps::{Conclusion, Item, Lower, Step, Upper};
 use std::alloc::Global;
 
 /// A line and the number of its fault, 0 where it has none.

@@ -8,8 +8,8 @@ ghost use Rattle.proof_text.specs.Writing as writing;
 ghost use Rattle.proof_text.specs.Writing.{IsStepWritten, IsEndWritten};
 
 use crate::writer::{items, literals, number, numbers, pairs, terms, word};
-use kernel::{Conclusion, Lower, Step, Upper};
 use linear::{Lit, Names, Seq, Signed};
+use proof_steps::{Conclusion, Lower, Step, Upper};
 use std::alloc::AllocError;
 
 /// The first word of a line.

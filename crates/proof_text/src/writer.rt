@@ -7,8 +7,8 @@ ghost use Rattle.proof_text.specs.Writing as writing;
 ghost use Rattle.proof_text.specs.Writing.{spaced};
 
 use itoa::Buffer;
-use kernel::Item;
 use linear::{Lit, Names, Term, Var};
+use proof_steps::Item;
 use std::alloc::AllocError;
 use substitution::Image;
 

@@ -1,5 +1,5 @@
 use Rattle.std.proofs.Common.{ap, subst, ◌∙◌}
-use Rattle.kernel.specs.Justified.{IsJustified}
+use Rattle.proof_rules.specs.Justified.{IsJustified}
 use Rattle.proof_text.specs.Lines.{Pending}
 use Rattle.std.proofs.lemmas.Result.{err_from_is_err_and}
 use Rattle.linear.specs.Opb.{Opb}

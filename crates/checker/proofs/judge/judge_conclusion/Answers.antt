@@ -1,5 +1,5 @@
 use Rattle.std.proofs.Common.{sym, subst}
-use Rattle.kernel.specs.Justified.{IsJustified}
+use Rattle.proof_rules.specs.Justified.{IsJustified}
 use Rattle.checker.proofs.judge.judge_conclusion.Goals as goal
 
 pub returns-in-Ok-clause-justified : goal.returns-in-Ok-clause-justified

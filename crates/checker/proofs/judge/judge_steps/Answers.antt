@@ -1,5 +1,5 @@
 use Rattle.std.proofs.Common.{refl, subst, ◌∙◌}
-use Rattle.kernel.specs.Legal.{Legal}
+use Rattle.proof_rules.specs.Legal.{Legal}
 use Rattle.std.proofs.lemmas.Result.{err_from_is_err_and}
 use Rattle.checker.proofs.Stops.{stops_among}
 use Rattle.checker.proofs.Judging.{none_taken, one_more}

@@ -1,13 +1,13 @@
 use Rattle.std.proofs.Common.{◌≡◌, ◌≢◌, pos, [], length, get_or, refl, ap, subst, ◌∙◌}
 use Rattle.std.proofs.lemmas.List.{take_all}
 use Rattle.std.proofs.lemmas.Result.{err_from_is_err_and, IfErr-weaker}
-use Rattle.kernel.specs.declared.fault.StepFault.TheVariants as faults
-use Rattle.kernel.specs.declared.step.Item.TheVariants as items
-use Rattle.kernel.specs.Fault.{OrMemory, IsItemFault, IsWritingFault}
+use Rattle.proof_rules.specs.declared.fault.StepFault.TheVariants as faults
+use Rattle.proof_steps.specs.declared.step.Item.TheVariants as items
+use Rattle.proof_rules.specs.Fault.{OrMemory, IsItemFault, IsWritingFault}
 use Rattle.kernel.specs.Places.{listed}
-use Rattle.kernel.specs.Running.{Runs}
-use Rattle.kernel.proofs.Faults.{Runs-take, or_memory, stops_here, leaves_writing}
-use Rattle.kernel.proofs.Polish.{IsWritten-take}
+use Rattle.proof_rules.specs.Running.{Runs}
+use Rattle.proof_rules.proofs.Faults.{Runs-take, or_memory, stops_here, leaves_writing}
+use Rattle.proof_rules.proofs.Polish.{IsWritten-take}
 use Rattle.kernel.proofs.evaluation.evaluate.Goals as goal
 
 pub loop-item-preserved : goal.loop-item-preserved

@@ -1,7 +1,7 @@
 use Rattle.std.proofs.Common.{◌≡◌, [], take}
-use Rattle.kernel.specs.Expression.{IsWritten}
+use Rattle.proof_rules.specs.Expression.{IsWritten}
 use Rattle.kernel.specs.Places.{listed}
-use Rattle.kernel.specs.Running.{Runs}
+use Rattle.proof_rules.specs.Running.{Runs}
 use Rattle.kernel.proofs.evaluation.evaluate.Given as goal
 
 -- the items so far write what stands on the stack, and run to it

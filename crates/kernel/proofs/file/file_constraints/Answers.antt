@@ -2,8 +2,8 @@ use Rattle.std.proofs.Common.{◌<◌, ◌≤◌, length, get_or, subst, sym, ar
 use Rattle.std.proofs.lemmas.List.{take_all}
 use Rattle.std.proofs.lemmas.List.Elements.{All-get_or}
 use Rattle.linear.specs.Limits.{IsConstraintWithin}
-use Rattle.kernel.specs.Forms.{AreFormsOfAll, AddsForms}
-use Rattle.kernel.proofs.FileForms.{constraint_small, forms_more, all_count, few_ids, read_constraint}
+use Rattle.proof_rules.specs.Forms.{AreFormsOfAll, AddsForms}
+use Rattle.proof_rules.proofs.FileForms.{constraint_small, forms_more, all_count, few_ids, read_constraint}
 use Rattle.kernel.proofs.file.file_constraints.Goals as goal
 
 pub push_forms-requires : goal.push_forms-requires

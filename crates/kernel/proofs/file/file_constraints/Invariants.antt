@@ -1,5 +1,5 @@
 use Rattle.std.proofs.Common.{take}
-use Rattle.kernel.specs.Forms.{AreFormsOfAll}
+use Rattle.proof_rules.specs.Forms.{AreFormsOfAll}
 use Rattle.kernel.proofs.file.file_constraints.Given as goal
 
 -- the forms so far

@@ -1,6 +1,6 @@
 use Rattle.std.proofs.Common.{◌≡◌, [], ◌∷◌, ◌++◌, List, refl, sym, ap, subst, ◌∙◌, append_assoc}
 use Rattle.normal_form.specs.Normal.{NormalConstraint}
-use Rattle.kernel.specs.Forms.{AreFormsAs}
+use Rattle.proof_rules.specs.Forms.{AreFormsAs}
 use Rattle.kernel.proofs.file.push_forms.Goals as goal
 
 pub returns-in_ok-push-in-Equal-2-clause-ok : goal.returns-in_ok-push-in-Equal-2-clause-ok

@@ -1,6 +1,6 @@
 use Rattle.std.proofs.Common.{ℕ, ◌<◌, get_or}
 use Rattle.normal_form.specs.Normal.{NormalConstraint}
-use Rattle.kernel.specs.Contradiction.{IsContradiction}
+use Rattle.proof_rules.specs.Contradiction.{IsContradiction}
 use Rattle.kernel.proofs.kernel.has_contradiction.Given as goal
 
 -- none so far

@@ -1,7 +1,7 @@
 use Rattle.std.proofs.Common.{◌≡◌, ℤ, true, false, ◌∷◌, codes, sym, subst, ◌∙◌, FitsSigned, rules}
 use Rattle.std.proofs.lemmas.Int.{to_z-of_z}
 use mir.Syntax.{w128}
-use Rattle.kernel.specs.declared.step.Item.TheVariants as items
+use Rattle.proof_steps.specs.declared.step.Item.TheVariants as items
 use Rattle.proof_text.specs.Words.{is_first}
 use Rattle.proof_text.specs.Forms.{are_items, items_of}
 use Rattle.proof_text.specs.Reading.{Takes}

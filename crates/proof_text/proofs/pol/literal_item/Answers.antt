@@ -1,5 +1,5 @@
 use Rattle.std.proofs.Common.{◌≡◌, true, false, ◌∷◌, codes, sym, subst, ◌∙◌, rules, arith}
-use Rattle.kernel.specs.declared.step.Item.TheVariants as items
+use Rattle.proof_steps.specs.declared.step.Item.TheVariants as items
 use Rattle.proof_text.specs.Words.{is_first}
 use Rattle.proof_text.specs.Forms.{are_items, items_of}
 use Rattle.proof_text.specs.Reading.{Takes}

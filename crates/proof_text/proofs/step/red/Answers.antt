@@ -1,7 +1,7 @@
 use Rattle.std.proofs.Common.{◌≡◌, Some, is_some, map, if◌then◌else◌, ◌&&◌, true, false, sym, ap, subst, ◌∙◌}
 use Rattle.std.proofs.lemmas.Result.{err_from_is_err_and}
 use Rattle.substitution.specs.Images.{NamesOnce}
-use Rattle.kernel.specs.declared.step.Step.TheVariants as steps
+use Rattle.proof_steps.specs.declared.step.Step.TheVariants as steps
 use Rattle.proof_text.specs.declared.rule.Rule.TheVariants as rule
 use Rattle.proof_text.specs.Words.{Halves, halves, unclosed}
 use Rattle.proof_text.specs.Forms.{are_images, images_of, lefts, repeats, closing_of, behind_terms}

@@ -1,12 +1,12 @@
 use Rattle.std.proofs.Common.{◌≡◌, ◌+◌, ◌<◌, ◌^◌, length, ap, subst, ◌∙◌, arith}
 use Rattle.std.proofs.lemmas.Result.{err_from_is_err_and}
-use Rattle.kernel.specs.declared.fault.StepFault.TheVariants as faults
-use Rattle.kernel.specs.Expression.{IsPolish}
-use Rattle.kernel.specs.Fault.{OrMemory, IsWritingFault, IsPolFault}
-use Rattle.kernel.specs.Legal.{LegalPol}
+use Rattle.proof_rules.specs.declared.fault.StepFault.TheVariants as faults
+use Rattle.proof_rules.specs.Expression.{IsPolish}
+use Rattle.proof_rules.specs.Fault.{OrMemory, IsWritingFault, IsPolFault}
+use Rattle.proof_rules.specs.Legal.{LegalPol}
 use Rattle.kernel.specs.Places.{listed}
-use Rattle.kernel.specs.State.{state_of, constraint_of}
-use Rattle.kernel.proofs.Faults.{or_memory, writing_pol}
+use Rattle.proof_rules.specs.State.{state_of, constraint_of}
+use Rattle.proof_rules.proofs.Faults.{or_memory, writing_pol}
 use Rattle.kernel.proofs.Kept.{given_listed, pol_legal, kept_more}
 use Rattle.kernel.proofs.kernel.Kernel.add_value.Goals as goal
 

@@ -1,7 +1,7 @@
 use Rattle.std.proofs.Common.{None, IfOk, refl, sym, ap, subst}
-use Rattle.kernel.specs.declared.conclusion.Conclusion.TheVariants as conclusions
-use Rattle.kernel.specs.Justified.{IsJustified}
-use Rattle.kernel.specs.State.{state_of}
+use Rattle.proof_steps.specs.declared.conclusion.Conclusion.TheVariants as conclusions
+use Rattle.proof_rules.specs.Justified.{IsJustified}
+use Rattle.proof_rules.specs.State.{state_of}
 use Rattle.kernel.proofs.kernel.Kernel.conclude.Goals as goal
 
 pub returns-in-Nothing-clause-justified : goal.returns-in-Nothing-clause-justified

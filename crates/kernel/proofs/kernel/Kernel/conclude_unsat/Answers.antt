@@ -1,12 +1,12 @@
 use Rattle.std.proofs.Common.{List, Any, refl, sym, ap, subst}
 use Rattle.std.proofs.lemmas.Bool.{false≢true}
 use Rattle.normal_form.specs.Normal.{NormalConstraint}
-use Rattle.kernel.specs.declared.conclusion.Conclusion.TheVariants as conclusions
-use Rattle.kernel.specs.Claim.{Claim}
-use Rattle.kernel.specs.Contradiction.{IsContradiction}
-use Rattle.kernel.specs.Justified.{IsJustified}
-use Rattle.kernel.specs.State.{state_of, constraints}
-use Rattle.kernel.proofs.Concluding.{justified_claim}
+use Rattle.proof_steps.specs.declared.conclusion.Conclusion.TheVariants as conclusions
+use Rattle.proof_rules.specs.Claim.{Claim}
+use Rattle.proof_rules.specs.Contradiction.{IsContradiction}
+use Rattle.proof_rules.specs.Justified.{IsJustified}
+use Rattle.proof_rules.specs.State.{state_of, constraints}
+use Rattle.proof_rules.proofs.Concluding.{justified_claim}
 use Rattle.kernel.proofs.Kept.{unsat_justified}
 use Rattle.kernel.proofs.Numbered.{constraints_listed}
 use Rattle.kernel.proofs.kernel.Kernel.conclude_unsat.Goals as goal

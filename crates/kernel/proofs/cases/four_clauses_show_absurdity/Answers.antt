@@ -1,9 +1,0 @@
-use Rattle.std.proofs.Common.{[], refl}
-use Rattle.normal_form.specs.Cases.{normal}
-use Rattle.propagate.specs.Cases.{four_clauses}
-use Rattle.kernel.specs.Shown.{absurdity}
-use Rattle.kernel.proofs.SmallCases.{shown_by_search}
-use Rattle.kernel.proofs.cases.four_clauses_show_absurdity.Goals as goal
-
-pub returns : goal.returns
-returns c = shown_by_search 4 four_clauses absurdity (normal [] 0) (record { rises = tt; terms = refl; degree = refl }) refl

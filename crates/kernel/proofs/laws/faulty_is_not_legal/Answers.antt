@@ -1,5 +1,0 @@
-use Rattle.kernel.proofs.NotLegal.{step_never}
-use Rattle.kernel.proofs.laws.faulty_is_not_legal.Goals as goal
-
-pub returns : goal.returns
-returns _ p s t step f h legal = step_never p s step f t h legal

@@ -1,9 +1,0 @@
-use Rattle.kernel.proofs.OneConclusionFault.{one_conclusion_fault}
-use Rattle.kernel.proofs.OneStepFault.{one_step_fault}
-use Rattle.kernel.proofs.laws.one_fault.Goals as goal
-
-pub returns-clause-step : goal.returns-clause-step
-returns-clause-step _ = one_step_fault
-
-pub returns-clause-conclusion : goal.returns-clause-conclusion
-returns-clause-conclusion _ = one_conclusion_fault

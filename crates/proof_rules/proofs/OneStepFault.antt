@@ -1,0 +1,238 @@
+-- A step has at most one fault.
+use Rattle.std.proofs.Common.{◌≡◌, ◌≢◌, ℕ, ◌⊎◌, inl, inr, ℤ, ◌<ℤ◌, Bool, List, [], ◌∷◌, ◌++◌, None, All, IfSome, length, refl, sym, ap, subst, ◌∙◌, arith}
+use Rattle.std.proofs.lemmas.Bool.{cases_order}
+use Rattle.std.specs.FinMap as fin
+use Rattle.linear.specs.declared.constraint.Signed.{Signed}
+use Rattle.linear.specs.declared.term.Lit.{Lit}
+use Rattle.linear.specs.Opb.{Opb}
+use Rattle.normal_form.specs.Normal.{NormalConstraint}
+use Rattle.normal_form.specs.Negation.{IsNegation}
+use Rattle.normal_form.proofs.Opposite.{one_negation}
+use Rattle.substitution.specs.Images.{Images}
+use Rattle.proof_rules.specs.declared.fault.StepFault.{StepFault}
+use Rattle.proof_rules.specs.declared.fault.StepFault.TheVariants as faults
+use Rattle.proof_steps.specs.declared.step.Step.{Step}
+use Rattle.proof_steps.specs.declared.step.Step.TheVariants as steps
+use Rattle.proof_rules.specs.Fault.{IsAdmissionFault, IsRupFault, IsGoalFault, IsOpenGoal, IsRedFault, IsSolFault, IsNotBetter, IsSoliFault, IsUndeletable, IsDelFault, IsStepFault}
+use Rattle.proof_rules.specs.Legal.{IsShownUnder, Logs, LegalDel, worth_of, without}
+use Rattle.proof_rules.specs.Shown.{IsAdmitted}
+use Rattle.proof_rules.specs.Solution.{Completes}
+use Rattle.proof_rules.specs.State.{State, constraints, id_of, HasRoom}
+use Rattle.proof_rules.proofs.LiveConstraints.{All-get}
+use Rattle.proof_rules.proofs.NotLegal.{admitted_never, one_admitted, sol_never, less_never, undeletable_never}
+use Rattle.proof_rules.proofs.OneItemFault.{Case, one_of_two, one_of_three, one_pol_fault}
+
+-- a written constraint
+
+abbrev Admitted : Signed → Type 0
+Admitted c = (n : NormalConstraint) × IsAdmitted c n
+
+admission_is : (s : State) (c : Signed) (f : StepFault) → IsAdmissionFault s c f → Case f faults.TooLarge (Admitted c → ⊥) ⊎ Case f faults.TooManyIds (Admitted c)
+admission_is s c faults.TooLarge h = inl (refl, λ some. h some.0 some.1)
+admission_is s c faults.TooManyIds h = inr (refl, h.0)
+admission_is s c _ h = absurd h
+
+one_admission_fault : (s : State) (c : Signed) (f g : StepFault) → IsAdmissionFault s c f → IsAdmissionFault s c g → f ≡ g
+one_admission_fault s c f g h k =
+    one_of_two f g faults.TooLarge faults.TooManyIds (Admitted c → ⊥) (Admitted c) (λ none some. none some) (admission_is s c f h) (admission_is s c g k)
+
+-- rup
+
+abbrev HasPlace : State → Signed → Type 0
+HasPlace s c = (n : NormalConstraint) × IsAdmitted c n × HasRoom s
+
+rup_is : (s : State) (c : Signed) (f : StepFault) → IsRupFault s c f → Case f faults.NotShown (HasPlace s c) ⊎ IsAdmissionFault s c f
+rup_is s c faults.NotShown (n, admitted, room, not) = inl (refl, (n, admitted, room))
+rup_is s c _ h = inr h
+
+one_rup_case : (s : State) (c : Signed) (f g : StepFault) → Case f faults.NotShown (HasPlace s c) ⊎ IsAdmissionFault s c f → Case g faults.NotShown (HasPlace s c) ⊎ IsAdmissionFault s c g → f ≡ g
+one_rup_case s c f g (inl h) (inl k) = h.0 ∙ sym k.0
+one_rup_case s c f g (inl (is, (n, admitted, room))) (inr k) = absurd (admitted_never s c n g k admitted room)
+one_rup_case s c f g (inr h) (inl (is, (n, admitted, room))) = absurd (admitted_never s c n f h admitted room)
+one_rup_case s c f g (inr h) (inr k) = one_admission_fault s c f g h k
+
+one_rup_fault : (s : State) (c : Signed) (f g : StepFault) → IsRupFault s c f → IsRupFault s c g → f ≡ g
+one_rup_fault s c f g h k = one_rup_case s c f g (rup_is s c f h) (rup_is s c g k)
+
+-- red: the first id whose constraint is not shown, then the new constraint, then the objective
+
+abbrev LiveOpen : Opb → State → List NormalConstraint → Images → NormalConstraint → StepFault → Type 0
+LiveOpen p s from images n f = (id : ℕ) × (f ≡ faults.GoalOpen id) × IsGoalFault p s from images n (faults.GoalOpen id)
+
+one_id : (p : Opb) (s : State) (from : List NormalConstraint) (images : Images) (n : NormalConstraint) (i j : ℕ)
+    → IsGoalFault p s from images n (faults.GoalOpen i) → IsGoalFault p s from images n (faults.GoalOpen j) → i ≡ j
+one_id p s from images n i j (e, is, not, before) (d, is', not', before') = elim (cases_order i j) as (λ _. i ≡ j) [
+  | inl same ↦ same
+  | inr (inl less) ↦ absurd (not (before' i e (omega (arith, less)) is))
+  | inr (inr more) ↦ absurd (not' (before j d (omega (arith, more)) is'))
+]
+
+one_live : (p : Opb) (s : State) (from : List NormalConstraint) (images : Images) (n : NormalConstraint) (f g : StepFault) → LiveOpen p s from images n f → LiveOpen p s from images n g → f ≡ g
+one_live p s from images n f g (i, is, open_i) (j, is', open_j) = is ∙ ap (λ id. faults.GoalOpen id) (one_id p s from images n i j open_i open_j) ∙ sym is'
+
+abbrev LiveShown : State → List NormalConstraint → Images → Type 0
+LiveShown s from images = All (IsShownUnder from images) (constraints s)
+
+live_never : (p : Opb) (s : State) (from : List NormalConstraint) (images : Images) (n : NormalConstraint) (f : StepFault) → LiveOpen p s from images n f → LiveShown s from images → ⊥
+live_never p s from images n f (id, is, (e, there, not, before)) all = not (All-get (IsShownUnder from images) s.live id e all there)
+
+abbrev OtherOpen : Opb → State → List NormalConstraint → Images → NormalConstraint → StepFault → Type 0
+OtherOpen p s from images n f =
+    Case f faults.GoalOpenSelf (IsGoalFault p s from images n faults.GoalOpenSelf) ⊎ Case f faults.GoalOpenObjective (IsGoalFault p s from images n faults.GoalOpenObjective)
+
+goal_is : (p : Opb) (s : State) (from : List NormalConstraint) (images : Images) (n : NormalConstraint) (f : StepFault)
+    → IsGoalFault p s from images n f → LiveOpen p s from images n f ⊎ OtherOpen p s from images n f
+goal_is p s from images n (faults.GoalOpen id) h = inl (id, refl, h)
+goal_is p s from images n faults.GoalOpenSelf h = inr (inl (refl, h))
+goal_is p s from images n faults.GoalOpenObjective h = inr (inr (refl, h))
+goal_is p s from images n _ h = absurd h
+
+all_live : (p : Opb) (s : State) (from : List NormalConstraint) (images : Images) (n : NormalConstraint) (f : StepFault) → OtherOpen p s from images n f → LiveShown s from images
+all_live p s from images n f (inl h) = h.1.0
+all_live p s from images n f (inr h) = h.1.0
+
+one_goal_case : (p : Opb) (s : State) (from : List NormalConstraint) (images : Images) (n : NormalConstraint) (f g : StepFault)
+    → LiveOpen p s from images n f ⊎ OtherOpen p s from images n f → LiveOpen p s from images n g ⊎ OtherOpen p s from images n g → f ≡ g
+one_goal_case p s from images n f g (inl h) (inl k) = one_live p s from images n f g h k
+one_goal_case p s from images n f g (inl h) (inr k) = absurd (live_never p s from images n f h (all_live p s from images n g k))
+one_goal_case p s from images n f g (inr h) (inl k) = absurd (live_never p s from images n g k (all_live p s from images n f h))
+one_goal_case p s from images n f g (inr h) (inr k) =
+    one_of_two f g faults.GoalOpenSelf faults.GoalOpenObjective (IsGoalFault p s from images n faults.GoalOpenSelf) (IsGoalFault p s from images n faults.GoalOpenObjective)
+    (λ own objective. own.1 objective.1) h k
+
+one_goal_fault : (p : Opb) (s : State) (from : List NormalConstraint) (images : Images) (n : NormalConstraint) (f g : StepFault)
+    → IsGoalFault p s from images n f → IsGoalFault p s from images n g → f ≡ g
+one_goal_fault p s from images n f g h k = one_goal_case p s from images n f g (goal_is p s from images n f h) (goal_is p s from images n g k)
+
+one_open_goal : (p : Opb) (s : State) (c : Signed) (images : Images) (f g : StepFault) → IsOpenGoal p s c images f → IsOpenGoal p s c images g → f ≡ g
+one_open_goal p s c images f g (n, m, admitted, room, negated, h) (k, j, admitted', room', negated', i) =
+    let same : k ≡ n = one_admitted c k n admitted' admitted in
+    let other : j ≡ m = one_negation n j m admitted.form.rises (subst (λ z. IsNegation z j) same negated') negated in
+    let goal : IsGoalFault p s (constraints s ++ m ∷ []) images n g =
+    subst (λ z. IsGoalFault p s (constraints s ++ z ∷ []) images n g) other (subst (λ z. IsGoalFault p s (constraints s ++ j ∷ []) images z g) same i) in
+    one_goal_fault p s (constraints s ++ m ∷ []) images n f g h goal
+
+one_red_fault : (p : Opb) (s : State) (c : Signed) (images : Images) (f g : StepFault) → IsRedFault p s c images f → IsRedFault p s c images g → f ≡ g
+one_red_fault p s c images f g (inl h) (inl k) = one_admission_fault s c f g h k
+one_red_fault p s c images f g (inl h) (inr (n, m, admitted, room, negated, goal)) = absurd (admitted_never s c n f h admitted room)
+one_red_fault p s c images f g (inr (n, m, admitted, room, negated, goal)) (inl k) = absurd (admitted_never s c n g k admitted room)
+one_red_fault p s c images f g (inr h) (inr k) = one_open_goal p s c images f g h k
+
+-- sol
+
+abbrev Conflicts : Opb → State → List Lit → Type 0
+Conflicts p s listing = IsSolFault p s listing faults.SolutionConflict
+
+abbrev Completed : Opb → State → List Lit → Type 0
+Completed p s listing = (g : List Bool) × Completes (constraints s) (length p.names) listing g
+
+abbrev IsPartial : Opb → State → List Lit → Type 0
+IsPartial p s listing = IsSolFault p s listing faults.SolutionPartial
+
+sol_is : (p : Opb) (s : State) (listing : List Lit) (f : StepFault) → IsSolFault p s listing f
+    → Case f faults.SolutionConflict (Conflicts p s listing) ⊎ (Case f faults.SolutionPartial (IsPartial p s listing) ⊎ Case f faults.SolutionFalse (Completed p s listing))
+sol_is p s listing faults.SolutionConflict h = inl (refl, h)
+sol_is p s listing faults.SolutionPartial h = inr (inl (refl, h))
+sol_is p s listing faults.SolutionFalse h = inr (inr (refl, h.0))
+sol_is p s listing _ h = absurd h
+
+conflict_partial : (p : Opb) (s : State) (listing : List Lit) → Conflicts p s listing → IsPartial p s listing → ⊥
+conflict_partial p s listing (inl not) partial = not partial.0
+conflict_partial p s listing (inr (consistent, not_all, leads)) partial = partial.1 leads
+
+conflict_completed : (p : Opb) (s : State) (listing : List Lit) → Conflicts p s listing → Completed p s listing → ⊥
+conflict_completed p s listing (inl not) (g, c) = not c.consistent
+conflict_completed p s listing (inr (consistent, not_all, leads)) (g, c) = elim (c.completed) as (λ _. ⊥) [ inl h ↦ not_all h.0 | inr h ↦ h.1 leads ]
+
+pub one_sol_fault : (p : Opb) (s : State) (listing : List Lit) (f g : StepFault) → IsSolFault p s listing f → IsSolFault p s listing g → f ≡ g
+one_sol_fault p s listing f g h k =
+    one_of_three f g faults.SolutionConflict faults.SolutionPartial faults.SolutionFalse (Conflicts p s listing) (IsPartial p s listing) (Completed p s listing)
+    (conflict_partial p s listing) (conflict_completed p s listing) (λ partial done. partial.2 done.0 done.1) (sol_is p s listing f h) (sol_is p s listing g k)
+
+-- soli
+
+abbrev NotBetter : Opb → State → List Lit → Type 0
+NotBetter p s listing = ((g : List Bool) × Logs p s listing g) × ((g : List Bool) → Logs p s listing g → IsNotBetter p s g)
+
+abbrev Better : Opb → State → List Lit → Type 0
+Better p s listing = (g : List Bool) × Logs p s listing g × IfSome s.improve (λ least. worth_of p g <ℤ least)
+
+not_better : (p : Opb) (s : State) (listing : List Lit) → NotBetter p s listing → Better p s listing → ⊥
+not_better p s listing (some, all) (g, logs, better) =
+    let worse = all g logs in
+    less_never (worth_of p g) worse.0 (subst (λ o. IfSome o (λ least. worth_of p g <ℤ least)) worse.1 better) worse.2
+
+abbrev SoliCase : Opb → State → List Lit → StepFault → Type 0
+SoliCase p s listing f = IsSolFault p s listing f ⊎ (Case f faults.NotImproving (NotBetter p s listing) ⊎ Case f faults.TooManyIds (Better p s listing))
+
+soli_is : (p : Opb) (s : State) (listing : List Lit) (f : StepFault) → IsSoliFault p s listing f → Case f faults.NoObjective (p.objective ≡ None) ⊎ ((p.objective ≢ None) × SoliCase p s listing f)
+soli_is p s listing faults.NoObjective h = inl (refl, h)
+soli_is p s listing faults.NotImproving h = inr (h.0, inr (inl (refl, (h.1, h.2))))
+soli_is p s listing faults.TooManyIds h = inr (h.0, inr (inr (refl, h.1)))
+soli_is p s listing _ h = inr (h.0, inl h.1)
+
+solved : (p : Opb) (s : State) (listing : List Lit) (f : StepFault) → Case f faults.NotImproving (NotBetter p s listing) ⊎ Case f faults.TooManyIds (Better p s listing) → (g : List Bool) × Logs p s listing g
+solved p s listing f (inl h) = h.1.0
+solved p s listing f (inr h) = (h.1.0, h.1.1)
+
+one_soli_case : (p : Opb) (s : State) (listing : List Lit) (f g : StepFault) → SoliCase p s listing f → SoliCase p s listing g → f ≡ g
+one_soli_case p s listing f g (inl h) (inl k) = one_sol_fault p s listing f g h k
+one_soli_case p s listing f g (inl h) (inr k) = let some = solved p s listing g k in absurd (sol_never p s listing some.0 f h some.1)
+one_soli_case p s listing f g (inr h) (inl k) = let some = solved p s listing f h in absurd (sol_never p s listing some.0 g k some.1)
+one_soli_case p s listing f g (inr h) (inr k) =
+    one_of_two f g faults.NotImproving faults.TooManyIds (NotBetter p s listing) (Better p s listing) (not_better p s listing) h k
+
+one_behind_objective : (p : Opb) (s : State) (listing : List Lit) (f g : StepFault) → Case f faults.NoObjective (p.objective ≡ None) ⊎ ((p.objective ≢ None) × SoliCase p s listing f)
+    → Case g faults.NoObjective (p.objective ≡ None) ⊎ ((p.objective ≢ None) × SoliCase p s listing g) → f ≡ g
+one_behind_objective p s listing f g (inl h) (inl k) = h.0 ∙ sym k.0
+one_behind_objective p s listing f g (inl h) (inr k) = absurd (k.0 h.1)
+one_behind_objective p s listing f g (inr h) (inl k) = absurd (h.0 k.1)
+one_behind_objective p s listing f g (inr h) (inr k) = one_soli_case p s listing f g h.1 k.1
+
+one_soli_fault : (p : Opb) (s : State) (listing : List Lit) (f g : StepFault) → IsSoliFault p s listing f → IsSoliFault p s listing g → f ≡ g
+one_soli_fault p s listing f g h k = one_behind_objective p s listing f g (soli_is p s listing f h) (soli_is p s listing g k)
+
+-- del
+
+undeletable_is : (p : Opb) (s : State) (id : ℕ) (f : StepFault) → IsUndeletable p s id f → Case f faults.DeadId (fin.get s.live id ≡ None) ⊎ Case f faults.FileConstraint (fin.get s.live id ≢ None)
+undeletable_is p s id faults.DeadId h = inl (refl, h)
+undeletable_is p s id faults.FileConstraint h = inr (refl, h.0)
+undeletable_is p s id _ h = absurd h
+
+one_undeletable : (p : Opb) (s : State) (id : ℕ) (f g : StepFault) → IsUndeletable p s id f → IsUndeletable p s id g → f ≡ g
+one_undeletable p s id f g h k =
+    one_of_two f g faults.DeadId faults.FileConstraint (fin.get s.live id ≡ None) (fin.get s.live id ≢ None) (λ none some. some none)
+    (undeletable_is p s id f h) (undeletable_is p s id g k)
+
+-- an id of a step, in the state that the ids before it lead to
+abbrev UndeletableIn : Opb → State → ℤ → StepFault → Type 0
+UndeletableIn p s id f = IsUndeletable p s (id_of s.next id) f
+
+one_refusal : (p : Opb) (s t u : State) (xs ys bs cs : List ℤ) (i j : ℤ) (f g : StepFault) → xs ++ i ∷ bs ≡ ys ++ j ∷ cs
+    → LegalDel p s xs t → LegalDel p s ys u → UndeletableIn p t i f → UndeletableIn p u j g → f ≡ g
+one_refusal p s t u [] [] bs cs i j f g same is also h k =
+    let ids : i ≡ j = cc in
+    one_undeletable p s (id_of s.next j) f g (subst (λ x. UndeletableIn p s x f) ids (subst (λ z. UndeletableIn p z i f) is h)) (subst (λ z. UndeletableIn p z j g) also k)
+one_refusal p s t u [] (y ∷ ys) bs cs i j f g same is (d, legal) h k =
+    let ids : i ≡ y = cc in
+    absurd (undeletable_never p s (id_of s.next y) f (subst (λ x. UndeletableIn p s x f) ids (subst (λ z. UndeletableIn p z i f) is h)) d)
+one_refusal p s t u (x ∷ xs) [] bs cs i j f g same (d, legal) also h k =
+    let ids : j ≡ x = cc in
+    absurd (undeletable_never p s (id_of s.next x) g (subst (λ z. UndeletableIn p s z g) ids (subst (λ z. UndeletableIn p z j g) also k)) d)
+one_refusal p s t u (x ∷ xs) (y ∷ ys) bs cs i j f g same (d, legal) (e, legal') h k =
+    let ids : y ≡ x = cc in
+    let rest : xs ++ i ∷ bs ≡ ys ++ j ∷ cs = cc in
+    let old = without (id_of s.next x) s in
+    one_refusal p old t u xs ys bs cs i j f g rest legal (subst (λ z. LegalDel p (without (id_of s.next z) s) ys u) ids legal') h k
+
+one_del_fault : (p : Opb) (s : State) (ids : List ℤ) (f g : StepFault) → IsDelFault p s ids f → IsDelFault p s ids g → f ≡ g
+one_del_fault p s ids f g (before, i, behind, t, is, legal, h) (before', j, behind', u, is', legal', k) =
+    one_refusal p s t u before before' behind behind' i j f g (sym is ∙ is') legal legal' h k
+
+pub one_step_fault : (p : Opb) (s : State) (step : Step) (f g : StepFault) → IsStepFault p s step f → IsStepFault p s step g → f ≡ g
+one_step_fault p s (steps.Pol written) f g h k = one_pol_fault s written f g h k
+one_step_fault p s (steps.Rup c) f g h k = one_rup_fault s c f g h k
+one_step_fault p s (steps.Red c images) f g h k = one_red_fault p s c images f g h k
+one_step_fault p s (steps.Sol listing) f g h k = one_sol_fault p s listing f g h k
+one_step_fault p s (steps.Soli listing) f g h k = one_soli_fault p s listing f g h k
+one_step_fault p s (steps.Del ids) f g h k = one_del_fault p s ids f g h k

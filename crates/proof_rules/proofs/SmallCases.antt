@@ -1,0 +1,42 @@
+-- Deciding by the slow search whether a constraint is shown.
+use Rattle.std.proofs.Common.{◌≡◌, ℕ, ◌+◌, ◌-◌, inl, inr, Bool, true, false, List, [], ◌∷◌, ◌++◌, nat_le, subst, arith}
+use Rattle.std.specs.List.{list_any}
+use Rattle.std.proofs.lemmas.Bool.Decides.{nat_tests}
+use Rattle.linear.specs.declared.term.Lit.{Lit}
+use Rattle.normal_form.specs.Normal.{NormalConstraint, Rises, total}
+use Rattle.normal_form.specs.Balance.{flipped}
+use Rattle.normal_form.specs.Negation.{IsNegation}
+use Rattle.normal_form.proofs.Opposite.{negation_from, one_negation}
+use Rattle.propagate.specs.Chain.{IsRefuted}
+use Rattle.propagate.specs.Passes.{outcome, Conflict, Settled}
+use Rattle.propagate.proofs.Outcomes.{conflict_met, no_conflict_met}
+use Rattle.propagate.proofs.Somewhere.{none_from_test}
+use Rattle.substitution.specs.Covering.{Covers, excess}
+use Rattle.proof_rules.specs.Shown.{IsShown}
+
+-- whether a constraint covers another
+abbrev pub covering : NormalConstraint → NormalConstraint → Bool
+covering n e = nat_le (n.degree + excess e.terms n) e.degree
+
+covering_told : (n e : NormalConstraint) → Covers e n → covering n e ≡ true
+covering_told n e h = grind (arith, nat_tests)
+
+-- a negation, its literals turned and its degree counted
+pub record Turned (n m : NormalConstraint) : Type 0 where
+  pub rises : Rises 0 n.terms
+  pub terms : m.terms ≡ flipped n.terms
+  pub degree : m.degree ≡ (total n.terms + 1) - n.degree
+
+turned : (n m : NormalConstraint) → Turned n m → IsNegation n m
+turned n m t = negation_from n m t.rises t.terms t.degree
+
+pub shown_by_search : (steps : ℕ) (live : List NormalConstraint) (n m : NormalConstraint) → Turned n m → outcome steps (live ++ m ∷ []) [] ≡ Conflict → IsShown live n
+shown_by_search steps live n m t found = inr (m, turned n m t, conflict_met steps (live ++ m ∷ []) [] found)
+
+pub not_shown : (steps : ℕ) (live : List NormalConstraint) (n m : NormalConstraint) (closed : List Lit) → Turned n m
+    → outcome steps (live ++ m ∷ []) [] ≡ Settled closed → list_any (covering n) live ≡ false → IsShown live n → ⊥
+not_shown steps live n m closed t settled uncovered (inl covered) =
+    none_from_test (λ e. Covers e n) (covering n) (covering_told n) live uncovered covered
+not_shown steps live n m closed t settled uncovered (inr (j, negated, refuted)) =
+    let same : j ≡ m = one_negation n j m t.rises negated (turned n m t) in
+    no_conflict_met steps (live ++ m ∷ []) [] closed settled (subst (λ k. IsRefuted (live ++ k ∷ [])) same refuted)

@@ -1,0 +1,8 @@
+use Rattle.proof_rules.proofs.Preserving as preserving
+use Rattle.proof_rules.proofs.laws.sol_preserves.Goals as goal
+
+pub returns-clause-answer : goal.returns-clause-answer
+returns-clause-answer _ = preserving.sol_preserves
+
+pub returns-clause-normal : goal.returns-clause-normal
+returns-clause-normal _ = preserving.sol_normal

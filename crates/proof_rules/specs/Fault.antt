@@ -1,0 +1,225 @@
+-- The faults of steps and conclusions, in the order of judging: each one's condition says that none before it stands.
+-- Want of memory is no fault of a step.
+use Rattle.std.specs.Prelude.{◌≡◌, ◌≢◌, ℕ, ◌<◌, ◌≤◌, ◌⊎◌, ℤ, pos, ◌<ℤ◌, ◌≤ℤ◌, Bool, List, [], ◌∷◌, ◌++◌, Option, None, Some, All, Contains, IfSome, length, unsigned_abs}
+use Rattle.std.specs.FinMap as map
+use Rattle.linear.specs.declared.constraint.Signed.{Signed}
+use Rattle.linear.specs.declared.term.Lit.{Lit}
+use Rattle.linear.specs.declared.term.Term.{Term}
+use Rattle.linear.specs.Opb.{Opb, Satisfies}
+use Rattle.linear.specs.Valuation.{valuation_of}
+use Rattle.normal_form.specs.Normal.{NormalConstraint, Fits}
+use Rattle.normal_form.specs.NormalOf.{IsNormalOf}
+use Rattle.normal_form.specs.Negation.{IsNegation}
+use Rattle.cut_rules.specs.Rules.{IsSum, IsMultiple, IsTooLarge}
+use Rattle.propagate.specs.Literals.{IsConsistent}
+use Rattle.propagate.specs.Chain.{LeadsToConflict}
+use Rattle.substitution.specs.Images.{Images}
+use Rattle.proof_steps.specs.declared.conclusion.Conclusion.{Conclusion}
+use Rattle.proof_steps.specs.declared.conclusion.Lower.{Lower}
+use Rattle.proof_steps.specs.declared.conclusion.Upper.{Upper}
+use Rattle.proof_steps.specs.declared.conclusion.Conclusion.TheVariants as conclusions
+use Rattle.proof_steps.specs.declared.conclusion.Lower.TheVariants as lowers
+use Rattle.proof_rules.specs.declared.fault.StepFault.{StepFault}
+use Rattle.proof_rules.specs.declared.fault.StepFault.TheVariants as faults
+use Rattle.proof_steps.specs.declared.step.Item.{Item}
+use Rattle.proof_steps.specs.declared.step.Item.TheVariants as items
+use Rattle.proof_steps.specs.declared.step.Step.{Step}
+use Rattle.proof_steps.specs.declared.step.Step.TheVariants as steps
+use Rattle.proof_rules.specs.Expression.{Given, IsPolish}
+use Rattle.proof_rules.specs.Forms.{file_ids}
+use Rattle.proof_rules.specs.Justified.{EntitlesLower, EntitlesUpper, TakesHint}
+use Rattle.proof_rules.specs.Legal.{IsShownUnder, IsShownNotRaised, Logs, LegalDel, worth_of}
+use Rattle.proof_rules.specs.Running.{Runs}
+use Rattle.proof_rules.specs.Shown.{IsShown, IsAdmitted, absurdity}
+use Rattle.proof_rules.specs.Solution.{NamesAll, Completes, at_least}
+use Rattle.proof_rules.specs.State.{State, constraints, constraint_of, id_of, HasRoom}
+
+-- want of memory, or this
+abbrev pub OrMemory : StepFault → Type 0 → Type 0
+OrMemory faults.OutOfMemory condition = Unit {0}
+OrMemory _ condition = condition
+
+-- the rules with a factor: nothing on the stack, then a factor below 1
+abbrev pub IsFactorFault : ℤ → List NormalConstraint → StepFault → Type 0
+IsFactorFault k stack faults.StackShape = stack ≡ []
+IsFactorFault k stack faults.BadFactor = (stack ≢ []) × (k <ℤ pos 1)
+IsFactorFault k stack _ = ⊥
+
+-- nothing on the stack
+abbrev pub IsShapeFault : List NormalConstraint → StepFault → Type 0
+IsShapeFault stack faults.StackShape = stack ≡ []
+IsShapeFault stack _ = ⊥
+
+-- an id that names no constraint
+abbrev pub IsIdFault : Given → ℤ → StepFault → Type 0
+IsIdFault given id faults.DeadId = given id ≡ None
+IsIdFault given id _ = ⊥
+
+-- addition: fewer than two constraints, then a sum that is not within the limits
+abbrev pub IsAddFault : List NormalConstraint → StepFault → Type 0
+IsAddFault stack faults.StackShape = length stack < 2
+IsAddFault stack faults.TooLarge =
+    (d : NormalConstraint) × (g : NormalConstraint) × (rest : List NormalConstraint) × (r : NormalConstraint)
+    × (stack ≡ g ∷ d ∷ rest) × IsTooLarge (IsSum d g) r
+IsAddFault stack _ = ⊥
+
+-- multiplication: as with every factor, then a multiple that is not within the limits
+abbrev pub IsMultiplyFault : ℤ → List NormalConstraint → StepFault → Type 0
+IsMultiplyFault k stack faults.TooLarge =
+    (d : NormalConstraint) × (rest : List NormalConstraint) × (r : NormalConstraint)
+    × (stack ≡ d ∷ rest) × (pos 0 <ℤ k) × IsTooLarge (IsMultiple (unsigned_abs k) d) r
+IsMultiplyFault k stack f = IsFactorFault k stack f
+
+-- why an item cannot be applied to the constraints on a stack, its top first
+abbrev pub IsItemFault : Given → Item → List NormalConstraint → StepFault → Type 0
+IsItemFault given (items.Id id) stack f = IsIdFault given id f
+IsItemFault given (items.Axiom l) stack f = ⊥
+IsItemFault given items.Add stack f = IsAddFault stack f
+IsItemFault given (items.Multiply k) stack f = IsMultiplyFault k stack f
+IsItemFault given (items.Divide k) stack f = IsFactorFault k stack f
+IsItemFault given items.Saturate stack f = IsShapeFault stack f
+IsItemFault given (items.Weaken x) stack f = IsShapeFault stack f
+
+-- the items before one run, and that one cannot be applied
+abbrev pub StopsAtItem : Given → List Item → StepFault → Type 0
+StopsAtItem given written f =
+    (before : List Item) × (i : Item) × (behind : List Item) × (stack : List NormalConstraint)
+    × (written ≡ before ++ i ∷ behind) × Runs given before [] stack × IsItemFault given i stack f
+
+-- all items run, and not exactly one constraint is left
+abbrev pub LeavesOther : Given → List Item → Type 0
+LeavesOther given written = (stack : List NormalConstraint) × Runs given written [] stack × (length stack ≢ 1)
+
+-- items are judged from left to right, and at the end what is left
+abbrev pub IsWritingFault : Given → List Item → StepFault → Type 0
+IsWritingFault given written faults.StackShape = StopsAtItem given written faults.StackShape ⊎ LeavesOther given written
+IsWritingFault given written f = StopsAtItem given written f
+
+-- pol: the items, and then the ids
+abbrev pub IsPolFault : State → List Item → StepFault → Type 0
+IsPolFault s written faults.TooManyIds = (n : NormalConstraint) × IsPolish (constraint_of s) written n × (HasRoom s → ⊥)
+IsPolFault s written f = IsWritingFault (constraint_of s) written f
+
+-- a written constraint: the limits, then the ids
+abbrev pub IsAdmissionFault : State → Signed → StepFault → Type 0
+IsAdmissionFault s c faults.TooLarge = (n : NormalConstraint) → IsAdmitted c n → ⊥
+IsAdmissionFault s c faults.TooManyIds = ((n : NormalConstraint) × IsAdmitted c n) × (HasRoom s → ⊥)
+IsAdmissionFault s c _ = ⊥
+
+abbrev pub IsRupFault : State → Signed → StepFault → Type 0
+IsRupFault s c faults.NotShown = (n : NormalConstraint) × IsAdmitted c n × HasRoom s × (IsShown (constraints s) n → ⊥)
+IsRupFault s c f = IsAdmissionFault s c f
+
+-- the goals of a `red` step: the live constraints by rising id, the new constraint, the objective
+abbrev pub IsGoalFault : Opb → State → List NormalConstraint → Images → NormalConstraint → StepFault → Type 0
+IsGoalFault p s from images n (faults.GoalOpen id) =
+    (e : NormalConstraint) × (map.get s.live id ≡ Some e) × (IsShownUnder from images e → ⊥)
+    × ((k : ℕ) (d : NormalConstraint) → k < id → map.get s.live k ≡ Some d → IsShownUnder from images d)
+IsGoalFault p s from images n faults.GoalOpenSelf = All (IsShownUnder from images) (constraints s) × (IsShownUnder from images n → ⊥)
+IsGoalFault p s from images n faults.GoalOpenObjective =
+    All (IsShownUnder from images) (constraints s) × IsShownUnder from images n
+    × ((objective : List Term) × (p.objective ≡ Some objective) × (IsShownNotRaised from images objective → ⊥))
+IsGoalFault p s from images n _ = ⊥
+
+abbrev pub IsOpenGoal : Opb → State → Signed → Images → StepFault → Type 0
+IsOpenGoal p s c images f =
+    (n : NormalConstraint) × (m : NormalConstraint) × IsAdmitted c n × HasRoom s × IsNegation n m × IsGoalFault p s (constraints s ++ m ∷ []) images n f
+
+abbrev pub IsRedFault : Opb → State → Signed → Images → StepFault → Type 0
+IsRedFault p s c images f = IsAdmissionFault s c f ⊎ IsOpenGoal p s c images f
+
+-- sol: the listing, its completion, and what the completion satisfies
+abbrev pub IsSolFault : Opb → State → List Lit → StepFault → Type 0
+IsSolFault p s listing faults.SolutionConflict =
+    (IsConsistent listing → ⊥) ⊎ (IsConsistent listing × (NamesAll (length p.names) listing → ⊥) × LeadsToConflict (constraints s) listing)
+IsSolFault p s listing faults.SolutionPartial =
+    IsConsistent listing × (LeadsToConflict (constraints s) listing → ⊥)
+    × ((g : List Bool) → Completes (constraints s) (length p.names) listing g → ⊥)
+IsSolFault p s listing faults.SolutionFalse =
+    ((g : List Bool) × Completes (constraints s) (length p.names) listing g)
+    × ((g : List Bool) → Completes (constraints s) (length p.names) listing g → Satisfies (valuation_of g) p → ⊥)
+IsSolFault p s listing _ = ⊥
+
+-- what a logged solution is worth is not below the least so far
+abbrev pub IsNotBetter : Opb → State → List Bool → Type 0
+IsNotBetter p s g = (least : ℤ) × (s.improve ≡ Some least) × (least ≤ℤ worth_of p g)
+
+abbrev pub IsSoliFault : Opb → State → List Lit → StepFault → Type 0
+IsSoliFault p s listing faults.NoObjective = p.objective ≡ None
+IsSoliFault p s listing faults.NotImproving =
+    (p.objective ≢ None) × ((g : List Bool) × Logs p s listing g) × ((g : List Bool) → Logs p s listing g → IsNotBetter p s g)
+IsSoliFault p s listing faults.TooManyIds =
+    (p.objective ≢ None) × ((g : List Bool) × Logs p s listing g × IfSome s.improve (λ least. worth_of p g <ℤ least)) × (HasRoom s → ⊥)
+IsSoliFault p s listing f = (p.objective ≢ None) × IsSolFault p s listing f
+
+-- an id that is not live, or that is not to be deleted
+abbrev pub IsUndeletable : Opb → State → ℕ → StepFault → Type 0
+IsUndeletable p s id faults.DeadId = map.get s.live id ≡ None
+IsUndeletable p s id faults.FileConstraint = (map.get s.live id ≢ None) × ((id ≤ file_ids p.constraints) ⊎ Contains s.improving id)
+IsUndeletable p s id _ = ⊥
+
+-- del id: the ids from left to right, each judged with the earlier ones gone
+abbrev pub IsDelFault : Opb → State → List ℤ → StepFault → Type 0
+IsDelFault p s ids f =
+    (before : List ℤ) × (id : ℤ) × (behind : List ℤ) × (between : State)
+    × (ids ≡ before ++ id ∷ behind) × LegalDel p s before between × IsUndeletable p between (id_of between.next id) f
+
+abbrev pub IsStepFault : Opb → State → Step → StepFault → Type 0
+IsStepFault p s (steps.Pol written) f = IsPolFault s written f
+IsStepFault p s (steps.Rup c) f = IsRupFault s c f
+IsStepFault p s (steps.Red c images) f = IsRedFault p s c images f
+IsStepFault p s (steps.Sol listing) f = IsSolFault p s listing f
+IsStepFault p s (steps.Soli listing) f = IsSoliFault p s listing f
+IsStepFault p s (steps.Del ids) f = IsDelFault p s ids f
+
+-- UNSAT: something is logged, then `0 >= 1` is not shown
+abbrev pub IsUnsatFault : State → StepFault → Type 0
+IsUnsatFault s faults.SolutionLogged = s.logged ≢ []
+IsUnsatFault s faults.LowerNotShown = (s.logged ≡ []) × (IsShown (constraints s) absurdity → ⊥)
+IsUnsatFault s _ = ⊥
+
+-- a lower bound: above the least value, then not within the limits, then not shown
+abbrev pub IsBoundFault : State → List Term → ℤ → StepFault → Type 0
+IsBoundFault s objective bound faults.LowerAboveBest = (least : ℤ) × (s.improve ≡ Some least) × (least <ℤ bound)
+IsBoundFault s objective bound faults.TooLarge =
+    IfSome s.improve (λ least. bound ≤ℤ least) × ((n : NormalConstraint) → IsNormalOf (at_least objective bound) n → Fits n → ⊥)
+IsBoundFault s objective bound faults.LowerNotShown =
+    IfSome s.improve (λ least. bound ≤ℤ least)
+    × ((n : NormalConstraint) × IsNormalOf (at_least objective bound) n × Fits n × (IsShown (constraints s) n → ⊥))
+IsBoundFault s objective bound _ = ⊥
+
+abbrev pub IsLowerFault : State → List Term → Lower → StepFault → Type 0
+IsLowerFault s objective lowers.MinusInf f = ⊥
+IsLowerFault s objective (lowers.At bound) f = IsBoundFault s objective bound f
+IsLowerFault s objective lowers.Inf f = IsUnsatFault s f
+
+abbrev pub IsUpperFault : Opb → State → Upper → StepFault → Type 0
+IsUpperFault p s upper faults.UpperNotLogged = EntitlesUpper p s upper → ⊥
+IsUpperFault p s upper _ = ⊥
+
+-- BOUNDS behind its hint: the lower bound, then the upper one
+abbrev pub IsBoundsFault : Opb → State → List Term → Lower → Upper → StepFault → Type 0
+IsBoundsFault p s objective lower upper f = IsLowerFault s objective lower f ⊎ (EntitlesLower s objective lower × IsUpperFault p s upper f)
+
+-- SAT behind its hint: nothing is logged
+abbrev pub IsSatFault : State → StepFault → Type 0
+IsSatFault s faults.UpperNotLogged = s.logged ≡ []
+IsSatFault s _ = ⊥
+
+-- a hint is judged as one more solution
+abbrev pub IsHintFault : Opb → State → Option (List Lit) → StepFault → Type 0
+IsHintFault p s None f = ⊥
+IsHintFault p s (Some listing) f = IsSolFault p s listing f
+
+-- the hint, then what is judged behind it
+abbrev pub IsBehindHint : Opb → State → Option (List Lit) → (State → Type 0) → Type 0
+IsBehindHint p s hint condition = ((t : State) × TakesHint p s hint t) × ((t : State) → TakesHint p s hint t → condition t)
+
+abbrev pub IsConclusionFault : Opb → State → Conclusion → StepFault → Type 0
+IsConclusionFault p s conclusions.Nothing f = ⊥
+IsConclusionFault p s (conclusions.Sat hint) f = IsHintFault p s hint f ⊎ IsBehindHint p s hint (λ t. IsSatFault t f)
+IsConclusionFault p s conclusions.Unsat f = IsUnsatFault s f
+IsConclusionFault p s (conclusions.Bounds lower upper hint) faults.NoObjective = p.objective ≡ None
+IsConclusionFault p s (conclusions.Bounds lower upper hint) f =
+    (objective : List Term) × (p.objective ≡ Some objective)
+    × (IsHintFault p s hint f ⊎ IsBehindHint p s hint (λ t. IsBoundsFault p t objective lower upper f))

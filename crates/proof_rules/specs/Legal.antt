@@ -1,0 +1,116 @@
+-- The legal steps of a proof: `Legal p old step new` says that the step leads from one state to another.
+use Rattle.std.specs.Prelude.{◌≡◌, ℕ, ◌<◌, ℤ, pos, ◌<ℤ◌, ◌-ℤ◌, Bool, List, [], ◌∷◌, ◌++◌, Some, All, Contains, IfSome, IsSome, length}
+use Rattle.std.specs.FinMap as map
+use Rattle.linear.specs.declared.constraint.Signed.{Signed}
+use Rattle.linear.specs.declared.term.Lit.{Lit}
+use Rattle.linear.specs.declared.term.Term.{Term}
+use Rattle.linear.specs.Opb.{Opb, Satisfies, value_of}
+use Rattle.linear.specs.Valuation.{valuation_of}
+use Rattle.normal_form.specs.Normal.{NormalConstraint}
+use Rattle.normal_form.specs.NormalOf.{IsNormalOf}
+use Rattle.normal_form.specs.Negation.{IsNegation}
+use Rattle.substitution.specs.Images.{Images}
+use Rattle.substitution.specs.Under.{IsUnder}
+use Rattle.substitution.specs.Objective.{IsObjectiveGoal}
+use Rattle.proof_steps.specs.declared.step.Item.{Item}
+use Rattle.proof_steps.specs.declared.step.Step.{Step}
+use Rattle.proof_steps.specs.declared.step.Step.TheVariants as steps
+use Rattle.proof_rules.specs.Expression.{IsPolish}
+use Rattle.proof_rules.specs.Forms.{file_ids}
+use Rattle.proof_rules.specs.Shown.{IsShown, IsAdmitted}
+use Rattle.proof_rules.specs.Solution.{Completes, at_most}
+use Rattle.proof_rules.specs.State.{State, constraints, constraint_of, id_of, HasRoom, with_constraint}
+
+-- a constraint is added under the next id
+abbrev pub Adds : NormalConstraint → State → State → Type 0
+Adds n old new = HasRoom old × (new ≡ with_constraint n old)
+
+-- pol: the items write one expression of cutting planes, whose value is added
+abbrev pub LegalPol : State → List Item → State → Type 0
+LegalPol old items new = (n : NormalConstraint) × IsPolish (constraint_of old) items n × Adds n old new
+
+-- rup: a constraint that is shown from the live ones is added
+abbrev pub LegalRup : State → Signed → State → Type 0
+LegalRup old c new = (n : NormalConstraint) × IsAdmitted c n × IsShown (constraints old) n × Adds n old new
+
+-- what a constraint becomes under the substitution is shown
+abbrev pub IsShownUnder : List NormalConstraint → Images → NormalConstraint → Type 0
+IsShownUnder from images n = (r : NormalConstraint) × IsUnder n images r × IsShown from r
+
+-- the substitution is shown not to raise an objective
+abbrev pub IsShownNotRaised : List NormalConstraint → Images → List Term → Type 0
+IsShownNotRaised from images objective = (r : NormalConstraint) × IsObjectiveGoal objective images r × IsShown from r
+
+-- the goals of redundance, each shown from the live constraints and the negation of the new one: every live constraint
+-- and the new one under the substitution, and that the objective does not rise
+pub record Redundant (p : Opb) (live : List NormalConstraint) (images : Images) (n m : NormalConstraint) : Type 0 where
+  pub negation : IsNegation n m
+  pub each_live : All (IsShownUnder (live ++ m ∷ []) images) live
+  pub itself : IsShownUnder (live ++ m ∷ []) images n
+  pub objective : IfSome p.objective (IsShownNotRaised (live ++ m ∷ []) images)
+
+-- red: a redundant constraint is added
+abbrev pub LegalRed : Opb → State → Signed → Images → State → Type 0
+LegalRed p old c images new =
+    (n : NormalConstraint) × (m : NormalConstraint) × IsAdmitted c n × Redundant p (constraints old) images n m × Adds n old new
+
+-- sol: a listing whose completion satisfies the problem is logged
+pub record Logs (p : Opb) (old : State) (listing : List Lit) (g : List Bool) : Type 0 where
+  pub completes : Completes (constraints old) (length p.names) listing g
+  pub satisfies : Satisfies (valuation_of g) p
+
+abbrev pub with_solution : List Bool → State → State
+with_solution g s = record s { logged = s.logged ++ g ∷ [] }
+
+abbrev pub LegalSol : Opb → State → List Lit → State → Type 0
+LegalSol p old listing new = (g : List Bool) × Logs p old listing g × (new ≡ with_solution g old)
+
+-- the value of an assignment of the file's variables
+abbrev pub worth_of : Opb → List Bool → ℤ
+worth_of p g = value_of (valuation_of g) p
+
+-- soli: a solution that is better than the improving ones before is logged, and a constraint is added that asks for
+-- still better ones
+pub record Improves (p : Opb) (old : State) (objective : List Term) (listing : List Lit) (g : List Bool) (n : NormalConstraint) : Type 0 where
+  pub minimises : p.objective ≡ Some objective
+  pub logs : Logs p old listing g
+  pub better : IfSome old.improve (λ least. worth_of p g <ℤ least)
+  pub form : IsNormalOf (at_most objective (worth_of p g -ℤ pos 1)) n
+  pub room : HasRoom old
+
+abbrev pub with_improvement : Opb → List Bool → NormalConstraint → State → State
+with_improvement p g n s = record (with_constraint n (with_solution g s)) {
+  improve = Some (worth_of p g);
+  improving = s.next ∷ s.improving;
+}
+
+abbrev pub LegalSoli : Opb → State → List Lit → State → Type 0
+LegalSoli p old listing new =
+    (objective : List Term) × (g : List Bool) × (n : NormalConstraint) × Improves p old objective listing g n × (new ≡ with_improvement p g n old)
+
+-- a live constraint that is neither the file's nor one that an improving solution added
+pub record IsDeletable (p : Opb) (s : State) (id : ℕ) : Type 0 where
+  pub live : IsSome (map.get s.live id)
+  pub derived : file_ids p.constraints < id
+  pub asked : Contains s.improving id → ⊥
+
+abbrev pub without : ℕ → State → State
+without id s = record s { live = map.remove s.live id }
+
+-- del id: each id is deletable in its turn, and its constraint goes
+abbrev pub LegalDel : Opb → State → List ℤ → State → Type 0
+LegalDel p old [] new = new ≡ old
+LegalDel p old (id ∷ ids) new = IsDeletable p old (id_of old.next id) × LegalDel p (without (id_of old.next id) old) ids new
+
+abbrev pub Legal : Opb → State → Step → State → Type 0
+Legal p old (steps.Pol items) new = LegalPol old items new
+Legal p old (steps.Rup c) new = LegalRup old c new
+Legal p old (steps.Red c images) new = LegalRed p old c images new
+Legal p old (steps.Sol listing) new = LegalSol p old listing new
+Legal p old (steps.Soli listing) new = LegalSoli p old listing new
+Legal p old (steps.Del ids) new = LegalDel p old ids new
+
+-- steps lead, one after another, from one state to another
+abbrev pub Leads : Opb → State → List Step → State → Type 0
+Leads p old [] new = new ≡ old
+Leads p old (step ∷ rest) new = (between : State) × Legal p old step between × Leads p between rest new

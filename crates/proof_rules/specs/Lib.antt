@@ -1,0 +1,16 @@
+pub mod Cases
+pub mod Claim
+pub mod Codes
+pub mod Contradiction
+pub mod Expression
+pub mod Fault
+pub mod Forms
+pub mod Justified
+pub mod Legal
+pub mod Preserved
+pub mod Printed
+pub mod RuleFault
+pub mod Running
+pub mod Shown
+pub mod Solution
+pub mod State

@@ -1,0 +1,63 @@
+-- The state of a proof: the live constraints, and the solutions logged so far.
+use Rattle.std.specs.Prelude.{◌≡◌, ℕ, ◌+◌, ◌-◌, ◌<◌, ◌^◌, ℤ, pos, negsuc, Bool, List, [], ◌∷◌, Option, None, length}
+use Rattle.std.specs.Ordering.{nat_cmp}
+use Rattle.std.specs.FinMap as map
+use Rattle.linear.specs.Opb.{Opb}
+use Rattle.normal_form.specs.Normal.{NormalConstraint}
+use Rattle.proof_rules.specs.Forms.{AreFormsOfAll}
+
+-- live constraints by their ids
+abbrev pub Live : Type 0
+Live = map.FinMap nat_cmp NormalConstraint
+
+pub record State : Type 0 where
+  -- the live constraints
+  pub live : Live
+  -- the id that the next constraint takes; ids count from 1
+  pub next : ℕ
+  -- the least value of an improving solution, if there is one
+  pub improve : Option ℤ
+  -- the solutions, the first one first: the values of the file's variables
+  pub logged : List (List Bool)
+  -- the ids of the constraints that improving solutions added
+  pub improving : List ℕ
+
+-- the live constraints, by rising id
+abbrev pub constraints : State → List NormalConstraint
+constraints s = map.values s.live
+
+-- the id that a number in a step means: -k is the next id less k
+abbrev pub id_of : ℕ → ℤ → ℕ
+id_of next (pos k) = k
+id_of next (negsuc k) = next - (k + 1)
+
+-- the live constraint of an id, if there is one
+abbrev pub constraint_of : State → ℤ → Option NormalConstraint
+constraint_of s id = map.get s.live (id_of s.next id)
+
+-- an id is left for one more constraint
+abbrev pub HasRoom : State → Type 0
+HasRoom s = s.next < 2 ^ 32
+
+-- the state with one more constraint, which takes the next id
+abbrev pub with_constraint : NormalConstraint → State → State
+with_constraint n s = record s { live = map.insert s.live s.next n; next = s.next + 1 }
+
+-- the constraints under the ids from `id` on
+abbrev pub numbered : ℕ → List NormalConstraint → List (ℕ × NormalConstraint)
+numbered id [] = []
+numbered id (n ∷ ns) = (id, n) ∷ numbered (id + 1) ns
+
+-- the state of these constraints, under the ids 1, 2, .., where nothing is logged
+abbrev pub state_of : List NormalConstraint → State
+state_of ns = record {
+  live = map.from_entries (numbered 1 ns);
+  next = length ns + 1;
+  improve = None;
+  logged = [];
+  improving = [];
+}
+
+-- the state before the first step: the normal constraints of the file
+abbrev pub IsStart : Opb → State → Type 0
+IsStart p s = (ns : List NormalConstraint) × AreFormsOfAll p.constraints ns × (s ≡ state_of ns)
