@@ -5,7 +5,7 @@ use Rattle.std.proofs.lemmas.List.Elements.{All-head, All-tail}
 use Rattle.linear.specs.Opb.{Opb}
 use Rattle.kernel.specs.Accepted.{Judgement}
 use Rattle.proof_rules.specs.Fault.{OrMemory}
-use Rattle.proof_rules.specs.Forms.{file_ids}
+use Rattle.proof_rules.specs.Forms.{problem_ids}
 use Rattle.kernel.specs.Held.{IsJudgedStep}
 use Rattle.proof_rules.specs.Legal.{Legal, Leads}
 use Rattle.proof_rules.specs.State.{State}
@@ -278,20 +278,20 @@ header_on p proof a proved names left at =
     record { names_are = both.0; in_order = both.2 }
 
 count_line : (p : Opb) (proof : List ℕ) (a : Judgement) (proved : IsProved p proof a) (names : List (List ℕ)) (left : List Numbered) → AtCountOf p proof a proved names left
-    → IsLine places.Count names (words proved.spelled.counted.text) (lines.Count (pos (file_ids p.constraints))) p.names
+    → IsLine places.Count names (words proved.spelled.counted.text) (lines.Count (pos (problem_ids p.constraints))) p.names
 count_line p proof a proved names left at =
     let sp = proved.spelled in
-    subst (λ n. IsLine places.Count n (words sp.counted.text) (lines.Count (pos (file_ids p.constraints))) p.names) (sym at.names_are) sp.count_is
+    subst (λ n. IsLine places.Count n (words sp.counted.text) (lines.Count (pos (problem_ids p.constraints))) p.names) (sym at.names_are) sp.count_is
 
 count_never_stops : (p : Opb) (proof : List ℕ) (a : Judgement) (proved : IsProved p proof a) (names : List (List ℕ)) (left : List Numbered) (last line : ℕ) (code : Code) → IsRefusalCode code
-    → AtCountOf p proof a proved names left → StopsAtCount (file_ids p.constraints) names left last line code → ⊥
+    → AtCountOf p proof a proved names left → StopsAtCount (problem_ids p.constraints) names left last line code → ⊥
 count_never_stops p proof a proved names left last line code refusal at (inl unread) =
-    unread_never places.Count names left last line code proved.spelled.counted (after_count p proof a proved) (lines.Count (pos (file_ids p.constraints))) p.names refusal at.in_order
+    unread_never places.Count names left last line code proved.spelled.counted (after_count p proof a proved) (lines.Count (pos (problem_ids p.constraints))) p.names refusal at.in_order
     (count_line p proof a proved names left at) unread
 count_never_stops p proof a proved names left last line code refusal at (inr why) =
-    let both = both_read places.Count names left line (lines.Count why.0) (lines.Count (pos (file_ids p.constraints))) proved.spelled.counted (after_count p proof a proved) p.names why.1 at.in_order
+    let both = both_read places.Count names left line (lines.Count why.0) (lines.Count (pos (problem_ids p.constraints))) proved.spelled.counted (after_count p proof a proved) p.names why.1 at.in_order
     (count_line p proof a proved names left at) in
-    why.2 (same_count why.0 (pos (file_ids p.constraints)) both)
+    why.2 (same_count why.0 (pos (problem_ids p.constraints)) both)
   where
     same_count : (x y : ℤ) → lines.Count x ≡ lines.Count y → x ≡ y
     same_count x y e = cc
@@ -302,7 +302,7 @@ rest_of : (p : Opb) (proof : List ℕ) (a : Judgement) (proved : IsProved p proo
 rest_of p proof a proved t names left kinds at =
     let sp = proved.spelled in
     let counted = header_on p proof a proved at.1 at.2 at.5 in
-    let both = both_taken places.Count at.1 at.2 (lines.Count (pos (file_ids p.constraints))) (lines.Count (pos (file_ids p.constraints))) at.3 p.names at.4 (after_count p proof a proved) sp.counted at.6 counted.in_order
+    let both = both_taken places.Count at.1 at.2 (lines.Count (pos (problem_ids p.constraints))) (lines.Count (pos (problem_ids p.constraints))) at.3 p.names at.4 (after_count p proof a proved) sp.counted at.6 counted.in_order
     (count_line p proof a proved at.1 at.2 counted) in
     let begun : Rest p a at.0 at.3 at.4 = record {
       steps = proved.steps;

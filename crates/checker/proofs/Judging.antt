@@ -3,7 +3,7 @@ use Rattle.std.proofs.Common.{◌≡◌, ℕ, ◌+◌, pos, Bool, true, false, i
 use Rattle.std.proofs.lemmas.List.{append_assoc}
 use Rattle.linear.specs.Opb.{Opb}
 use Rattle.kernel.specs.Accepted.{Judgement}
-use Rattle.proof_rules.specs.Forms.{file_ids}
+use Rattle.proof_rules.specs.Forms.{problem_ids}
 use Rattle.proof_rules.specs.Justified.{IsJustified}
 use Rattle.proof_rules.specs.Legal.{Legal, Leads}
 use Rattle.proof_rules.specs.State.{State, IsStart}
@@ -48,11 +48,11 @@ one_more p s t u old named new left behind rest step before takes legal = record
 }
 
 -- the count of the state of a file
-pub counts_file : (p : Opb) (s : State) (count : ℕ) → IsStart p s → count + 1 ≡ s.next → count ≡ file_ids p.constraints
+pub counts_file : (p : Opb) (s : State) (count : ℕ) → IsStart p s → count + 1 ≡ s.next → count ≡ problem_ids p.constraints
 counts_file p s count start next =
     let ns = start.0 in
     let at : s.next ≡ length ns + 1 = ap (λ (x : State). x.next) start.2 in
-    let long : length ns ≡ file_ids p.constraints = all_count p.constraints ns start.1 in
+    let long : length ns ≡ problem_ids p.constraints = all_count p.constraints ns start.1 in
     omega (arith, next, at, long)
 
 -- the count of the code
@@ -69,9 +69,9 @@ proved_by p proof a s t n1 n2 n3 n4 n5 r1 r2 r3 r4 r5 start header counted outpu
     let taken : TakesSteps p s n2 r2 t output.0 output.1 = output.2 in
     let same1 : n1 ≡ p.names = header.2.names in
     let same2 : n2 ≡ p.names = counted.2.names ∙ same1 in
-    let count_line : IsLine places.Count p.names (words counted.0.text) (lines.Count (pos (file_ids p.constraints))) p.names =
-    subst (λ n. IsLine places.Count n (words counted.0.text) (lines.Count (pos (file_ids p.constraints))) p.names) same1
-    (subst (λ n. IsLine places.Count n1 (words counted.0.text) (lines.Count (pos (file_ids p.constraints))) n) same2 counted.2) in
+    let count_line : IsLine places.Count p.names (words counted.0.text) (lines.Count (pos (problem_ids p.constraints))) p.names =
+    subst (λ n. IsLine places.Count n (words counted.0.text) (lines.Count (pos (problem_ids p.constraints))) p.names) same1
+    (subst (λ n. IsLine places.Count n1 (words counted.0.text) (lines.Count (pos (problem_ids p.constraints))) n) same2 counted.2) in
     record {
       steps = taken.steps;
       spelled = record {

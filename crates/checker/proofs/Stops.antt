@@ -1,7 +1,7 @@
 -- Why judging stops, from the reason at a line to that of the whole proof.
 use Rattle.std.proofs.Common.{◌≡◌, ℕ, List, inr, sym, subst}
 use Rattle.linear.specs.Opb.{Opb}
-use Rattle.proof_rules.specs.Forms.{file_ids}
+use Rattle.proof_rules.specs.Forms.{problem_ids}
 use Rattle.proof_rules.specs.State.{State, IsStart}
 use Rattle.proof_steps.specs.declared.step.Step.{Step}
 use Rattle.proof_text.specs.Lines.{Numbered, lines_of}
@@ -39,7 +39,7 @@ pub stops_header : (p : Opb) (proof : List ℕ) (names : List (List ℕ)) (left 
 stops_header p proof names left last stop at ends reason =
     stops_weaker (IsUnread places.Header names left last) (IsStopped p proof) stop (λ line code why. at_header names left at (subst (λ n. IsUnread places.Header names left n line code) ends why)) reason
 
-pub stops_count : (p : Opb) (proof : List ℕ) (ids : ℕ) (names : List (List ℕ)) (left : List Numbered) (last : ℕ) (stop : Stop) → AtCount p proof names left → ids ≡ file_ids p.constraints → last ≡ (lines_of proof).last
+pub stops_count : (p : Opb) (proof : List ℕ) (ids : ℕ) (names : List (List ℕ)) (left : List Numbered) (last : ℕ) (stop : Stop) → AtCount p proof names left → ids ≡ problem_ids p.constraints → last ≡ (lines_of proof).last
     → StopsBy (StopsAtCount ids names left last) stop → StopsBy (IsStopped p proof) stop
 stops_count p proof ids names left last stop at file ends reason =
     stops_weaker (StopsAtCount ids names left last) (IsStopped p proof) stop

@@ -9,7 +9,7 @@ use Rattle.opb_read.specs.declared.fault.OpbFault.{OpbFault}
 use Rattle.opb_read.specs.declared.fault.OpbCode.TheVariants as problems
 use Rattle.kernel.specs.Accepted.{Judgement}
 use Rattle.proof_rules.specs.Claim.{Claim}
-use Rattle.proof_rules.specs.Forms.{file_ids}
+use Rattle.proof_rules.specs.Forms.{problem_ids}
 use Rattle.proof_rules.specs.Justified.{IsLegalProof}
 use Rattle.proof_steps.specs.declared.step.Step.{Step}
 use Rattle.proof_text.specs.ProofSpells.{SpellsProof}
@@ -24,7 +24,7 @@ use Rattle.checker.specs.declared.verdict.Verdict.TheVariants as verdicts
 -- steps to the conclusion.
 pub record IsProved (p : Opb) (proof : List ℕ) (accepted : Judgement) : Type 0 where
   pub steps : List Step
-  pub spelled : SpellsProof proof p.names (pos (file_ids p.constraints)) steps accepted.conclusion
+  pub spelled : SpellsProof proof p.names (pos (problem_ids p.constraints)) steps accepted.conclusion
   pub legal : IsLegalProof p steps accepted.conclusion accepted.best
 
 -- The text spells exactly one problem, what was accepted is true of that problem's own signed terms, and the proof proves

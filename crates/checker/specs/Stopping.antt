@@ -3,7 +3,7 @@ use Rattle.std.specs.Prelude.{◌≡◌, ◌≢◌, ℕ, ℤ, pos, ◌⊎◌, Bo
 use Rattle.linear.specs.Opb.{Opb}
 use Rattle.proof_rules.specs.Contradiction.{IsContradiction}
 use Rattle.proof_rules.specs.Fault.{OrMemory, IsStepFault}
-use Rattle.proof_rules.specs.Forms.{file_ids}
+use Rattle.proof_rules.specs.Forms.{problem_ids}
 use Rattle.kernel.specs.Held.{IsJudgedStep, IsJudged}
 use Rattle.proof_rules.specs.Justified.{IsJustified}
 use Rattle.proof_rules.specs.State.{State, IsStart, constraints}
@@ -39,7 +39,7 @@ AtCount p proof names left =
 
 -- the count is that of the file's constraints, an equality counted twice
 abbrev pub TakesCount : Opb → List (List ℕ) → List Numbered → List (List ℕ) → List Numbered → Type 0
-TakesCount p old left new rest = Takes places.Count old left (lines.Count (pos (file_ids p.constraints))) new rest
+TakesCount p old left new rest = Takes places.Count old left (lines.Count (pos (problem_ids p.constraints))) new rest
 
 abbrev pub AtSteps : Opb → List ℕ → State → List (List ℕ) → List Numbered → Type 0
 AtSteps p proof t names left =
@@ -117,7 +117,7 @@ pub data IsStopped (p : Opb) (proof : List ℕ) (line : ℕ) (code : Code) : Typ
   at_header : (names : List (List ℕ)) (left : List Numbered) → AtHeader p proof names left
       → IsUnread places.Header names left (lines_of proof).last line code → IsStopped p proof line code
   at_count : (names : List (List ℕ)) (left : List Numbered) → AtCount p proof names left
-      → StopsAtCount (file_ids p.constraints) names left (lines_of proof).last line code → IsStopped p proof line code
+      → StopsAtCount (problem_ids p.constraints) names left (lines_of proof).last line code → IsStopped p proof line code
   at_step : (s : State) (names : List (List ℕ)) (left : List Numbered) → AtSteps p proof s names left
       → StopsAtStep p s names left (lines_of proof).last line code → IsStopped p proof line code
   at_conclusion : (s : State) (names : List (List ℕ)) (left : List Numbered) → AtConclusion p proof s names left

@@ -1,3 +1,0 @@
-pub mod Kept
-pub mod Numbered
-pub mod Places

@@ -1,5 +1,5 @@
 -- What a kernel holds, and what it keeps.
-use Rattle.std.specs.Prelude.{◌≤◌, ◌^◌, ⊤}
+use Rattle.std.specs.Prelude.{ℕ, ℤ, Bool, List, Option, ⊤}
 use Rattle.linear.specs.Opb.{Opb}
 use Rattle.linear.specs.Limits.{IsWithin}
 use Rattle.proof_steps.specs.declared.step.Step.{Step}
@@ -8,6 +8,7 @@ use Rattle.proof_steps.specs.declared.conclusion.Conclusion.{Conclusion}
 use Rattle.proof_steps.specs.declared.conclusion.Conclusion.TheVariants as conclusions
 use Rattle.proof_rules.specs.Preserved.{IsPreserved, AreNormal}
 use Rattle.proof_rules.specs.State.{State}
+use Rattle.kernel.specs.Database.{Constraints}
 
 -- a problem, and the state of a proof of it
 pub record Held : Type 0 where
@@ -19,7 +20,6 @@ pub record IsKept (k : Held) : Type 0 where
   pub within : IsWithin k.problem
   pub preserved : IsPreserved k.problem k.state
   pub normal : AreNormal k.state
-  pub numbered : k.state.next ≤ 2 ^ 32
 
 -- a step whose kind the kernel judges so far
 abbrev pub IsJudgedStep : Step → Type 0
@@ -31,3 +31,13 @@ abbrev pub IsJudged : Conclusion → Type 0
 IsJudged conclusions.Nothing = ⊤
 IsJudged conclusions.Unsat = ⊤
 IsJudged _ = ⊥
+
+-- the state whose live constraints these are
+abbrev pub state_from : Constraints → Option ℤ → List (List Bool) → List ℕ → State
+state_from d least logged improving = record {
+  live = d.live;
+  next = d.next;
+  improve = least;
+  logged = logged;
+  improving = improving;
+}

@@ -1,4 +1,5 @@
 pub mod Accepted
+pub mod Database
+pub mod File
 pub mod Held
-pub mod Places
 pub mod Stack

@@ -1,43 +1,55 @@
-//! The normal constraints of a problem's file, in order: one of a `>=`, two of an equality.
+//! The constraints of a problem's file as the first live ones: one of a `>=`, and two of an equality, the `>=` direction
+//! first. They take the ids 1, 2, .. in order.
 
-ghost use Rattle.std.specs.Prelude.{◌≡◌, ◌+◌, ◌*◌, ◌≤◌, ◌^◌, IfOk, OnOk, OnErr, IsErrOf, length, unsigned_abs};
+ghost use Rattle.std.specs.Prelude.{◌+◌, ◌≤◌, IfOk, OnOk, OnErr, IsErrOf, unsigned_abs};
 ghost use Rattle.linear.specs.Limits.{IsWithin};
 ghost use Rattle.normal_form.specs.Normal.{largest_sum};
 ghost use Rattle.normal_form.specs.NormalOf.{size_sum};
-ghost use Rattle.proof_rules.specs.Forms.{AreFormsOfAll, AddsForms, file_ids};
+ghost use Rattle.proof_rules.specs.State.{id_limit};
+ghost use Rattle.kernel.specs.File.{AreOfFile, AddsForms};
 
+use super::database::Database;
 use linear::{Problem, Relation, Signed};
-use normal_form::{Normal, both, normalize};
+use normal_form::{both, normalize};
 use proof_rules::StepFault;
+use propagate::Propagator;
 use std::alloc::Global;
 
-/// The normal constraints of all constraints of a problem, in order. Want of memory is the only fault.
-pub(crate) fn file_constraints(alloc: Global, problem: &Problem) -> Result<Vec<Normal>, StepFault>
-    ensures forms { IfOk result (λ live. AreFormsOfAll problem.now.constraints live.items) }
-    ensures count { IfOk result (λ live. length live.items ≡ file_ids problem.now.constraints) }
-    ensures few { IfOk result (λ live. length live.items ≤ 2 * 2 ^ 20) }
+/// The constraints of a problem's file under their ids. Want of memory is the only fault.
+pub(crate) fn constraints_of_file<P: Propagator>(
+    alloc: Global,
+    problem: &Problem,
+) -> Result<Database<P>, StepFault>
+    ensures file { IfOk result (AreOfFile problem.now.constraints) }
     ensures within { IsWithin problem.now }
     ensures others { OnErr result (IsErrOf result StepFault.OutOfMemory) }
 {
-    let mut live = Vec::new(alloc);
+    let mut database = Database::empty(alloc);
     for constraint in problem.constraints() {
-        push_forms(alloc, &mut live, constraint)?;
+        push_forms(alloc, &mut database, constraint)?;
     }
-    Ok(live)
+    Ok(database)
 }
 
-/// Adds the normal constraints of one constraint at the end.
-fn push_forms(alloc: Global, live: &mut Vec<Normal>, constraint: &Signed) -> Result<(), StepFault>
-    requires { size_sum constraint.now.terms + unsigned_abs constraint.now.right ≤ largest_sum }
-    ensures ok { OnOk result (AddsForms constraint.now live.old.items live.new.items) }
+/// Adds the normal constraints of one constraint.
+fn push_forms<P: Propagator>(
+    alloc: Global,
+    database: &mut Database<P>,
+    constraint: &Signed,
+) -> Result<(), StepFault>
+    requires small { size_sum constraint.now.terms + unsigned_abs constraint.now.right ≤ largest_sum }
+    requires room { database.old.next + 2 ≤ id_limit }
+    ensures ok { OnOk result (AddsForms constraint.now database.old database.new) }
     ensures others { OnErr result (IsErrOf result StepFault.OutOfMemory) }
 {
     match constraint.relation {
-        Relation::AtLeast => live.push(normalize(alloc, constraint)?)?,
+        Relation::AtLeast => {
+            database.push(normalize(alloc, constraint)?)?;
+        }
         Relation::Equal => {
-            let (least, most) = both(alloc, constraint)?;
-            live.push(least)?;
-            live.push(most)?;
+            let (at_least, at_most) = both(alloc, constraint)?;
+            database.push(at_least)?;
+            database.push(at_most)?;
         }
     }
     Ok(())

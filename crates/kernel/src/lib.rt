@@ -3,12 +3,11 @@
 #![tactic(auto)]
 
 mod accepted;
-mod evaluation;
+mod database;
 mod file;
 mod kernel;
+mod pol;
 mod stack;
-#[cfg(test)]
-mod tests;
 
 pub use accepted::Accepted;
 pub use kernel::{Applied, Kernel};

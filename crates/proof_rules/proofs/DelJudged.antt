@@ -1,16 +1,17 @@
 -- A `del` step is legal or has a fault.
-use Rattle.std.proofs.Common.{◌≡◌, ◌≢◌, ℕ, ◌<◌, ◌≤◌, ◌⊎◌, inl, inr, ℤ, List, [], ◌∷◌, Option, Some, None, Contains, IsSome, is_some, refl, sym, ap, ◌∙◌}
+use Rattle.std.proofs.Common.{◌≡◌, ◌≢◌, ℕ, ◌<◌, ◌≤◌, ◌⊎◌, inl, inr, ℤ, List, [], ◌∷◌, Bool, true, false, Option, Some, None, IsSome, is_some, refl, sym, ap, ◌∙◌}
 use Rattle.std.proofs.lemmas.Bool.{cases_lt}
 use Rattle.std.specs.FinMap as fin
+use Rattle.std.specs.FinSet as set
 use Rattle.linear.specs.Opb.{Opb}
 use Rattle.normal_form.specs.Normal.{NormalConstraint}
 use Rattle.proof_rules.specs.declared.fault.StepFault.{StepFault}
 use Rattle.proof_rules.specs.declared.fault.StepFault.TheVariants as faults
 use Rattle.proof_rules.specs.Fault.{IsUndeletable, IsDelFault}
-use Rattle.proof_rules.specs.Forms.{file_ids}
+use Rattle.proof_rules.specs.Forms.{problem_ids}
 use Rattle.proof_rules.specs.Legal.{IsDeletable, LegalDel, without}
 use Rattle.proof_rules.specs.State.{State, id_of}
-use Rattle.proof_rules.proofs.Deciding.{Decided, Judged, contains_decided}
+use Rattle.proof_rules.proofs.Deciding.{Judged}
 
 -- one id: to be deleted, or at fault
 abbrev IdJudged : Opb → State → ℕ → Type 0
@@ -20,10 +21,10 @@ is_there : (o : Option NormalConstraint) (n : NormalConstraint) → o ≡ Some n
 is_there o n is = (λ none. let same : None ≡ Some n = sym none ∙ is in absurd (cc), ap is_some is)
 
 derived_or_not : (p : Opb) (s : State) (id : ℕ) → (fin.get s.live id ≢ None) × IsSome (fin.get s.live id)
-    → (id ≤ file_ids p.constraints) ⊎ (file_ids p.constraints < id) → Decided (Contains s.improving id) → IdJudged p s id
-derived_or_not p s id there (inl file) d = inr (faults.FileConstraint, (there.0, inl file))
-derived_or_not p s id there (inr derived) (inl asked) = inr (faults.FileConstraint, (there.0, inr asked))
-derived_or_not p s id there (inr derived) (inr not) = inl (record { live = there.1; derived = derived; asked = not })
+    → (id ≤ problem_ids p.constraints) ⊎ (problem_ids p.constraints < id) → (b : Bool) → set.contains s.improving id ≡ b → IdJudged p s id
+derived_or_not p s id there (inl file) b is = inr (faults.FileConstraint, (there.0, inl file))
+derived_or_not p s id there (inr derived) true asked = inr (faults.FileConstraint, (there.0, inr asked))
+derived_or_not p s id there (inr derived) false unasked = inl (record { live = there.1; derived = derived; unasked = unasked })
 
 file_or_derived : (count id : ℕ) → (id ≤ count) ⊎ (count < id)
 file_or_derived count id = elim (cases_lt count id) as (λ _. (id ≤ count) ⊎ (count < id)) [ inl h ↦ inr h | inr h ↦ inl h ]
@@ -31,7 +32,7 @@ file_or_derived count id = elim (cases_lt count id) as (λ _. (id ≤ count) ⊎
 live_or_dead : (p : Opb) (s : State) (id : ℕ) (o : Option NormalConstraint) → fin.get s.live id ≡ o → IdJudged p s id
 live_or_dead p s id None is = inr (faults.DeadId, is)
 live_or_dead p s id (Some n) is =
-    derived_or_not p s id (is_there (fin.get s.live id) n is) (file_or_derived (file_ids p.constraints) id) (contains_decided s.improving id)
+    derived_or_not p s id (is_there (fin.get s.live id) n is) (file_or_derived (problem_ids p.constraints) id) (set.contains s.improving id) refl
 
 more_ids : (p : Opb) (s : State) (id : ℤ) (ids : List ℤ) → IsDeletable p s (id_of s.next id)
     → Judged (LegalDel p (without (id_of s.next id) s) ids) (IsDelFault p (without (id_of s.next id) s) ids)

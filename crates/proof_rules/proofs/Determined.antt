@@ -9,7 +9,7 @@ use Rattle.proof_rules.specs.declared.fault.StepFault.{StepFault}
 use Rattle.proof_rules.specs.declared.fault.StepFault.TheVariants as faults
 use Rattle.proof_steps.specs.declared.step.Item.{Item}
 use Rattle.proof_steps.specs.declared.step.Item.TheVariants as items
-use Rattle.proof_rules.specs.Expression.{Given, Expression, cited, axiom_of, sum, multiple, quotient, saturated, weakened, postfix, HasValue, IsPolish, Steps}
+use Rattle.proof_rules.specs.Expression.{Given, Expression, cited, axiom_of, sum, multiple, quotient, saturated, weakened, postfix, HasValue, IsPostfixOf, AppliesItem}
 use Rattle.proof_rules.specs.Fault.{IsItemFault, StopsAtItem, IsWritingFault}
 use Rattle.proof_rules.specs.Running.{Runs}
 
@@ -30,7 +30,7 @@ one_top s u v P one d n e m rest more h k p q x y =
     x ∙ ap (λ z. z ∷ rest) same ∙ ap (λ z. m ∷ z) tops.1 ∙ sym y
 
 -- an item leads to one stack
-pub one_step : (given : Given) (i : Item) (s u v : Stack) → Steps given i s u → Steps given i s v → u ≡ v
+pub one_step : (given : Given) (i : Item) (s u v : Stack) → AppliesItem given i s u → AppliesItem given i s v → u ≡ v
 one_step given (items.Id id) s u v (n, is, x) (m, is', y) = let same : n ≡ m = cc in x ∙ ap (λ z. z ∷ s) same ∙ sym y
 one_step given (items.Axiom l) s u v (n, is, x) (m, is', y) = x ∙ ap (λ z. z ∷ s) (one_axiom l n m is is') ∙ sym y
 one_step given items.Add s u v (d, g, n, rest, is, sums, fits, x) (e, h, m, more, is', sums', fits', y) =
@@ -61,7 +61,7 @@ joined : (given : Given) (xs ys : List Item) (s m u : Stack) → Runs given xs s
 joined given [] ys s m u is runs = subst (λ z. Runs given ys z u) is runs
 joined given (i ∷ xs) ys s m u (a, first, more) runs = (a, first, joined given xs ys a m u more runs)
 
-alone : (given : Given) (i : Item) (s u : Stack) → Steps given i s u → Runs given (i ∷ []) s u
+alone : (given : Given) (i : Item) (s u : Stack) → AppliesItem given i s u → Runs given (i ∷ []) s u
 alone given i s u step = (u, step, refl)
 
 -- the text of an expression puts its value on top
@@ -81,11 +81,11 @@ value_runs given (saturated e) n (d, ve, rule) s =
 value_runs given (weakened x e) n (d, ve, rule) s =
     joined given (postfix e) (items.Weaken x ∷ []) s (d ∷ s) (n ∷ s) (value_runs given e d ve s) (alone given (items.Weaken x) (d ∷ s) (n ∷ s) (d, n, s, refl, rule, refl))
 
-pub polish_runs : (given : Given) (written : List Item) (n : NormalConstraint) → IsPolish given written n → Runs given written [] (n ∷ [])
+pub polish_runs : (given : Given) (written : List Item) (n : NormalConstraint) → IsPostfixOf given written n → Runs given written [] (n ∷ [])
 polish_runs given written n (e, is, value) = subst (λ w. Runs given w [] (n ∷ [])) is (value_runs given e n value [])
 
 -- the items write one value
-pub one_polish : (given : Given) (written : List Item) (n m : NormalConstraint) → IsPolish given written n → IsPolish given written m → n ≡ m
+pub one_polish : (given : Given) (written : List Item) (n m : NormalConstraint) → IsPostfixOf given written n → IsPostfixOf given written m → n ≡ m
 one_polish given written n m p q =
     let same : n ∷ [] ≡ m ∷ [] = one_run given written [] (n ∷ []) (m ∷ []) (polish_runs given written n p) (polish_runs given written m q) in cc
 
@@ -93,7 +93,7 @@ pub empty_top : (s : Stack) (d : NormalConstraint) (rest : Stack) → s ≡ [] �
 empty_top s d rest h k = let same : [] ≡ d ∷ rest = sym h ∙ k in absurd (cc)
 
 -- an item that has a fault leads nowhere
-pub stuck : (given : Given) (i : Item) (s u : Stack) (f : StepFault) → IsItemFault given i s f → Steps given i s u → ⊥
+pub stuck : (given : Given) (i : Item) (s u : Stack) (f : StepFault) → IsItemFault given i s f → AppliesItem given i s u → ⊥
 stuck given (items.Id id) s u faults.DeadId none (n, is, x) = absurd (cc)
 stuck given (items.Axiom l) s u f h step = h
 stuck given items.Add s u faults.StackShape few (d, g, n, rest, is, rule, fits, x) = omega (arith, few, ap length is)
@@ -119,7 +119,7 @@ stuck given (items.Divide k) s u _ h step = h
 stuck given items.Saturate s u _ h step = h
 stuck given (items.Weaken w) s u _ h step = h
 
-stops_never : (given : Given) (written : List Item) (n : NormalConstraint) (f : StepFault) → StopsAtItem given written f → IsPolish given written n → ⊥
+stops_never : (given : Given) (written : List Item) (n : NormalConstraint) (f : StepFault) → StopsAtItem given written f → IsPostfixOf given written n → ⊥
 stops_never given written n f (before, i, behind, stack, is, runs, fault) polish =
     let whole = subst (λ w. Runs given w [] (n ∷ [])) is (polish_runs given written n polish) in
     let p = parts given before (i ∷ behind) [] (n ∷ []) whole in
@@ -127,7 +127,7 @@ stops_never given written n f (before, i, behind, stack, is, runs, fault) polish
     stuck given i p.0 p.2.0 f (subst (λ z. IsItemFault given i z f) same fault) p.2.1
 
 -- items that have a fault write no expression's value
-pub writing_never : (given : Given) (written : List Item) (n : NormalConstraint) (f : StepFault) → IsWritingFault given written f → IsPolish given written n → ⊥
+pub writing_never : (given : Given) (written : List Item) (n : NormalConstraint) (f : StepFault) → IsWritingFault given written f → IsPostfixOf given written n → ⊥
 writing_never given written n faults.StackShape (inl stops) polish = stops_never given written n faults.StackShape stops polish
 writing_never given written n faults.StackShape (inr (stack, runs, other)) polish =
     let same : stack ≡ n ∷ [] = one_run given written [] stack (n ∷ []) runs (polish_runs given written n polish) in

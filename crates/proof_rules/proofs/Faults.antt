@@ -6,7 +6,7 @@ use Rattle.proof_rules.specs.declared.fault.StepFault.{StepFault}
 use Rattle.proof_rules.specs.declared.fault.StepFault.TheVariants as faults
 use Rattle.proof_steps.specs.declared.step.Item.{Item}
 use Rattle.proof_steps.specs.declared.step.Item.TheVariants as items
-use Rattle.proof_rules.specs.Expression.{Given, Steps}
+use Rattle.proof_rules.specs.Expression.{Given, AppliesItem}
 use Rattle.proof_rules.specs.Fault.{OrMemory, IsItemFault, StopsAtItem, LeavesOther, IsWritingFault, IsPolFault}
 use Rattle.proof_rules.specs.Running.{Runs}
 use Rattle.proof_rules.specs.State.{State, constraint_of}
@@ -23,14 +23,14 @@ pub leaves_writing : (given : Given) (written : List Item) (f : StepFault) → f
 leaves_writing given written f is h = subst (IsWritingFault given written) (sym is) (inr h)
 
 -- one more item
-pub Runs-push : (given : Given) (written : List Item) (i : Item) (old s new : List NormalConstraint) → Runs given written old s → Steps given i s new → Runs given (written ++ i ∷ []) old new
-Runs-push given [] i old s new runs step = (new, subst (λ x. Steps given i x new) runs step, refl)
+pub Runs-push : (given : Given) (written : List Item) (i : Item) (old s new : List NormalConstraint) → Runs given written old s → AppliesItem given i s new → Runs given (written ++ i ∷ []) old new
+Runs-push given [] i old s new runs step = (new, subst (λ x. AppliesItem given i x new) runs step, refl)
 Runs-push given (j ∷ written) i old s new (between, first, rest) step = (between, first, Runs-push given written i between s new rest step)
 
 pub Runs-take : (given now : Given) (all : List Item) (i : ℕ) (item d : Item) (old new : List NormalConstraint) → now ≡ given → i < length all
-    → item ≡ get_or all i d → Steps now item old new → Runs given (take i all) [] old → Runs given (take (i + 1) all) [] new
+    → item ≡ get_or all i d → AppliesItem now item old new → Runs given (take i all) [] old → Runs given (take (i + 1) all) [] new
 Runs-take given now all i item d old new same h is s before =
-    let step = subst (λ l. Steps l item old new) same s in
+    let step = subst (λ l. AppliesItem l item old new) same s in
     let text : take i all ++ item ∷ [] ≡ take (i + 1) all = ap (λ x. take i all ++ x ∷ []) is ∙ sym (take_more all i d h) in
     subst (λ w. Runs given w [] new) text (Runs-push given (take i all) item [] old new before step)
 

@@ -16,7 +16,7 @@ use Rattle.normal_form.specs.NormalOf.{size_sum}
 use Rattle.normal_form.proofs.NormalForm.{form_meaning}
 use Rattle.normal_form.proofs.Opposite.{both_meaning}
 use Rattle.proof_rules.specs.Claim.{IsSolution}
-use Rattle.proof_rules.specs.Forms.{AreFormsAs, AreFormsOf, AreFormsOfAll, AddsForms, ids_as, file_ids}
+use Rattle.proof_rules.specs.Forms.{AreFormsAs, AreFormsOf, AreFormsOfAll, AddsForms, ids_as, problem_ids}
 use Rattle.proof_rules.specs.Preserved.{IsPreserved, AreNormal}
 use Rattle.proof_rules.specs.State.{State, IsStart}
 use Rattle.proof_rules.proofs.LiveConstraints.{All-numbered}
@@ -54,7 +54,7 @@ forms_count : (r : Relation) (c : Signed) (ns : List NormalConstraint) → AreFo
 forms_count relations.AtLeast c ns (n, is, form) = ap length is
 forms_count relations.Equal c ns (n, m, is, form) = ap length is
 
-pub all_count : (cs : List Signed) (ns : List NormalConstraint) → AreFormsOfAll cs ns → length ns ≡ file_ids cs
+pub all_count : (cs : List Signed) (ns : List NormalConstraint) → AreFormsOfAll cs ns → length ns ≡ problem_ids cs
 all_count [] ns empty = ap length empty
 all_count (c ∷ cs) ns (here, rest, is, form, forms) =
     let two = forms_count c.relation c here form in
@@ -66,7 +66,7 @@ ids_few : (r : Relation) → ids_as r ≤ 2
 ids_few relations.AtLeast = omega arith
 ids_few relations.Equal = omega arith
 
-pub few_ids : (cs : List Signed) → file_ids cs ≤ 2 * length cs
+pub few_ids : (cs : List Signed) → problem_ids cs ≤ 2 * length cs
 few_ids [] = omega arith
 few_ids (c ∷ cs) = omega (arith, ids_few c.relation, few_ids cs)
 

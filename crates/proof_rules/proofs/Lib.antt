@@ -14,7 +14,7 @@ pub mod OneStart
 pub mod OneState
 pub mod OneStepFault
 pub mod PolJudged
-pub mod Polish
+pub mod Postfix
 pub mod Preserving
 pub mod RedJudged
 pub mod ResultsExist
@@ -25,3 +25,4 @@ pub mod SmallCases
 pub mod SolJudged
 pub mod StepJudged
 pub mod Values
+pub mod Numbering

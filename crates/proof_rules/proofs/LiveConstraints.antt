@@ -54,6 +54,10 @@ same_key Less k q same h = absurd (false≢true h)
 same_key Equal k q same h = same refl
 same_key Greater k q same h = absurd (false≢true h)
 
+-- keys that the order takes for one are one
+pub key_of : (k q : ℕ) → eq_by_cmp nat_cmp k q ≡ true → k ≡ q
+key_of k q h = same_key (nat_cmp k q) k q (fin.nat_cmp-IsAntisymmetric k q) h
+
 -- what is found behind an entry is found with it before, since keys rise
 found_later : (e : ℕ × NormalConstraint) (es : Entries) (k : ℕ) (n : NormalConstraint) → T (below_all nat_cmp e.0 es)
     → fin.find nat_cmp k es ≡ Some n → fin.find nat_cmp k (e ∷ es) ≡ Some n

@@ -6,7 +6,7 @@ use Rattle.proof_rules.specs.declared.fault.StepFault.{StepFault}
 use Rattle.proof_rules.specs.declared.fault.StepFault.TheVariants as faults
 use Rattle.proof_steps.specs.declared.step.Item.{Item}
 use Rattle.proof_steps.specs.declared.step.Item.TheVariants as items
-use Rattle.proof_rules.specs.Expression.{Given, IsPolish, Steps}
+use Rattle.proof_rules.specs.Expression.{Given, IsPostfixOf, AppliesItem}
 use Rattle.proof_rules.specs.Fault.{IsFactorFault, IsShapeFault, IsIdFault, IsAddFault, IsMultiplyFault, IsItemFault, StopsAtItem, LeavesOther, IsPolFault}
 use Rattle.proof_rules.specs.Running.{Runs}
 use Rattle.proof_rules.specs.State.{State, constraint_of}
@@ -111,7 +111,7 @@ one_stop given old s u (x ∷ xs) [] bs cs i j f g same (between, step, runs) al
 one_stop given old s u (x ∷ xs) (y ∷ ys) bs cs i j f g same (between, step, runs) (other, step', runs') h k =
     let items : y ≡ x = cc in
     let rest : xs ++ i ∷ bs ≡ ys ++ j ∷ cs = cc in
-    let stacks : other ≡ between = one_step given x old other between (subst (λ z. Steps given z old other) items step') step in
+    let stacks : other ≡ between = one_step given x old other between (subst (λ z. AppliesItem given z old other) items step') step in
     one_stop given between s u xs ys bs cs i j f g rest runs (subst (λ z. Runs given ys z u) stacks runs') h k
 
 one_stopping : (given : Given) (written : List Item) (f g : StepFault) → StopsAtItem given written f → StopsAtItem given written g → f ≡ g
@@ -127,7 +127,7 @@ runs_never given written f (before, i, behind, stack, is, runs, h) (end, whole, 
 
 -- the faults of a `pol` step: a run that stops, what is left, the ids
 abbrev HasValueOf : State → List Item → Type 0
-HasValueOf s written = (n : NormalConstraint) × IsPolish (constraint_of s) written n
+HasValueOf s written = (n : NormalConstraint) × IsPostfixOf (constraint_of s) written n
 
 abbrev PolCase : State → List Item → StepFault → Type 0
 PolCase s written f = StopsAtItem (constraint_of s) written f ⊎ (Case f faults.StackShape (LeavesOther (constraint_of s) written) ⊎ Case f faults.TooManyIds (HasValueOf s written))

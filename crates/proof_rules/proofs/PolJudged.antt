@@ -9,7 +9,7 @@ use Rattle.proof_rules.specs.declared.fault.StepFault.{StepFault}
 use Rattle.proof_rules.specs.declared.fault.StepFault.TheVariants as faults
 use Rattle.proof_steps.specs.declared.step.Item.{Item}
 use Rattle.proof_steps.specs.declared.step.Item.TheVariants as items
-use Rattle.proof_rules.specs.Expression.{Given, IsPolish, IsWritten, Steps}
+use Rattle.proof_rules.specs.Expression.{Given, IsPostfixOf, IsWritten, AppliesItem}
 use Rattle.proof_rules.specs.Fault.{IsItemFault, IsPolFault}
 use Rattle.proof_rules.specs.Legal.{LegalPol}
 use Rattle.proof_rules.specs.Preserved.{AreNormal}
@@ -18,7 +18,7 @@ use Rattle.proof_rules.specs.State.{State, constraint_of, id_of, HasRoom, with_c
 use Rattle.proof_rules.proofs.Deciding.{Decided, Judged, less_or_not}
 use Rattle.proof_rules.proofs.Faults.{stops_writing, leaves_writing, writing_pol}
 use Rattle.proof_rules.proofs.LiveConstraints.{All-get}
-use Rattle.proof_rules.proofs.Polish.{IsWritten-push, IsPolish-from_IsWritten}
+use Rattle.proof_rules.proofs.Postfix.{IsWritten-push, IsPostfixOf-from_IsWritten}
 use Rattle.proof_rules.proofs.ResultsExist.{sum_exists, multiple_exists, quotient_exists, saturation_exists, weakening_exists, axiom_exists}
 use Rattle.proof_rules.proofs.ShownOrNot.{fits_decided, room_decided}
 
@@ -32,7 +32,7 @@ AreRising (n ∷ ns) = Rises 0 n.terms × AreRising ns
 
 -- an item leads on, or has a fault
 abbrev ItemJudged : Given → Item → Stack → Type 0
-ItemJudged given i old = ((new : Stack) × Steps given i old new × AreRising new) ⊎ ((f : StepFault) × IsItemFault given i old f)
+ItemJudged given i old = ((new : Stack) × AppliesItem given i old new × AreRising new) ⊎ ((f : StepFault) × IsItemFault given i old f)
 
 id_judged : (given : Given) (id : ℤ) (old : Stack) (o : Option NormalConstraint) → given id ≡ o → ((n : NormalConstraint) → given id ≡ Some n → Rises 0 n.terms)
     → AreRising old → ItemJudged given (items.Id id) old
@@ -107,7 +107,7 @@ Stops given written old f =
 abbrev RunJudged : Given → List Item → Stack → Type 0
 RunJudged given written old = ((new : Stack) × Runs given written old new) ⊎ ((f : StepFault) × Stops given written old f)
 
-more_items : (given : Given) (i : Item) (rest : List Item) (old between : Stack) → Steps given i old between → RunJudged given rest between → RunJudged given (i ∷ rest) old
+more_items : (given : Given) (i : Item) (rest : List Item) (old between : Stack) → AppliesItem given i old between → RunJudged given rest between → RunJudged given (i ∷ rest) old
 more_items given i rest old between step (inl (new, runs)) = inl (new, (between, step, runs))
 more_items given i rest old between step (inr (f, (before, j, behind, stack, is, runs, fault))) =
     inr (f, (i ∷ before, j, behind, stack, ap (λ xs. i ∷ xs) is, (between, step, runs), fault))
@@ -129,14 +129,14 @@ other : (s : State) (written : List Item) (stack : Stack) → Runs (constraint_o
 other s written stack runs not_one =
     inr (faults.StackShape, writing_pol s written faults.StackShape (leaves_writing (constraint_of s) written faults.StackShape refl (stack, runs, not_one)))
 
-one_left : (s : State) (written : List Item) (n : NormalConstraint) → IsPolish (constraint_of s) written n → Decided (HasRoom s) → Judged (LegalPol s written) (IsPolFault s written)
+one_left : (s : State) (written : List Item) (n : NormalConstraint) → IsPostfixOf (constraint_of s) written n → Decided (HasRoom s) → Judged (LegalPol s written) (IsPolFault s written)
 one_left s written n polish (inl room) = inl (with_constraint n s, (n, polish, (room, refl)))
 one_left s written n polish (inr full) = inr (faults.TooManyIds, (n, polish, full))
 
 left : (s : State) (written : List Item) (stack : Stack) → Runs (constraint_of s) written [] stack → Judged (LegalPol s written) (IsPolFault s written)
 left s written [] runs = other s written [] runs (λ h. omega (arith, h))
 left s written (n ∷ []) runs =
-    one_left s written n (IsPolish-from_IsWritten (constraint_of s) written n (written_on (constraint_of s) [] written [] (n ∷ []) refl runs)) (room_decided s)
+    one_left s written n (IsPostfixOf-from_IsWritten (constraint_of s) written n (written_on (constraint_of s) [] written [] (n ∷ []) refl runs)) (room_decided s)
 left s written (n ∷ m ∷ rest) runs = other s written (n ∷ m ∷ rest) runs (λ h. omega (arith, h))
 
 from_run : (s : State) (written : List Item) → RunJudged (constraint_of s) written [] → Judged (LegalPol s written) (IsPolFault s written)

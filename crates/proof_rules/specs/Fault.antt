@@ -1,7 +1,8 @@
 -- The faults of steps and conclusions, in the order of judging: each one's condition says that none before it stands.
 -- Want of memory is no fault of a step.
-use Rattle.std.specs.Prelude.{◌≡◌, ◌≢◌, ℕ, ◌<◌, ◌≤◌, ◌⊎◌, ℤ, pos, ◌<ℤ◌, ◌≤ℤ◌, Bool, List, [], ◌∷◌, ◌++◌, Option, None, Some, All, Contains, IfSome, length, unsigned_abs}
+use Rattle.std.specs.Prelude.{◌≡◌, ◌≢◌, ℕ, ◌<◌, ◌≤◌, ◌⊎◌, ℤ, pos, ◌<ℤ◌, ◌≤ℤ◌, Bool, true, List, [], ◌∷◌, ◌++◌, Option, None, Some, All, IfSome, length, unsigned_abs}
 use Rattle.std.specs.FinMap as map
+use Rattle.std.specs.FinSet as set
 use Rattle.linear.specs.declared.constraint.Signed.{Signed}
 use Rattle.linear.specs.declared.term.Lit.{Lit}
 use Rattle.linear.specs.declared.term.Term.{Term}
@@ -25,8 +26,8 @@ use Rattle.proof_steps.specs.declared.step.Item.{Item}
 use Rattle.proof_steps.specs.declared.step.Item.TheVariants as items
 use Rattle.proof_steps.specs.declared.step.Step.{Step}
 use Rattle.proof_steps.specs.declared.step.Step.TheVariants as steps
-use Rattle.proof_rules.specs.Expression.{Given, IsPolish}
-use Rattle.proof_rules.specs.Forms.{file_ids}
+use Rattle.proof_rules.specs.Expression.{Given, IsPostfixOf}
+use Rattle.proof_rules.specs.Forms.{problem_ids}
 use Rattle.proof_rules.specs.Justified.{EntitlesLower, EntitlesUpper, TakesHint}
 use Rattle.proof_rules.specs.Legal.{IsShownUnder, IsShownNotRaised, Logs, LegalDel, worth_of}
 use Rattle.proof_rules.specs.Running.{Runs}
@@ -97,7 +98,7 @@ IsWritingFault given written f = StopsAtItem given written f
 
 -- pol: the items, and then the ids
 abbrev pub IsPolFault : State → List Item → StepFault → Type 0
-IsPolFault s written faults.TooManyIds = (n : NormalConstraint) × IsPolish (constraint_of s) written n × (HasRoom s → ⊥)
+IsPolFault s written faults.TooManyIds = (n : NormalConstraint) × IsPostfixOf (constraint_of s) written n × (HasRoom s → ⊥)
 IsPolFault s written f = IsWritingFault (constraint_of s) written f
 
 -- a written constraint: the limits, then the ids
@@ -155,7 +156,7 @@ IsSoliFault p s listing f = (p.objective ≢ None) × IsSolFault p s listing f
 -- an id that is not live, or that is not to be deleted
 abbrev pub IsUndeletable : Opb → State → ℕ → StepFault → Type 0
 IsUndeletable p s id faults.DeadId = map.get s.live id ≡ None
-IsUndeletable p s id faults.FileConstraint = (map.get s.live id ≢ None) × ((id ≤ file_ids p.constraints) ⊎ Contains s.improving id)
+IsUndeletable p s id faults.FileConstraint = (map.get s.live id ≢ None) × ((id ≤ problem_ids p.constraints) ⊎ (set.contains s.improving id ≡ true))
 IsUndeletable p s id _ = ⊥
 
 -- del id: the ids from left to right, each judged with the earlier ones gone

@@ -26,9 +26,9 @@ ids_as relations.AtLeast = 1
 ids_as relations.Equal = 2
 
 -- how many ids the constraints of a file take: the count that stands behind `f` in a proof
-abbrev pub file_ids : List Signed → ℕ
-file_ids [] = 0
-file_ids (c ∷ cs) = ids_as c.relation + file_ids cs
+abbrev pub problem_ids : List Signed → ℕ
+problem_ids [] = 0
+problem_ids (c ∷ cs) = ids_as c.relation + problem_ids cs
 
 -- a constraint's normal constraints were added at the end
 abbrev pub AddsForms : Signed → List NormalConstraint → List NormalConstraint → Type 0

@@ -1,6 +1,7 @@
 -- The legal steps of a proof: `Legal p old step new` says that the step leads from one state to another.
-use Rattle.std.specs.Prelude.{◌≡◌, ℕ, ◌<◌, ℤ, pos, ◌<ℤ◌, ◌-ℤ◌, Bool, List, [], ◌∷◌, ◌++◌, Some, All, Contains, IfSome, IsSome, length}
+use Rattle.std.specs.Prelude.{◌≡◌, ℕ, ◌<◌, ℤ, pos, ◌<ℤ◌, ◌-ℤ◌, Bool, false, List, [], ◌∷◌, ◌++◌, Some, All, IfSome, IsSome, length}
 use Rattle.std.specs.FinMap as map
+use Rattle.std.specs.FinSet as set
 use Rattle.linear.specs.declared.constraint.Signed.{Signed}
 use Rattle.linear.specs.declared.term.Lit.{Lit}
 use Rattle.linear.specs.declared.term.Term.{Term}
@@ -15,8 +16,8 @@ use Rattle.substitution.specs.Objective.{IsObjectiveGoal}
 use Rattle.proof_steps.specs.declared.step.Item.{Item}
 use Rattle.proof_steps.specs.declared.step.Step.{Step}
 use Rattle.proof_steps.specs.declared.step.Step.TheVariants as steps
-use Rattle.proof_rules.specs.Expression.{IsPolish}
-use Rattle.proof_rules.specs.Forms.{file_ids}
+use Rattle.proof_rules.specs.Expression.{IsPostfixOf}
+use Rattle.proof_rules.specs.Forms.{problem_ids}
 use Rattle.proof_rules.specs.Shown.{IsShown, IsAdmitted}
 use Rattle.proof_rules.specs.Solution.{Completes, at_most}
 use Rattle.proof_rules.specs.State.{State, constraints, constraint_of, id_of, HasRoom, with_constraint}
@@ -27,7 +28,7 @@ Adds n old new = HasRoom old × (new ≡ with_constraint n old)
 
 -- pol: the items write one expression of cutting planes, whose value is added
 abbrev pub LegalPol : State → List Item → State → Type 0
-LegalPol old items new = (n : NormalConstraint) × IsPolish (constraint_of old) items n × Adds n old new
+LegalPol old items new = (n : NormalConstraint) × IsPostfixOf (constraint_of old) items n × Adds n old new
 
 -- rup: a constraint that is shown from the live ones is added
 abbrev pub LegalRup : State → Signed → State → Type 0
@@ -81,7 +82,7 @@ pub record Improves (p : Opb) (old : State) (objective : List Term) (listing : L
 abbrev pub with_improvement : Opb → List Bool → NormalConstraint → State → State
 with_improvement p g n s = record (with_constraint n (with_solution g s)) {
   improve = Some (worth_of p g);
-  improving = s.next ∷ s.improving;
+  improving = set.insert s.improving s.next;
 }
 
 abbrev pub LegalSoli : Opb → State → List Lit → State → Type 0
@@ -91,8 +92,8 @@ LegalSoli p old listing new =
 -- a live constraint that is neither the file's nor one that an improving solution added
 pub record IsDeletable (p : Opb) (s : State) (id : ℕ) : Type 0 where
   pub live : IsSome (map.get s.live id)
-  pub derived : file_ids p.constraints < id
-  pub asked : Contains s.improving id → ⊥
+  pub derived : problem_ids p.constraints < id
+  pub unasked : set.contains s.improving id ≡ false
 
 abbrev pub without : ℕ → State → State
 without id s = record s { live = map.remove s.live id }

@@ -1,7 +1,8 @@
 -- The state of a proof: the live constraints, and the solutions logged so far.
-use Rattle.std.specs.Prelude.{◌≡◌, ℕ, ◌+◌, ◌-◌, ◌<◌, ◌^◌, ℤ, pos, negsuc, Bool, List, [], ◌∷◌, Option, None, length}
+use Rattle.std.specs.Prelude.{◌≡◌, ℕ, ◌+◌, ◌-◌, ◌<◌, ◌≤◌, ◌^◌, ℤ, pos, negsuc, Bool, List, [], ◌∷◌, Option, None, Some, length}
 use Rattle.std.specs.Ordering.{nat_cmp}
 use Rattle.std.specs.FinMap as map
+use Rattle.std.specs.FinSet as set
 use Rattle.linear.specs.Opb.{Opb}
 use Rattle.normal_form.specs.Normal.{NormalConstraint}
 use Rattle.proof_rules.specs.Forms.{AreFormsOfAll}
@@ -20,7 +21,7 @@ pub record State : Type 0 where
   -- the solutions, the first one first: the values of the file's variables
   pub logged : List (List Bool)
   -- the ids of the constraints that improving solutions added
-  pub improving : List ℕ
+  pub improving : set.FinSet nat_cmp
 
 -- the live constraints, by rising id
 abbrev pub constraints : State → List NormalConstraint
@@ -35,9 +36,19 @@ id_of next (negsuc k) = next - (k + 1)
 abbrev pub constraint_of : State → ℤ → Option NormalConstraint
 constraint_of s id = map.get s.live (id_of s.next id)
 
+-- ids are below this number
+abbrev pub id_limit : ℕ
+id_limit = 2 ^ 32
+
 -- an id is left for one more constraint
 abbrev pub HasRoom : State → Type 0
-HasRoom s = s.next < 2 ^ 32
+HasRoom s = s.next < id_limit
+
+-- live ids are above 0 and below the next one, which is at most the first beyond all ids
+pub record AreNumbered (live : Live) (next : ℕ) : Type 0 where
+  pub first : 0 < next
+  pub last : next ≤ id_limit
+  pub within : (id : ℕ) (n : NormalConstraint) → map.get live id ≡ Some n → (0 < id) × (id < next)
 
 -- the state with one more constraint, which takes the next id
 abbrev pub with_constraint : NormalConstraint → State → State
@@ -55,7 +66,7 @@ state_of ns = record {
   next = length ns + 1;
   improve = None;
   logged = [];
-  improving = [];
+  improving = set.empty;
 }
 
 -- the state before the first step: the normal constraints of the file

@@ -2,6 +2,7 @@
 //! the problem, so what a legal conclusion claims is true; and each step and each conclusion has one verdict.
 
 ghost use Rattle.std.specs.Prelude.{◌≡◌, ◌⊎◌, ℤ, Bool, List, Option, All};
+ghost use Rattle.linear.specs.Limits.{IsWithin};
 ghost use Rattle.linear.specs.Opb.{Opb};
 ghost use Rattle.linear.specs.Valuation.{Valuation};
 ghost use Rattle.linear.specs.declared.constraint.Signed.{Signed};
@@ -9,13 +10,13 @@ ghost use Rattle.linear.specs.declared.term.Lit.{Lit};
 ghost use Rattle.normal_form.specs.Normal.{NormalConstraint, Holds, Rises};
 ghost use Rattle.substitution.specs.Images.{Images};
 ghost use Rattle.proof_rules.specs.Claim.{Claim};
-ghost use Rattle.proof_rules.specs.Expression.{Given, IsPolish};
+ghost use Rattle.proof_rules.specs.Expression.{Given, IsPostfixOf};
 ghost use Rattle.proof_rules.specs.Fault.{IsStepFault, IsConclusionFault};
 ghost use Rattle.proof_rules.specs.Justified.{IsJustified, IsLegalProof};
 ghost use Rattle.proof_rules.specs.Legal.{Legal, LegalPol, LegalRup, LegalRed, LegalSol, LegalSoli, LegalDel, Leads};
 ghost use Rattle.proof_rules.specs.Preserved.{IsPreserved, AreNormal};
 ghost use Rattle.proof_rules.specs.Shown.{IsShown};
-ghost use Rattle.proof_rules.specs.State.{State, IsStart};
+ghost use Rattle.proof_rules.specs.State.{State, AreNumbered, IsStart};
 ghost use Rattle.proof_steps.specs.declared.conclusion.Conclusion.{Conclusion};
 ghost use Rattle.proof_rules.specs.declared.fault.StepFault.{StepFault};
 ghost use Rattle.proof_steps.specs.declared.step.Item.{Item};
@@ -95,7 +96,7 @@ pub fn legal_proof_is_true()
 
 /// The items of a `pol` step write at most one value, so it leads to at most one state.
 pub fn one_value()
-    ensures { (given : Given) → (written : List Item) → (n m : NormalConstraint) → IsPolish given written n → IsPolish given written m → n ≡ m }
+    ensures { (given : Given) → (written : List Item) → (n m : NormalConstraint) → IsPostfixOf given written n → IsPostfixOf given written m → n ≡ m }
 {}
 
 /// A step that has a fault is not legal.
@@ -140,4 +141,10 @@ pub fn one_fault()
     ensures step { (p : Opb) → (s : State) → (step : Step) → (f g : StepFault) → IsStepFault p s step f → IsStepFault p s step g → f ≡ g }
     ensures conclusion { (p : Opb) → (s : State) → (c : Conclusion) → (f g : StepFault)
         → IsConclusionFault p s c f → IsConclusionFault p s c g → f ≡ g }
+{}
+
+/// Live ids are above 0 and below the next one: a file begins so, and every legal step keeps it.
+pub fn ids_are_numbered()
+    ensures start { (p : Opb) → (s : State) → IsWithin p → IsStart p s → AreNumbered s.live s.next }
+    ensures step { (p : Opb) → (s t : State) → (step : Step) → AreNumbered s.live s.next → Legal p s step t → AreNumbered t.live t.next }
 {}

@@ -4,6 +4,7 @@
 pub mod cases;
 pub mod laws;
 mod next;
+mod propagator;
 mod reach;
 mod reading;
 mod refutation;
@@ -12,5 +13,6 @@ mod tests;
 mod trail;
 mod walk;
 
+pub use propagator::{Id, Propagator};
 pub use reach::Reach;
 pub use refutation::refuted;

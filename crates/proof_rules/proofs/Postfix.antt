@@ -4,7 +4,7 @@ use Rattle.std.proofs.lemmas.List.{take_more}
 use Rattle.normal_form.specs.Normal.{NormalConstraint}
 use Rattle.proof_steps.specs.declared.step.Item.{Item}
 use Rattle.proof_steps.specs.declared.step.Item.TheVariants as items
-use Rattle.proof_rules.specs.Expression.{Given, Expression, cited, axiom_of, sum, multiple, quotient, saturated, weakened, postfix, HasValue, IsPolish, IsWritten, Steps}
+use Rattle.proof_rules.specs.Expression.{Given, Expression, cited, axiom_of, sum, multiple, quotient, saturated, weakened, postfix, HasValue, IsPostfixOf, IsWritten, AppliesItem}
 
 -- an operand that was pushed: an expression whose text is one item
 pushed : (given : Given) (written : List Item) (i : Item) (e : Expression) (n : NormalConstraint) (old new : List NormalConstraint)
@@ -24,7 +24,7 @@ replaced given written i d n rest old new made was is before =
 
 -- one more item
 pub IsWritten-push : (given : Given) (written : List Item) (i : Item) (old new : List NormalConstraint)
-    → Steps given i old new → IsWritten given written old → IsWritten given (written ++ i ∷ []) new
+    → AppliesItem given i old new → IsWritten given written old → IsWritten given (written ++ i ∷ []) new
 IsWritten-push given written (items.Id id) old new s before = pushed given written (items.Id id) (cited id) s.0 old new refl s.1 s.2 before
 IsWritten-push given written (items.Axiom l) old new s before = pushed given written (items.Axiom l) (axiom_of l) s.0 old new refl s.1 s.2 before
 IsWritten-push given written items.Add old new s before =
@@ -44,13 +44,13 @@ IsWritten-push given written (items.Weaken x) old new s before =
     replaced given written (items.Weaken x) s.0 s.1 s.2 old new (λ e h. (weakened x e, refl, (s.0, h, s.4))) s.3 s.5 before
 
 -- one constraint is left: the items write one expression
-pub IsPolish-from_IsWritten : (given : Given) (written : List Item) (n : NormalConstraint) → IsWritten given written (n ∷ []) → IsPolish given written n
-IsPolish-from_IsWritten given written n w = (w.1, sym (w.2 ∙ ap (λ b. b ++ postfix w.1) w.4), w.3)
+pub IsPostfixOf-from_IsWritten : (given : Given) (written : List Item) (n : NormalConstraint) → IsWritten given written (n ∷ []) → IsPostfixOf given written n
+IsPostfixOf-from_IsWritten given written n w = (w.1, sym (w.2 ∙ ap (λ b. b ++ postfix w.1) w.4), w.3)
 
 -- one more of the items
 pub IsWritten-take : (given now : Given) (all : List Item) (i : ℕ) (item d : Item) (old new : List NormalConstraint) → now ≡ given → i < length all
-    → item ≡ get_or all i d → Steps now item old new → IsWritten given (take i all) old → IsWritten given (take (i + 1) all) new
+    → item ≡ get_or all i d → AppliesItem now item old new → IsWritten given (take i all) old → IsWritten given (take (i + 1) all) new
 IsWritten-take given now all i item d old new same h is s before =
-    let step = subst (λ l. Steps l item old new) same s in
+    let step = subst (λ l. AppliesItem l item old new) same s in
     let text : take i all ++ item ∷ [] ≡ take (i + 1) all = ap (λ x. take i all ++ x ∷ []) is ∙ sym (take_more all i d h) in
     subst (λ w. IsWritten given w new) text (IsWritten-push given (take i all) item old new step before)

@@ -1,0 +1,103 @@
+//! The live constraints of a proof by their ids, and the id that the next one takes. That every id is above 0 and below
+//! the next one is a fact of the type: so the next one is free, and a number beyond all ids names nothing.
+
+ghost use Rattle.std.specs.Prelude.{◌≡◌, ◌≤◌, ◌^◌, MatchOption};
+ghost use Rattle.proof_rules.specs.State.{id_limit, id_of};
+
+use normal_form::Normal;
+use propagate::{Id, Propagator};
+use std::alloc::{AllocError, Global};
+use std::marker::Model;
+
+/// Ids are below this number.
+const ID_LIMIT: u64 = 1 << 32;
+
+/// Live constraints by their ids, and the id that the next one takes.
+#[derive(Drop)]
+pub(crate) struct Database<P: Propagator> {
+    constraints: P,
+    next_id: u64,
+}
+
+impl<P: Propagator> Model for Database<P> {
+    ghost use Rattle.std.specs.Coded.{codes};
+    ghost use Rattle.kernel.specs.Database.{Constraints, AreNumbered, constraints_code};
+
+    ghost Value = { Constraints };
+
+    ghost coded = { Prim.hlevel (codes, constraints_code) };
+
+    ghost view = { λ d. record { live = P.content d.constraints; next = d.next_id } };
+
+    ghost invariant = { λ d. AreNumbered (record { live = P.content d.constraints; next = d.next_id }) };
+}
+
+impl<P: Propagator> Database<P> {
+    ghost use Rattle.std.specs.Prelude.{◌≡◌, ◌↔◌, ◌<◌, IfOk, IsTrue, OnErr, OnOk};
+    ghost use Rattle.std.specs.FinMap as map;
+    ghost use Rattle.std.specs.Option.{option_copied};
+    ghost use Rattle.kernel.specs.Database.{AreNumbered, pushed, found};
+
+    /// No constraint; the first one takes the id 1.
+    pub(crate) fn empty(alloc: Global) -> Self
+        ensures { result ≡ record { live = map.empty; next = 1 } }
+    {
+        Database {
+            constraints: P::empty(alloc),
+            next_id: 1,
+        }
+    }
+
+    /// The id that the next constraint takes; it is at most 2^32, and no id then.
+    pub(crate) fn next_id(&self) -> u64
+        ensures value { result ≡ self.now.next }
+        ensures numbered { AreNumbered self.now }
+    {
+        self.next_id
+    }
+
+    /// Whether an id is left for one more constraint.
+    pub(crate) fn has_room(&self) -> bool
+        ensures { IsTrue result ↔ self.now.next < id_limit }
+    {
+        self.next_id < ID_LIMIT
+    }
+
+    /// Adds a constraint under the next id, and gives the id.
+    pub(crate) fn push(&mut self, constraint: Normal) -> Result<Id, AllocError>
+        requires { self.old.next < id_limit }
+        ensures ok { OnOk result (self.new ≡ pushed constraint self.old) }
+        ensures id { IfOk result (λ id. id ≡ self.old.next) }
+        ensures err { OnErr result (self.new ≡ self.old) }
+    {
+        let id = self.next_id as u32;
+        self.constraints.insert(id, constraint)?;
+        self.next_id += 1;
+        Ok(id)
+    }
+
+    /// The live constraint that a number in a step means, if there is one: `-k` is the next id less `k`.
+    pub(crate) fn find(&self, number: i128) -> Option<&Normal>
+        ensures { option_copied result ≡ found self.now number }
+    {
+        let id = id_of(self.next_id, number)?;
+        self.constraints.get(id)
+    }
+}
+
+/// The id that a number in a step means; `None` where it is beyond all ids.
+fn id_of(next: u64, number: i128) -> Option<Id>
+    ensures { MatchOption result (id_limit ≤ id_of next number) (λ id. id ≡ id_of next number) }
+{
+    let size = number.unsigned_abs();
+    let id = if number < 0 {
+        u128::from(next).saturating_sub(size)
+    } else {
+        size
+    };
+    if id < u128::from(ID_LIMIT) {
+        Some(id as u32)
+    } else {
+        None
+    }
+}

@@ -1,0 +1,158 @@
+//! `pol`: cutting planes in postfix (Cook, Coullard and Turán's rules on the normal form; the VeriPB proof format). The
+//! items are run from left to right over a stack; what a whole line adds is copied only where it is one cited constraint.
+
+ghost use Rattle.std.specs.Prelude.{◌≡◌, ◌≢◌, ◌∷◌, [], IfOk, IfErr, OnOk, OnErr, length};
+ghost use Rattle.proof_rules.specs.Expression.{Given, IsPostfixOf, AppliesItem};
+ghost use Rattle.proof_rules.specs.Fault.{OrMemory, IsItemFault, IsIdFault, IsAddFault, IsMultiplyFault, IsFactorFault, IsShapeFault, IsWritingFault, IsPolFault};
+ghost use Rattle.proof_rules.specs.Legal.{LegalPol};
+ghost use Rattle.kernel.specs.Database.{found};
+
+use super::database::Database;
+use super::stack::{Operand, Stack};
+use cut_rules::{add, axiom, divide, multiply, saturate, weaken};
+use linear::{Lit, Var};
+use normal_form::Normal;
+use proof_rules::StepFault;
+use proof_steps::Item;
+use propagate::Propagator;
+use std::alloc::Global;
+
+/// The value of the one expression that the items write. The items are judged from left to right; for one item a dead
+/// id comes first, then too few constraints on the stack, then a factor below 1, then a result that is too large; at
+/// the end not exactly one constraint is left.
+pub(crate) fn evaluate<P: Propagator>(
+    alloc: Global,
+    database: &Database<P>,
+    items: &[Item],
+) -> Result<Normal, StepFault>
+    ensures value { IfOk result (IsPostfixOf (found database.now) items.now) }
+    ensures fault { IfErr result (λ f. OrMemory f (IsWritingFault (found database.now) items.now f)) }
+{
+    let mut stack = Stack::new(alloc);
+    for item in items {
+        apply_item(alloc, database, &mut stack, *item)?;
+    }
+    only(alloc, &mut stack)
+}
+
+/// The one constraint on the stack.
+fn only(alloc: Global, stack: &mut Stack<'_>) -> Result<Normal, StepFault>
+    ensures one { IfOk result (λ n. stack.old ≡ n ∷ []) }
+    ensures fault { IfErr result (λ f. OrMemory f ((f ≡ StepFault.StackShape) × (length stack.old ≢ 1))) }
+{
+    let Some(top) = stack.pop() else {
+        return Err(StepFault::StackShape);
+    };
+    if stack.pop().is_some() {
+        return Err(StepFault::StackShape);
+    }
+    Ok(top.into_constraint(alloc)?)
+}
+
+/// What one item does to the stack.
+fn apply_item<'a, P: Propagator>(
+    alloc: Global,
+    database: &'a Database<P>,
+    stack: &mut Stack<'a>,
+    item: Item,
+) -> Result<(), StepFault>
+    ensures ok { OnOk result (AppliesItem (found database.now) item stack.old stack.new) }
+    ensures fault { IfErr result (λ f. OrMemory f (IsItemFault (found database.now) item stack.old f)) }
+{
+    match item {
+        Item::Id(id) => cite(database, stack, id),
+        Item::Axiom(literal) => push_axiom(alloc, stack, literal),
+        Item::Add => add_top_two(alloc, stack),
+        Item::Multiply(factor) => multiply_top(alloc, stack, factor),
+        Item::Divide(divisor) => divide_top(alloc, stack, divisor),
+        Item::Saturate => saturate_top(alloc, stack),
+        Item::Weaken(var) => weaken_top(alloc, stack, var),
+    }
+}
+
+fn cite<'a, P: Propagator>(
+    database: &'a Database<P>,
+    stack: &mut Stack<'a>,
+    id: i128,
+) -> Result<(), StepFault>
+    ensures ok { OnOk result (AppliesItem (found database.now) (Item.Id id) stack.old stack.new) }
+    ensures fault { IfErr result (λ f. OrMemory f (IsIdFault (found database.now) id f)) }
+{
+    let Some(constraint) = database.find(id) else {
+        return Err(StepFault::DeadId);
+    };
+    stack.push(Operand::Live(constraint))?;
+    Ok(())
+}
+
+fn push_axiom(alloc: Global, stack: &mut Stack<'_>, literal: Lit) -> Result<(), StepFault>
+    ensures ok { OnOk result ((given : Given) → AppliesItem given (Item.Axiom literal) stack.old stack.new) }
+    ensures fault { IfErr result (λ f. OrMemory f ⊥) }
+{
+    let made = axiom(alloc, literal)?;
+    stack.push(Operand::Made(made))?;
+    Ok(())
+}
+
+fn add_top_two(alloc: Global, stack: &mut Stack<'_>) -> Result<(), StepFault>
+    ensures ok { OnOk result ((given : Given) → AppliesItem given Item.Add stack.old stack.new) }
+    ensures fault { IfErr result (λ f. OrMemory f (IsAddFault stack.old f)) }
+{
+    let Some(right) = stack.pop() else {
+        return Err(StepFault::StackShape);
+    };
+    let Some(left) = stack.pop() else {
+        return Err(StepFault::StackShape);
+    };
+    let made = add(alloc, left.constraint(), right.constraint())?;
+    stack.push(Operand::Made(made))?;
+    Ok(())
+}
+
+fn multiply_top(alloc: Global, stack: &mut Stack<'_>, factor: i128) -> Result<(), StepFault>
+    ensures ok { OnOk result ((given : Given) → AppliesItem given (Item.Multiply factor) stack.old stack.new) }
+    ensures fault { IfErr result (λ f. OrMemory f (IsMultiplyFault factor stack.old f)) }
+{
+    let Some(top) = stack.pop() else {
+        return Err(StepFault::StackShape);
+    };
+    let made = multiply(alloc, top.constraint(), factor)?;
+    stack.push(Operand::Made(made))?;
+    Ok(())
+}
+
+fn divide_top(alloc: Global, stack: &mut Stack<'_>, divisor: i128) -> Result<(), StepFault>
+    ensures ok { OnOk result ((given : Given) → AppliesItem given (Item.Divide divisor) stack.old stack.new) }
+    ensures fault { IfErr result (λ f. OrMemory f (IsFactorFault divisor stack.old f)) }
+{
+    let Some(top) = stack.pop() else {
+        return Err(StepFault::StackShape);
+    };
+    let made = divide(alloc, top.constraint(), divisor)?;
+    stack.push(Operand::Made(made))?;
+    Ok(())
+}
+
+fn saturate_top(alloc: Global, stack: &mut Stack<'_>) -> Result<(), StepFault>
+    ensures ok { OnOk result ((given : Given) → AppliesItem given Item.Saturate stack.old stack.new) }
+    ensures fault { IfErr result (λ f. OrMemory f (IsShapeFault stack.old f)) }
+{
+    let Some(top) = stack.pop() else {
+        return Err(StepFault::StackShape);
+    };
+    let made = saturate(alloc, top.constraint())?;
+    stack.push(Operand::Made(made))?;
+    Ok(())
+}
+
+fn weaken_top(alloc: Global, stack: &mut Stack<'_>, var: Var) -> Result<(), StepFault>
+    ensures ok { OnOk result ((given : Given) → AppliesItem given (Item.Weaken var) stack.old stack.new) }
+    ensures fault { IfErr result (λ f. OrMemory f (IsShapeFault stack.old f)) }
+{
+    let Some(top) = stack.pop() else {
+        return Err(StepFault::StackShape);
+    };
+    let made = weaken(alloc, top.constraint(), var)?;
+    stack.push(Operand::Made(made))?;
+    Ok(())
+}
