@@ -1,10 +1,10 @@
 -- Live constraints by their ids, and the id that the next one takes.
-use Rattle.std.specs.Prelude.{◌≡◌, ℕ, ◌+◌, ◌<◌, ◌≤◌, ℤ, Option, Some, refl}
+use Rattle.std.specs.Prelude.{ℕ, ◌+◌, ℤ, Option, refl}
 use Rattle.std.specs.Coded.{Coded, code_by, coded×, coded_ℕ}
 use Rattle.std.specs.FinMap as map
 use Rattle.normal_form.specs.Normal.{NormalConstraint}
 use Rattle.proof_rules.specs.Codes.{constraint_code}
-use Rattle.proof_rules.specs.State.{Live, id_limit, id_of}
+use Rattle.proof_rules.specs.State.{Live, id_of}
 
 pub record Constraints : Type 0 where
   pub live : Live
@@ -14,12 +14,6 @@ abbrev pub constraints_code : Coded Constraints
 constraints_code =
     code_by (Live × ℕ) (coded× (map.code coded_ℕ constraint_code) coded_ℕ)
     (λ d. (d.live, d.next)) (λ p. record { live = p.0; next = p.1 }) (λ _. refl)
-
--- the ids are above 0 and below the next one, and that one is within the limit or the first beyond it
-pub record AreNumbered (d : Constraints) : Type 0 where
-  pub first : 0 < d.next
-  pub last : d.next ≤ id_limit
-  pub within : (id : ℕ) (n : NormalConstraint) → map.get d.live id ≡ Some n → (0 < id) × (id < d.next)
 
 -- one more constraint, under the next id
 abbrev pub pushed : NormalConstraint → Constraints → Constraints

@@ -1,5 +1,6 @@
 -- What a kernel holds, and what it keeps.
-use Rattle.std.specs.Prelude.{ℕ, ℤ, Bool, List, Option, ⊤}
+use Rattle.std.specs.Prelude.{ℕ, ℤ, Bool, List, Option, reverse, ⊤}
+use Rattle.std.specs.FinSet as set
 use Rattle.linear.specs.Opb.{Opb}
 use Rattle.linear.specs.Limits.{IsWithin}
 use Rattle.proof_steps.specs.declared.step.Step.{Step}
@@ -32,12 +33,12 @@ IsJudged conclusions.Nothing = ⊤
 IsJudged conclusions.Unsat = ⊤
 IsJudged _ = ⊥
 
--- the state whose live constraints these are
+-- the state of these live constraints; `asked` are the ids of those that improving solutions added, the first one first
 abbrev pub state_from : Constraints → Option ℤ → List (List Bool) → List ℕ → State
-state_from d least logged improving = record {
+state_from d least logged asked = record {
   live = d.live;
   next = d.next;
   improve = least;
   logged = logged;
-  improving = improving;
+  improving = set.from_list (reverse asked);
 }

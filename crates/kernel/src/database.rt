@@ -21,7 +21,8 @@ pub(crate) struct Database<P: Propagator> {
 
 impl<P: Propagator> Model for Database<P> {
     ghost use Rattle.std.specs.Coded.{codes};
-    ghost use Rattle.kernel.specs.Database.{Constraints, AreNumbered, constraints_code};
+    ghost use Rattle.proof_rules.specs.State.{AreNumbered};
+    ghost use Rattle.kernel.specs.Database.{Constraints, constraints_code};
 
     ghost Value = { Constraints };
 
@@ -29,14 +30,15 @@ impl<P: Propagator> Model for Database<P> {
 
     ghost view = { λ d. record { live = P.content d.constraints; next = d.next_id } };
 
-    ghost invariant = { λ d. AreNumbered (record { live = P.content d.constraints; next = d.next_id }) };
+    ghost invariant = { λ d. AreNumbered (P.content d.constraints) d.next_id };
 }
 
 impl<P: Propagator> Database<P> {
     ghost use Rattle.std.specs.Prelude.{◌≡◌, ◌↔◌, ◌<◌, IfOk, IsTrue, OnErr, OnOk};
     ghost use Rattle.std.specs.FinMap as map;
     ghost use Rattle.std.specs.Option.{option_copied};
-    ghost use Rattle.kernel.specs.Database.{AreNumbered, pushed, found};
+    ghost use Rattle.proof_rules.specs.State.{AreNumbered};
+    ghost use Rattle.kernel.specs.Database.{pushed, found};
 
     /// No constraint; the first one takes the id 1.
     pub(crate) fn empty(alloc: Global) -> Self
@@ -51,7 +53,7 @@ impl<P: Propagator> Database<P> {
     /// The id that the next constraint takes; it is at most 2^32, and no id then.
     pub(crate) fn next_id(&self) -> u64
         ensures value { result ≡ self.now.next }
-        ensures numbered { AreNumbered self.now }
+        ensures numbered { AreNumbered self.now.live self.now.next }
     {
         self.next_id
     }

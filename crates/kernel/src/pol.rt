@@ -86,7 +86,7 @@ fn cite<'a, P: Propagator>(
 }
 
 fn push_axiom(alloc: Global, stack: &mut Stack<'_>, literal: Lit) -> Result<(), StepFault>
-    ensures ok { OnOk result ((given : Given) → AppliesItem given (Item.Axiom literal) stack.old stack.new) }
+    ensures ok { (given : Given) → OnOk result (AppliesItem given (Item.Axiom literal) stack.old stack.new) }
     ensures fault { IfErr result (λ f. OrMemory f ⊥) }
 {
     let made = axiom(alloc, literal)?;
@@ -95,7 +95,7 @@ fn push_axiom(alloc: Global, stack: &mut Stack<'_>, literal: Lit) -> Result<(), 
 }
 
 fn add_top_two(alloc: Global, stack: &mut Stack<'_>) -> Result<(), StepFault>
-    ensures ok { OnOk result ((given : Given) → AppliesItem given Item.Add stack.old stack.new) }
+    ensures ok { (given : Given) → OnOk result (AppliesItem given Item.Add stack.old stack.new) }
     ensures fault { IfErr result (λ f. OrMemory f (IsAddFault stack.old f)) }
 {
     let Some(right) = stack.pop() else {
@@ -110,7 +110,7 @@ fn add_top_two(alloc: Global, stack: &mut Stack<'_>) -> Result<(), StepFault>
 }
 
 fn multiply_top(alloc: Global, stack: &mut Stack<'_>, factor: i128) -> Result<(), StepFault>
-    ensures ok { OnOk result ((given : Given) → AppliesItem given (Item.Multiply factor) stack.old stack.new) }
+    ensures ok { (given : Given) → OnOk result (AppliesItem given (Item.Multiply factor) stack.old stack.new) }
     ensures fault { IfErr result (λ f. OrMemory f (IsMultiplyFault factor stack.old f)) }
 {
     let Some(top) = stack.pop() else {
@@ -122,7 +122,7 @@ fn multiply_top(alloc: Global, stack: &mut Stack<'_>, factor: i128) -> Result<()
 }
 
 fn divide_top(alloc: Global, stack: &mut Stack<'_>, divisor: i128) -> Result<(), StepFault>
-    ensures ok { OnOk result ((given : Given) → AppliesItem given (Item.Divide divisor) stack.old stack.new) }
+    ensures ok { (given : Given) → OnOk result (AppliesItem given (Item.Divide divisor) stack.old stack.new) }
     ensures fault { IfErr result (λ f. OrMemory f (IsFactorFault divisor stack.old f)) }
 {
     let Some(top) = stack.pop() else {
@@ -134,7 +134,7 @@ fn divide_top(alloc: Global, stack: &mut Stack<'_>, divisor: i128) -> Result<(),
 }
 
 fn saturate_top(alloc: Global, stack: &mut Stack<'_>) -> Result<(), StepFault>
-    ensures ok { OnOk result ((given : Given) → AppliesItem given Item.Saturate stack.old stack.new) }
+    ensures ok { (given : Given) → OnOk result (AppliesItem given Item.Saturate stack.old stack.new) }
     ensures fault { IfErr result (λ f. OrMemory f (IsShapeFault stack.old f)) }
 {
     let Some(top) = stack.pop() else {
@@ -146,7 +146,7 @@ fn saturate_top(alloc: Global, stack: &mut Stack<'_>) -> Result<(), StepFault>
 }
 
 fn weaken_top(alloc: Global, stack: &mut Stack<'_>, var: Var) -> Result<(), StepFault>
-    ensures ok { OnOk result ((given : Given) → AppliesItem given (Item.Weaken var) stack.old stack.new) }
+    ensures ok { (given : Given) → OnOk result (AppliesItem given (Item.Weaken var) stack.old stack.new) }
     ensures fault { IfErr result (λ f. OrMemory f (IsShapeFault stack.old f)) }
 {
     let Some(top) = stack.pop() else {

@@ -1,0 +1,27 @@
+-- What a kernel keeps: from the file on, and through each legal step.
+use Rattle.std.proofs.Common.{◌≡◌, None, [], refl, sym, ap, subst}
+use Rattle.std.specs.FinSet as set
+use Rattle.linear.specs.Limits.{IsWithin}
+use Rattle.linear.specs.Opb.{Opb}
+use Rattle.proof_steps.specs.declared.step.Step.{Step}
+use Rattle.proof_rules.specs.Legal.{Legal}
+use Rattle.proof_rules.specs.State.{State, IsStart}
+use Rattle.proof_rules.proofs.FileForms.{start_preserved, start_normal}
+use Rattle.proof_rules.proofs.Preserving.{step_preserves, step_normal}
+use Rattle.kernel.specs.Database.{Constraints}
+use Rattle.kernel.specs.File.{AreOfFile}
+use Rattle.kernel.specs.Held.{IsKept, state_from}
+
+-- nothing is logged, and the constraints are the file's
+pub starts : (p : Opb) (d : Constraints) → AreOfFile p.constraints d → IsStart p (state_from d None [] [])
+starts p d (ns, forms, is) = (ns, forms, ap (λ (x : Constraints). state_from x None [] []) is)
+
+pub kept_start : (p : Opb) (s : State) → IsWithin p → IsStart p s → IsKept (record { problem = p; state = s })
+kept_start p s within start = record { within = within; preserved = start_preserved p s start; normal = start_normal p s start }
+
+pub kept_step : (p : Opb) (s t : State) (step : Step) → IsKept (record { problem = p; state = s }) → Legal p s step t → IsKept (record { problem = p; state = t })
+kept_step p s t step kept legal = record {
+  within = kept.within;
+  preserved = step_preserves p s step t kept.preserved kept.normal legal;
+  normal = step_normal p s step t kept.normal legal;
+}
