@@ -1,6 +1,5 @@
 -- What a kernel keeps: from the file on, and through each legal step.
-use Rattle.std.proofs.Common.{◌≡◌, None, [], refl, sym, ap, subst}
-use Rattle.std.specs.FinSet as set
+use Rattle.std.proofs.Common.{ap}
 use Rattle.linear.specs.Limits.{IsWithin}
 use Rattle.linear.specs.Opb.{Opb}
 use Rattle.proof_steps.specs.declared.step.Step.{Step}
@@ -10,11 +9,11 @@ use Rattle.proof_rules.proofs.FileForms.{start_preserved, start_normal}
 use Rattle.proof_rules.proofs.Preserving.{step_preserves, step_normal}
 use Rattle.kernel.specs.Database.{Constraints}
 use Rattle.kernel.specs.File.{AreOfFile}
-use Rattle.kernel.specs.Held.{IsKept, state_from}
+use Rattle.kernel.specs.Held.{IsKept, opened}
 
 -- nothing is logged, and the constraints are the file's
-pub starts : (p : Opb) (d : Constraints) → AreOfFile p.constraints d → IsStart p (state_from d None [] [])
-starts p d (ns, forms, is) = (ns, forms, ap (λ (x : Constraints). state_from x None [] []) is)
+pub starts : (p : Opb) (d : Constraints) → AreOfFile p.constraints d → IsStart p (opened d)
+starts p d (ns, forms, is) = (ns, forms, ap opened is)
 
 pub kept_start : (p : Opb) (s : State) → IsWithin p → IsStart p s → IsKept (record { problem = p; state = s })
 kept_start p s within start = record { within = within; preserved = start_preserved p s start; normal = start_normal p s start }

@@ -1,8 +1,14 @@
 -- What a kernel holds, and what it keeps.
-use Rattle.std.specs.Prelude.{ℕ, ℤ, Bool, List, Option, reverse, ⊤}
+use Rattle.std.specs.Prelude.{◌≡◌, [], None, ⊤}
 use Rattle.std.specs.FinSet as set
 use Rattle.linear.specs.Opb.{Opb}
 use Rattle.linear.specs.Limits.{IsWithin}
+use Rattle.linear.specs.declared.constraint.Relation.TheVariants.{AtLeast}
+use Rattle.linear.specs.declared.constraint.Signed.{Signed}
+use Rattle.normal_form.specs.Normal.{NormalConstraint}
+use Rattle.proof_rules.specs.Shown.{IsAdmitted}
+use Rattle.proof_rules.specs.declared.fault.StepFault.{StepFault}
+use Rattle.proof_rules.specs.declared.fault.StepFault.TheVariants as faults
 use Rattle.proof_steps.specs.declared.step.Step.{Step}
 use Rattle.proof_steps.specs.declared.step.Step.TheVariants as steps
 use Rattle.proof_steps.specs.declared.conclusion.Conclusion.{Conclusion}
@@ -25,6 +31,7 @@ pub record IsKept (k : Held) : Type 0 where
 -- a step whose kind the kernel judges so far
 abbrev pub IsJudgedStep : Step → Type 0
 IsJudgedStep (steps.Pol written) = ⊤
+IsJudgedStep (steps.Rup c) = ⊤
 IsJudgedStep _ = ⊥
 
 -- a conclusion whose kind the kernel judges so far
@@ -33,12 +40,23 @@ IsJudged conclusions.Nothing = ⊤
 IsJudged conclusions.Unsat = ⊤
 IsJudged _ = ⊥
 
--- the state of these live constraints; `asked` are the ids of those that improving solutions added, the first one first
-abbrev pub state_from : Constraints → Option ℤ → List (List Bool) → List ℕ → State
-state_from d least logged asked = record {
+-- the state of these live constraints, in which no solution is logged
+abbrev pub opened : Constraints → State
+opened d = record {
   live = d.live;
   next = d.next;
-  improve = least;
-  logged = logged;
-  improving = set.from_list (reverse asked);
+  improve = None;
+  logged = [];
+  improving = set.empty;
 }
+
+-- the relation of a constraint in a step is `>=`
+abbrev pub HasAtLeast : Step → Type 0
+HasAtLeast (steps.Rup c) = c.relation ≡ AtLeast
+HasAtLeast (steps.Red c images) = c.relation ≡ AtLeast
+HasAtLeast _ = ⊤
+
+-- a written constraint is not within the limits
+abbrev pub IsUnadmitted : Signed → StepFault → Type 0
+IsUnadmitted c faults.TooLarge = (n : NormalConstraint) → IsAdmitted c n → ⊥
+IsUnadmitted c _ = ⊥

@@ -8,6 +8,7 @@ use normal_form::Normal;
 use propagate::{Id, Propagator};
 use std::alloc::{AllocError, Global};
 use std::marker::Model;
+use substitution::covers;
 
 /// Ids are below this number.
 const ID_LIMIT: u64 = 1 << 32;
@@ -34,7 +35,10 @@ impl<P: Propagator> Model for Database<P> {
 }
 
 impl<P: Propagator> Database<P> {
-    ghost use Rattle.std.specs.Prelude.{◌≡◌, ◌↔◌, ◌<◌, IfOk, IsTrue, OnErr, OnOk};
+    ghost use Rattle.std.specs.Prelude.{◌≡◌, ◌↔◌, ◌<◌, ◌++◌, ℕ, None, IfNone, IfOk, IfSome, IsSome, IsSomeAnd, IsTrue, OnErr, OnOk};
+    ghost use Rattle.normal_form.specs.Normal.{NormalConstraint};
+    ghost use Rattle.propagate.specs.Chain.{IsRefuted};
+    ghost use Rattle.substitution.specs.Covering.{Covers};
     ghost use Rattle.std.specs.FinMap as map;
     ghost use Rattle.std.specs.Option.{option_copied};
     ghost use Rattle.proof_rules.specs.State.{AreNumbered};
@@ -76,6 +80,34 @@ impl<P: Propagator> Database<P> {
         self.constraints.insert(id, constraint)?;
         self.next_id += 1;
         Ok(id)
+    }
+
+    /// The least live id above this one.
+    pub(crate) fn after(&self, id: Id) -> Option<Id>
+        ensures there { IfSome result (λ next. (id < next) × IsSome (map.get self.now.live next)) }
+        ensures numbered { AreNumbered self.now.live self.now.next }
+        ensures none { IfNone result ((k : ℕ) → id < k → map.get self.now.live k ≡ None) }
+        ensures least { IfSome result (λ next. (k : ℕ) → id < k → k < next → map.get self.now.live k ≡ None) }
+    {
+        self.constraints.after(id)
+    }
+
+    /// Whether the constraint of an id, if there is one, covers another.
+    pub(crate) fn is_covering(&self, id: Id, constraint: &Normal) -> bool
+        ensures { IsTrue result ↔ IsSomeAnd (map.get self.now.live id) (λ e. Covers e constraint.now) }
+    {
+        match self.constraints.get(id) {
+            Some(live) => covers(live, constraint),
+            None => false,
+        }
+    }
+
+    /// Whether the live constraints are refuted with some beside them.
+    pub(crate) fn refute(&mut self, beside: &[Normal]) -> Result<bool, AllocError>
+        ensures same { self.new ≡ self.old }
+        ensures refuted { IfOk result (λ yes. IsTrue yes ↔ IsRefuted (map.values self.old.live ++ beside.now)) }
+    {
+        self.constraints.refute(beside)
     }
 
     /// The live constraint that a number in a step means, if there is one: `-k` is the next id less `k`.

@@ -5,11 +5,11 @@
 use super::accepted::Accepted;
 use super::database::Database;
 use super::file::constraints_of_file;
-use super::pol::evaluate;
-use linear::{Assignment, Problem};
+use super::shown::is_shown;
+use linear::Problem;
 use normal_form::Normal;
 use proof_rules::StepFault;
-use proof_steps::{Conclusion, Item, Step};
+use proof_steps::Step;
 use propagate::{Id, Propagator};
 use std::alloc::Global;
 use std::marker::Model;
@@ -24,34 +24,32 @@ pub struct Applied {
 /// two of them, the `>=` direction first; each added one takes the next id. They stand in the propagator, and nowhere else.
 #[derive(Drop)]
 pub struct Kernel<'a, P: Propagator> {
-    allocator: Global,
+    pub(crate) allocator: Global,
     source: &'a Problem,
     pub(crate) database: Database<P>,
-    pub(crate) least: Option<i128>,
-    pub(crate) solutions: Vec<Assignment>,
-    pub(crate) asked: Vec<Id>,
 }
 
 impl<'a, P: Propagator> Model for Kernel<'a, P> {
     ghost use Rattle.std.specs.Coded.{codes};
     ghost use Rattle.proof_rules.specs.Codes.{state_code};
-    ghost use Rattle.kernel.specs.Held.{Held, IsKept, state_from};
+    ghost use Rattle.kernel.specs.Held.{Held, IsKept, opened};
 
     ghost Value = { Held };
 
     ghost coded = { Prim.hlevel (codes, state_code) };
 
-    ghost view = { λ k. record { problem = k.source.now; state = state_from k.database k.least k.solutions.items k.asked.items } };
+    ghost view = { λ k. record { problem = k.source.now; state = opened k.database } };
 
-    ghost invariant = { λ k. IsKept (record { problem = k.source.now; state = state_from k.database k.least k.solutions.items k.asked.items }) };
+    ghost invariant = { λ k. IsKept (record { problem = k.source.now; state = opened k.database }) };
 }
 
 impl<'a, P: Propagator> Kernel<'a, P> {
-    ghost use Rattle.std.specs.Prelude.{◌≡◌, ◌+◌, ◌<◌, Some, IfOk, IfErr, OnOk, OnErr, IsErrOf};
-    ghost use Rattle.proof_rules.specs.Fault.{OrMemory, IsStepFault, IsPolFault};
-    ghost use Rattle.proof_rules.specs.Legal.{Legal, LegalPol};
-    ghost use Rattle.proof_rules.specs.State.{IsStart, HasRoom, with_constraint};
-    ghost use Rattle.kernel.specs.Held.{IsKept, IsJudgedStep};
+    ghost use Rattle.std.specs.Prelude.{◌≡◌, ◌↔◌, Some, IfOk, IfErr, OnOk, OnErr, IsErrOf, IsTrue};
+    ghost use Rattle.proof_rules.specs.Fault.{OrMemory, IsStepFault};
+    ghost use Rattle.proof_rules.specs.Legal.{Legal};
+    ghost use Rattle.proof_rules.specs.Shown.{IsShown};
+    ghost use Rattle.proof_rules.specs.State.{IsStart, HasRoom, constraints, with_constraint};
+    ghost use Rattle.kernel.specs.Held.{IsKept, IsJudgedStep, HasAtLeast};
 
     /// The kernel of a problem's file. Want of memory is the only fault.
     pub fn new(alloc: Global, problem: &'a Problem) -> Result<Self, StepFault>
@@ -64,9 +62,6 @@ impl<'a, P: Propagator> Kernel<'a, P> {
             allocator: alloc,
             source: problem,
             database,
-            least: None,
-            solutions: Vec::new(alloc),
-            asked: Vec::new(alloc),
         })
     }
 
@@ -78,10 +73,12 @@ impl<'a, P: Propagator> Kernel<'a, P> {
         self.database.next_id()
     }
 
-    /// Applies a `pol` step: the value of its expression is added. A refusal names the first fault in the order of judging,
-    /// and leaves the kernel as before; a legal step is refused for want of memory alone.
+    /// Applies a step, whole or not at all: `pol`, which adds the value of an expression, or `rup`, which adds a constraint
+    /// that is shown from the live ones. A refusal names the first fault in the order of judging, and leaves the kernel as
+    /// before; a legal step is refused for want of memory alone.
     pub fn apply(&mut self, step: &Step) -> Result<Applied, StepFault>
-        requires { IsJudgedStep step.now }
+        requires kind { IsJudgedStep step.now }
+        requires relation { HasAtLeast step.now }
         ensures problem { self.new.problem ≡ self.old.problem }
         ensures ok { OnOk result (Legal self.old.problem self.old.state step.now self.new.state) }
         ensures id { IfOk result (λ applied. applied.id ≡ Some self.old.state.next) }
@@ -90,22 +87,9 @@ impl<'a, P: Propagator> Kernel<'a, P> {
     {
         match step {
             Step::Pol(items) => self.pol(items.as_slice()),
+            Step::Rup(constraint) => self.rup(constraint),
             _ => unreachable!(),
         }
-    }
-
-    fn pol(&mut self, items: &[Item]) -> Result<Applied, StepFault>
-        ensures problem { self.new.problem ≡ self.old.problem }
-        ensures ok { OnOk result (LegalPol self.old.state items.now self.new.state) }
-        ensures id { IfOk result (λ applied. applied.id ≡ Some self.old.state.next) }
-        ensures fault { IfErr result (λ f. OrMemory f (IsPolFault self.old.state items.now f)) }
-        ensures err { OnErr result (self.new ≡ self.old) }
-    {
-        let value = evaluate(self.allocator, &self.database, items)?;
-        if !self.database.has_room() {
-            return Err(StepFault::TooManyIds);
-        }
-        self.add(value)
     }
 
     /// Adds a constraint that keeps an answer to the problem, under the next id.
@@ -120,5 +104,15 @@ impl<'a, P: Propagator> Kernel<'a, P> {
     {
         let id = self.database.push(constraint)?;
         Ok(Applied { id: Some(id) })
+    }
+
+    /// Whether a constraint is shown from the live ones. Want of memory is the only fault.
+    pub(crate) fn shows(&mut self, constraint: &Normal) -> Result<bool, StepFault>
+        ensures same { self.new ≡ self.old }
+        ensures shown { IfOk result (λ found. IsTrue found ↔ IsShown (constraints self.old.state) constraint.now) }
+        ensures memory { OnErr result (IsErrOf result StepFault.OutOfMemory) }
+    {
+        let mut beside = Vec::new(self.allocator);
+        is_shown(self.allocator, &mut self.database, &mut beside, constraint)
     }
 }

@@ -3,10 +3,13 @@
 #![tactic(auto)]
 
 mod accepted;
+mod conclusion;
 mod database;
 mod file;
 mod kernel;
 mod pol;
+mod rup;
+mod shown;
 mod stack;
 
 pub use accepted::Accepted;

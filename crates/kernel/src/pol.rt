@@ -1,13 +1,14 @@
 //! `pol`: cutting planes in postfix (Cook, Coullard and Turán's rules on the normal form; the VeriPB proof format). The
 //! items are run from left to right over a stack; what a whole line adds is copied only where it is one cited constraint.
 
-ghost use Rattle.std.specs.Prelude.{◌≡◌, ◌≢◌, ◌∷◌, [], IfOk, IfErr, OnOk, OnErr, length};
+ghost use Rattle.std.specs.Prelude.{◌≡◌, ◌≢◌, ◌∷◌, [], IfOk, IfErr, OnOk, OnErr, Some, length};
 ghost use Rattle.proof_rules.specs.Expression.{Given, IsPostfixOf, AppliesItem};
 ghost use Rattle.proof_rules.specs.Fault.{OrMemory, IsItemFault, IsIdFault, IsAddFault, IsMultiplyFault, IsFactorFault, IsShapeFault, IsWritingFault, IsPolFault};
 ghost use Rattle.proof_rules.specs.Legal.{LegalPol};
 ghost use Rattle.kernel.specs.Database.{found};
 
 use super::database::Database;
+use super::kernel::{Applied, Kernel};
 use super::stack::{Operand, Stack};
 use cut_rules::{add, axiom, divide, multiply, saturate, weaken};
 use linear::{Lit, Var};
@@ -17,10 +18,27 @@ use proof_steps::Item;
 use propagate::Propagator;
 use std::alloc::Global;
 
+impl<'a, P: Propagator> Kernel<'a, P> {
+    /// Adds the value of the expression that the items write.
+    pub(crate) fn pol(&mut self, items: &[Item]) -> Result<Applied, StepFault>
+        ensures problem { self.new.problem ≡ self.old.problem }
+        ensures ok { OnOk result (LegalPol self.old.state items.now self.new.state) }
+        ensures id { IfOk result (λ applied. applied.id ≡ Some self.old.state.next) }
+        ensures fault { IfErr result (λ f. OrMemory f (IsPolFault self.old.state items.now f)) }
+        ensures err { OnErr result (self.new ≡ self.old) }
+    {
+        let value = evaluate(self.allocator, &self.database, items)?;
+        if !self.database.has_room() {
+            return Err(StepFault::TooManyIds);
+        }
+        self.add(value)
+    }
+}
+
 /// The value of the one expression that the items write. The items are judged from left to right; for one item a dead
 /// id comes first, then too few constraints on the stack, then a factor below 1, then a result that is too large; at
 /// the end not exactly one constraint is left.
-pub(crate) fn evaluate<P: Propagator>(
+fn evaluate<P: Propagator>(
     alloc: Global,
     database: &Database<P>,
     items: &[Item],

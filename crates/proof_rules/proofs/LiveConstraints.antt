@@ -1,5 +1,5 @@
 -- What holds of each live constraint, through changes of the map.
-use Rattle.std.proofs.Common.{◌≡◌, ℕ, ◌+◌, ◌<◌, Bool, true, false, cond, ◌&&◌, T, Ordering, Option, Some, None, ◌⊎◌, inl, inr, ◌==◌, nat_lt, List, [], ◌∷◌, map, All, refl, sym, ap, subst, ◌∙◌, arith}
+use Rattle.std.proofs.Common.{◌≡◌, ℕ, ◌+◌, ◌<◌, Bool, true, false, cond, ◌&&◌, T, Ordering, Option, Some, None, ◌⊎◌, inl, inr, ◌==◌, nat_lt, List, [], ◌∷◌, map, All, Any, refl, sym, ap, subst, ◌∙◌, arith}
 use Rattle.std.specs.declared.cmp.Ordering.TheVariants.{Less, Equal, Greater}
 use Rattle.std.specs.Ordering.{nat_cmp, eq_by_cmp, is_lt, is_eq}
 use Rattle.std.specs.FinMap as fin
@@ -8,6 +8,7 @@ use Rattle.std.proofs.lemmas.Bool.{false≢true, ltb-true}
 use Rattle.std.proofs.lemmas.Cmp.{nat_cmp_total}
 use Rattle.std.specs.Cmp.{tied_itself}
 use Rattle.std.proofs.lemmas.List.Elements.{All-nil, All-cons, All-head, All-tail}
+use Rattle.propagate.proofs.Somewhere.{any_here, any_there, any_split, any_none}
 use Rattle.normal_form.specs.Normal.{NormalConstraint}
 use Rattle.proof_rules.specs.State.{Live, numbered}
 use Rattle.proof_rules.proofs.Deciding.{Decided}
@@ -179,3 +180,27 @@ All-or_open P d live = elim (all_or_open P d (fin.entries live) (fin.entries_sor
   | inl all ↦ inl all
   | inr (id, e, is, not, before) ↦ inr (id, e, fin.get-entries live id ∙ is, not, λ k d less found. before k d less (sym (fin.get-entries live k) ∙ found))
 ]
+
+-- what holds of the constraint of some id holds of some live one
+any_by : (P : NormalConstraint → Type 0) (b : Bool) (e n : NormalConstraint) (es : Entries) (rest : Option NormalConstraint) → P n → (rest ≡ Some n → Any P (values es))
+    → cond b (Some e) rest ≡ Some n → Any P (e ∷ values es)
+any_by P true e n es rest p later h = let same : n ≡ e = cc in any_here P e (values es) (subst P same p)
+any_by P false e n es rest p later h = any_there P e (values es) (later h)
+
+found_any : (P : NormalConstraint → Type 0) (es : Entries) (k : ℕ) (n : NormalConstraint) → fin.find nat_cmp k es ≡ Some n → P n → Any P (values es)
+found_any P [] k n is p = absurd (cc)
+found_any P (e ∷ es) k n is p = any_by P (eq_by_cmp nat_cmp k e.0) e.1 n es (fin.find nat_cmp k es) p (λ h. found_any P es k n h p) is
+
+pub Any-from_get : (P : NormalConstraint → Type 0) (live : Live) (k : ℕ) (n : NormalConstraint) → fin.get live k ≡ Some n → P n → Any P (fin.values live)
+Any-from_get P live k n is p = found_any P (fin.entries live) k n (sym (fin.get-entries live k) ∙ is) p
+
+none_of : {X : Type 0} (P : X → Type 0) (xs : List X) → All (λ x. P x → ⊥) xs → Any P xs → ⊥
+none_of P [] all a = any_none P a
+none_of P (x ∷ xs) all a = elim (any_split P x xs a) as (λ _. ⊥) [
+  | inl p ↦ All-head (λ y. P y → ⊥) x xs all p
+  | inr b ↦ none_of P xs (All-tail (λ y. P y → ⊥) x xs all) b
+]
+
+-- what fails of the constraint of every id holds of no live one
+pub Any-never : (P : NormalConstraint → Type 0) (live : Live) → ((k : ℕ) (n : NormalConstraint) → fin.get live k ≡ Some n → P n → ⊥) → Any P (fin.values live) → ⊥
+Any-never P live h = none_of P (fin.values live) (All-from_get (λ n. P n → ⊥) live h)

@@ -5,14 +5,14 @@ use Rattle.proof_rules.specs.Expression.{IsPostfixOf}
 use Rattle.proof_rules.specs.Fault.{OrMemory, IsWritingFault, IsPolFault}
 use Rattle.proof_rules.specs.State.{State, HasRoom, constraint_of, with_constraint}
 use Rattle.proof_rules.proofs.Faults.{or_memory, writing_pol}
-use Rattle.kernel.specs.Held.{Held, IsKept, state_from}
+use Rattle.kernel.specs.Held.{Held, IsKept, opened}
 use Rattle.kernel.proofs.Keeping.{kept_step}
 use Rattle.kernel.proofs.kernel.Kernel.pol.Goals as goal
 
 pub returns-in_err-value-clause-fault : goal.returns-in_err-value-clause-fault
 returns-in_err-value-clause-fault g c =
     let h = c.self.inside in
-    let s : State = state_from h.database h.least h.solutions.items h.asked.items in
+    let s : State = opened h.database in
     let f = c.in_err-value.field-0.0 in
     let p = err_from_is_err_and c.from_residual.result c.from_residual.ensures.1 in
     let whole = or_memory f (IsWritingFault (constraint_of s) c.args.items.now f) (IsPolFault s c.args.items.now f) (writing_pol s c.args.items.now f) c.in_err-value.ensures.fault in

@@ -1,0 +1,37 @@
+-- What is shown from constraints in two parts, and by their refutation beside a negation.
+use Rattle.std.proofs.Common.{◌≡◌, ◌↔◌, ◌⊎◌, inl, inr, Bool, List, [], ◌∷◌, ◌++◌, Any, IsTrue, sym, subst}
+use Rattle.normal_form.specs.Negation.{IsNegation}
+use Rattle.normal_form.specs.Normal.{NormalConstraint, Rises}
+use Rattle.normal_form.proofs.Opposite.{one_negation}
+use Rattle.propagate.specs.Chain.{IsRefuted}
+use Rattle.propagate.proofs.Somewhere.{any_here, any_there, any_split, any_none}
+use Rattle.substitution.specs.Covering.{Covers}
+use Rattle.proof_rules.specs.Shown.{IsShown}
+
+pub any_left : {X : Type 0} (P : X → Type 0) (xs ys : List X) → Any P xs → Any P (xs ++ ys)
+any_left P [] ys a = absurd (any_none P a)
+any_left P (x ∷ xs) ys a = elim (any_split P x xs a) as (λ _. Any P (x ∷ xs ++ ys)) [ inl p ↦ any_here P x (xs ++ ys) p | inr b ↦ any_there P x (xs ++ ys) (any_left P xs ys b) ]
+
+pub any_right : {X : Type 0} (P : X → Type 0) (xs ys : List X) → Any P ys → Any P (xs ++ ys)
+any_right P [] ys a = a
+any_right P (x ∷ xs) ys a = any_there P x (xs ++ ys) (any_right P xs ys a)
+
+pub any_either : {X : Type 0} (P : X → Type 0) (xs ys : List X) → Any P (xs ++ ys) → Any P xs ⊎ Any P ys
+any_either P [] ys a = inr a
+any_either P (x ∷ xs) ys a = elim (any_split P x (xs ++ ys) a) as (λ _. Any P (x ∷ xs) ⊎ Any P ys) [
+  | inl p ↦ inl (any_here P x xs p)
+  | inr b ↦ elim (any_either P xs ys b) as (λ _. Any P (x ∷ xs) ⊎ Any P ys) [ inl l ↦ inl (any_there P x xs l) | inr r ↦ inr r ]
+]
+
+-- nothing covers it, so it is shown exactly where its one negation is refuted
+pub shown_by_negation : (xs ys : List NormalConstraint) (n m : NormalConstraint) (found : Bool) → Rises 0 n.terms → IsNegation n m
+    → (Any (λ e. Covers e n) xs → ⊥) → (Any (λ e. Covers e n) ys → ⊥) → IsTrue found ↔ IsRefuted ((xs ++ ys) ++ m ∷ []) → IsTrue found ↔ IsShown (xs ++ ys) n
+shown_by_negation xs ys n m found rises negates first second refuted = (λ y. inr (m, negates, refuted.0 y), back)
+  where
+    covered : Any (λ e. Covers e n) xs ⊎ Any (λ e. Covers e n) ys → IsTrue found
+    covered (inl a) = absurd (first a)
+    covered (inr a) = absurd (second a)
+
+    back : IsShown (xs ++ ys) n → IsTrue found
+    back (inl a) = covered (any_either (λ e. Covers e n) xs ys a)
+    back (inr (k, is, conflict)) = refuted.1 (subst (λ x. IsRefuted ((xs ++ ys) ++ x ∷ [])) (sym (one_negation n m k rises negates is)) conflict)

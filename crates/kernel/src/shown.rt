@@ -1,0 +1,81 @@
+//! Whether a constraint is shown from the live ones and a few beside them: some constraint covers it, or its negation
+//! beside all of them is refuted. Covering needs no memory and often answers at once; a constraint of degree 0 is shown
+//! before any negation is made, which might not fit. The database is asked, and never copied.
+
+ghost use Rattle.std.specs.Prelude.{◌≡◌, ◌↔◌, ◌++◌, ◌∷◌, [], Any, IfOk, OnErr, IsErrOf, IsTrue};
+ghost use Rattle.std.specs.FinMap as map;
+ghost use Rattle.propagate.specs.Chain.{IsRefuted};
+ghost use Rattle.substitution.specs.Covering.{Covers};
+ghost use Rattle.proof_rules.specs.Shown.{IsShown};
+
+use super::database::Database;
+use normal_form::{Normal, negate};
+use proof_rules::StepFault;
+use propagate::{Id, Propagator};
+use std::alloc::Global;
+use substitution::covers;
+
+/// Whether a constraint is shown from the live constraints and those beside them. Want of memory is the only fault.
+pub(crate) fn is_shown<P: Propagator>(
+    alloc: Global,
+    database: &mut Database<P>,
+    beside: &mut Vec<Normal>,
+    constraint: &Normal,
+) -> Result<bool, StepFault>
+    ensures same { database.new ≡ database.old }
+    ensures beside { beside.new.items ≡ beside.old.items }
+    ensures shown { IfOk result (λ yes. IsTrue yes ↔ IsShown (map.values database.old.live ++ beside.old.items) constraint.now) }
+    ensures memory { OnErr result (IsErrOf result StepFault.OutOfMemory) }
+{
+    if constraint.degree() == 0 {
+        return Ok(true);
+    }
+    if is_covered_by(beside.as_slice(), constraint) || is_covered(database, constraint) {
+        return Ok(true);
+    }
+    let negation = negate(alloc, constraint)?;
+    is_refuted_beside(database, beside, negation)
+}
+
+/// Whether the live constraints are refuted beside some others and one more.
+fn is_refuted_beside<P: Propagator>(
+    database: &mut Database<P>,
+    beside: &mut Vec<Normal>,
+    last: Normal,
+) -> Result<bool, StepFault>
+    ensures same { database.new ≡ database.old }
+    ensures beside { beside.new.items ≡ beside.old.items }
+    ensures refuted { IfOk result (λ yes. IsTrue yes ↔ IsRefuted ((map.values database.old.live ++ beside.old.items) ++ last ∷ [])) }
+    ensures memory { OnErr result (IsErrOf result StepFault.OutOfMemory) }
+{
+    beside.push(last)?;
+    let refuted = database.refute(beside.as_slice());
+    beside.pop();
+    Ok(refuted?)
+}
+
+/// Whether one of some constraints covers this one.
+fn is_covered_by(constraints: &[Normal], constraint: &Normal) -> bool
+    ensures { IsTrue result ↔ Any (λ e. Covers e constraint.now) constraints.now }
+{
+    for other in constraints {
+        if covers(other, constraint) {
+            return true;
+        }
+    }
+    false
+}
+
+/// Whether a live constraint covers this one.
+fn is_covered<P: Propagator>(database: &Database<P>, constraint: &Normal) -> bool
+    ensures { IsTrue result ↔ Any (λ e. Covers e constraint.now) (map.values database.now.live) }
+{
+    let mut id: Id = 0;
+    while let Some(next) = database.after(id) {
+        if database.is_covering(next, constraint) {
+            return true;
+        }
+        id = next;
+    }
+    false
+}
