@@ -11,7 +11,7 @@ use Rattle.normal_form.specs.declared.term.NormalTerm.{NormalTerm}
 use Rattle.normal_form.specs.Normal.{NormalConstraint, Holds, sum_over, only, Rises}
 use Rattle.normal_form.specs.NormalOf.{at_least_zero, slope, net, negated_sum}
 use Rattle.normal_form.specs.Balance.{slopes, rises_of, Balances}
-use Rattle.normal_form.proofs.OneForm.{absent}
+use Rattle.normal_form.proofs.OneList.{absent}
 
 -- the net coefficient of a variable is that of the set with it alone
 pub net_is : (v : ℕ) (ts : List Term) → net ts v ≡ slopes (λ x. x == v) ts

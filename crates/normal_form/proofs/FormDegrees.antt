@@ -7,7 +7,7 @@ use Rattle.normal_form.specs.declared.term.NormalTerm.{NormalTerm}
 use Rattle.normal_form.specs.Normal.{NormalConstraint, Rises, Fits, IsNormal, total, largest_sum}
 use Rattle.normal_form.specs.NormalOf.{IsNormalOf, IsTooLarge, at_least_zero, size_sum}
 use Rattle.normal_form.specs.Balance.{Balances}
-use Rattle.normal_form.proofs.Merge.{raised}
+use Rattle.normal_form.proofs.FromBalance.{raised}
 use Rattle.normal_form.proofs.NormalForm.{is_form, form_sum}
 
 constraint : List NormalTerm → ℕ → NormalConstraint
@@ -21,7 +21,7 @@ merged_total c ts r b h = omega (arith, h, form_sum c (constraint ts (at_least_z
 -- what fits is the form itself
 pub result_form : (c : Signed) (n : NormalConstraint) (ts : List NormalTerm) (degree : ℕ) → Balances c.terms ts → degree ≡ min (at_least_zero (raised c.right c.terms ts)) (2 ^ 127 - 1) → n.terms ≡ ts → n.degree ≡ degree → IsNormal n → IsNormalOf c n
 result_form c n ts degree b d e f normal =
-    let small : n.degree ≤ 2 ^ 120 = normal.fits.degree in
+    let small : n.degree ≤ largest_sum = normal.fits.degree in
     let is : n.degree ≡ at_least_zero (raised c.right c.terms ts) = omega (arith, d, f, small) in
     is_form c n normal.rises (subst (λ (xs : List NormalTerm). Balances c.terms xs) (sym e) b) (is ∙ ap (λ (xs : List NormalTerm). at_least_zero (raised c.right c.terms xs)) (sym e))
 

@@ -1,63 +1,14 @@
--- All signs changed: terms, their sums, and merged terms.
-use Rattle.std.proofs.Common.{◌≡◌, ℕ, ◌+◌, ◌-◌, ◌^◌, ◌<◌, ◌≤◌, Bool, true, false, cond, not, ◌==◌, ◌&&◌, List, [], ◌∷◌, ◌++◌, map, length, take, get_or, refl, ap, sym, subst, ◌∙◌, arith, inl, inr}
-use Rattle.std.specs.Prelude.{ℤ, pos, neg_ℤ, ◌≤ℤ◌, unsigned_abs, ◌↔◌}
+-- The opposite literals of a constraint's terms, and its negation, which has them.
+use Rattle.std.proofs.Common.{◌≡◌, ℕ, ◌+◌, ◌-◌, ◌<◌, ◌≤◌, Bool, true, false, cond, not, ◌==◌, ◌&&◌, List, [], ◌∷◌, ◌++◌, length, take, get_or, refl, ap, sym, subst, ◌∙◌, arith, inl, inr}
+use Rattle.std.specs.Prelude.{◌↔◌}
 use Rattle.std.proofs.lemmas.Bool.{cases_lt}
-use Rattle.std.proofs.lemmas.Int.{ints}
 use Rattle.std.proofs.lemmas.List.{take_more}
-use Rattle.linear.specs.declared.term.Term.{Term}
-use Rattle.linear.specs.declared.constraint.Relation.{Relation}
-use Rattle.linear.specs.declared.constraint.Relation.TheVariants.{Equal}
-use Rattle.linear.specs.declared.constraint.Signed.{Signed}
 use Rattle.linear.specs.Valuation.{Valuation, literal_true}
-use Rattle.linear.specs.Sum.{sum_of, Relates, Meets}
 use Rattle.normal_form.specs.declared.term.NormalTerm.{NormalTerm}
 use Rattle.normal_form.specs.Normal.{NormalConstraint, Holds, same_sign, sum_over, only, total, Rises, variable_bound, Fits, IsNormal, largest_sum}
-use Rattle.normal_form.specs.NormalOf.{IsBothOf, IsTooLarge, opposite_term, opposite, negated_sum, size_sum}
 use Rattle.normal_form.specs.Negation.{IsNegation}
-use Rattle.normal_form.specs.Balance.{Balances, rises_of, slopes, flipped_term, flipped}
-use Rattle.normal_form.proofs.OneForm.{one_list, same_constraint}
-use Rattle.normal_form.proofs.Merge.{holds_from, meets_from}
-use Rattle.normal_form.proofs.NormalForm.{form_balances, small_never}
-
-opposite_worth : (b : Bool) (z : ℤ) → cond b (neg_ℤ z) (pos 0) ≡ neg_ℤ (cond b z (pos 0))
-opposite_worth true z = refl
-opposite_worth false z = refl
-
-pub opposite_sum : (a : Valuation) (ts : List Term) → sum_of a (map opposite_term ts) ≡ neg_ℤ (sum_of a ts)
-opposite_sum a [] = refl
-opposite_sum a (t ∷ ts) = omega (arith, ints, opposite_worth (literal_true a (t.var.0) t.negated) t.coef, opposite_sum a ts)
-
-opposite_slope : (b n : Bool) (z : ℤ) → cond b (cond n (neg_ℤ (neg_ℤ z)) (neg_ℤ z)) (pos 0) ≡ neg_ℤ (cond b (cond n (neg_ℤ z) z) (pos 0))
-opposite_slope true true z = omega (arith, ints)
-opposite_slope true false z = omega (arith, ints)
-opposite_slope false n z = omega (arith, ints)
-
-pub opposite_slopes : (set : ℕ → Bool) (ts : List Term) → slopes set (map opposite_term ts) ≡ neg_ℤ (slopes set ts)
-opposite_slopes set [] = refl
-opposite_slopes set (t ∷ ts) = omega (arith, ints, opposite_slope (set (t.var.0)) t.negated t.coef, opposite_slopes set ts)
-
-pub opposite_negated : (ts : List Term) → negated_sum (map opposite_term ts) ≡ neg_ℤ (negated_sum ts)
-opposite_negated [] = refl
-opposite_negated (t ∷ ts) = omega (arith, ints, opposite_worth t.negated t.coef, opposite_negated ts)
-
-opposite_size : (z : ℤ) → unsigned_abs (neg_ℤ z) ≡ unsigned_abs z
-opposite_size z = omega (arith, ints)
-
-pub opposite_sizes : (ts : List Term) → size_sum (map opposite_term ts) ≡ size_sum ts
-opposite_sizes [] = refl
-opposite_sizes (t ∷ ts) = omega (arith, opposite_size t.coef, opposite_sizes ts)
-
-flipped_gives_term : (b n : Bool) (c : ℕ) → cond b (cond (not n) (neg_ℤ (pos c)) (pos c)) (pos 0) ≡ neg_ℤ (cond b (cond n (neg_ℤ (pos c)) (pos c)) (pos 0))
-flipped_gives_term true true c = omega (arith, ints)
-flipped_gives_term true false c = omega (arith, ints)
-flipped_gives_term false n c = omega (arith, ints)
-
-pub flipped_gives : (set : ℕ → Bool) (ts : List NormalTerm) → rises_of set (flipped ts) ≡ neg_ℤ (rises_of set ts)
-flipped_gives set [] = refl
-flipped_gives set (t ∷ ts) = omega (arith, ints, flipped_gives_term (set (t.var.0)) t.negated t.coef, flipped_gives set ts)
-
-pub flipped_balances : (terms : List Term) (ts : List NormalTerm) → Balances terms ts → Balances (map opposite_term terms) (flipped ts)
-flipped_balances terms ts b set = omega (arith, ints, flipped_gives set ts, opposite_slopes set terms, b set)
+use Rattle.normal_form.specs.Balance.{flipped_term, flipped}
+use Rattle.normal_form.proofs.OneList.{one_list, same_constraint}
 
 pub flipped_rises : (low : ℕ) (ts : List NormalTerm) → Rises low ts → Rises low (flipped ts)
 flipped_rises low [] r = tt
@@ -110,23 +61,6 @@ negation_meaning n m r g a =
     let w : sum_over (literal_true a) m.terms + sum_over (literal_true a) n.terms ≡ total n.terms = ap (λ (ts : List NormalTerm). sum_over (literal_true a) ts + sum_over (literal_true a) n.terms) (negation_terms n m r g) ∙ flipped_weight a n.terms in
     (λ h k. omega (arith, g.degree, w, h, k), λ h. lighter n m a w g.degree h)
 
-equals : (r : Relation) (sum right : ℤ) → r ≡ Equal → (sum ≡ right) ↔ Relates r sum right
-equals r sum right e = subst (λ (x : Relation). (sum ≡ right) ↔ Relates x sum right) (sym e) (λ h. h, λ h. h)
-
-pub both_meaning : (c : Signed) (n m : NormalConstraint) → c.relation ≡ Equal → IsBothOf c n m → (a : Valuation) → (Holds a n × Holds a m) ↔ Meets a c
-both_meaning c n m e f a =
-    let way : (sum_of a c.terms ≡ c.right) ↔ Meets a c = equals c.relation (sum_of a c.terms) c.right e in (
-      λ h.
-          let up : c.right ≤ℤ sum_of a c.terms = holds_from c.right c.terms n (form_balances c n f.least) f.least.degree a h.0 in
-          let down : neg_ℤ c.right ≤ℤ sum_of a (map opposite_term c.terms) = holds_from (neg_ℤ c.right) (map opposite_term c.terms) m (form_balances (opposite c) m f.most) f.most.degree a h.1 in
-          way.0 (omega (arith, ints, up, down, opposite_sum a c.terms)),
-      λ h.
-          let is : sum_of a c.terms ≡ c.right = way.1 h in (
-            meets_from c.right c.terms n (form_balances c n f.least) f.least.degree a (omega (arith, ints, is)),
-            meets_from (neg_ℤ c.right) (map opposite_term c.terms) m (form_balances (opposite c) m f.most) f.most.degree a (omega (arith, ints, is, opposite_sum a c.terms)),
-          ),
-    )
-
 pub flipped_bound : (ts : List NormalTerm) → variable_bound (flipped ts) ≡ variable_bound ts
 flipped_bound [] = refl
 flipped_bound (t ∷ ts) = omega (arith, flipped_bound ts)
@@ -138,15 +72,11 @@ flipped_push (x ∷ xs) t = ap (λ (us : List NormalTerm). flipped_term x ∷ us
 pub flipped_more : (ts : List NormalTerm) (i : ℕ) (d : NormalTerm) → i < length ts → flipped (take (i + 1) ts) ≡ flipped (take i ts) ++ flipped_term (get_or ts i d) ∷ []
 flipped_more ts i d h = ap flipped (take_more ts i d h) ∙ flipped_push (take i ts) (get_or ts i d)
 
--- nor is the constraint with all signs changed too large
-pub opposite_never : (c : Signed) → size_sum c.terms + unsigned_abs c.right ≤ largest_sum → IsTooLarge (opposite c) → ⊥
-opposite_never c small = small_never (opposite c) (omega (arith, opposite_sizes c.terms, opposite_size c.right, small))
-
 -- where the negation does not fit, the degree is 0 and the coefficient sum the limit
 pub not_fitting : (n : NormalConstraint) (ts : List NormalTerm) (degree : ℕ) → IsNormal n → ts ≡ flipped n.terms → degree ≡ (total n.terms + 1) - n.degree → (Fits (record { terms = ts; degree = degree }) → ⊥) → (n.degree ≡ 0) × (total n.terms ≡ largest_sum)
 not_fitting n ts degree normal e d h =
-    let sum : total ts ≤ 2 ^ 120 = omega (arith, normal.fits.sum, ap total e, flipped_total n.terms) in
-    elim (cases_lt (2 ^ 120) degree) [
+    let sum : total ts ≤ largest_sum = omega (arith, normal.fits.sum, ap total e, flipped_total n.terms) in
+    elim (cases_lt largest_sum degree) [
       | inl k ↦ (omega (arith, k, d, normal.fits.sum), omega (arith, k, d, normal.fits.sum))
       | inr k ↦ absurd (h (record { sum = sum; degree = k }))
     ]

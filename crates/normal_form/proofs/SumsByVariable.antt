@@ -3,9 +3,8 @@ use Rattle.std.proofs.Common.{◌≡◌, ℕ, zero, suc, ◌+◌, ◌<◌, ◌�
 use Rattle.std.proofs.lemmas.Bool.{cases_eq}
 use Rattle.std.proofs.lemmas.Bool.Decides.{nat_tests}
 use Rattle.normal_form.specs.declared.term.NormalTerm.{NormalTerm}
-use Rattle.normal_form.specs.Normal.{Literals, sum_over, same_sign, only, variable_bound}
+use Rattle.normal_form.specs.Normal.{Literals, sum_over, sum_below, same_sign, only, variable_bound}
 use Rattle.normal_form.proofs.Sums.{counted}
-use Rattle.cut_rules.specs.Rules.{sum_below}
 
 pub all_zero : (n : ℕ) (f : ℕ → ℕ) → ((v : ℕ) → f v ≡ 0) → sum_below n f ≡ 0
 all_zero zero f z = refl

@@ -5,7 +5,7 @@ use Rattle.std.proofs.lemmas.Int.{ints, to_z-of_z, fits_signed_from_abs}
 use Rattle.normal_form.specs.Normal.{sum_over, largest_sum}
 use Rattle.normal_form.specs.NormalOf.{negated_sum, at_least_zero}
 use Rattle.normal_form.proofs.Floors.{floor_of}
-use Rattle.normal_form.proofs.degrees.least_degree.Goals as goal
+use Rattle.normal_form.proofs.degrees.at_least_degree.Goals as goal
 
 lift_fits : (t n : ℤ) → unsigned_abs t ≤ largest_sum → unsigned_abs n ≤ largest_sum → FitsSigned w128 (t -ℤ n)
 lift_fits t n h k = fits_signed_from_abs w128 (t -ℤ n) (omega (arith, ints, h, k))
