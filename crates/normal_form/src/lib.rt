@@ -12,8 +12,6 @@ mod negation;
 mod normal;
 mod opposites;
 mod term;
-#[cfg(test)]
-mod tests;
 mod truth;
 
 pub use builder::NormalBuilder;

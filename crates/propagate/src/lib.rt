@@ -2,13 +2,11 @@
 #![tactic(auto)]
 
 pub mod cases;
+mod effect;
 pub mod laws;
-mod next;
 mod reach;
-mod reading;
 mod refutation;
-#[cfg(test)]
-mod tests;
+mod scan;
 mod trail;
 mod walk;
 

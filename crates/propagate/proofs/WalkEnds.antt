@@ -7,19 +7,19 @@ use Rattle.normal_form.specs.Normal.{NormalConstraint, only}
 use Rattle.propagate.specs.declared.reach.Reach.{Reach}
 use Rattle.propagate.specs.declared.reach.Reach.TheVariants.{Conflict, Closed}
 use Rattle.propagate.specs.Reach.{IsReach}
-use Rattle.propagate.specs.declared.next.Forced.{Forced}
-use Rattle.propagate.specs.Literals.{opposite, among, lists, Contradicts, IsConsistent, SameLiterals}
+use Rattle.propagate.specs.declared.scan.Forced.{Forced}
+use Rattle.propagate.specs.Literals.{opposite, among, lists, Contradicts, IsConsistent, IsOnce, SameLiterals}
 use Rattle.propagate.specs.Chain.{IsConflict, LeadsToConflict, IsSettled, IsReached, IsClosure, IsImpossible}
 use Rattle.propagate.specs.Walk.{IsBrokenAt, IsReasonedChain, literals_of}
 use Rattle.normal_form.proofs.SetSums.{Within}
 use Rattle.propagate.proofs.Listings.{among_append, among_right, among_head, among_tail, or_cases}
 use Rattle.propagate.proofs.Consistency.{only_here, at_literal, push_consistent}
 use Rattle.propagate.proofs.Chains.{chain_stays, no_conflict_from}
-use Rattle.propagate.proofs.Ends.{given_within}
-use Rattle.propagate.proofs.Outcomes.{closure_by}
-use Rattle.propagate.proofs.Ending.{one_end_or_conflict}
+use Rattle.propagate.proofs.ChainEnds.{given_within}
+use Rattle.propagate.proofs.SearchIsRight.{closure_by}
+use Rattle.propagate.proofs.SearchEnds.{one_end_or_conflict}
 use Rattle.propagate.proofs.Closure.{more_literals}
-use Rattle.propagate.proofs.Steps.{chain_of, conflict_at}
+use Rattle.propagate.proofs.ReasonedChains.{chain_of, conflict_at}
 
 pub same_conflict : (ns : List NormalConstraint) (xs ys : List Lit) → SameLiterals xs ys → LeadsToConflict ns xs → LeadsToConflict ns ys
 same_conflict ns xs ys same r = more_literals ns xs ys (λ l h. sym (same (l.var.0) l.negated) ∙ h) r
@@ -121,16 +121,17 @@ pub ends_broken : (ns : List NormalConstraint) (given listing : List Lit) (steps
 ends_broken ns given listing steps broken place c e end is =
     inr (walk_conflict ns given listing steps place c e (subst (λ (o : Option ℕ). MatchOption o (IsSettled ns listing) (IsBrokenAt ns listing)) is end))
 
-pub ends_quiet : (ns : List NormalConstraint) (given listing closed : List Lit) (steps : List Forced) (broken : Option ℕ) → IsConsistent given → IsReasonedChain ns given steps → listing ≡ given ++ literals_of steps → MatchOption broken (IsSettled ns listing) (IsBrokenAt ns listing) → broken ≡ None → closed ≡ listing → (IsImpossible ns given → ⊥) × IsClosure ns given closed
-ends_quiet ns given listing closed steps broken h c e end is same =
+pub ends_quiet : (ns : List NormalConstraint) (given listing closed : List Lit) (steps : List Forced) (broken : Option ℕ) → IsConsistent given → IsReasonedChain ns given steps → listing ≡ given ++ literals_of steps → MatchOption broken (IsSettled ns listing) (IsBrokenAt ns listing) → broken ≡ None → closed ≡ listing → IsOnce closed → (IsImpossible ns given → ⊥) × IsClosure ns given closed × IsOnce closed
+ends_quiet ns given listing closed steps broken h c e end is same once =
     let q : IsSettled ns listing = subst (λ (o : Option ℕ). MatchOption o (IsSettled ns listing) (IsBrokenAt ns listing)) is end in
-    (walk_free ns given listing steps h e q, subst (λ (ls : List Lit). IsClosure ns given ls) (sym same) (walk_closure ns given listing steps c e q))
+    (walk_free ns given listing steps h e q, subst (λ (ls : List Lit). IsClosure ns given ls) (sym same) (walk_closure ns given listing steps c e q), once)
 
 pub same_reach : (ns : List NormalConstraint) (xs ys : List Lit) → SameLiterals xs ys → (r : Reach) → IsReach ns xs r → IsReach ns ys r
 same_reach ns xs ys same Conflict h = same_impossible ns xs ys same h
 same_reach ns xs ys same (Closed closed) h = (
   λ i. h.0 (same_impossible ns ys xs (turned xs ys same) i),
   same_closure ns xs ys closed same (λ c. h.0 (inr (same_conflict ns ys xs (turned xs ys same) c))) h.1,
+  h.2,
 )
 
 pub start_same : (made : Option (List Lit × ℕ)) (start : List Lit × ℕ) (ys : List Lit) → IfSome made (λ t. SameLiterals t.0 ys) → made ≡ Some start → SameLiterals start.0 ys

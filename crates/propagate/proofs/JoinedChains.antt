@@ -12,7 +12,7 @@ use Rattle.normal_form.proofs.SetSums.{Within}
 use Rattle.propagate.proofs.Listings.{among_left, among_right, among_cases, among_head, among_tail, among_pushed, or_cases}
 use Rattle.normal_form.proofs.SetSums.{only_is}
 use Rattle.propagate.proofs.Chains.{another, along, broken_more, forced_more}
-use Rattle.propagate.proofs.Ends.{given_within}
+use Rattle.propagate.proofs.ChainEnds.{given_within}
 
 -- a chain with one more forced literal at its end
 pub chain_push : (ns : List NormalConstraint) (given chain : List Lit) (l : Lit) → IsChain ns given chain → IsForcedByOne ns (given ++ chain) l → IsChain ns given (chain ++ l ∷ [])

@@ -1,4 +1,8 @@
 //! What one constraint says under a trail.
+//!
+//! Its slack is what its literals that are not false have more than the degree. Below 0 the constraint cannot be met
+//! any more; a literal with more than the slack must be true, or else it could not be met. The code has numbers from 0
+//! on, so it compares the sum with the degree first, and keeps the slack where there is one.
 
 ghost use Rattle.std.specs.Prelude.{◌≡◌, ◌+◌, ◌<◌, ◌≤◌, ◌↔◌, false, IsTrue, MatchOption, length, take};
 ghost use Rattle.normal_form.specs.Normal.{sum_over, variable_bound};
@@ -11,7 +15,7 @@ use normal_form::Normal;
 
 /// What a constraint says: it is broken, it forces a literal, or neither.
 #[derive(Clone, Copy, Debug, PartialEq, Eq)]
-pub(crate) enum Reading {
+pub(crate) enum Effect {
     Broken,
     Forces(Lit),
     Nothing,
@@ -73,21 +77,21 @@ fn first_forced(constraint: &Normal, trail: &Trail, slack: u128) -> Option<Lit>
     None
 }
 
-impl Reading {
-    ghost use Rattle.propagate.specs.Reading.{IsReading};
+impl Effect {
+    ghost use Rattle.propagate.specs.Effect.{IsEffect};
 
     /// Reads a constraint whose variables the trail has.
-    pub(crate) fn of(constraint: &Normal, trail: &Trail) -> Reading
+    pub(crate) fn of(constraint: &Normal, trail: &Trail) -> Effect
         requires { variable_bound constraint.now.terms ≤ trail.now.1 }
-        ensures { IsReading trail.now.0 constraint.now result }
+        ensures { IsEffect trail.now.0 constraint.now result }
     {
         let open = open_sum(constraint, trail);
         if open < constraint.degree() {
-            return Reading::Broken;
+            return Effect::Broken;
         }
         match first_forced(constraint, trail, open - constraint.degree()) {
-            Some(literal) => Reading::Forces(literal),
-            None => Reading::Nothing,
+            Some(literal) => Effect::Forces(literal),
+            None => Effect::Nothing,
         }
     }
 }

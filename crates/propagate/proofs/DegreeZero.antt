@@ -3,7 +3,7 @@ use Rattle.std.proofs.Common.{◌≡◌, List, [], Contains, ap, ◌∙◌, arit
 use Rattle.std.proofs.lemmas.Int.{ints}
 use Rattle.normal_form.specs.Negation.{IsNegation}
 use Rattle.normal_form.specs.Normal.{NormalConstraint, total, Rises}
-use Rattle.normal_form.proofs.Opposite.{negation_terms, flipped_total}
+use Rattle.normal_form.proofs.Negations.{negation_terms, flipped_total}
 use Rattle.propagate.specs.Slack.{IsBroken}
 use Rattle.propagate.specs.Chain.{IsRefuted}
 

@@ -2,7 +2,7 @@
 use Rattle.std.proofs.Common.{arith}
 use Rattle.normal_form.proofs.Sums.{bound_at}
 use Rattle.propagate.proofs.Occurrences.{forced_at, nothing_forced}
-use Rattle.propagate.proofs.reading.first_forced.Goals as goal
+use Rattle.propagate.proofs.effect.first_forced.Goals as goal
 
 pub is_forced-requires : goal.is_forced-requires
 is_forced-requires c = grind (arith, bound_at c.args.constraint.now.terms c.loop-place.place c.term-term.result, c.term-term.ensures.value, c.requires.variables)

@@ -1,56 +1,19 @@
-//! Each public function once on small constraints, whose answers are worked out by hand.
+//! Refutation, and what listings extend to.
 
-use super::*;
-use linear::{Lit, Relation, Seq, Signed, Term, Var};
-use normal_form::{CutFault, Normal, normalize};
-use std::alloc::Global;
-
-fn plain(coef: i128, var: u32) -> Term {
-    Term {
-        coef,
-        var: Var(var),
-        negated: false,
-    }
-}
-
-fn negated(coef: i128, var: u32) -> Term {
-    Term {
-        coef,
-        var: Var(var),
-        negated: true,
-    }
-}
-
-fn literal(var: u32, negated: bool) -> Lit {
-    Lit {
-        var: Var(var),
-        negated,
-    }
-}
-
-fn at_least(alloc: Global, terms: &[Term], right: i128) -> Result<Normal, CutFault> {
-    let constraint = Signed {
-        terms: Seq::from_vec(Vec::from_slice(alloc, terms)?),
-        relation: Relation::AtLeast,
-        right,
-    };
-    normalize(alloc, &constraint)
-}
+use super::support::{at_least, negated, not_x, plain, x};
+use propagate::{Reach, refuted};
 
 #[test]
-fn refutes_in_two_passes(rt: HostRuntime) {
+fn refutations(rt: HostRuntime) {
     let alloc = rt.alloc();
+    // the first two force something only after the third, so one pass over them in order does not do
     let third = at_least(alloc, &[negated(1, 2), plain(1, 3)], 1).expect(&rt, "a constraint");
     let second = at_least(alloc, &[negated(1, 1), plain(1, 2)], 1).expect(&rt, "a constraint");
     let first = at_least(alloc, &[plain(1, 1)], 1).expect(&rt, "a constraint");
     let last = at_least(alloc, &[negated(1, 3)], 1).expect(&rt, "a constraint");
     assert!(&rt; refuted(alloc, &[&third, &second, &first, &last]).expect(&rt, "memory"));
     assert!(&rt; !refuted(alloc, &[&third, &second, &first]).expect(&rt, "memory"));
-}
-
-#[test]
-fn weighs_coefficients(rt: HostRuntime) {
-    let alloc = rt.alloc();
+    // 3 x1 2 x2 1 x3 >= 4 needs x1, and not x2
     let terms = [plain(3, 1), plain(2, 2), plain(1, 3)];
     let weighted = at_least(alloc, &terms, 4).expect(&rt, "a constraint");
     let without_first = at_least(alloc, &[negated(1, 1)], 1).expect(&rt, "a constraint");
@@ -60,18 +23,16 @@ fn weighs_coefficients(rt: HostRuntime) {
 }
 
 #[test]
-fn completes_a_listing(rt: HostRuntime) {
+fn listings(rt: HostRuntime) {
     let alloc = rt.alloc();
     let either = at_least(alloc, &[plain(1, 1), plain(1, 2)], 1).expect(&rt, "a constraint");
-    let given = [literal(1, true), literal(1, true)];
-    let reach = Reach::of(alloc, &[&either], &given).expect(&rt, "memory");
+    let reach = Reach::of(alloc, &[&either], &[not_x(1), not_x(1)]).expect(&rt, "memory");
     let mut count = 0;
     if let Reach::Closed(closed) = &reach {
         count = closed.len();
-        assert!(&rt; closed.as_slice().contains(&literal(2, false)));
+        assert!(&rt; closed.as_slice().contains(&x(2)));
     }
     assert_eq!(&rt; count, 2);
-    let both = [literal(1, true), literal(1, false)];
-    let refused = Reach::of(alloc, &[&either], &both).expect(&rt, "memory");
+    let refused = Reach::of(alloc, &[&either], &[not_x(1), x(1)]).expect(&rt, "memory");
     assert!(&rt; matches!(&refused, Reach::Conflict));
 }

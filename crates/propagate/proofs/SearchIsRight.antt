@@ -14,9 +14,9 @@ use Rattle.propagate.specs.Chain.{IsForcedByOne, IsConflict, IsChain, LeadsToCon
 use Rattle.propagate.specs.Passes.{is_broken, is_forced, literal_of, first_forced, or_else, next_forced, Conflict, Settled, onward, outcome}
 use Rattle.normal_form.proofs.SetSums.{only_is}
 use Rattle.propagate.proofs.Listings.{among_left, among_right, among_cases}
-use Rattle.propagate.proofs.Somewhere.{any_here, any_there, any_split, any_none}
+use Rattle.propagate.proofs.AnyOf.{any_here, any_there, any_split, any_none}
 use Rattle.propagate.proofs.Chains.{chain_stays, no_conflict_from}
-use Rattle.propagate.proofs.Ends.{conflict_from, no_conflict_from_test, given_within}
+use Rattle.propagate.proofs.ChainEnds.{conflict_from, no_conflict_from_test, given_within}
 
 both : (b d : Bool) → (b && d) ≡ true → (b ≡ true) × (d ≡ true)
 both true d h = (refl, h)

@@ -3,12 +3,12 @@ use Rattle.std.proofs.Common.{◌≡◌, ◌↔◌, ℕ, ◌<◌, ◌≤◌, Lis
 use Rattle.std.proofs.lemmas.List.Elements.{All-map, All-contains}
 use Rattle.linear.specs.declared.term.Lit.{Lit}
 use Rattle.normal_form.specs.Normal.{NormalConstraint, variable_bound}
-use Rattle.propagate.specs.declared.next.Forced.{Forced}
+use Rattle.propagate.specs.declared.scan.Forced.{Forced}
 use Rattle.std.proofs.lemmas.Bool.{false≢true}
 use Rattle.propagate.specs.Chain.{IsForcedByOne, IsConflict, IsChain, IsRefuted, IsSettled}
 use Rattle.propagate.proofs.Chains.{no_conflict_from}
 use Rattle.propagate.specs.Walk.{IsBrokenAt, IsForcedStep, IsReasonedChain, literals_of, IsQuiet}
-use Rattle.propagate.proofs.Ending.{unset_below, bound_of, occurs_below, forced_below, fewer_unset}
+use Rattle.propagate.proofs.SearchEnds.{unset_below, bound_of, occurs_below, forced_below, fewer_unset}
 
 pub forced_by_one : (ns : List NormalConstraint) (listing : List Lit) (s : Forced) → IsForcedStep ns listing s → IsForcedByOne ns listing s.literal
 forced_by_one ns listing s f = (s.reason, f.0, f.1.0, f.1.1, f.2)

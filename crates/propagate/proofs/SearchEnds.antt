@@ -11,8 +11,8 @@ use Rattle.propagate.specs.Slack.{IsForced}
 use Rattle.propagate.specs.Chain.{IsForcedByOne, LeadsToConflict, IsSettled, IsClosure}
 use Rattle.propagate.specs.Passes.{is_broken, next_forced, Outcome, Conflict, Settled, Unfinished, onward, outcome}
 use Rattle.propagate.proofs.Listings.{among_left, among_right, among_head}
-use Rattle.propagate.proofs.Somewhere.{any_split, any_none}
-use Rattle.propagate.proofs.Outcomes.{next_sound, conflict_met, closure_met, no_conflict_met, settled_met}
+use Rattle.propagate.proofs.AnyOf.{any_split, any_none}
+use Rattle.propagate.proofs.SearchIsRight.{next_sound, conflict_met, closure_met, no_conflict_met, settled_met}
 
 -- whether a variable is set
 abbrev pub is_set : List Lit → ℕ → Bool

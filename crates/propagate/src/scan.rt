@@ -3,7 +3,7 @@
 ghost use Rattle.std.specs.Prelude.{◌≡◌, ◌≤◌, ◌↔◌, All, IsTrue, length, map};
 ghost use Rattle.normal_form.specs.Normal.{variable_bound};
 
-use super::reading::Reading;
+use super::effect::Effect;
 use super::trail::Trail;
 use linear::Lit;
 use normal_form::Normal;
@@ -17,65 +17,65 @@ pub(crate) struct Forced {
 
 /// A step that is forced, the place of a broken constraint, or neither.
 #[derive(Clone, Copy, Debug, PartialEq, Eq)]
-pub(crate) enum Next {
+pub(crate) enum Scan {
     Quiet,
     Broken(usize),
     Step(Forced),
 }
 
-impl Next {
-    ghost use Rattle.propagate.specs.Walk.{IsNextAt, IsNextBetween, IsNext};
+impl Scan {
+    ghost use Rattle.propagate.specs.Walk.{IsScanAt, IsScanBetween, IsScan};
 
     // What the constraint at a place says.
-    fn at(constraint: &Normal, place: usize, trail: &Trail) -> Next
+    fn at(constraint: &Normal, place: usize, trail: &Trail) -> Scan
         requires { variable_bound constraint.now.terms ≤ trail.now.1 }
-        ensures { IsNextAt place constraint.now trail.now.0 result }
+        ensures { IsScanAt place constraint.now trail.now.0 result }
     {
-        match Reading::of(constraint, trail) {
-            Reading::Broken => Next::Broken(place),
-            Reading::Forces(literal) => Next::Step(Forced {
+        match Effect::of(constraint, trail) {
+            Effect::Broken => Scan::Broken(place),
+            Effect::Forces(literal) => Scan::Step(Forced {
                 literal,
                 reason: place,
             }),
-            Reading::Nothing => Next::Quiet,
+            Effect::Nothing => Scan::Quiet,
         }
     }
 
     // What the first constraint that is not quiet says, of those from one place up to another.
-    fn between(constraints: &[&Normal], trail: &Trail, low: usize, high: usize) -> Next
+    fn between(constraints: &[&Normal], trail: &Trail, low: usize, high: usize) -> Scan
         requires variables { All (λ n. variable_bound n.now.terms ≤ trail.now.1) constraints.now }
         requires high { high ≤ length constraints.now }
-        ensures { IsNextBetween (map (λ n. n.now) constraints.now) low high trail.now.0 result }
+        ensures { IsScanBetween (map (λ n. n.now) constraints.now) low high trail.now.0 result }
     {
         for place in low..high {
-            let next = Next::at(constraints[place], place, trail);
+            let next = Scan::at(constraints[place], place, trail);
             if !next.is_quiet() {
                 return next;
             }
         }
-        Next::Quiet
+        Scan::Quiet
     }
 
     // Whether nothing is broken and nothing forced.
     fn is_quiet(self) -> bool
-        ensures { IsTrue result ↔ (self ≡ Next.Quiet) }
+        ensures { IsTrue result ↔ (self ≡ Scan.Quiet) }
     {
         match self {
-            Next::Quiet => true,
-            Next::Broken(_) => false,
-            Next::Step(_) => false,
+            Scan::Quiet => true,
+            Scan::Broken(_) => false,
+            Scan::Step(_) => false,
         }
     }
 
     /// What comes next: the constraints are asked from a place on, and then from the first one on.
-    pub(crate) fn from(constraints: &[&Normal], trail: &Trail, start: usize) -> Next
+    pub(crate) fn from(constraints: &[&Normal], trail: &Trail, start: usize) -> Scan
         requires variables { All (λ n. variable_bound n.now.terms ≤ trail.now.1) constraints.now }
         requires start { start ≤ length constraints.now }
-        ensures { IsNext (map (λ n. n.now) constraints.now) trail.now.0 result }
+        ensures { IsScan (map (λ n. n.now) constraints.now) trail.now.0 result }
     {
-        let next = Next::between(constraints, trail, start, constraints.len());
+        let next = Scan::between(constraints, trail, start, constraints.len());
         if next.is_quiet() {
-            return Next::between(constraints, trail, 0, start);
+            return Scan::between(constraints, trail, 0, start);
         }
         next
     }

@@ -12,7 +12,7 @@ use Rattle.propagate.specs.Chain.{IsConflict, IsChain, LeadsToConflict, IsWholeC
 use Rattle.propagate.specs.Passes.{is_broken}
 use Rattle.normal_form.proofs.SetSums.{Within}
 use Rattle.propagate.proofs.Listings.{among_left, among_right}
-use Rattle.propagate.proofs.Somewhere.{any_from_test, none_from_test}
+use Rattle.propagate.proofs.AnyOf.{any_from_test, none_from_test}
 use Rattle.propagate.proofs.Chains.{chain_stays, no_conflict_from}
 
 pub broken_test : (listing : List Lit) (n : NormalConstraint) → is_broken listing n ≡ true → IsBroken listing n
