@@ -8,9 +8,12 @@ pub mod SearchIsRight
 pub mod SearchEnds
 pub mod Consistency
 pub mod Closure
+pub mod Entries
 pub mod ValueTable
 pub mod Occurrences
 pub mod SeenLists
 pub mod ReasonedChains
 pub mod LastVariable
 pub mod WalkEnds
+pub mod SameListings
+pub mod TracesById

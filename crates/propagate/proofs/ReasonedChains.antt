@@ -1,6 +1,6 @@
 -- Steps of a chain with their reasons.
-use Rattle.std.proofs.Common.{◌≡◌, ◌↔◌, ℕ, ◌<◌, ◌≤◌, List, [], ◌∷◌, ◌++◌, All, map, refl, ap, sym, subst, ◌∙◌, append_assoc, append-nil, Bool, true, Option, None, Some, is_some, MatchOption, arith}
-use Rattle.std.proofs.lemmas.List.Elements.{All-map, All-contains}
+use Rattle.std.proofs.Common.{◌≡◌, ◌↔◌, ℕ, ◌<◌, ◌≤◌, List, [], ◌∷◌, ◌++◌, All, length, map, refl, ap, sym, subst, ◌∙◌, append_assoc, append-nil, Bool, true, Option, None, Some, is_some, MatchOption, arith}
+use Rattle.std.proofs.lemmas.List.Elements.{All-nil, All-cons, All-map, All-contains}
 use Rattle.linear.specs.declared.term.Lit.{Lit}
 use Rattle.normal_form.specs.Normal.{NormalConstraint, variable_bound}
 use Rattle.propagate.specs.declared.scan.Forced.{Forced}
@@ -70,3 +70,9 @@ decided_by ns given listing steps None b e f c g end =
     (λ h. absurd (false≢true (sym f ∙ h)), λ r. absurd (not_refuted ns listing end r))
 decided_by ns given listing steps (Some place) b e f c g end =
     (λ h. refuted_by ns steps listing place (subst (λ (ls : List Lit). IsReasonedChain ns ls steps) e c) (g ∙ ap (λ (ls : List Lit). ls ++ literals_of steps) e) end, λ r. f)
+
+-- the reasons are places of constraints
+pub reasons_below : (ns : List NormalConstraint) (given : List Lit) (steps : List Forced) (count : ℕ) → length ns ≡ count → IsReasonedChain ns given steps → All (λ s. s.reason < count) steps
+reasons_below ns given [] count e c = All-nil (λ s. s.reason < count)
+reasons_below ns given (s ∷ ss) count e c =
+    All-cons (λ s. s.reason < count) s ss (omega (arith, c.0.1.0, e)) (reasons_below ns (given ++ s.literal ∷ []) ss count e c.1)

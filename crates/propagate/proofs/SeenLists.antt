@@ -1,6 +1,7 @@
 -- What holds at a place of a list that is seen through a function.
 use Rattle.std.proofs.Common.{◌≡◌, ℕ, ◌+◌, ◌<◌, List, map, length, get_or, ap, sym, subst, ◌∙◌, arith}
 use Rattle.std.specs.List.{AllWithin, HoldsAt}
+use Rattle.normal_form.specs.Normal.{NormalConstraint}
 use Rattle.std.proofs.lemmas.List.{get_or-map, length-map}
 use Rattle.std.proofs.lemmas.List.Elements.{AllWithin-more}
 
@@ -16,3 +17,7 @@ more_seen f P xs low i x all h is p = AllWithin-more P (map f xs) low i all (hol
 -- the element at a place
 pub stands_seen : {X Y : Type 0} (f : X → Y) (xs : List X) (i : ℕ) (x : X) → i < length xs → x ≡ get_or xs i x → (i < length (map f xs)) × (get_or (map f xs) i (f x) ≡ f x)
 stands_seen f xs i x h is = (omega (arith, h, length-map xs f), sym (seen_at f xs i x (f x) h is))
+
+-- the same list, seen through the function
+pub seen_same : {X : Type 0} (f : X → NormalConstraint) (xs ys : List X) (ns : List NormalConstraint) → xs ≡ ys → map f ys ≡ ns → map f xs ≡ ns
+seen_same f xs ys ns e h = ap (map f) e ∙ h

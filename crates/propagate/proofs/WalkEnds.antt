@@ -1,11 +1,14 @@
 -- Listings with the same literals extend to the same, and a walk from a trail tells what it extends to.
-use Rattle.std.proofs.Common.{◌≡◌, ℕ, zero, suc, ◌+◌, ◌<◌, Bool, true, false, not, ◌||◌, List, [], ◌∷◌, ◌++◌, Option, None, Some, MatchOption, IfSome, length, get_or, take, arith, refl, sym, ap, subst, ◌∙◌, inl, inr}
+use Rattle.std.proofs.Common.{◌≡◌, ℕ, zero, suc, ◌+◌, ◌<◌, Bool, true, false, not, ◌||◌, List, [], ◌∷◌, ◌++◌, Option, None, Some, MatchOption, IfSome, IfOk, Result, Ok, Err, map, length, get_or, take, arith, refl, sym, ap, subst, ◌∙◌, inl, inr}
 use Rattle.std.proofs.lemmas.Bool.{false≢true}
 use Rattle.std.proofs.lemmas.List.{take_more}
+use Rattle.std.specs.Option.{option_map}
 use Rattle.linear.specs.declared.term.Lit.{Lit}
 use Rattle.normal_form.specs.Normal.{NormalConstraint, only}
 use Rattle.propagate.specs.declared.reach.Reach.{Reach}
 use Rattle.propagate.specs.declared.reach.Reach.TheVariants.{Conflict, Closed}
+use Rattle.propagate.specs.declared.trace.Trace.{Trace}
+use Rattle.propagate.specs.TraceByPlaces.{named, IsTraceByPlaces}
 use Rattle.propagate.specs.Reach.{IsReach}
 use Rattle.propagate.specs.declared.scan.Forced.{Forced}
 use Rattle.propagate.specs.Literals.{opposite, among, lists, Contradicts, IsConsistent, IsOnce, SameLiterals}
@@ -136,3 +139,20 @@ same_reach ns xs ys same (Closed closed) h = (
 
 pub start_same : (made : Option (List Lit × ℕ)) (start : List Lit × ℕ) (ys : List Lit) → IfSome made (λ t. SameLiterals t.0 ys) → made ≡ Some start → SameLiterals start.0 ys
 start_same made start ys h e = subst (λ (o : Option (List Lit × ℕ)). IfSome o (λ t. SameLiterals t.0 ys)) e h
+
+-- a walk from a listing with the literals of what is given makes a trace
+pub trace_made : {E : Type 0} (ns : List NormalConstraint) (ids : List ℕ) (given start listing : List Lit) (steps : List Forced) (broken : Option ℕ) (result : Result Trace E)
+    → SameLiterals start given → IsReasonedChain ns start steps → listing ≡ start ++ literals_of steps → MatchOption broken (IsSettled ns listing) (IsBrokenAt ns listing)
+    → IfOk result (λ t. t.forced ≡ map (named ids) steps) → IfOk result (λ t. t.conflict ≡ option_map (λ place. get_or ids place 0) broken)
+    → IfOk result (IsTraceByPlaces ns ids given)
+trace_made ns ids given start listing steps broken (Err e) same c is end forced conflict = tt
+trace_made ns ids given start listing steps broken (Ok t) same c is end forced conflict = record {
+  start = start;
+  same = same;
+  steps = steps;
+  broken = broken;
+  chain = c;
+  end = subst (λ (ls : List Lit). MatchOption broken (IsSettled ns ls) (IsBrokenAt ns ls)) is end;
+  forced = forced;
+  conflict = conflict;
+}

@@ -8,3 +8,5 @@ pub mod Values
 pub mod Effect
 pub mod Walk
 pub mod Reach
+pub mod Content
+pub mod TraceByPlaces
