@@ -17,3 +17,4 @@ pub mod LastVariable
 pub mod WalkEnds
 pub mod SameListings
 pub mod TracesById
+pub mod KeptChains
