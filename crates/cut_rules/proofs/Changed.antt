@@ -5,7 +5,7 @@ use Rattle.std.proofs.lemmas.List.{take_more, append-nil}
 use Rattle.normal_form.specs.declared.term.NormalTerm.{NormalTerm}
 use Rattle.normal_form.specs.Normal.{Literals, sum_over, total, same_sign, only, Rises, variable_bound}
 use Rattle.normal_form.proofs.Sums.{bound_take}
-use Rattle.normal_form.proofs.OneForm.{absent}
+use Rattle.normal_form.proofs.OneList.{absent}
 use Rattle.cut_rules.specs.Steps.{kept, changed}
 
 pub kept_none : (t : NormalTerm) (c : ℕ) → c ≡ 0 → kept t c ≡ []

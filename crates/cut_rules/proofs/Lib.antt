@@ -1,6 +1,5 @@
-pub mod Pivot
 pub mod Sum
-pub mod Steps
+pub mod MergeSteps
 pub mod Changed
 pub mod OneOperand
 pub mod Meaning

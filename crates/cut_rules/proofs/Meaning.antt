@@ -5,10 +5,10 @@ use Rattle.std.proofs.lemmas.Bool.Decides.{nat_tests}
 use Rattle.std.proofs.Math.Nat.{mul-add, mul-le-mul_left}
 use Rattle.linear.specs.Valuation.{Valuation, literal_true}
 use Rattle.linear.specs.declared.term.Lit.{Lit}
-use Rattle.normal_form.specs.Normal.{NormalConstraint, coefficient, weight, Holds, variable_bound}
-use Rattle.normal_form.proofs.OneForm.{one_constraint}
-use Rattle.cut_rules.specs.Rules.{sum_below, IsCeiling, IsMultiple, IsQuotient, IsSaturation, IsWeakening, IsAxiom}
-use Rattle.cut_rules.proofs.Pivot.{told, pivot, single, single_sum}
+use Rattle.normal_form.specs.Normal.{sum_below, NormalConstraint, coefficient, weight, Holds, variable_bound}
+use Rattle.normal_form.proofs.OneList.{one_constraint}
+use Rattle.cut_rules.specs.Rules.{IsCeiling, IsMultiple, IsQuotient, IsSaturation, IsWeakening, IsAxiom}
+use Rattle.normal_form.proofs.SumsByVariable.{told, pivot, single, single_sum}
 
 weight_told : (n : ℕ) (a : Valuation) (d : NormalConstraint) → variable_bound d.terms ≤ n → weight a d ≡ sum_below n (told (literal_true a) d.terms)
 weight_told n a d h = pivot (literal_true a) d.terms n h

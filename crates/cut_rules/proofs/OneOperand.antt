@@ -5,7 +5,7 @@ use Rattle.std.proofs.lemmas.Bool.{cases_lt}
 use Rattle.std.proofs.lemmas.Grind.{div_ceil_times}
 use Rattle.std.proofs.Math.Nat.{mul_comm, mul-add, mul-suc, mul-le-mul_left}
 use Rattle.normal_form.specs.declared.term.NormalTerm.{NormalTerm}
-use Rattle.normal_form.specs.Normal.{NormalConstraint, Literals, sum_over, total, only, coefficient, Rises, Fits, largest_sum, largest_degree}
+use Rattle.normal_form.specs.Normal.{NormalConstraint, Literals, sum_over, total, only, coefficient, Rises, Fits, largest_sum, largest_sum}
 use Rattle.normal_form.proofs.Sums.{counted, sum_over_more, sum_over_take}
 use Rattle.cut_rules.specs.Rules.{IsSaturation, IsWeakening, IsMultiple, IsCeiling, IsQuotient, IsTooLarge}
 use Rattle.cut_rules.specs.Steps.{changed, less, times, parts}
@@ -30,8 +30,8 @@ saturation_from d r ts cap up e k t g = record {
 -- terms that do not grow, with a degree that does not, are within the limits
 pub fits_from : (f : ℕ → ℕ → ℕ) → ((v c : ℕ) → f v c ≤ c) → (d : NormalConstraint) (ts : List NormalTerm) (degree : ℕ) → Fits d → ts ≡ changed f d.terms → degree ≤ d.degree → Fits (record { terms = ts; degree = degree })
 fits_from f down d ts degree fits e g =
-    let sum : total ts ≤ 2 ^ 120 = omega (arith, ap total e, changed_total f down d.terms, fits.sum) in
-    let low : degree ≤ 2 ^ 120 = omega (arith, g, fits.degree) in
+    let sum : total ts ≤ largest_sum = omega (arith, ap total e, changed_total f down d.terms, fits.sum) in
+    let low : degree ≤ largest_sum = omega (arith, g, fits.degree) in
     record { sum = sum; degree = low }
 
 -- weakening
@@ -100,7 +100,7 @@ multiple_within k d r g f q h = subst Fits (one_multiple k d r q g h) f
 multiple_of : ℕ → NormalConstraint → NormalConstraint
 multiple_of k d = record { terms = changed (times k) d.terms; degree = k * d.degree }
 
-pub multiple_too_large : (k : ℕ) (d : NormalConstraint) → Rises 0 d.terms → ((k * total d.terms ≤ largest_sum) × (k * d.degree ≤ largest_degree) → ⊥) → (r : NormalConstraint) × IsTooLarge (IsMultiple k d) r
+pub multiple_too_large : (k : ℕ) (d : NormalConstraint) → Rises 0 d.terms → ((k * total d.terms ≤ largest_sum) × (k * d.degree ≤ largest_sum) → ⊥) → (r : NormalConstraint) × IsTooLarge (IsMultiple k d) r
 unfolding multiple_of
 multiple_too_large k d up above = (
   multiple_of k d,
@@ -110,14 +110,14 @@ multiple_too_large k d up above = (
   },
 )
 
-pub multiple_fits : (k : ℕ) (d : NormalConstraint) (ts : List NormalTerm) (degree : ℕ) → ts ≡ changed (times k) d.terms → degree ≡ k * d.degree → k * total d.terms ≤ largest_sum → k * d.degree ≤ largest_degree → Fits (record { terms = ts; degree = degree })
+pub multiple_fits : (k : ℕ) (d : NormalConstraint) (ts : List NormalTerm) (degree : ℕ) → ts ≡ changed (times k) d.terms → degree ≡ k * d.degree → k * total d.terms ≤ largest_sum → k * d.degree ≤ largest_sum → Fits (record { terms = ts; degree = degree })
 multiple_fits k d ts degree e g h l =
-    let sum : total ts ≤ 2 ^ 120 = omega (arith, ap total e, times_sum (λ _ _. true) k d.terms, h) in
-    let low : degree ≤ 2 ^ 120 = omega (arith, g, l) in
+    let sum : total ts ≤ largest_sum = omega (arith, ap total e, times_sum (λ _ _. true) k d.terms, h) in
+    let low : degree ≤ largest_sum = omega (arith, g, l) in
     record { sum = sum; degree = low }
 
 -- no product is above that of the sum
-pub times_small : (k : ℕ) (c sum : ℕ) → c ≤ sum → k * sum ≤ largest_sum → k * c ≤ 2 ^ 120
+pub times_small : (k : ℕ) (c sum : ℕ) → c ≤ sum → k * sum ≤ largest_sum → k * c ≤ largest_sum
 times_small k c sum h l =
     let less : k * c ≤ k * sum = mul-le-mul_left k h in
     omega (arith, less, l)

@@ -4,13 +4,13 @@ use Rattle.std.specs.Prelude.{ℤ, pos, ◌+ℤ◌}
 use Rattle.std.proofs.lemmas.Int.{ints}
 use Rattle.linear.specs.Valuation.{Valuation, literal_true}
 use Rattle.normal_form.specs.declared.term.NormalTerm.{NormalTerm}
-use Rattle.normal_form.specs.Normal.{NormalConstraint, sum_over, only, coefficient, total, weight, Holds, Rises, Fits, variable_bound}
+use Rattle.normal_form.specs.Normal.{sum_below, NormalConstraint, sum_over, only, coefficient, total, weight, Holds, Rises, Fits, variable_bound}
 use Rattle.normal_form.specs.Balance.{rises_of}
-use Rattle.normal_form.proofs.Merge.{split_at, one_side}
-use Rattle.normal_form.proofs.OneForm.{one_constraint}
-use Rattle.cut_rules.specs.Rules.{sum_below, both_at, cancelled, IsSum, IsTooLarge}
+use Rattle.normal_form.proofs.FromBalance.{split_at, one_side}
+use Rattle.normal_form.proofs.OneList.{one_constraint}
+use Rattle.cut_rules.specs.Rules.{both_at, cancelled, IsSum, IsTooLarge}
 use Rattle.cut_rules.specs.Steps.{SumBalances}
-use Rattle.cut_rules.proofs.Pivot.{all_zero, add_up, none_above, told, pivot, absent_above}
+use Rattle.normal_form.proofs.SumsByVariable.{all_zero, add_up, none_above, told, pivot, absent_above}
 
 parted : (rf rt df dt ef et : ℕ) (r d e : ℤ) → pos rf ≡ pos rt +ℤ r → pos df ≡ pos dt +ℤ d → pos ef ≡ pos et +ℤ e → r ≡ d +ℤ e → (rf ≡ 0) ⊎ (rt ≡ 0) → (rf ≡ (df + ef) - (dt + et)) × (rt ≡ (dt + et) - (df + ef))
 parted rf rt df dt ef et r d e x y z b (inl h) = (omega (arith, ints, x, y, z, b, h), omega (arith, ints, x, y, z, b, h))

@@ -1,14 +1,9 @@
 -- The rules of cutting planes (Cook, Coullard and Turán) on normal constraints, as equations at each literal and
 -- for the degree. `v` is a variable and `s` its sign (true for a negated literal), so `not s` names the opposite
 -- literal. Numbers here have no bound; `-` stops at 0.
-use Rattle.std.specs.Prelude.{◌≡◌, ℕ, zero, suc, ◌+◌, ◌-◌, ◌*◌, ◌≤◌, min, max, Bool, false, true, not, if◌then◌else◌, ◌==◌, ◌&&◌}
+use Rattle.std.specs.Prelude.{◌≡◌, ℕ, ◌+◌, ◌-◌, ◌*◌, ◌≤◌, min, max, Bool, false, true, not, if◌then◌else◌, ◌==◌, ◌&&◌}
 use Rattle.linear.specs.declared.term.Lit.{Lit}
-use Rattle.normal_form.specs.Normal.{NormalConstraint, coefficient, variable_bound, same_sign, Rises, Fits}
-
--- f at each number below n, added up
-abbrev pub sum_below : ℕ → (ℕ → ℕ) → ℕ
-sum_below zero f = 0
-sum_below (suc n) f = sum_below n f + f n
+use Rattle.normal_form.specs.Normal.{NormalConstraint, coefficient, variable_bound, sum_below, same_sign, Rises, Fits}
 
 -- what two constraints together have at a literal
 abbrev pub both_at : NormalConstraint → NormalConstraint → ℕ → Bool → ℕ

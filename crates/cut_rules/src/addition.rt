@@ -1,4 +1,8 @@
-//! Addition of two constraints.
+//! Addition of two constraints, the rule by which cutting planes (Cook, Coullard and Turán) derives what resolution
+//! cannot, such as that three pigeons do not fit into two holes.
+//!
+//! `c x + d ~x` is `(c - d) x + d` where c is at least d: the lesser coefficient goes from both literals, and what it
+//! is worth whatever the assignment goes from the degree.
 
 ghost use Rattle.std.specs.Prelude.{◌≡◌, IfOk, OnOk, IsErrOf};
 ghost use Rattle.linear.specs.Valuation.{Valuation};

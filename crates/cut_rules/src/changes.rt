@@ -1,4 +1,4 @@
-//! Terms with other coefficients.
+//! Terms with other coefficients: the rules on one constraint keep its literals in their order, and change numbers.
 
 ghost use Rattle.std.specs.Prelude.{◌≡◌, ◌≤◌, ◌++◌, OnOk};
 ghost use Rattle.normal_form.specs.Normal.{variable_bound};

@@ -1,4 +1,8 @@
-//! Division by a number, rounded up.
+//! Division by a number, rounded up: the rule that cuts off fractions (Chvátal and Gomory).
+//!
+//! The weighted sum of literals is a whole number at every assignment. With coefficients rounded up it is no less than
+//! a fraction of the degree, and so at least that fraction rounded up. In normal form no coefficient is below 0, so
+//! rounding each one up keeps the constraint true; the proof format writes it `d`.
 
 ghost use Rattle.std.specs.Prelude.{◌≡◌, ◌↔◌, ◌<◌, pos, ◌<ℤ◌, unsigned_abs, IfOk, OnErr, IsErrOf};
 ghost use Rattle.linear.specs.Valuation.{Valuation};

@@ -1,5 +1,11 @@
 //! Merging the terms of two constraints: the terms of each variable become one with their net coefficient, or
 //! none where that is 0.
+//!
+//! Both lists rise by variable, so one pass takes the least variable on either side each time, reads it where it
+//! stands, and puts the result at the end: the merged terms rise again. A literal and its opposite are one variable with
+//! coefficients of two signs, so cancelling is an addition of signed numbers, and no rule needs to tell the cases apart.
+//! The sum of the result is added up on the way: what cancelled is half of what the sums of the two had more, and by it
+//! the degree falls.
 
 ghost use Rattle.std.specs.Prelude.{◌≡◌, ℕ, Bool, ◌+◌, ◌^◌, ◌≤◌, min, pos, ◌+ℤ◌, unsigned_abs, IfOk, OnOk, drop, [], if◌then◌else◌};
 ghost use Rattle.normal_form.specs.Normal.{largest_sum, total, variable_bound, Rises};
@@ -81,24 +87,6 @@ fn least_variable(left: &Normal, i: usize, right: &Normal, j: usize) -> u64
     if first <= second { first } else { second }
 }
 
-// Puts the term of a net coefficient at the end, unless it is 0.
-fn push_net(merged: &mut NormalBuilder, var: Var, net: i128) -> Result<(), AllocError>
-    requires { variable_bound merged.old ≤ var.0 }
-    ensures gives { OnOk result ((set : ℕ → Bool) → rises_of set merged.new ≡ rises_of set merged.old +ℤ (if set (var.0) then net else pos 0)) }
-    ensures total { OnOk result (total merged.new ≡ total merged.old + unsigned_abs net) }
-    ensures bound { OnOk result (variable_bound merged.new ≤ var.0 + 1) }
-    ensures rises { OnOk result (Rises 0 merged.old → Rises 0 merged.new) }
-{
-    if net == 0 {
-        return Ok(());
-    }
-    merged.push(NormalTerm {
-        coef: net.unsigned_abs(),
-        var,
-        negated: net < 0,
-    })
-}
-
 /// The merged terms, and what their coefficients add up to.
 #[derive(Drop)]
 pub(crate) struct Merged {
@@ -122,7 +110,7 @@ pub(crate) fn merge(alloc: Global, left: &Normal, right: &Normal) -> Result<Merg
         let from_left = read_part(left, i, variable);
         let from_right = read_part(right, j, variable);
         let net = from_left.net + from_right.net;
-        push_net(&mut terms, Var(variable as u32), net)?;
+        terms.push_net(Var(variable as u32), net)?;
         sum += net.unsigned_abs();
         i = from_left.next;
         j = from_right.next;

@@ -1,28 +1,31 @@
-//! Multiplication by a number.
+//! Multiplication by a number, by which two constraints are brought to coefficients that cancel when they are added.
+//!
+//! Whether the result is within the limits is asked of the sum and the degree before any coefficient is multiplied:
+//! then no product can leave its type.
 
 ghost use Rattle.std.specs.Prelude.{◌≡◌, ◌↔◌, ◌*◌, ◌≤◌, ◌^◌, pos, ◌<ℤ◌, unsigned_abs, IfOk, OnOk, IsErrOf, IsTrue};
 ghost use Rattle.linear.specs.Valuation.{Valuation};
-ghost use Rattle.normal_form.specs.Normal.{NormalConstraint, IsNormal, Fits, Holds, total, largest_sum, largest_degree};
+ghost use Rattle.normal_form.specs.Normal.{NormalConstraint, IsNormal, Fits, Holds, total, largest_sum};
 ghost use Rattle.cut_rules.specs.Rules.{IsMultiple, IsTooLarge};
 ghost use Rattle.cut_rules.specs.Steps.{changed, times};
 
 use super::changes::push_kept;
-use normal_form::{CutFault, LARGEST, Normal, NormalBuilder};
+use normal_form::{CutFault, LARGEST_SUM, Normal, NormalBuilder};
 use std::alloc::{AllocError, Global};
 
 // Whether a product is within the limit.
 fn product_fits(factor: u128, number: u128) -> bool
-    ensures { IsTrue result ↔ factor * number ≤ 2 ^ 120 }
+    ensures { IsTrue result ↔ factor * number ≤ largest_sum }
 {
     match factor.checked_mul(number) {
-        Some(product) => product <= LARGEST,
+        Some(product) => product <= LARGEST_SUM,
         None => false,
     }
 }
 
 // Whether a multiple of a constraint is within the limits.
 fn multiple_fits(constraint: &Normal, factor: u128) -> bool
-    ensures fits { IsTrue result ↔ (factor * total constraint.now.terms ≤ largest_sum) × (factor * constraint.now.degree ≤ largest_degree) }
+    ensures fits { IsTrue result ↔ (factor * total constraint.now.terms ≤ largest_sum) × (factor * constraint.now.degree ≤ largest_sum) }
     ensures normal { IsNormal constraint.now }
 {
     product_fits(factor, constraint.sum()) && product_fits(factor, constraint.degree())

@@ -1,4 +1,7 @@
 //! Saturation: a coefficient above the degree says no more than the degree.
+//!
+//! A true literal with such a coefficient meets the constraint alone, and so it does with the degree as coefficient;
+//! a false one counts for nothing in both. Smaller coefficients make the same constraint force more after additions.
 
 ghost use Rattle.std.specs.Prelude.{◌≡◌, min, IfOk, OnErr, IsErrOf};
 ghost use Rattle.linear.specs.Valuation.{Valuation};

@@ -1,4 +1,7 @@
 //! Weakening: a variable goes, at the price of its coefficient.
+//!
+//! It is the sum with the axiom of the opposite literal, as often as the coefficient says: the literals cancel, and
+//! each time the degree falls by 1. Whatever the variable is worth, the other literals make up the rest.
 
 ghost use Rattle.std.specs.Prelude.{◌≡◌, ◌+◌, false, true, IfOk, OnErr, IsErrOf};
 ghost use Rattle.linear.specs.Valuation.{Valuation};

@@ -2,9 +2,9 @@
 use Rattle.std.proofs.Common.{◌≡◌, ◌↔◌, ◌⊎◌, inl, inr, Bool, List, [], ◌∷◌, ◌++◌, Any, IsTrue, sym, subst}
 use Rattle.normal_form.specs.Negation.{IsNegation}
 use Rattle.normal_form.specs.Normal.{NormalConstraint, Rises}
-use Rattle.normal_form.proofs.Opposite.{one_negation}
+use Rattle.normal_form.proofs.Negations.{one_negation}
 use Rattle.propagate.specs.Chain.{IsRefuted}
-use Rattle.propagate.proofs.Somewhere.{any_here, any_there, any_split, any_none}
+use Rattle.propagate.proofs.AnyOf.{any_here, any_there, any_split, any_none}
 use Rattle.substitution.specs.Covering.{Covers}
 use Rattle.proof_rules.specs.Shown.{IsShown}
 

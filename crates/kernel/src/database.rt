@@ -35,9 +35,10 @@ impl<P: Propagator> Model for Database<P> {
 }
 
 impl<P: Propagator> Database<P> {
-    ghost use Rattle.std.specs.Prelude.{◌≡◌, ◌↔◌, ◌<◌, ◌++◌, ℕ, None, IfNone, IfOk, IfSome, IsSome, IsSomeAnd, IsTrue, OnErr, OnOk};
+    ghost use Rattle.std.specs.Prelude.{◌≡◌, ◌↔◌, ◌<◌, ◌++◌, IfOk, IsSomeAnd, IsTrue, OnErr, OnOk};
     ghost use Rattle.normal_form.specs.Normal.{NormalConstraint};
     ghost use Rattle.propagate.specs.Chain.{IsRefuted};
+    ghost use Rattle.propagate.specs.Content.{IsLeastAbove};
     ghost use Rattle.substitution.specs.Covering.{Covers};
     ghost use Rattle.std.specs.FinMap as map;
     ghost use Rattle.std.specs.Option.{option_copied};
@@ -84,10 +85,8 @@ impl<P: Propagator> Database<P> {
 
     /// The least live id above this one.
     pub(crate) fn after(&self, id: Id) -> Option<Id>
-        ensures there { IfSome result (λ next. (id < next) × IsSome (map.get self.now.live next)) }
+        ensures least { IsLeastAbove self.now.live id result }
         ensures numbered { AreNumbered self.now.live self.now.next }
-        ensures none { IfNone result ((k : ℕ) → id < k → map.get self.now.live k ≡ None) }
-        ensures least { IfSome result (λ next. (k : ℕ) → id < k → k < next → map.get self.now.live k ≡ None) }
     {
         self.constraints.after(id)
     }

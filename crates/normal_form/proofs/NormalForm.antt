@@ -11,9 +11,9 @@ use Rattle.normal_form.specs.declared.term.NormalTerm.{NormalTerm}
 use Rattle.normal_form.specs.Normal.{NormalConstraint, Holds, total, coefficient, Rises, Fits, largest_sum}
 use Rattle.normal_form.specs.NormalOf.{IsNormalOf, IsTooLarge, at_least_zero, size_sum}
 use Rattle.normal_form.specs.Balance.{Balances, rises_of}
-use Rattle.normal_form.proofs.OneForm.{one_list, same_constraint}
-use Rattle.normal_form.proofs.Merge.{coefficients_from, raised, holds_from, meets_from}
-use Rattle.normal_form.proofs.Insertion.{formed, formed_balances, formed_rises, formed_total, formed_negated}
+use Rattle.normal_form.proofs.OneList.{one_list, same_constraint}
+use Rattle.normal_form.proofs.FromBalance.{coefficients_from, raised, holds_from, meets_from}
+use Rattle.normal_form.proofs.BalancedList.{formed, formed_balances, formed_rises, formed_total, formed_negated}
 
 -- terms that balance and rise, with the degree of the definition, are a normal form
 pub is_form : (c : Signed) (n : NormalConstraint) → Rises 0 n.terms → Balances c.terms n.terms → n.degree ≡ at_least_zero (raised c.right c.terms n.terms) → IsNormalOf c n
@@ -64,8 +64,8 @@ pub form_fits : (c : Signed) (n : NormalConstraint) → IsNormalOf c n → size_
 unfolding form
 form_fits c n f small =
     let e : n ≡ form c = one_form c n (form c) f (form_is c) in
-    let sum : total (formed c.terms) ≤ 2 ^ 120 = omega (arith, formed_total c.terms, small) in
-    let degree : at_least_zero (raised c.right c.terms (formed c.terms)) ≤ 2 ^ 120 = floor_small (raised c.right c.terms (formed c.terms)) (2 ^ 120) (omega (arith, ints, formed_negated c.terms, small)) in
+    let sum : total (formed c.terms) ≤ largest_sum = omega (arith, formed_total c.terms, small) in
+    let degree : at_least_zero (raised c.right c.terms (formed c.terms)) ≤ largest_sum = floor_small (raised c.right c.terms (formed c.terms)) (largest_sum) (omega (arith, ints, formed_negated c.terms, small)) in
     subst (λ (m : NormalConstraint). Fits m) (sym e) (record { sum = sum; degree = degree })
 
 -- with no size above the limit, the coefficient sum of a normal form is within it

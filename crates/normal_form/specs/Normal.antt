@@ -1,6 +1,6 @@
 -- Normal constraints of cutting planes. What is kept is a list of terms in order of their variables; what it
 -- means is a function from literals to coefficients, and a degree. Numbers here have no bound but where Fits says so.
-use Rattle.std.specs.Prelude.{ℕ, ◌+◌, ◌^◌, ◌<◌, ◌≤◌, max, Bool, true, not, ◌&&◌, List, [], ◌∷◌, ◌==◌, if◌then◌else◌}
+use Rattle.std.specs.Prelude.{ℕ, zero, suc, ◌+◌, ◌^◌, ◌<◌, ◌≤◌, max, Bool, true, not, ◌&&◌, List, [], ◌∷◌, ◌==◌, if◌then◌else◌}
 use Rattle.linear.specs.Valuation.{Valuation, literal_true}
 use Rattle.normal_form.specs.declared.term.NormalTerm.{NormalTerm}
 
@@ -47,23 +47,24 @@ abbrev pub Rises : ℕ → List NormalTerm → Type 0
 Rises low [] = Unit {0}
 Rises low (t ∷ ts) = (low ≤ t.var.0) × (0 < t.coef) × Rises (t.var.0 + 1) ts
 
+-- f at each number below n, added up
+abbrev pub sum_below : ℕ → (ℕ → ℕ) → ℕ
+sum_below zero f = 0
+sum_below (suc n) f = sum_below n f + f n
+
 -- the least number above all variables that occur
 abbrev pub variable_bound : List NormalTerm → ℕ
 variable_bound [] = 0
 variable_bound (t ∷ ts) = max (t.var.0 + 1) (variable_bound ts)
 
--- the limit of coefficient sums
+-- the limit of coefficient sums and of degrees
 abbrev pub largest_sum : ℕ
 largest_sum = 2 ^ 120
-
--- the limit of degrees
-abbrev pub largest_degree : ℕ
-largest_degree = 2 ^ 120
 
 -- a constraint within the limits
 pub record Fits (n : NormalConstraint) : Type 0 where
   pub sum : total n.terms ≤ largest_sum
-  pub degree : n.degree ≤ largest_degree
+  pub degree : n.degree ≤ largest_sum
 
 -- a normal constraint: each variable at most once, coefficients above 0, within the limits
 pub record IsNormal (n : NormalConstraint) : Type 0 where

@@ -37,17 +37,17 @@ pub record IsNormalOf (c : Signed) (n : NormalConstraint) : Type 0 where
   pub rises : Rises 0 n.terms
 
 -- a term with its sign changed
-abbrev pub opposite_term : Term → Term
-opposite_term t = record t { coef = neg_ℤ t.coef }
+abbrev pub sign_changed : Term → Term
+sign_changed t = record t { coef = neg_ℤ t.coef }
 
 -- a constraint with all signs changed
-abbrev pub opposite : Signed → Signed
-opposite c = record c { terms = map opposite_term c.terms; right = neg_ℤ c.right }
+abbrev pub signs_changed : Signed → Signed
+signs_changed c = record c { terms = map sign_changed c.terms; right = neg_ℤ c.right }
 
 -- the two normal forms of an equality: that of `>=`, then that of the same with all signs changed
 pub record IsBothOf (c : Signed) (n m : NormalConstraint) : Type 0 where
-  pub least : IsNormalOf c n
-  pub most : IsNormalOf (opposite c) m
+  pub at_least : IsNormalOf c n
+  pub at_most : IsNormalOf (signs_changed c) m
 
 -- the sum of the sizes of the coefficients
 abbrev pub size_sum : List Term → ℕ

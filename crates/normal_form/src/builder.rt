@@ -1,11 +1,17 @@
 //! Making a normal constraint term by term, in one pass.
+//!
+//! Every rule gives its terms in rising order of variables, so a constraint is made by putting terms at the end, and
+//! is normal by construction. Whoever makes one never sees how terms are kept. The coefficient sum is kept along the
+//! way and stops at the largest number of its type: that the limit is exceeded is asked once, at the end, and exactly.
 
-ghost use Rattle.std.specs.Prelude.{◌≡◌, ◌+◌, ◌<◌, ◌≤◌, ◌↔◌, ◌++◌, ◌∷◌, [], IfOk, OnOk, OnErr, IsErrOf};
-ghost use Rattle.normal_form.specs.Normal.{variable_bound, IsNormal, Rises, Fits};
+ghost use Rattle.std.specs.Prelude.{◌≡◌, ℕ, Bool, ◌+◌, ◌<◌, ◌≤◌, ◌↔◌, ◌++◌, ◌∷◌, [], pos, ◌+ℤ◌, unsigned_abs, IfOk, OnOk, OnErr, IsErrOf, if◌then◌else◌};
+ghost use Rattle.normal_form.specs.Normal.{variable_bound, total, IsNormal, Rises, Fits};
+ghost use Rattle.normal_form.specs.Balance.{rises_of};
 
 use super::fault::CutFault;
 use super::normal::Normal;
 use super::term::NormalTerm;
+use linear::Var;
 use std::alloc::{AllocError, Global};
 use std::marker::Model;
 
@@ -61,6 +67,26 @@ impl NormalBuilder {
         self.terms.push(term)?;
         self.capped_sum = self.capped_sum.saturating_add(term.coef);
         Ok(())
+    }
+
+    /// Puts the term of a variable with a net coefficient at the end, none where that is 0: its literal is the
+    /// variable where it is above 0, and the negation where it is below. The variable is above all so far.
+    pub fn push_net(&mut self, var: Var, net: i128) -> Result<(), AllocError>
+        requires { variable_bound self.old ≤ var.0 }
+        ensures gives { OnOk result ((set : ℕ → Bool) → rises_of set self.new ≡ rises_of set self.old +ℤ (if set (var.0) then net else pos 0)) }
+        ensures total { OnOk result (total self.new ≡ total self.old + unsigned_abs net) }
+        ensures bound { OnOk result (variable_bound self.new ≤ var.0 + 1) }
+        ensures rises { OnOk result (Rises 0 self.old → Rises 0 self.new) }
+        ensures err { OnErr result (self.new ≡ self.old) }
+    {
+        if net == 0 {
+            return Ok(());
+        }
+        self.push(NormalTerm {
+            coef: net.unsigned_abs(),
+            var,
+            negated: net < 0,
+        })
     }
 
     /// The terms so far.

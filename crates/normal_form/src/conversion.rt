@@ -1,14 +1,20 @@
 //! The normal form of signed constraints.
+//!
+//! Cutting planes (Cook, Coullard and Turán) are usually told for `>=` with coefficients above 0 over literals, since
+//! then the degree alone tells what a constraint still wants. `c x` with `c` below 0 is `-c ~x + c`, so a coefficient
+//! below 0 becomes one above 0 at the opposite literal, and raises the degree. An equality is two such constraints:
+//! itself read as `>=`, and the same with all signs changed, which is itself read as `<=`. The second has the first
+//! one's merged terms at the opposite literals, so terms are merged once.
 
 ghost use Rattle.std.specs.Prelude.{◌≡◌, ◌+◌, ◌≤◌, ◌↔◌, ◌⊎◌, map, IfOk, IsErrOf, OnOk, OnErr, unsigned_abs};
 ghost use Rattle.linear.specs.Valuation.{Valuation};
 ghost use Rattle.linear.specs.Sum.{Meets};
 ghost use Rattle.normal_form.specs.Normal.{IsNormal, Holds, largest_sum};
-ghost use Rattle.normal_form.specs.NormalOf.{IsNormalOf, IsBothOf, IsTooLarge, opposite, opposite_term, size_sum};
+ghost use Rattle.normal_form.specs.NormalOf.{IsNormalOf, IsBothOf, IsTooLarge, signs_changed, sign_changed, size_sum};
 ghost use Rattle.normal_form.specs.Balance.{Balances};
 
 use super::builder::NormalBuilder;
-use super::degrees::{least_degree, most_degree};
+use super::degrees::{at_least_degree, at_most_degree};
 use super::fault::CutFault;
 use super::merging::{merge, sizes_fit};
 use super::normal::Normal;
@@ -17,7 +23,7 @@ use linear::{Relation, Signed};
 use std::alloc::Global;
 
 // The form of a constraint read as `>=`, of its merged terms.
-fn least(merged: NormalBuilder, constraint: &Signed) -> Result<Normal, CutFault>
+fn at_least(merged: NormalBuilder, constraint: &Signed) -> Result<Normal, CutFault>
     requires sizes { size_sum constraint.now.terms ≤ largest_sum }
     requires balance { Balances constraint.now.terms merged }
     ensures form { IfOk result (IsNormalOf constraint.now) }
@@ -25,7 +31,7 @@ fn least(merged: NormalBuilder, constraint: &Signed) -> Result<Normal, CutFault>
     ensures within { OnOk result (IsTooLarge constraint.now → ⊥) }
     ensures too_large { OnErr result (IsTooLarge constraint.now × IsErrOf result CutFault.TooLarge) }
 {
-    let degree = least_degree(
+    let degree = at_least_degree(
         constraint.right,
         constraint.terms.as_slice(),
         merged.terms(),
@@ -34,15 +40,15 @@ fn least(merged: NormalBuilder, constraint: &Signed) -> Result<Normal, CutFault>
 }
 
 // The form of a constraint with all signs changed read as `>=`, of its merged terms.
-fn most(merged: NormalBuilder, constraint: &Signed) -> Result<Normal, CutFault>
+fn at_most(merged: NormalBuilder, constraint: &Signed) -> Result<Normal, CutFault>
     requires sizes { size_sum constraint.now.terms ≤ largest_sum }
-    requires balance { Balances (map opposite_term constraint.now.terms) merged }
-    ensures form { IfOk result (IsNormalOf (opposite constraint.now)) }
+    requires balance { Balances (map sign_changed constraint.now.terms) merged }
+    ensures form { IfOk result (IsNormalOf (signs_changed constraint.now)) }
     ensures normal { IfOk result IsNormal }
-    ensures within { OnOk result (IsTooLarge (opposite constraint.now) → ⊥) }
-    ensures too_large { OnErr result (IsTooLarge (opposite constraint.now) × IsErrOf result CutFault.TooLarge) }
+    ensures within { OnOk result (IsTooLarge (signs_changed constraint.now) → ⊥) }
+    ensures too_large { OnErr result (IsTooLarge (signs_changed constraint.now) × IsErrOf result CutFault.TooLarge) }
 {
-    let degree = most_degree(
+    let degree = at_most_degree(
         constraint.right,
         constraint.terms.as_slice(),
         merged.terms(),
@@ -67,7 +73,7 @@ pub fn normalize(alloc: Global, constraint: &Signed) -> Result<Normal, CutFault>
     if !sizes_fit(terms) {
         return Err(CutFault::TooLarge);
     }
-    least(merge(alloc, terms)?, constraint)
+    at_least(merge(alloc, terms)?, constraint)
 }
 
 /// The two normal forms of an equality: that of the constraint with `>=`, then that of the same with all
@@ -78,8 +84,8 @@ pub fn both(alloc: Global, constraint: &Signed) -> Result<(Normal, Normal), CutF
     ensures form { IfOk result (λ p. IsBothOf constraint.now p.0 p.1) }
     ensures normal { IfOk result (λ p. IsNormal p.0 × IsNormal p.1) }
     ensures same { IfOk result (λ p. (a : Valuation) → (Holds a p.0 × Holds a p.1) ↔ Meets a constraint.now) }
-    ensures too_large { IsErrOf result CutFault.TooLarge → IsTooLarge constraint.now ⊎ IsTooLarge (opposite constraint.now) }
-    ensures within { OnOk result (IsTooLarge constraint.now ⊎ IsTooLarge (opposite constraint.now) → ⊥) }
+    ensures too_large { IsErrOf result CutFault.TooLarge → IsTooLarge constraint.now ⊎ IsTooLarge (signs_changed constraint.now) }
+    ensures within { OnOk result (IsTooLarge constraint.now ⊎ IsTooLarge (signs_changed constraint.now) → ⊥) }
     ensures small { size_sum constraint.now.terms + unsigned_abs constraint.now.right ≤ largest_sum → IsErrOf result CutFault.TooLarge → ⊥ }
     ensures factor { IsErrOf result CutFault.BadFactor → ⊥ }
 {
@@ -88,6 +94,6 @@ pub fn both(alloc: Global, constraint: &Signed) -> Result<(Normal, Normal), CutF
         return Err(CutFault::TooLarge);
     }
     let merged = merge(alloc, terms)?;
-    let opposite = flip(alloc, merged.terms())?;
-    Ok((least(merged, constraint)?, most(opposite, constraint)?))
+    let turned = flip(alloc, merged.terms())?;
+    Ok((at_least(merged, constraint)?, at_most(turned, constraint)?))
 }

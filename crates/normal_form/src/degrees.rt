@@ -1,9 +1,13 @@
-//! The degrees of the normal forms of a signed constraint. Where one is above every number of the code's type,
-//! the largest stands for it, which is above the limit too.
+//! The degrees of the normal forms of a signed constraint.
+//!
+//! The degree is the right side, less the coefficients of all negated terms (`c ~x` is `c - c x`), and raised by
+//! what the negated literals of the merged terms count; below 0 it is 0, since then the constraint holds everywhere.
+//! The right side is any number of the code's type, so the sum may leave the type: it stops at the largest number,
+//! which is above the limit too, and is refused there.
 
 ghost use Rattle.std.specs.Prelude.{◌≡◌, ◌-◌, ◌^◌, ◌≤◌, min, map, pos, ◌+ℤ◌, ◌-ℤ◌, neg_ℤ, unsigned_abs, if◌then◌else◌};
 ghost use Rattle.normal_form.specs.Normal.{largest_sum, total, sum_over};
-ghost use Rattle.normal_form.specs.NormalOf.{size_sum, negated_sum, at_least_zero, opposite_term};
+ghost use Rattle.normal_form.specs.NormalOf.{size_sum, negated_sum, at_least_zero, sign_changed};
 
 use super::term::NormalTerm;
 use linear::Term;
@@ -56,7 +60,7 @@ fn at_least_zero(number: i128) -> u128
 }
 
 /// The degree of `terms >= right`, whose merged terms these are.
-pub(crate) fn least_degree(right: i128, terms: &[Term], merged: &[NormalTerm]) -> u128
+pub(crate) fn at_least_degree(right: i128, terms: &[Term], merged: &[NormalTerm]) -> u128
     requires sizes { size_sum terms.now ≤ largest_sum }
     requires sum { total merged.now ≤ largest_sum }
     ensures { result ≡ min (at_least_zero ((right -ℤ negated_sum terms.now) +ℤ pos (sum_over (λ _ negated. negated) merged.now))) (2 ^ 127 - 1) }
@@ -66,10 +70,10 @@ pub(crate) fn least_degree(right: i128, terms: &[Term], merged: &[NormalTerm]) -
 }
 
 /// The degree of the same with all signs changed, whose merged terms these are.
-pub(crate) fn most_degree(right: i128, terms: &[Term], merged: &[NormalTerm]) -> u128
+pub(crate) fn at_most_degree(right: i128, terms: &[Term], merged: &[NormalTerm]) -> u128
     requires sizes { size_sum terms.now ≤ largest_sum }
     requires sum { total merged.now ≤ largest_sum }
-    ensures { result ≡ min (at_least_zero ((neg_ℤ right -ℤ negated_sum (map opposite_term terms.now)) +ℤ pos (sum_over (λ _ negated. negated) merged.now))) (2 ^ 127 - 1) }
+    ensures { result ≡ min (at_least_zero ((neg_ℤ right -ℤ negated_sum (map sign_changed terms.now)) +ℤ pos (sum_over (λ _ negated. negated) merged.now))) (2 ^ 127 - 1) }
 {
     let lift = negated_total(merged) + negated_sum(terms);
     at_least_zero(lift.saturating_sub(right))

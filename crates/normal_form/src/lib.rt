@@ -12,14 +12,12 @@ mod negation;
 mod normal;
 mod opposites;
 mod term;
-#[cfg(test)]
-mod tests;
 mod truth;
 
 pub use builder::NormalBuilder;
 pub use conversion::{both, normalize};
 pub use fault::CutFault;
 pub use negation::negate;
-pub use normal::{LARGEST, Normal};
+pub use normal::{LARGEST_SUM, Normal};
 pub use term::NormalTerm;
 pub use truth::{holds, is_contradiction};

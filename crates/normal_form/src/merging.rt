@@ -1,4 +1,11 @@
 //! Merging signed terms: the terms of each variable become one with their net coefficient, or none where that is 0.
+//!
+//! A constraint of the OPB format (Roussel and Manquinho) may name a variable many times, in any order and with any
+//! sign, and the rules of cutting planes work on constraints that name it once. The terms are sorted by variable, and
+//! each run of one variable is added up in one pass: sorted terms are what every later rule needs too, so that two
+//! constraints merge in one pass. Coefficients stay signed until the end of a run, since what cancels must be gone
+//! before the sign of the rest decides between a literal and its opposite. That the sizes together are within the
+//! limit is asked before anything is added, so no sum on the way can leave its type.
 
 ghost use Rattle.std.specs.Prelude.{◌≡◌, ℕ, Bool, ◌+◌, ◌<◌, ◌≤◌, ◌≢◌, pos, ◌+ℤ◌, ◌↔◌, unsigned_abs, IsTrue, IfOk, OnOk, length, take, slice_index_or, if◌then◌else◌};
 ghost use Rattle.std.specs.List.Sorted.{IsNonDecreasingBy};
@@ -8,9 +15,8 @@ ghost use Rattle.normal_form.specs.Balance.{Balances, slopes, rises_of};
 ghost use Rattle.linear.specs.declared.term.Term.{Term};
 
 use super::builder::NormalBuilder;
-use super::normal::LARGEST;
-use super::term::NormalTerm;
-use linear::{Term, Var};
+use super::normal::LARGEST_SUM;
+use linear::Term;
 use std::alloc::{AllocError, Global};
 
 // Whether the sizes of the coefficients add up to at most the limit of coefficient sums.
@@ -21,7 +27,7 @@ pub(crate) fn sizes_fit(terms: &[Term]) -> bool
     for term in terms {
         sum = sum.saturating_add(term.coef.unsigned_abs());
     }
-    sum <= LARGEST
+    sum <= LARGEST_SUM
 }
 
 // What a term gives its variable.
@@ -57,22 +63,6 @@ fn run_from(sorted: &[Term], start: usize) -> Run
     Run { net, end }
 }
 
-// Puts the term of a net coefficient at the end, unless it is 0.
-fn push_net(merged: &mut NormalBuilder, var: Var, net: i128) -> Result<(), AllocError>
-    requires { variable_bound merged.old ≤ var.0 }
-    ensures gives { OnOk result ((set : ℕ → Bool) → rises_of set merged.new ≡ rises_of set merged.old +ℤ (if set (var.0) then net else pos 0)) }
-    ensures bound { OnOk result (variable_bound merged.new ≤ var.0 + 1) }
-{
-    if net == 0 {
-        return Ok(());
-    }
-    merged.push(NormalTerm {
-        coef: net.unsigned_abs(),
-        var,
-        negated: net < 0,
-    })
-}
-
 // Merges terms that stand in order of their variables.
 fn merge_runs(alloc: Global, sorted: &[Term]) -> Result<NormalBuilder, AllocError>
     requires order { IsNonDecreasingBy (λ t. t.var.0) sorted.now }
@@ -83,7 +73,7 @@ fn merge_runs(alloc: Global, sorted: &[Term]) -> Result<NormalBuilder, AllocErro
     let mut start = 0;
     while start < sorted.len() {
         let run = run_from(sorted, start);
-        push_net(&mut merged, sorted[start].var, run.net)?;
+        merged.push_net(sorted[start].var, run.net)?;
         start = run.end;
     }
     Ok(merged)

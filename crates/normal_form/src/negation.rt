@@ -1,4 +1,8 @@
 //! The negation of a normal constraint.
+//!
+//! "Less than A of the coefficients are true" is "more than T - A of them are false", T the coefficient sum: the
+//! opposite literals with the same coefficients, at least T - A + 1 of them. The negation is what a constraint that
+//! a proof claims by unit propagation is refuted with (RUP of the VeriPB format).
 
 ghost use Rattle.std.specs.Prelude.{◌≡◌, ◌↔◌, IfOk, IsErrOf, OnOk};
 ghost use Rattle.linear.specs.Valuation.{Valuation};
@@ -16,7 +20,7 @@ use std::alloc::Global;
 pub fn negate(alloc: Global, constraint: &Normal) -> Result<Normal, CutFault>
     ensures form { IfOk result (IsNegation constraint.now) }
     ensures normal { IfOk result IsNormal }
-    ensures opposite { IfOk result (λ n. (a : Valuation) → Holds a n ↔ (Holds a constraint.now → ⊥)) }
+    ensures meaning { IfOk result (λ n. (a : Valuation) → Holds a n ↔ (Holds a constraint.now → ⊥)) }
     ensures too_large { IsErrOf result CutFault.TooLarge → (constraint.now.degree ≡ 0) × (total constraint.now.terms ≡ largest_sum) }
     ensures within { OnOk result ((constraint.now.degree ≡ 0) × (total constraint.now.terms ≡ largest_sum) → ⊥) }
     ensures factor { IsErrOf result CutFault.BadFactor → ⊥ }

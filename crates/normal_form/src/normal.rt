@@ -1,4 +1,8 @@
 //! Normal constraints. How the terms are kept is private: they are read one at a time, by value.
+//!
+//! The coefficient sum is kept beside the terms, since a contradiction is seen from it in one step, and since it
+//! bounds every sum over some of the terms: what is below the limit needs no test on the way. The limit, 2^120, leaves
+//! room in the code's numbers for the sum of two constraints and a sign.
 
 ghost use Rattle.std.specs.Prelude.{◌≡◌, ◌<◌, ◌-◌, ◌^◌, ◌↔◌, min, IfOk, IsErrOf, OnErr, length, slice_index_or, []};
 ghost use Rattle.normal_form.specs.Normal.{IsNormal, Rises, Fits, total};
@@ -10,7 +14,7 @@ use std::default::MadeWith;
 use std::marker::Model;
 
 /// The limit of coefficient sums and of degrees.
-pub const LARGEST: u128 = 1 << 120;
+pub const LARGEST_SUM: u128 = 1 << 120;
 
 /// A normal constraint: a degree, and terms with coefficients above 0 in strictly rising order of their
 /// variables. Its coefficient sum and its degree are at most `2^120`.
@@ -47,7 +51,7 @@ impl Normal {
         ensures too_large { IsErrOf result CutFault.TooLarge ↔ (Fits (record { terms = terms.items; degree = degree }) → ⊥) }
         ensures others { OnErr result (IsErrOf result CutFault.TooLarge) }
     {
-        if capped_sum > LARGEST || degree > LARGEST {
+        if capped_sum > LARGEST_SUM || degree > LARGEST_SUM {
             return Err(CutFault::TooLarge);
         }
         Ok(Normal {

@@ -1,4 +1,5 @@
-//! The opposite literals of a list of terms.
+//! The opposite literals of a list of terms: what the negation of a constraint and the second form of an equality
+//! have in common.
 
 ghost use Rattle.std.specs.Prelude.{◌≡◌, IfOk};
 ghost use Rattle.normal_form.specs.Normal.{Rises};

@@ -5,7 +5,7 @@ ghost use Rattle.linear.specs.Valuation.{Valuation, valuation_of, literal_true};
 ghost use Rattle.normal_form.specs.Normal.{Holds, total, sum_over, variable_bound};
 
 use super::normal::Normal;
-use linear::{Assignment, Lit};
+use linear::Assignment;
 
 /// Whether a constraint holds at an assignment, which has a value for each variable that occurs.
 pub fn holds(constraint: &Normal, assignment: &Assignment) -> bool
@@ -27,11 +27,7 @@ fn counted(constraint: &Normal, assignment: &Assignment, place: usize) -> u128
         ≡ sum_over (literal_true (valuation_of assignment.now)) (take place constraint.now.terms) + result }
 {
     let term = constraint.term(place);
-    let literal = Lit {
-        var: term.var,
-        negated: term.negated,
-    };
-    if assignment.is_true(literal) {
+    if assignment.is_true(term.literal()) {
         term.coef
     } else {
         0

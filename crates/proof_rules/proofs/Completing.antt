@@ -9,9 +9,9 @@ use Rattle.normal_form.specs.Normal.{NormalConstraint, only}
 use Rattle.propagate.specs.Chain.{IsChain, LeadsToConflict, IsReached, IsClosure}
 use Rattle.propagate.specs.Literals.{opposite, among, lists, IsConsistent}
 use Rattle.propagate.proofs.Consistency.{push_consistent, chain_consistent}
-use Rattle.propagate.proofs.Ending.{Ends, one_outcome}
-use Rattle.propagate.proofs.Ends.{given_within}
-use Rattle.propagate.proofs.Gathered.{joined}
+use Rattle.propagate.proofs.SearchEnds.{Ends, one_outcome}
+use Rattle.propagate.proofs.ChainEnds.{given_within}
+use Rattle.propagate.proofs.JoinedChains.{joined}
 use Rattle.propagate.proofs.Listings.{among_left, among_right, among_head, among_tail, or_cases}
 use Rattle.proof_rules.specs.declared.fault.StepFault.{StepFault}
 use Rattle.proof_rules.specs.declared.fault.StepFault.TheVariants as faults

@@ -14,7 +14,7 @@ use Rattle.linear.specs.Limits.{IsTermWithin, IsConstraintWithin}
 use Rattle.normal_form.specs.Normal.{NormalConstraint, Holds, Rises, largest_sum}
 use Rattle.normal_form.specs.NormalOf.{size_sum}
 use Rattle.normal_form.proofs.NormalForm.{form_meaning}
-use Rattle.normal_form.proofs.Opposite.{both_meaning}
+use Rattle.normal_form.proofs.SignChanges.{both_meaning}
 use Rattle.proof_rules.specs.Claim.{IsSolution}
 use Rattle.proof_rules.specs.Forms.{AreFormsAs, AreFormsOf, AreFormsOfAll, AddsForms, ids_as, problem_ids}
 use Rattle.proof_rules.specs.Preserved.{IsPreserved, AreNormal}
@@ -90,7 +90,7 @@ all_hold a (c ∷ cs) ns (here, rest, is, form, forms) meets =
 form_rises : (r : Relation) (c : Signed) (ns : List NormalConstraint) → AreFormsAs r c ns → All (λ n. Rises 0 n.terms) ns
 form_rises relations.AtLeast c ns (n, is, form) = subst (All (λ n. Rises 0 n.terms)) (sym is) (All-one (λ n. Rises 0 n.terms) n form.rises)
 form_rises relations.Equal c ns (n, m, is, forms) =
-    subst (All (λ n. Rises 0 n.terms)) (sym is) (All-cons (λ n. Rises 0 n.terms) n (m ∷ []) forms.least.rises (All-one (λ n. Rises 0 n.terms) m forms.most.rises))
+    subst (All (λ n. Rises 0 n.terms)) (sym is) (All-cons (λ n. Rises 0 n.terms) n (m ∷ []) forms.at_least.rises (All-one (λ n. Rises 0 n.terms) m forms.at_most.rises))
 
 pub all_rise : (cs : List Signed) (ns : List NormalConstraint) → AreFormsOfAll cs ns → All (λ n. Rises 0 n.terms) ns
 all_rise [] ns empty = subst (All (λ n. Rises 0 n.terms)) (sym empty) (All-nil (λ n. Rises 0 n.terms))

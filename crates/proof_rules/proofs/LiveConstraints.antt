@@ -8,7 +8,7 @@ use Rattle.std.proofs.lemmas.Bool.{false≢true, ltb-true}
 use Rattle.std.proofs.lemmas.Cmp.{nat_cmp_total}
 use Rattle.std.specs.Cmp.{tied_itself}
 use Rattle.std.proofs.lemmas.List.Elements.{All-nil, All-cons, All-head, All-tail}
-use Rattle.propagate.proofs.Somewhere.{any_here, any_there, any_split, any_none}
+use Rattle.propagate.proofs.AnyOf.{any_here, any_there, any_split, any_none}
 use Rattle.normal_form.specs.Normal.{NormalConstraint}
 use Rattle.proof_rules.specs.State.{Live, numbered}
 use Rattle.proof_rules.proofs.Deciding.{Decided}

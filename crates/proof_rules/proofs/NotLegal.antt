@@ -10,7 +10,7 @@ use Rattle.linear.specs.Opb.{Opb}
 use Rattle.normal_form.specs.Normal.{NormalConstraint}
 use Rattle.normal_form.specs.Negation.{IsNegation}
 use Rattle.normal_form.proofs.NormalForm.{one_form}
-use Rattle.normal_form.proofs.Opposite.{one_negation}
+use Rattle.normal_form.proofs.Negations.{one_negation}
 use Rattle.substitution.specs.Images.{Images}
 use Rattle.proof_steps.specs.declared.conclusion.Conclusion.{Conclusion}
 use Rattle.proof_steps.specs.declared.conclusion.Lower.{Lower}

@@ -7,7 +7,7 @@ use Rattle.linear.specs.declared.term.Lit.{Lit}
 use Rattle.linear.specs.Opb.{Opb}
 use Rattle.normal_form.specs.Normal.{NormalConstraint}
 use Rattle.normal_form.specs.Negation.{IsNegation}
-use Rattle.normal_form.proofs.Opposite.{one_negation}
+use Rattle.normal_form.proofs.Negations.{one_negation}
 use Rattle.substitution.specs.Images.{Images}
 use Rattle.proof_rules.specs.declared.fault.StepFault.{StepFault}
 use Rattle.proof_rules.specs.declared.fault.StepFault.TheVariants as faults

@@ -12,9 +12,10 @@ use Rattle.linear.specs.Valuation.{Valuation}
 use Rattle.linear.specs.Sum.{sum_of}
 use Rattle.linear.specs.Opb.{Opb, value_of, objective_value}
 use Rattle.normal_form.specs.Normal.{NormalConstraint, Holds, Rises}
-use Rattle.normal_form.specs.NormalOf.{IsNormalOf, opposite_term}
+use Rattle.normal_form.specs.NormalOf.{IsNormalOf, sign_changed}
 use Rattle.normal_form.proofs.NormalForm.{form_meaning}
-use Rattle.normal_form.proofs.Opposite.{opposite_sum, negation_meaning}
+use Rattle.normal_form.proofs.Negations.{negation_meaning}
+use Rattle.normal_form.proofs.SignChanges.{sign_changed_sum}
 use Rattle.substitution.specs.Images.{Images, after}
 use Rattle.substitution.proofs.Images.{under_meaning, objective_meaning}
 use Rattle.proof_steps.specs.declared.step.Item.{Item}
@@ -132,7 +133,7 @@ improved : (p : Opb) (objective : List Term) (n : NormalConstraint) (bound : ℤ
     → IsNormalOf (at_most objective (bound -ℤ pos 1)) n → value_of b p <ℤ bound → Holds b n
 improved p objective n bound b minimises form below =
     let value : value_of b p ≡ sum_of b objective = ap (objective_value b) minimises in
-    let turned : sum_of b (map opposite_term objective) ≡ neg_ℤ (sum_of b objective) = opposite_sum b objective in
+    let turned : sum_of b (map sign_changed objective) ≡ neg_ℤ (sum_of b objective) = sign_changed_sum b objective in
     (form_meaning (at_most objective (bound -ℤ pos 1)) n refl form b).1 (omega (arith, ints, value, turned, below))
 
 between : (x y z : ℤ) → x ≤ℤ y → y <ℤ z → x <ℤ z

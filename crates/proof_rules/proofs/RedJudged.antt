@@ -5,7 +5,7 @@ use Rattle.linear.specs.declared.term.Term.{Term}
 use Rattle.linear.specs.Opb.{Opb}
 use Rattle.normal_form.specs.Normal.{NormalConstraint}
 use Rattle.normal_form.specs.Negation.{IsNegation}
-use Rattle.normal_form.proofs.Opposite.{negation, negation_is}
+use Rattle.normal_form.proofs.Negations.{negation, negation_is}
 use Rattle.substitution.specs.Images.{Images}
 use Rattle.proof_rules.specs.declared.fault.StepFault.{StepFault}
 use Rattle.proof_rules.specs.declared.fault.StepFault.TheVariants as faults

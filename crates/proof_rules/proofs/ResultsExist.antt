@@ -9,7 +9,7 @@ use Rattle.linear.specs.declared.term.Term.{Term}
 use Rattle.normal_form.specs.declared.term.NormalTerm.{NormalTerm}
 use Rattle.normal_form.specs.Normal.{NormalConstraint, coefficient, same_sign, Rises}
 use Rattle.normal_form.specs.Balance.{rise_of, rises_of, slopes}
-use Rattle.normal_form.proofs.Insertion.{formed, formed_balances, formed_rises}
+use Rattle.normal_form.proofs.BalancedList.{formed, formed_balances, formed_rises}
 use Rattle.substitution.specs.Under.{signed_term}
 use Rattle.cut_rules.specs.Rules.{IsSum, IsMultiple, IsQuotient, IsSaturation, IsWeakening, IsAxiom, cancelled}
 use Rattle.cut_rules.specs.Steps.{SumBalances, changed, less, times, parts}

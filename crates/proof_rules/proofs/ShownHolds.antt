@@ -8,10 +8,10 @@ use Rattle.std.proofs.lemmas.List.Elements.{All-push, All-contains}
 use Rattle.linear.specs.Valuation.{Valuation}
 use Rattle.normal_form.specs.Normal.{NormalConstraint, Holds, Rises, weight}
 use Rattle.normal_form.specs.Negation.{IsNegation}
-use Rattle.normal_form.proofs.Opposite.{negation, negation_is, negation_meaning}
+use Rattle.normal_form.proofs.Negations.{negation, negation_is, negation_meaning}
 use Rattle.propagate.specs.Chain.{IsRefuted}
 use Rattle.propagate.proofs.Chains.{no_conflict_true}
-use Rattle.propagate.proofs.Zero.{zero_refuted}
+use Rattle.propagate.proofs.DegreeZero.{zero_refuted}
 use Rattle.substitution.proofs.Covered.{covered_holds}
 use Rattle.proof_rules.specs.Shown.{IsShown, absurdity}
 

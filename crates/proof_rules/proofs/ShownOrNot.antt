@@ -4,13 +4,13 @@ use Rattle.linear.specs.declared.constraint.Relation.{Relation}
 use Rattle.linear.specs.declared.constraint.Relation.TheVariants.{AtLeast, Equal}
 use Rattle.linear.specs.declared.constraint.Signed.{Signed}
 use Rattle.linear.specs.declared.term.Term.{Term}
-use Rattle.normal_form.specs.Normal.{NormalConstraint, Fits, Rises, total, largest_sum, largest_degree}
+use Rattle.normal_form.specs.Normal.{NormalConstraint, Fits, Rises, total, largest_sum, largest_sum}
 use Rattle.normal_form.specs.NormalOf.{IsNormalOf, size_sum}
 use Rattle.normal_form.specs.Negation.{IsNegation}
 use Rattle.normal_form.proofs.NormalForm.{form, form_is, one_form}
-use Rattle.normal_form.proofs.Opposite.{negation, negation_is, one_negation}
+use Rattle.normal_form.proofs.Negations.{negation, negation_is, one_negation}
 use Rattle.propagate.specs.Chain.{IsRefuted}
-use Rattle.propagate.proofs.Ending.{one_outcome}
+use Rattle.propagate.proofs.SearchEnds.{one_outcome}
 use Rattle.substitution.specs.Covering.{Covers, excess}
 use Rattle.substitution.specs.Images.{Images}
 use Rattle.substitution.specs.Under.{substituted}
@@ -35,7 +35,7 @@ negation_decided live n rises = elim (one_outcome (live ++ negation n ∷ []) []
 pub shown_decided : (live : List NormalConstraint) (n : NormalConstraint) → Rises 0 n.terms → Decided (IsShown live n)
 shown_decided live n rises =
     either_decided (Any (λ e. Covers e n) live) (ByNegation live n)
-    (any_decided (λ e. Covers e n) (λ e. le_decided (n.degree + excess e.terms n) e.degree) live)
+    (any_decided (λ e. Covers e n) (λ e. le_decided (n.degree + excess e n) e.degree) live)
     (negation_decided live n rises)
 
 -- what has one normal form is shown or not
@@ -54,7 +54,7 @@ not_raised_decided from images objective = form_decided from (not_raised objecti
 pub fits_decided : (n : NormalConstraint) → Decided (Fits n)
 fits_decided n =
     decided_as _ (Fits n) (λ h. record { sum = h.0; degree = h.1 }) (λ f. (f.sum, f.degree))
-    (both_decided _ _ (le_decided (total n.terms) largest_sum) (le_decided n.degree largest_degree))
+    (both_decided _ _ (le_decided (total n.terms) largest_sum) (le_decided n.degree largest_sum))
 
 relation_decided : (r : Relation) → Decided (r ≡ AtLeast)
 relation_decided AtLeast = inl refl

@@ -6,17 +6,17 @@ use Rattle.linear.specs.declared.term.Lit.{Lit}
 use Rattle.normal_form.specs.Normal.{NormalConstraint, Rises, total}
 use Rattle.normal_form.specs.Balance.{flipped}
 use Rattle.normal_form.specs.Negation.{IsNegation}
-use Rattle.normal_form.proofs.Opposite.{negation_from, one_negation}
+use Rattle.normal_form.proofs.Negations.{negation_from, one_negation}
 use Rattle.propagate.specs.Chain.{IsRefuted}
 use Rattle.propagate.specs.Passes.{outcome, Conflict, Settled}
-use Rattle.propagate.proofs.Outcomes.{conflict_met, no_conflict_met}
-use Rattle.propagate.proofs.Somewhere.{none_from_test}
+use Rattle.propagate.proofs.SearchIsRight.{conflict_met, no_conflict_met}
+use Rattle.propagate.proofs.AnyOf.{none_from_test}
 use Rattle.substitution.specs.Covering.{Covers, excess}
 use Rattle.proof_rules.specs.Shown.{IsShown}
 
 -- whether a constraint covers another
 abbrev pub covering : NormalConstraint → NormalConstraint → Bool
-covering n e = nat_le (n.degree + excess e.terms n) e.degree
+covering n e = nat_le (n.degree + excess e n) e.degree
 
 covering_told : (n e : NormalConstraint) → Covers e n → covering n e ≡ true
 covering_told n e h = grind (arith, nat_tests)

@@ -5,7 +5,7 @@ use Rattle.linear.specs.declared.constraint.Signed.{Signed}
 use Rattle.linear.specs.declared.term.Lit.{Lit}
 use Rattle.linear.specs.declared.term.Term.{Term}
 use Rattle.normal_form.specs.Normal.{NormalConstraint}
-use Rattle.normal_form.specs.NormalOf.{opposite_term}
+use Rattle.normal_form.specs.NormalOf.{sign_changed}
 use Rattle.propagate.specs.Literals.{lists, IsConsistent}
 use Rattle.propagate.specs.Chain.{LeadsToConflict, IsReached}
 
@@ -39,7 +39,7 @@ pub record Completes (live : List NormalConstraint) (count : ℕ) (listing : Lis
 
 -- objective <= bound
 abbrev pub at_most : List Term → ℤ → Signed
-at_most objective bound = record { terms = map opposite_term objective; relation = AtLeast; right = pos 0 -ℤ bound }
+at_most objective bound = record { terms = map sign_changed objective; relation = AtLeast; right = pos 0 -ℤ bound }
 
 -- objective >= bound
 abbrev pub at_least : List Term → ℤ → Signed

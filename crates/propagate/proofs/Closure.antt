@@ -8,11 +8,11 @@ use Rattle.propagate.specs.Slack.{IsBroken, IsForced}
 use Rattle.propagate.specs.Chain.{LeadsToConflict, IsSettled, IsClosure}
 use Rattle.normal_form.proofs.SetSums.{Within}
 use Rattle.propagate.proofs.Chains.{another, broken_more, forced_more, no_conflict_from}
-use Rattle.propagate.proofs.Ends.{by_set}
-use Rattle.propagate.proofs.Ending.{one_end_or_conflict}
+use Rattle.propagate.proofs.ChainEnds.{by_set}
+use Rattle.propagate.proofs.SearchEnds.{one_end_or_conflict}
 
 -- a listing with the literals of a settled one
-same_settled : (ns : List NormalConstraint) (closed ms : List Lit) → IsSettled ns ms → Within (among closed) (among ms) → Within (among ms) (among closed) → IsSettled ns closed
+pub same_settled : (ns : List NormalConstraint) (closed ms : List Lit) → IsSettled ns ms → Within (among closed) (among ms) → Within (among ms) (among closed) → IsSettled ns closed
 same_settled ns closed ms q in' out = record {
   nothing_forced = λ l f. elim (forced_more f.1 closed ms l in' f.4) [
     | inl m ↦ false≢true (sym f.4.unset ∙ out (l.var.0) l.negated m)

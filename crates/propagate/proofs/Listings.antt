@@ -1,11 +1,12 @@
 -- Listings as sets of literals.
-use Rattle.std.proofs.Common.{◌≡◌, ℕ, Bool, true, false, not, ◌||◌, List, [], ◌∷◌, ◌++◌, refl, ap, ◌∙◌, arith, inl, inr, ◌⊎◌, All, length}
+use Rattle.std.proofs.Common.{◌≡◌, ℕ, Bool, true, false, not, ◌||◌, List, [], ◌∷◌, ◌++◌, refl, ap, sym, subst, ◌∙◌, arith, inl, inr, ◌⊎◌, All, length}
 use Rattle.std.proofs.lemmas.Bool.{false≢true}
+use Rattle.std.proofs.lemmas.Bool.Decides.{nat_tests}
 use Rattle.std.proofs.lemmas.List.Elements.{All-head, All-tail}
 use Rattle.linear.specs.declared.term.Lit.{Lit}
 use Rattle.linear.specs.Valuation.{Valuation, literal_true}
 use Rattle.normal_form.specs.Normal.{Literals, only}
-use Rattle.propagate.specs.Literals.{among, MakesTrue}
+use Rattle.propagate.specs.Literals.{among, lists, IsOnce, MakesTrue}
 use Rattle.propagate.specs.Slack.{not_false}
 use Rattle.normal_form.proofs.SetSums.{Within, only_is, only_itself}
 
@@ -90,3 +91,33 @@ shut b false h k = refl
 -- and then no true literal is made false
 pub true_not_false : (a : Valuation) (xs : List Lit) → Within (among xs) (literal_true a) → Within (literal_true a) (not_false xs)
 true_not_false a xs h v s e = shut (literal_true a v (not s)) (among xs v (not s)) (h v (not s)) (λ k. one_true (a v) s e k)
+
+only_turned : (v w : ℕ) (s t : Bool) → only v s w t ≡ only w t v s
+only_turned v w true true = grind (arith, nat_tests)
+only_turned v w true false = grind (arith, nat_tests)
+only_turned v w false true = grind (arith, nat_tests)
+only_turned v w false false = grind (arith, nat_tests)
+
+or_neither : (b d : Bool) → (b || d) ≡ false → (b ≡ false) × (d ≡ false)
+or_neither true d h = absurd (false≢true (cc))
+or_neither false d h = (refl, h)
+
+neither_or : (b d : Bool) → b ≡ false → d ≡ false → (b || d) ≡ false
+neither_or true d h k = absurd (false≢true (cc))
+neither_or false d h k = k
+
+-- a literal that is not listed may be put at the end
+pub once_push : (xs : List Lit) (l : Lit) → IsOnce xs → lists xs l ≡ false → IsOnce (xs ++ l ∷ [])
+once_push [] l h e = (refl, tt)
+once_push (x ∷ xs) l h e =
+    let apart = or_neither (only (x.var.0) x.negated (l.var.0) l.negated) (lists xs l) e in
+    let other = only_turned (l.var.0) (x.var.0) l.negated x.negated ∙ apart.0 in
+    let absent = neither_or (only (l.var.0) l.negated (x.var.0) x.negated) false other refl in (
+      among_append xs (l ∷ []) (x.var.0) x.negated ∙ neither_or (lists xs x) (among (l ∷ []) (x.var.0) x.negated) h.0 absent,
+      once_push xs l h.1 apart.1,
+    )
+
+-- the same, where the parts are known by other names
+pub once_pushed : (old listing new : List Lit) (l : Lit) → IsOnce listing → listing ≡ old → new ≡ listing ++ l ∷ [] → lists old l ≡ false → IsOnce new
+once_pushed old listing new l h e f unset =
+    subst IsOnce (sym f) (once_push listing l h (ap (λ (xs : List Lit). lists xs l) e ∙ unset))

@@ -1,5 +1,10 @@
--- Chains of forced literals, and what they lead to. The constraints are a list, of which only the members count:
--- a law in a contract can range over lists of constraints, and over predicates on them it cannot.
+-- Chains of forced literals, and what they lead to: unit propagation, as the VeriPB format understands it for
+-- pseudo-Boolean constraints, where a constraint may force a literal although others of its literals are unset.
+--
+-- A program keeps a queue and runs it to its end. The definition says only that some list of literals exists, each
+-- forced in some constraint under what stands before it; in which order literals are forced is left open, since laws
+-- say that it does not matter. The constraints are a list, of which only the members count: a law in a contract can
+-- range over lists of constraints, and over predicates on them it cannot.
 use Rattle.std.specs.Prelude.{◌≡◌, true, ◌↔◌, ◌⊎◌, List, [], ◌∷◌, ◌++◌, Any}
 use Rattle.linear.specs.declared.term.Lit.{Lit}
 use Rattle.normal_form.specs.Normal.{NormalConstraint}

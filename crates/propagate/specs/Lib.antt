@@ -5,6 +5,8 @@ pub mod Biting
 pub mod Passes
 pub mod Cases
 pub mod Values
-pub mod Reading
+pub mod Effect
 pub mod Walk
 pub mod Reach
+pub mod Content
+pub mod TraceByPlaces

@@ -29,6 +29,11 @@ Contradicts listing = (l : Lit) × (lists listing l ≡ true) × (lists listing 
 abbrev pub IsConsistent : List Lit → Type 0
 IsConsistent listing = Contradicts listing → ⊥
 
+-- no literal stands in the listing twice
+abbrev pub IsOnce : List Lit → Type 0
+IsOnce [] = Unit {0}
+IsOnce (l ∷ ls) = (lists ls l ≡ false) × IsOnce ls
+
 -- two listings have the same literals
 abbrev pub SameLiterals : List Lit → List Lit → Type 0
 SameLiterals xs ys = (v : ℕ) (s : Bool) → among xs v s ≡ among ys v s

@@ -3,9 +3,9 @@ use Rattle.std.specs.Prelude.{◌≡◌, ℕ, ◌<◌, List, [], ◌∷◌, ◌+
 use Rattle.std.specs.List.{AllWithin}
 use Rattle.linear.specs.declared.term.Lit.{Lit}
 use Rattle.normal_form.specs.Normal.{NormalConstraint}
-use Rattle.propagate.specs.declared.next.Forced.{Forced}
-use Rattle.propagate.specs.declared.next.Next.{Next}
-use Rattle.propagate.specs.declared.next.Next.TheVariants as nexts
+use Rattle.propagate.specs.declared.scan.Forced.{Forced}
+use Rattle.propagate.specs.declared.scan.Scan.{Scan}
+use Rattle.propagate.specs.declared.scan.Scan.TheVariants as scans
 use Rattle.propagate.specs.Slack.{IsBroken, IsForced}
 
 -- the constraint at a place is this one
@@ -34,19 +34,19 @@ abbrev pub IsQuiet : List Lit → NormalConstraint → Type 0
 IsQuiet listing n = (IsBroken listing n → ⊥) × ((l : Lit) → IsForced listing l n → ⊥)
 
 -- what one constraint, which stands at this place, says
-abbrev pub IsNextAt : ℕ → NormalConstraint → List Lit → Next → Type 0
-IsNextAt place n listing nexts.Quiet = IsQuiet listing n
-IsNextAt place n listing (nexts.Broken at) = (at ≡ place) × IsBroken listing n
-IsNextAt place n listing (nexts.Step step) = (step.reason ≡ place) × IsForced listing step.literal n
+abbrev pub IsScanAt : ℕ → NormalConstraint → List Lit → Scan → Type 0
+IsScanAt place n listing scans.Quiet = IsQuiet listing n
+IsScanAt place n listing (scans.Broken at) = (at ≡ place) × IsBroken listing n
+IsScanAt place n listing (scans.Step step) = (step.reason ≡ place) × IsForced listing step.literal n
 
 -- what comes next of the constraints from one place up to another
-abbrev pub IsNextBetween : List NormalConstraint → ℕ → ℕ → List Lit → Next → Type 0
-IsNextBetween constraints low high listing nexts.Quiet = AllWithin (IsQuiet listing) constraints low high
-IsNextBetween constraints low high listing (nexts.Broken place) = IsBrokenAt constraints listing place
-IsNextBetween constraints low high listing (nexts.Step step) = IsForcedStep constraints listing step
+abbrev pub IsScanBetween : List NormalConstraint → ℕ → ℕ → List Lit → Scan → Type 0
+IsScanBetween constraints low high listing scans.Quiet = AllWithin (IsQuiet listing) constraints low high
+IsScanBetween constraints low high listing (scans.Broken place) = IsBrokenAt constraints listing place
+IsScanBetween constraints low high listing (scans.Step step) = IsForcedStep constraints listing step
 
 -- what comes next under a listing: nothing, as all constraints are quiet, or a broken constraint, or a forced literal
-abbrev pub IsNext : List NormalConstraint → List Lit → Next → Type 0
-IsNext constraints listing nexts.Quiet = All (IsQuiet listing) constraints
-IsNext constraints listing (nexts.Broken place) = IsBrokenAt constraints listing place
-IsNext constraints listing (nexts.Step step) = IsForcedStep constraints listing step
+abbrev pub IsScan : List NormalConstraint → List Lit → Scan → Type 0
+IsScan constraints listing scans.Quiet = All (IsQuiet listing) constraints
+IsScan constraints listing (scans.Broken place) = IsBrokenAt constraints listing place
+IsScan constraints listing (scans.Step step) = IsForcedStep constraints listing step

@@ -1,13 +1,13 @@
 //! Laws of the definitions, each the contract of a function that does nothing.
 
-ghost use Rattle.std.specs.Prelude.{◌≡◌, ◌⊎◌, ℕ, true, All, Contains, List, [], ◌∷◌, ◌++◌};
+ghost use Rattle.std.specs.Prelude.{◌≡◌, ◌<◌, ◌↔◌, ◌⊎◌, ℕ, true, All, Contains, List, [], ◌∷◌, ◌++◌};
 ghost use Rattle.linear.specs.declared.term.Lit.{Lit};
 ghost use Rattle.linear.specs.Valuation.{Valuation};
 ghost use Rattle.normal_form.specs.Negation.{IsNegation};
-ghost use Rattle.normal_form.specs.Normal.{NormalConstraint, Holds, Rises};
+ghost use Rattle.normal_form.specs.Normal.{NormalConstraint, Holds, Rises, total};
 ghost use Rattle.propagate.specs.Biting.{Bites};
-ghost use Rattle.propagate.specs.Chain.{IsConflict, IsChain, LeadsToConflict, IsRefuted, IsWholeChain, IsSettled, IsClosure};
-ghost use Rattle.propagate.specs.Literals.{IsConsistent, MakesTrue, lists};
+ghost use Rattle.propagate.specs.Chain.{IsConflict, IsChain, LeadsToConflict, IsRefuted, IsWholeChain, IsSettled, IsReached, IsClosure};
+ghost use Rattle.propagate.specs.Literals.{coefficient_of, IsConsistent, MakesTrue, lists};
 ghost use Rattle.propagate.specs.Passes.{outcome, Conflict, Settled};
 ghost use Rattle.propagate.specs.Slack.{IsBroken};
 
@@ -24,12 +24,46 @@ pub fn refuted_unsatisfiable()
         → (a : Valuation) → All (Holds a) constraints → ⊥ }
 {}
 
-/// More constraints lead to every conflict that fewer lead to, and refute what those refute.
+/// A chain over fewer constraints is one over more; more constraints lead to every conflict that fewer lead to, and
+/// refute what those refute.
 pub fn more_constraints()
+    ensures chain { (fewer more : List NormalConstraint) → ((n : NormalConstraint) → Contains fewer n → Contains more n)
+        → (given chain : List Lit) → IsChain fewer given chain → IsChain more given chain }
     ensures conflict { (fewer more : List NormalConstraint) → ((n : NormalConstraint) → Contains fewer n → Contains more n)
         → (given : List Lit) → LeadsToConflict fewer given → LeadsToConflict more given }
     ensures refuted { (fewer more : List NormalConstraint) → ((n : NormalConstraint) → Contains fewer n → Contains more n)
         → IsRefuted fewer → IsRefuted more }
+{}
+
+/// Which constraints are there matters, and neither their order nor how often they are there.
+pub fn same_constraints()
+    ensures conflict { (constraints others : List NormalConstraint) → ((n : NormalConstraint) → Contains constraints n ↔ Contains others n)
+        → (given : List Lit) → LeadsToConflict constraints given ↔ LeadsToConflict others given }
+    ensures reached { (constraints others : List NormalConstraint) → ((n : NormalConstraint) → Contains constraints n ↔ Contains others n)
+        → (given : List Lit) → (l : Lit) → IsReached constraints given l ↔ IsReached others given l }
+    ensures refuted { (constraints others : List NormalConstraint) → ((n : NormalConstraint) → Contains constraints n ↔ Contains others n)
+        → IsRefuted constraints ↔ IsRefuted others }
+{}
+
+/// A chain may be kept: what is given with the chain leads to a conflict exactly where what is given does, and without a
+/// conflict both reach the same literals.
+pub fn chain_kept()
+    ensures conflict { (constraints : List NormalConstraint) → (given chain : List Lit) → IsChain constraints given chain
+        → LeadsToConflict constraints (given ++ chain) ↔ LeadsToConflict constraints given }
+    ensures reached { (constraints : List NormalConstraint) → (given chain : List Lit) → IsChain constraints given chain
+        → (LeadsToConflict constraints given → ⊥) → (l : Lit) → IsReached constraints (given ++ chain) l ↔ IsReached constraints given l }
+{}
+
+/// Constraints that reach from nothing every literal of a listing are refuted where fewer lead from it to a conflict. So
+/// a listing that leads to a conflict refutes the constraints with one that asks for all its literals, which is the
+/// negation of the clause that one of them is false.
+pub fn conflict_refutes()
+    ensures reached { (fewer more : List NormalConstraint) → ((n : NormalConstraint) → Contains fewer n → Contains more n)
+        → (listing : List Lit) → ((l : Lit) → lists listing l ≡ true → IsReached more [] l)
+        → LeadsToConflict fewer listing → IsRefuted more }
+    ensures asked { (constraints : List NormalConstraint) → (listing : List Lit) → (all : NormalConstraint)
+        → all.degree ≡ total all.terms → ((l : Lit) → lists listing l ≡ true → 0 < coefficient_of all l)
+        → LeadsToConflict constraints listing → IsRefuted (constraints ++ all ∷ []) }
 {}
 
 /// Two chains that cannot go on lead to a conflict both, or have the same literals with what is given: in which

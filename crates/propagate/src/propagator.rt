@@ -1,36 +1,48 @@
-//! The live constraints of a proof, by id, and what propagation over them comes to.
+//! What every propagator can do, however it does it.
+//!
+//! A propagator is a finite map from ids to constraints that can be asked what follows by unit propagation. Its meaning is
+//! that map alone (`content`), so that a kernel that is proved over any propagator stays proved when a faster one takes
+//! the place of a plain one: counters, queues and trails that an implementation keeps between calls never show. That is
+//! also why the three questions take `&mut self`: they may change what is kept, and leave the content as it is.
+//!
+//! The constraints count as a list by rising id, since the definitions of chains and of refutation are about lists; laws
+//! say that order and copies in the list do not matter.
 
-ghost use Rattle.std.specs.Prelude.{◌≡◌, ◌↔◌, ◌<◌, ◌≤◌, ◌++◌, None, IfOk, IsTrue, IsSome, OnErr, OnOk, ℕ, MatchOption};
+ghost use Rattle.std.specs.Prelude.{◌≡◌, ◌++◌, ◌↔◌, IfOk, IsTrue, OnErr, OnOk, None};
 ghost use Rattle.std.specs.Option.{option_copied};
 ghost use Rattle.std.specs.FinMap as map;
 ghost use Rattle.std.specs.Ordering.{nat_cmp};
 ghost use Rattle.normal_form.specs.Normal.{NormalConstraint};
 ghost use Rattle.propagate.specs.Chain.{IsRefuted};
+ghost use Rattle.propagate.specs.Content.{IsLeastAbove, IsTrace};
+ghost use Rattle.propagate.specs.Literals.{IsConsistent};
 ghost use Rattle.propagate.specs.Reach.{IsReach};
 
 use super::reach::Reach;
+use super::trace::Trace;
 use linear::Lit;
 use normal_form::Normal;
 use std::alloc::{AllocError, Global};
 
-/// The id of a constraint.
+/// The number by which a constraint is named.
 pub type Id = u32;
 
-/// A map from ids to constraints that answers what propagation over all of them comes to.
+/// A finite map from ids to constraints, with unit propagation over all of them.
 pub trait Propagator: Drop {
+    /// The constraints by their ids.
     ghost content: { Self → map.FinMap nat_cmp NormalConstraint };
 
-    /// No constraint.
+    /// No constraint yet.
     fn empty(alloc: Global) -> Self
         ensures { content result ≡ map.empty };
 
-    /// Puts a constraint under a new id.
+    /// Puts in a constraint under an id that is not there.
     fn insert(&mut self, id: Id, constraint: Normal) -> Result<(), AllocError>
         requires { map.get (content self.old) id ≡ None }
         ensures ok { OnOk result (content self.new ≡ map.insert (content self.old) id constraint) }
         ensures err { OnErr result (content self.new ≡ content self.old) };
 
-    /// Takes the constraint of an id away, and gives it, if there is one.
+    /// Takes out the constraint of an id, if there is one.
     fn remove(&mut self, id: Id) -> Option<Normal>
         ensures value { result ≡ map.get (content self.old) id }
         ensures removed { content self.new ≡ map.remove (content self.old) id };
@@ -39,18 +51,26 @@ pub trait Propagator: Drop {
     fn get(&self, id: Id) -> Option<&Normal>
         ensures { option_copied result ≡ map.get (content self.now) id };
 
-    /// The least id above this one that has a constraint.
+    /// The least id above another that has a constraint.
     fn after(&self, id: Id) -> Option<Id>
-        ensures there { MatchOption result ((k : ℕ) → id < k → map.get (content self.now) k ≡ None) (λ next. (id < next) × IsSome (map.get (content self.now) next)) }
-        ensures least { MatchOption result ((k : ℕ) → id < k → map.get (content self.now) k ≡ None) (λ next. (k : ℕ) → id < k → k < next → map.get (content self.now) k ≡ None) };
+        ensures { IsLeastAbove (content self.now) id result };
 
-    /// Whether the constraints, with some more beside them, are refuted.
+    /// Whether the constraints are refuted together with some extra ones: whether a chain from nothing leads to one of
+    /// them with negative slack.
     fn refute(&mut self, extras: &[Normal]) -> Result<bool, AllocError>
         ensures content { content self.new ≡ content self.old }
         ensures value { IfOk result (λ yes. IsTrue yes ↔ IsRefuted (map.values (content self.old) ++ extras.now)) };
 
-    /// What a listing extends to over the constraints.
+    /// What a listing extends to: `Conflict` exactly where it has a literal and its opposite or a chain from it leads to
+    /// negative slack, else exactly the given and forced literals, each once.
     fn extend(&mut self, given: &[Lit]) -> Result<Reach, AllocError>
         ensures content { content self.new ≡ content self.old }
-        ensures reach { IfOk result (IsReach (map.values (content self.old)) given.now) };
+        ensures value { IfOk result (IsReach (map.values (content self.old)) given.now) };
+
+    /// A chain from a listing without opposites, with its reasons, to a constraint with negative slack or to the end:
+    /// a conflict is named exactly where `extend` answers one.
+    fn trace(&mut self, given: &[Lit]) -> Result<Trace, AllocError>
+        requires { IsConsistent given.now }
+        ensures content { content self.new ≡ content self.old }
+        ensures value { IfOk result (IsTrace (content self.old) given.now) };
 }

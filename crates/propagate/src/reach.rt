@@ -19,8 +19,8 @@ pub enum Reach {
     Closed(Seq<Lit>),
 }
 
-// The least number above all variables of some literals.
-fn literal_count(literals: &[Lit]) -> usize
+/// The least number above all variables of some literals.
+pub(crate) fn literal_count(literals: &[Lit]) -> usize
     ensures { All (λ l. l.var.0 < result) literals.now }
 {
     let mut count: usize = 0;

@@ -1,7 +1,11 @@
 //! The literals that are taken as true, in the order in which they were, and the values that they give variables.
+//!
+//! Whether a literal is true or false is asked for every term of every constraint that is read, so it is looked up by
+//! variable; the order is what a chain is made of. That the two say the same, and that no literal stands twice, are
+//! facts of the type.
 
 ghost use Rattle.std.specs.Prelude.{◌≡◌, ◌<◌, ◌++◌, ◌∷◌, [], false, IfOk, IsTrue, OnOk, OnErr, ◌↔◌, None, All, IfSome, true};
-ghost use Rattle.propagate.specs.Literals.{Contradicts, IsConsistent, SameLiterals, lists, opposite};
+ghost use Rattle.propagate.specs.Literals.{Contradicts, IsConsistent, IsOnce, SameLiterals, lists, opposite};
 
 use linear::{Lit, Seq};
 use std::alloc::{AllocError, Global};
@@ -17,13 +21,14 @@ pub(crate) struct Trail {
 impl Model for Trail {
     ghost use Rattle.std.specs.Prelude.{ℕ, List, length};
     ghost use Rattle.linear.specs.declared.term.Lit.{Lit};
+    ghost use Rattle.propagate.specs.Literals.{IsOnce};
     ghost use Rattle.propagate.specs.Values.{Agrees};
 
     ghost Value = { List Lit × ℕ };
 
     ghost view = { λ t. (t.listing.items, length t.values.items) };
 
-    ghost invariant = { λ t. Agrees t.listing.items t.values.items };
+    ghost invariant = { λ t. Agrees t.listing.items t.values.items × IsOnce t.listing.items };
 }
 
 impl Trail {
@@ -115,7 +120,8 @@ impl Trail {
 
     /// The literals, in the order in which they were listed.
     pub(crate) fn into_listing(self) -> Seq<Lit>
-        ensures { result ≡ self.0 }
+        ensures listing { result ≡ self.0 }
+        ensures once { IsOnce result }
     {
         let Trail { listing, values: _ } = self;
         Seq::from_vec(listing)

@@ -5,7 +5,7 @@ ghost use Rattle.normal_form.specs.Normal.{variable_bound};
 ghost use Rattle.propagate.specs.Chain.{IsSettled};
 ghost use Rattle.propagate.specs.Walk.{IsBrokenAt, IsReasonedChain, literals_of};
 
-use super::next::{Forced, Next};
+use super::scan::{Forced, Scan};
 use super::trail::Trail;
 use normal_form::Normal;
 use std::alloc::{AllocError, Global};
@@ -36,22 +36,22 @@ pub(crate) fn complete(
     let mut steps = Vec::new(alloc);
     let mut place = 0;
     loop {
-        match Next::from(constraints, &trail, place) {
-            Next::Quiet => {
+        match Scan::from(constraints, &trail, place) {
+            Scan::Quiet => {
                 return Ok(Walk {
                     trail,
                     steps,
                     broken: None,
                 });
             }
-            Next::Broken(place) => {
+            Scan::Broken(place) => {
                 return Ok(Walk {
                     trail,
                     steps,
                     broken: Some(place),
                 });
             }
-            Next::Step(step) => {
+            Scan::Step(step) => {
                 trail.push(step.literal)?;
                 steps.push(step)?;
                 place = step.reason;

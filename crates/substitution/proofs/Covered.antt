@@ -4,10 +4,12 @@ use Rattle.std.proofs.lemmas.Bool.{false≢true}
 use Rattle.std.proofs.lemmas.Bool.Decides.{nat_tests}
 use Rattle.linear.specs.Valuation.{Valuation, literal_true}
 use Rattle.normal_form.specs.declared.term.NormalTerm.{NormalTerm}
-use Rattle.normal_form.specs.Normal.{Literals, NormalConstraint, Holds, sum_over, only, coefficient, total, Rises}
-use Rattle.normal_form.proofs.OneForm.{counted_own}
+use Rattle.normal_form.specs.Normal.{Literals, NormalConstraint, Holds, variable_bound, sum_over, only, coefficient, total, Rises}
+use Rattle.normal_form.proofs.OneList.{counted_own}
 use Rattle.normal_form.proofs.SetSums.{Within, sum_within, sum_apart}
-use Rattle.substitution.specs.Covering.{excess, Covers}
+use Rattle.normal_form.proofs.SumsByVariable.{all_zero, add_up, told, pivot}
+use Rattle.substitution.specs.Covering.{excess_at, excess, Covers}
+use Rattle.substitution.proofs.Excess.{term_excess, excess_of_terms}
 
 -- the true literals whose variables are not below a number
 abbrev true_from : ℕ → Valuation → Literals
@@ -60,32 +62,31 @@ parted true c k = omega arith
 parted false c k = omega arith
 
 -- a weight is what is matched and no more than the excess
-weight_below : (a : Valuation) (n : NormalConstraint) (ts : List NormalTerm) → sum_over (literal_true a) ts ≤ matched a n ts + excess ts n
+weight_below : (a : Valuation) (n : NormalConstraint) (ts : List NormalTerm) → sum_over (literal_true a) ts ≤ matched a n ts + term_excess ts n
 weight_below a n [] = omega arith
 weight_below a n (t ∷ ts) = omega (arith, parted (literal_true a (t.var.0) t.negated) t.coef (coefficient n (t.var.0) t.negated), weight_below a n ts)
 
 pub covered_holds : (e n : NormalConstraint) → Rises 0 e.terms → Covers e n → (a : Valuation) → Holds a e → Holds a n
-covered_holds e n r c a h = omega (arith, c, h, weight_below a n e.terms, matched_below a n 0 e.terms r, true_of a n.terms)
+covered_holds e n r c a h =
+    omega (arith, c, h, excess_of_terms e n r, weight_below a n e.terms, matched_below a n 0 e.terms r, true_of a n.terms)
 
--- the excess over more terms is no more
-excess_over : (n : NormalConstraint) (t : NormalTerm) (us ts : List NormalTerm) → excess ts (record n { terms = t ∷ us }) ≤ excess ts (record n { terms = us })
-excess_over n t us [] = omega arith
-excess_over n t us (u ∷ ts) = omega (arith, excess_over n t us ts)
-
-no_excess : (n : NormalConstraint) (ts : List NormalTerm) → excess ts (record n { terms = ts }) ≡ 0
-no_excess n [] = refl
-no_excess n (t ∷ ts) = omega (arith, counted_own t, excess_over n t ts ts, no_excess n ts)
+none_more : (x y : ℕ) → (x - x) + (y - y) ≡ 0
+none_more x y = omega arith
 
 pub covers_itself : (n : NormalConstraint) → Covers n n
-covers_itself n = omega (arith, no_excess n n.terms)
+covers_itself n =
+    let none = all_zero (variable_bound n.terms) (excess_at n n) (λ v. none_more (coefficient n v false) (coefficient n v true)) in
+    omega (arith, none)
 
-all_excess : (n : NormalConstraint) → n.terms ≡ [] → (ts : List NormalTerm) → excess ts n ≡ total ts
-all_excess n e [] = refl
-all_excess n e (t ∷ ts) =
-    let none : coefficient n (t.var.0) t.negated ≡ 0 = ap (sum_over (only (t.var.0) t.negated)) e in
-    omega (arith, none, all_excess n e ts)
+-- beside a constraint without terms everything is excess
+all_excess : (e n : NormalConstraint) → n.terms ≡ [] → excess e n ≡ total e.terms
+all_excess e n h =
+    let bound = variable_bound e.terms in
+    let at : (v : ℕ) (s : Bool) → coefficient n v s ≡ 0 = λ v s. ap (sum_over (only v s)) h in
+    let same = add_up bound (excess_at e n) (λ _. 0) (told (λ _ _. true) e.terms) (λ _. 0) (λ v. omega (arith, at v false, at v true)) in
+    omega (arith, same, pivot (λ _ _. true) e.terms bound (omega arith))
 
 pub covers_falsity : (e n : NormalConstraint) → n.terms ≡ [] → n.degree ≡ 1 → Covers e n ↔ (total e.terms < e.degree)
 covers_falsity e n t d =
-    let all = all_excess n t e.terms in
+    let all = all_excess e n t in
     (λ c. omega (arith, c, all, d), λ h. omega (arith, h, all, d))

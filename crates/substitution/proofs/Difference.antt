@@ -5,9 +5,9 @@ use Rattle.std.proofs.lemmas.Int.{ints}
 use Rattle.std.proofs.lemmas.List.{take_more}
 use Rattle.std.proofs.lemmas.List.Elements.{All-head, All-tail}
 use Rattle.linear.specs.declared.term.Term.{Term}
-use Rattle.linear.specs.Limits.{IsTermWithin, IsSumWithin}
-use Rattle.normal_form.specs.NormalOf.{opposite_term, size_sum}
-use Rattle.normal_form.proofs.Opposite.{opposite_sizes}
+use Rattle.linear.specs.Limits.{largest_integer, IsTermWithin, IsSumWithin}
+use Rattle.normal_form.specs.NormalOf.{sign_changed, size_sum}
+use Rattle.normal_form.proofs.SignChanges.{sign_changed_sizes}
 use Rattle.normal_form.proofs.Runs.{size_more, size_take}
 use Rattle.substitution.specs.declared.image.Image.{Image}
 use Rattle.substitution.specs.declared.image.Image.TheVariants.{Lit, Zero, One}
@@ -16,11 +16,11 @@ use Rattle.substitution.specs.Under.{term_at, constant_at, terms_under, constant
 use Rattle.substitution.specs.Objective.{not_raised, largest_objective}
 use Rattle.substitution.proofs.PuttingIn.{terms_push, constant_push}
 
-map_append : (xs ys : List Term) → map opposite_term (xs ++ ys) ≡ map opposite_term xs ++ map opposite_term ys
+map_append : (xs ys : List Term) → map sign_changed (xs ++ ys) ≡ map sign_changed xs ++ map sign_changed ys
 map_append [] ys = refl
-map_append (x ∷ xs) ys = ap (λ (us : List Term). opposite_term x ∷ us) (map_append xs ys)
+map_append (x ∷ xs) ys = ap (λ (us : List Term). sign_changed x ∷ us) (map_append xs ys)
 
-opposite_at : (c : ℤ) (i : Image) → map opposite_term (term_at c i) ≡ term_at (neg_ℤ c) i
+opposite_at : (c : ℤ) (i : Image) → map sign_changed (term_at c i) ≡ term_at (neg_ℤ c) i
 opposite_at c (Lit l) = refl
 opposite_at c Zero = refl
 opposite_at c One = refl
@@ -32,7 +32,7 @@ opposite_constant c One = refl
 
 -- the terms after the first places of the objective
 abbrev pub difference_before : Images → List Term → ℕ → List Term
-difference_before images ts i = ts ++ map opposite_term (terms_under images (take i ts))
+difference_before images ts i = ts ++ map sign_changed (terms_under images (take i ts))
 
 abbrev pub taken_before : Images → List Term → ℕ → ℤ
 taken_before images ts i = neg_ℤ (constant_under images (take i ts))
@@ -41,9 +41,9 @@ pub difference_more : (images : Images) (ts : List Term) (i : ℕ) (d : Term) �
 difference_more images ts i d h =
     let t = get_or ts i d in
     let image = image_of_literal images (t.var.0) t.negated in
-    let so_far = map opposite_term (terms_under images (take i ts)) in
-    ap (λ (us : List Term). ts ++ map opposite_term (terms_under images us)) (take_more ts i d h)
-    ∙ ap (λ (us : List Term). ts ++ map opposite_term us) (terms_push images (take i ts) t)
+    let so_far = map sign_changed (terms_under images (take i ts)) in
+    ap (λ (us : List Term). ts ++ map sign_changed (terms_under images us)) (take_more ts i d h)
+    ∙ ap (λ (us : List Term). ts ++ map sign_changed us) (terms_push images (take i ts) t)
     ∙ ap (λ (us : List Term). ts ++ us) (map_append (terms_under images (take i ts)) (term_at t.coef image))
     ∙ ap (λ (us : List Term). ts ++ (so_far ++ us)) (opposite_at t.coef image)
     ∙ sym (append_assoc ts so_far (term_at (neg_ℤ t.coef) image))
@@ -85,9 +85,9 @@ size_with_images images (t ∷ ts) =
 
 pub difference_small : (images : Images) (ts : List Term) → size_sum (not_raised ts images).terms + unsigned_abs (not_raised ts images).right ≤ 3 * size_sum ts
 difference_small images ts =
-    omega (arith, size_append ts (map opposite_term (terms_under images ts)), opposite_sizes (terms_under images ts), size_with_images images ts, constant_size images ts)
+    omega (arith, size_append ts (map sign_changed (terms_under images ts)), sign_changed_sizes (terms_under images ts), size_with_images images ts, constant_size images ts)
 
-each_within : (n : ℕ) (ts : List Term) → All (IsTermWithin n) ts → size_sum ts ≤ length ts * 2 ^ 62
+each_within : (n : ℕ) (ts : List Term) → All (IsTermWithin n) ts → size_sum ts ≤ length ts * largest_integer
 each_within n [] h = omega arith
 each_within n (t ∷ ts) h =
     let here = (All-head (IsTermWithin n) t ts h).coefficient in

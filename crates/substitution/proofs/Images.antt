@@ -7,9 +7,9 @@ use Rattle.linear.specs.Valuation.{Valuation, literal_true}
 use Rattle.linear.specs.Sum.{sum_of}
 use Rattle.normal_form.specs.declared.term.NormalTerm.{NormalTerm}
 use Rattle.normal_form.specs.Normal.{NormalConstraint, Holds, sum_over}
-use Rattle.normal_form.specs.NormalOf.{opposite_term}
+use Rattle.normal_form.specs.NormalOf.{sign_changed}
 use Rattle.normal_form.proofs.NormalForm.{form_meaning}
-use Rattle.normal_form.proofs.Opposite.{opposite_sum}
+use Rattle.normal_form.proofs.SignChanges.{sign_changed_sum}
 use Rattle.substitution.specs.declared.image.Image.{Image}
 use Rattle.substitution.specs.declared.image.Image.TheVariants.{Lit, Zero, One}
 use Rattle.substitution.specs.Images.{Images, image_of, opposite_image, image_of_literal, image_true, after}
@@ -70,6 +70,6 @@ pub objective_meaning : (objective : List Term) (goal : NormalConstraint) (image
 objective_meaning objective goal images f a =
     let way = form_meaning (not_raised objective images) goal refl f a in
     let sums = sum_under a images objective in
-    let parts = sum_append a objective (map opposite_term (terms_under images objective)) in
-    let less = opposite_sum a (terms_under images objective) in
+    let parts = sum_append a objective (map sign_changed (terms_under images objective)) in
+    let less = sign_changed_sum a (terms_under images objective) in
     (λ h. let met = way.0 h in omega (arith, ints, met, sums, parts, less), λ h. way.1 (omega (arith, ints, h, sums, parts, less)))

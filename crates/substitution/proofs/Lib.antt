@@ -1,8 +1,10 @@
 pub mod Distinct
 pub mod Images
 pub mod Sizes
+pub mod Excess
 pub mod Covered
 pub mod Pass
 pub mod PuttingIn
 pub mod Values
 pub mod Difference
+pub mod Untouched

@@ -6,9 +6,9 @@ use Rattle.std.proofs.lemmas.Bool.Decides.{nat_tests}
 use Rattle.std.proofs.lemmas.List.{take_more}
 use Rattle.normal_form.specs.declared.term.NormalTerm.{NormalTerm}
 use Rattle.normal_form.specs.Normal.{NormalConstraint, sum_over, only, same_sign, coefficient, total, Rises, variable_bound}
-use Rattle.normal_form.proofs.OneForm.{absent}
+use Rattle.normal_form.proofs.OneList.{absent}
 use Rattle.normal_form.proofs.Sums.{bound_push, bound_take}
-use Rattle.substitution.specs.Covering.{excess}
+use Rattle.substitution.proofs.Excess.{term_excess}
 
 pub rises_from : (low variable : ℕ) (ts : List NormalTerm) (i : ℕ) (d : NormalTerm) → Rises low ts → (i < length ts → variable ≤ (get_or ts i d).var.0) → Rises variable (drop i ts)
 rises_from low variable [] zero d r h = tt
@@ -40,14 +40,14 @@ nothing_from [] (suc i) h = refl
 nothing_from (t ∷ ts) zero h = absurd (omega (arith, h))
 nothing_from (t ∷ ts) (suc i) h = nothing_from ts i (omega (arith, h))
 
-excess_push : (ts : List NormalTerm) (t : NormalTerm) (n : NormalConstraint) → excess (ts ++ t ∷ []) n ≡ excess ts n + (t.coef - coefficient n (t.var.0) t.negated)
+excess_push : (ts : List NormalTerm) (t : NormalTerm) (n : NormalConstraint) → term_excess (ts ++ t ∷ []) n ≡ term_excess ts n + (t.coef - coefficient n (t.var.0) t.negated)
 excess_push [] t n = omega arith
 excess_push (x ∷ xs) t n = omega (arith, excess_push xs t n)
 
-pub excess_more : (ts : List NormalTerm) (i : ℕ) (d : NormalTerm) (n : NormalConstraint) → i < length ts → excess (take (i + 1) ts) n ≡ excess (take i ts) n + ((get_or ts i d).coef - coefficient n ((get_or ts i d).var.0) (get_or ts i d).negated)
-excess_more ts i d n h = ap (λ (xs : List NormalTerm). excess xs n) (take_more ts i d h) ∙ excess_push (take i ts) (get_or ts i d) n
+pub excess_more : (ts : List NormalTerm) (i : ℕ) (d : NormalTerm) (n : NormalConstraint) → i < length ts → term_excess (take (i + 1) ts) n ≡ term_excess (take i ts) n + ((get_or ts i d).coef - coefficient n ((get_or ts i d).var.0) (get_or ts i d).negated)
+excess_more ts i d n h = ap (λ (xs : List NormalTerm). term_excess xs n) (take_more ts i d h) ∙ excess_push (take i ts) (get_or ts i d) n
 
-pub excess_total : (i : ℕ) (ts : List NormalTerm) (n : NormalConstraint) → excess (take i ts) n ≤ total ts
+pub excess_total : (i : ℕ) (ts : List NormalTerm) (n : NormalConstraint) → term_excess (take i ts) n ≤ total ts
 excess_total zero ts n = omega arith
 excess_total (suc i) [] n = omega arith
 excess_total (suc i) (t ∷ ts) n = omega (arith, excess_total i ts n)
@@ -125,19 +125,19 @@ abbrev Passes : List NormalTerm → NormalConstraint → ℕ → ℕ → ℕ →
 Passes es n i from place now u =
     (c step : ℕ) → ((v : ℕ) (s : Bool) → u.var.0 ≤ v → sum_over (only v s) (drop from n.terms) ≡ sum_over (only v s) (drop place n.terms))
     → c ≡ sum_over (only (u.var.0) u.negated) (drop place n.terms) → step ≡ u.coef - c
-    → (now + step ≡ excess (take (i + 1) es) n) × IsAhead es (i + 1) place n.terms
+    → (now + step ≡ term_excess (take (i + 1) es) n) × IsAhead es (i + 1) place n.terms
 
-pass_at : (es : List NormalTerm) (n : NormalConstraint) (i from place now : ℕ) (d : NormalTerm) → Rises 0 es → i < length es → now ≡ excess (take i es) n → IsAhead es i from n.terms → Passes es n i from place now (get_or es i d)
+pass_at : (es : List NormalTerm) (n : NormalConstraint) (i from place now : ℕ) (d : NormalTerm) → Rises 0 es → i < length es → now ≡ term_excess (take i es) n → IsAhead es i from n.terms → Passes es n i from place now (get_or es i d)
 pass_at es n i from place now d r h e a c step p reads is =
     let more = excess_more es i d n h in
     let same = coefficient_ahead es i d from place n.terms r h a p in
     (omega (arith, more, same, reads, is, e), ahead_more es i d from place n.terms h a p)
 
-pub pass_more : (es : List NormalTerm) (n : NormalConstraint) (i from place now : ℕ) (u : NormalTerm) → Rises 0 es → i < length es → u ≡ get_or es i u → now ≡ excess (take i es) n → IsAhead es i from n.terms → Passes es n i from place now u
+pub pass_more : (es : List NormalTerm) (n : NormalConstraint) (i from place now : ℕ) (u : NormalTerm) → Rises 0 es → i < length es → u ≡ get_or es i u → now ≡ term_excess (take i es) n → IsAhead es i from n.terms → Passes es n i from place now u
 pass_more es n i from place now u r h is e a =
     subst (λ (t : NormalTerm). Passes es n i from place now t) (sym is) (pass_at es n i from place now u r h e a)
 
-pub excess_all : (i : ℕ) (ts : List NormalTerm) (n : NormalConstraint) → length ts ≤ i → excess (take i ts) n ≡ excess ts n
+pub excess_all : (i : ℕ) (ts : List NormalTerm) (n : NormalConstraint) → length ts ≤ i → term_excess (take i ts) n ≡ term_excess ts n
 excess_all zero [] n h = refl
 excess_all zero (t ∷ ts) n h = absurd (omega (arith, h))
 excess_all (suc i) [] n h = refl

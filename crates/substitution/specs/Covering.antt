@@ -1,13 +1,18 @@
--- When one constraint shows another without more ado.
-use Rattle.std.specs.Prelude.{ℕ, ◌+◌, ◌-◌, ◌≤◌, List, [], ◌∷◌}
-use Rattle.normal_form.specs.declared.term.NormalTerm.{NormalTerm}
-use Rattle.normal_form.specs.Normal.{NormalConstraint, coefficient}
+-- When one constraint shows another without more ado. A checker of the VeriPB format looks for such a constraint
+-- among those that are there before it propagates: a copy, a weakening, or anything that says no less literal by
+-- literal.
+use Rattle.std.specs.Prelude.{ℕ, ◌+◌, ◌-◌, ◌≤◌, true, false}
+use Rattle.normal_form.specs.Normal.{NormalConstraint, coefficient, variable_bound, sum_below}
 
--- what some terms have at their literals more than a constraint has there: the sum of max(0, E(l) - N(l))
-abbrev pub excess : List NormalTerm → NormalConstraint → ℕ
-excess [] n = 0
-excess (t ∷ ts) n = (t.coef - coefficient n (t.var.0) t.negated) + excess ts n
+-- what E has at the literals of a variable more than N has there; `-` stops at 0
+abbrev pub excess_at : NormalConstraint → NormalConstraint → ℕ → ℕ
+excess_at e n v = (coefficient e v false - coefficient n v false) + (coefficient e v true - coefficient n v true)
 
--- E covers N: the sum over literals of max(0, E(l) - N(l)) is at most the degree of E less that of N
+-- the sum over literals of max(0, E(l) - N(l)): E has no literal of a variable from its bound on
+abbrev pub excess : NormalConstraint → NormalConstraint → ℕ
+excess e n = sum_below (variable_bound e.terms) (excess_at e n)
+
+-- E covers N: the sum over literals of max(0, E(l) - N(l)) is at most the degree of E less that of N. Then N holds
+-- where E does: at the true literals N has what E has but for the excess.
 abbrev pub Covers : NormalConstraint → NormalConstraint → Type 0
-Covers e n = n.degree + excess e.terms n ≤ e.degree
+Covers e n = n.degree + excess e n ≤ e.degree

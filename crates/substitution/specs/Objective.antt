@@ -1,17 +1,18 @@
 -- What a substitution must show of an objective: that it does not raise it.
-use Rattle.std.specs.Prelude.{ℕ, ◌^◌, List, ◌++◌, map}
+use Rattle.std.specs.Prelude.{ℕ, ◌*◌, List, ◌++◌, map}
 use Rattle.linear.specs.declared.term.Term.{Term}
 use Rattle.linear.specs.declared.constraint.Relation.TheVariants.{AtLeast}
 use Rattle.linear.specs.declared.constraint.Signed.{Signed}
+use Rattle.linear.specs.Limits.{most_terms, largest_integer}
 use Rattle.normal_form.specs.Normal.{NormalConstraint}
-use Rattle.normal_form.specs.NormalOf.{IsNormalOf, opposite_term}
+use Rattle.normal_form.specs.NormalOf.{IsNormalOf, sign_changed}
 use Rattle.substitution.specs.Images.{Images}
 use Rattle.substitution.specs.Under.{terms_under, constant_under}
 
 -- objective - (objective under the substitution) >= 0; what is constant stands on the right side
 abbrev pub not_raised : List Term → Images → Signed
 not_raised objective images = record {
-  terms = objective ++ map opposite_term (terms_under images objective);
+  terms = objective ++ map sign_changed (terms_under images objective);
   relation = AtLeast;
   right = constant_under images objective;
 }
@@ -20,6 +21,6 @@ not_raised objective images = record {
 abbrev pub IsObjectiveGoal : List Term → Images → NormalConstraint → Type 0
 IsObjectiveGoal objective images goal = IsNormalOf (not_raised objective images) goal
 
--- the sizes of an objective's coefficients add up to no more: 2^20 terms of at most 2^62
+-- the sizes of an objective's coefficients add up to no more
 abbrev pub largest_objective : ℕ
-largest_objective = 2 ^ 82
+largest_objective = most_terms * largest_integer

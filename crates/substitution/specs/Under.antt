@@ -1,5 +1,5 @@
 -- A constraint under a substitution: the normal form of its terms with images put in.
-use Rattle.std.specs.Prelude.{ℤ, pos, ◌+ℤ◌, ◌-ℤ◌, List, [], ◌∷◌, ◌++◌, map}
+use Rattle.std.specs.Prelude.{◌≢◌, ℤ, pos, ◌+ℤ◌, ◌-ℤ◌, List, [], ◌∷◌, ◌++◌, All, map}
 use Rattle.linear.specs.declared.term.Term.{Term}
 use Rattle.linear.specs.declared.constraint.Relation.TheVariants.{AtLeast}
 use Rattle.linear.specs.declared.constraint.Signed.{Signed}
@@ -48,3 +48,7 @@ substituted n images = record {
 -- `r` is `n` under the substitution
 abbrev pub IsUnder : NormalConstraint → Images → NormalConstraint → Type 0
 IsUnder n images r = IsNormalOf (substituted n images) r
+
+-- the constraint has no variable that is given an image
+abbrev pub IsUntouched : NormalConstraint → Images → Type 0
+IsUntouched n images = All (λ t. All (λ p. p.0.0 ≢ t.var.0) images) n.terms

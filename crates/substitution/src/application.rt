@@ -1,4 +1,9 @@
 //! Constraints under a substitution.
+//!
+//! Two variables may have one image, or opposite ones, so terms may add up or cancel: the terms with images put in are
+//! signed terms in any order, and their normal form is made as that of a written constraint. An image 1 takes its
+//! coefficient off the right side, and an image 0 leaves nothing. No coefficient is made, only moved or taken away, so
+//! neither sum nor degree grows, and want of memory is the only fault.
 
 ghost use Rattle.std.specs.Prelude.{◌≡◌, ◌+◌, ◌≤◌, ◌↔◌, ◌++◌, ◌+ℤ◌, IfOk, OnOk, map, unsigned_abs};
 ghost use Rattle.linear.specs.Valuation.{Valuation};
@@ -55,7 +60,7 @@ fn with_images(
     };
     for place in 0..constraint.len() {
         let term = constraint.term(place);
-        let image = substitution.image_of_literal(term.var, term.negated);
+        let image = substitution.image_of_literal(term.literal());
         partial.put(term.coef as i128, image)?;
     }
     Ok(partial)

@@ -1,7 +1,8 @@
 //! The definitions computed on small constraints, each the contract of a function that does nothing.
 
-ghost use Rattle.std.specs.Prelude.{◌≡◌, ◌^◌, true, false, [], ◌∷◌};
+ghost use Rattle.std.specs.Prelude.{◌≡◌, true, false, [], ◌∷◌};
 ghost use Rattle.linear.specs.Valuation.{valuation_of};
+ghost use Rattle.normal_form.specs.Normal.{largest_sum};
 ghost use Rattle.normal_form.specs.Cases.{plain, negated, normal};
 ghost use Rattle.substitution.specs.Cases.{swap, single, to_plain, to_negated, first_or_not_second, one_of_two, two_of_three, three_of_four_false, min_first};
 ghost use Rattle.substitution.specs.Covering.{Covers};
@@ -58,5 +59,5 @@ pub fn covering()
     ensures weaker { Covers two_of_three one_of_two }
     ensures stronger { Covers one_of_two two_of_three → ⊥ }
     ensures multiple { Covers one_of_two (normal (plain 2 1 ∷ plain 2 2 ∷ []) 2) → ⊥ }
-    ensures other_literal { Covers one_of_two (normal (negated (2 ^ 120) 1 ∷ []) 0) → ⊥ }
+    ensures other_literal { Covers one_of_two (normal (negated largest_sum 1 ∷ []) 0) → ⊥ }
 {}

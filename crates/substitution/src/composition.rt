@@ -1,4 +1,5 @@
-//! Assignments after a substitution.
+//! Assignments after a substitution. All images are read at the assignment as it was: a substitution that swaps two
+//! variables must not read the first one's new value for the second.
 
 ghost use Rattle.std.specs.Prelude.{◌≡◌, ℕ, IfOk, length};
 ghost use Rattle.linear.specs.Valuation.{valuation_of};

@@ -1,4 +1,10 @@
 //! Covering: whether one constraint shows another without more ado.
+//!
+//! The goals of a redundance step in the VeriPB format are mostly constraints that are there already, under a
+//! substitution that does not touch them, or weaker ones. Such a goal needs no propagation: what the one has more than
+//! the other at its literals can be given up by weakening, each coefficient at the price of as much degree. Terms rise
+//! by variable on both sides, so one pass over both is enough, and the excess is at most the coefficient sum, so it
+//! never leaves its type.
 
 ghost use Rattle.std.specs.Prelude.{◌≡◌, ◌≤◌, ◌↔◌, ℕ, Bool, IsTrue, length, drop};
 ghost use Rattle.linear.specs.Valuation.{Valuation};

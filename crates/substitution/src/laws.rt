@@ -8,7 +8,7 @@ ghost use Rattle.normal_form.specs.Normal.{NormalConstraint, Holds, Rises, total
 ghost use Rattle.substitution.specs.Covering.{Covers};
 ghost use Rattle.substitution.specs.Images.{Images, after};
 ghost use Rattle.substitution.specs.Objective.{IsObjectiveGoal};
-ghost use Rattle.substitution.specs.Under.{IsUnder};
+ghost use Rattle.substitution.specs.Under.{IsUnder, IsUntouched};
 
 /// A constraint under a substitution holds exactly where the constraint holds after it, all images read at the
 /// same assignment.
@@ -21,6 +21,13 @@ pub fn under_meaning()
 pub fn one_under()
     ensures { (n : NormalConstraint) → (images : Images)
         → (r : NormalConstraint) × IsUnder n images r × ((q : NormalConstraint) → IsUnder n images q → q ≡ r) }
+{}
+
+/// A constraint without a variable that is given an image is itself under the substitution, and so covered by itself.
+pub fn under_untouched()
+    ensures itself { (n : NormalConstraint) → (images : Images) → Rises 0 n.terms → IsUntouched n images → IsUnder n images n }
+    ensures covered { (n r : NormalConstraint) → (images : Images) → Rises 0 n.terms → IsUntouched n images → IsUnder n images r
+        → Covers n r }
 {}
 
 /// Neither the coefficient sum nor the degree grows under a substitution.

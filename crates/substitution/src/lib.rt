@@ -9,8 +9,6 @@ mod image;
 pub mod laws;
 mod objective;
 mod substitution;
-#[cfg(test)]
-mod tests;
 
 pub use application::apply;
 pub use composition::compose;

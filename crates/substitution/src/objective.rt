@@ -1,4 +1,9 @@
-//! What a substitution must show of an objective.
+//! What a substitution must show of an objective: that it does not raise it.
+//!
+//! A redundance step may take answers away as long as one of least value is left (Bogaerts, Gocht, McCreesh and
+//! Nordström, for the VeriPB format): the answer after the substitution must be worth no more than the one before. The
+//! difference of the two sums is one constraint over the values before. The objective's terms come from a file and are
+//! within its limits, so the difference always has a normal form.
 
 ghost use Rattle.std.specs.Prelude.{◌≡◌, ◌+◌, ◌≤◌, None, IfOk, IfSome, IsErrOf, MatchOption, OnErr, neg_ℤ, unsigned_abs};
 ghost use Rattle.std.specs.Option.{IsSomeAnd};
@@ -8,7 +13,7 @@ ghost use Rattle.substitution.specs.Objective.{IsObjectiveGoal, largest_objectiv
 
 use super::application::Partial;
 use super::substitution::Substitution;
-use linear::{Problem, Relation, Seq, Signed, Term};
+use linear::{Lit, Problem, Relation, Seq, Signed, Term};
 use normal_form::{CutFault, Normal, normalize};
 use std::alloc::{AllocError, Global};
 
@@ -27,7 +32,10 @@ fn with_images(
         constant: 0,
     };
     for term in objective {
-        let image = substitution.image_of_literal(term.var, term.negated);
+        let image = substitution.image_of_literal(Lit {
+            var: term.var,
+            negated: term.negated,
+        });
         partial.put(-term.coef, image)?;
     }
     Ok(partial)

@@ -1,4 +1,8 @@
-//! A list of variables and their images.
+//! A list of variables and their images: the witness of a redundance step in the VeriPB format.
+//!
+//! The list is kept in the order in which it was written, since it is written again in that order. Beside it stands a
+//! table by variable, for a witness may name thousands of variables and is asked for each literal of each constraint.
+//! That both say the same is a fact of the type.
 
 ghost use Rattle.std.specs.Prelude.{◌≡◌, None, IfOk, IfSome, map, nat_eq};
 ghost use Rattle.std.specs.HashMap.{IsFromIterResult};
@@ -72,11 +76,15 @@ impl Substitution {
     }
 
     /// The image of a literal: of `~x` it is the opposite of the image of `x`.
-    pub fn image_of_literal(&self, var: Var, negated: bool) -> Image
-        ensures { result ≡ image_of_literal self.now (var.0) negated }
+    pub fn image_of_literal(&self, literal: Lit) -> Image
+        ensures { result ≡ image_of_literal self.now (literal.var.0) literal.negated }
     {
-        let image = self.image_of(var);
-        if negated { image.opposite() } else { image }
+        let image = self.image_of(literal.var);
+        if literal.negated {
+            image.opposite()
+        } else {
+            image
+        }
     }
 
     /// The variables and their images, in the order given.

@@ -2,7 +2,7 @@
 use Rattle.std.proofs.Common.{◌≡◌, ℕ, ◌+◌, ◌-◌, ◌/◌, arith}
 use Rattle.linear.specs.Valuation.{Valuation}
 use Rattle.normal_form.specs.Normal.{NormalConstraint, IsNormal, Fits, Holds}
-use Rattle.normal_form.proofs.Results.{if_ok_from}
+use Rattle.normal_form.proofs.FormDegrees.{if_ok_from}
 use Rattle.cut_rules.specs.Rules.{IsSum, cancelled}
 use Rattle.cut_rules.proofs.Sum.{sum_at, sum_total, sum_keeps, sum_from, sum_too_large, sum_within}
 use Rattle.cut_rules.proofs.addition.with_degree.Goals as goal

@@ -4,7 +4,7 @@ use Rattle.std.specs.Int.{div_ceil}
 use Rattle.std.proofs.lemmas.Result.{IfOk-weaker}
 use Rattle.linear.specs.Valuation.{Valuation}
 use Rattle.normal_form.specs.Normal.{IsNormal, Holds}
-use Rattle.normal_form.proofs.Results.{if_ok_from, on_err_from}
+use Rattle.normal_form.proofs.FormDegrees.{if_ok_from, on_err_from}
 use Rattle.cut_rules.specs.Rules.{IsQuotient}
 use Rattle.cut_rules.specs.Steps.{parts}
 use Rattle.cut_rules.proofs.Meaning.{quotient_law}

@@ -4,7 +4,7 @@ use mir.Syntax.{w128}
 use Rattle.std.proofs.lemmas.Int.{ints}
 use Rattle.normal_form.specs.Normal.{largest_sum, total}
 use Rattle.normal_form.specs.Balance.{rises_of}
-use Rattle.cut_rules.proofs.Steps.{rises_from, first_above, balance_step, within_step}
+use Rattle.cut_rules.proofs.MergeSteps.{rises_from, first_above, balance_step, within_step}
 use Rattle.cut_rules.proofs.merging.merge.Goals as goal
 
 -- the net coefficient as the code has it
@@ -25,7 +25,7 @@ loop-variable-preserved c =
       done = c.least_variable-variable-in-loop-variable.ensures.end;
       bound = omega (arith, ahead, c.in_ok-push_net.ensures.bound);
       rises = c.in_ok-push_net.ensures.rises c.loop-variable.invariant.rises;
-      balance = λ set. balance_step (set c.loop-variable.variable) (rises_of set c.loop-variable.terms) (rises_of set c.push_net.new.merged) (rises_of set (drop c.loop-variable.i c.args.left.now.terms)) (rises_of set (drop c.read_part-from_left.result.next c.args.left.now.terms)) (rises_of set (drop c.loop-variable.j c.args.right.now.terms)) (rises_of set (drop c.read_part-from_right.result.next c.args.right.now.terms)) (rises_of set c.args.left.now.terms +ℤ rises_of set c.args.right.now.terms) c.read_part-from_left.result.net c.read_part-from_right.result.net (net_of c.read_part-from_left.result.net c.read_part-from_right.result.net) (c.in_ok-push_net.ensures.gives set) (c.read_part-from_left.ensures.gives set) (c.read_part-from_right.ensures.gives set) net (c.loop-variable.invariant.balance set);
+      balance = λ set. balance_step (set c.loop-variable.variable) (rises_of set c.loop-variable.terms) (rises_of set c.push_net.new.self) (rises_of set (drop c.loop-variable.i c.args.left.now.terms)) (rises_of set (drop c.read_part-from_left.result.next c.args.left.now.terms)) (rises_of set (drop c.loop-variable.j c.args.right.now.terms)) (rises_of set (drop c.read_part-from_right.result.next c.args.right.now.terms)) (rises_of set c.args.left.now.terms +ℤ rises_of set c.args.right.now.terms) c.read_part-from_left.result.net c.read_part-from_right.result.net (net_of c.read_part-from_left.result.net c.read_part-from_right.result.net) (c.in_ok-push_net.ensures.gives set) (c.read_part-from_left.ensures.gives set) (c.read_part-from_right.ensures.gives set) net (c.loop-variable.invariant.balance set);
       sum = omega (arith, c.in_ok-push_net.ensures.total, c.unsigned_abs-sum.ensures.value, c.loop-variable.invariant.sum);
       within = within_step c.loop-variable.sum (c.loop-variable.sum + c.unsigned_abs-sum.result) (total (drop c.loop-variable.i c.args.left.now.terms)) (total (drop c.read_part-from_left.result.next c.args.left.now.terms)) (total (drop c.loop-variable.j c.args.right.now.terms)) (total (drop c.read_part-from_right.result.next c.args.right.now.terms)) (total c.args.left.now.terms + total c.args.right.now.terms) c.read_part-from_left.result.net c.read_part-from_right.result.net (net_of c.read_part-from_left.result.net c.read_part-from_right.result.net) (ap (λ (x : ℕ). c.loop-variable.sum + x) c.unsigned_abs-sum.ensures.value) c.read_part-from_left.ensures.total c.read_part-from_right.ensures.total net c.loop-variable.invariant.within;
     }

@@ -3,7 +3,7 @@ use Rattle.std.proofs.Common.{rules, ◌≡◌, arith, FitsSigned, to_z, of_z, a
 use mir.Syntax.{w128}
 use Rattle.std.specs.Prelude.{unsigned_abs}
 use Rattle.std.proofs.lemmas.Int.{to_z-of_z}
-use Rattle.cut_rules.proofs.Steps.{coefficient_at}
+use Rattle.cut_rules.proofs.MergeSteps.{coefficient_at}
 use Rattle.cut_rules.proofs.merging.read_part.Goals as goal
 
 pub rise-requires : goal.rise-requires

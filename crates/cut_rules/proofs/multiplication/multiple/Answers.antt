@@ -3,8 +3,8 @@ use Rattle.std.proofs.Common.{rules, ◌≡◌, ℕ, ◌≤◌, ◌*◌, true, f
 use Rattle.std.specs.Prelude.{IsTrue}
 use Rattle.std.proofs.lemmas.Result.{IfOk-weaker}
 use Rattle.linear.specs.Valuation.{Valuation}
-use Rattle.normal_form.specs.Normal.{NormalConstraint, IsNormal, Fits, Holds, total, largest_sum, largest_degree}
-use Rattle.normal_form.proofs.Results.{if_ok_from}
+use Rattle.normal_form.specs.Normal.{NormalConstraint, IsNormal, Fits, Holds, total, largest_sum}
+use Rattle.normal_form.proofs.FormDegrees.{if_ok_from}
 use Rattle.cut_rules.specs.Rules.{IsMultiple}
 use Rattle.cut_rules.proofs.Meaning.{multiple_law}
 use Rattle.cut_rules.proofs.OneOperand.{multiple_from, multiple_within, multiple_too_large, multiple_fits}
@@ -34,7 +34,7 @@ returns-clause-keeps c = IfOk-weaker c.finish.result (IsMultiple c.args.factor c
 
 pub returns-clause-too_large : goal.returns-clause-too_large
 returns-clause-too_large c e =
-    let p : (c.args.factor * total c.args.constraint.now.terms ≤ largest_sum) × (c.args.factor * c.args.constraint.now.degree ≤ largest_degree) = c.if-not-multiple_fits.ensures.fits.0 always in
+    let p : (c.args.factor * total c.args.constraint.now.terms ≤ largest_sum) × (c.args.factor * c.args.constraint.now.degree ≤ largest_sum) = c.if-not-multiple_fits.ensures.fits.0 always in
     absurd (c.finish.ensures.too_large.0 e (multiple_fits c.args.factor c.args.constraint.now c.in_ok-terms.terms (c.args.factor * c.degree.result) c.in_ok-terms.ensures (degree_is c) p.0 p.1))
 
 pub returns-clause-within : goal.returns-clause-within

@@ -2,7 +2,7 @@
 use Rattle.std.proofs.Common.{◌*◌, refl, arith}
 use Rattle.normal_form.specs.Normal.{total}
 use Rattle.cut_rules.specs.Steps.{times}
-use Rattle.cut_rules.proofs.Steps.{coefficient_at}
+use Rattle.cut_rules.proofs.MergeSteps.{coefficient_at}
 use Rattle.cut_rules.proofs.Changed.{changed_below, changed_more}
 use Rattle.cut_rules.proofs.OneOperand.{times_small}
 use Rattle.cut_rules.proofs.multiplication.scaled.Goals as goal

@@ -3,7 +3,7 @@ use Rattle.std.proofs.Common.{◌≡◌, min, arith}
 use Rattle.std.proofs.lemmas.Result.{IfOk-weaker}
 use Rattle.linear.specs.Valuation.{Valuation}
 use Rattle.normal_form.specs.Normal.{IsNormal, Holds}
-use Rattle.normal_form.proofs.Results.{if_ok_from, on_err_from}
+use Rattle.normal_form.proofs.FormDegrees.{if_ok_from, on_err_from}
 use Rattle.cut_rules.specs.Rules.{IsSaturation}
 use Rattle.cut_rules.proofs.Meaning.{saturation_law}
 use Rattle.cut_rules.proofs.OneOperand.{saturation_from, fits_from}

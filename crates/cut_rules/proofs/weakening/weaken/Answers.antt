@@ -3,7 +3,7 @@ use Rattle.std.proofs.Common.{◌≡◌, ◌-◌, arith}
 use Rattle.std.proofs.lemmas.Result.{IfOk-weaker}
 use Rattle.linear.specs.Valuation.{Valuation}
 use Rattle.normal_form.specs.Normal.{IsNormal, Holds}
-use Rattle.normal_form.proofs.Results.{if_ok_from, on_err_from}
+use Rattle.normal_form.proofs.FormDegrees.{if_ok_from, on_err_from}
 use Rattle.cut_rules.specs.Rules.{IsWeakening}
 use Rattle.cut_rules.specs.Steps.{less}
 use Rattle.cut_rules.proofs.Meaning.{weakening_law}

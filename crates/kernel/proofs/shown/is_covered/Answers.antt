@@ -25,7 +25,7 @@ returns g c =
     let live = c.args.database.now.live in
     let P : NormalConstraint → Type 0 = λ e. Covers e c.args.constraint.now in
     let none : (k : ℕ) (n : NormalConstraint) → map.get live k ≡ Some n → P n → ⊥ = λ k n is p. elim (cases_lt c.loop-next.id k) as (λ _. ⊥) [
-      | inl above ↦ none_some n (sym (c.in_default.ensures.none k above) ∙ is)
+      | inl above ↦ none_some n (sym (c.in_default.ensures.least k above) ∙ is)
       | inr below ↦ c.loop-next.invariant k n (c.after.ensures.numbered.within k n is).0 below is p
     ] in
     (λ h. absurd (false≢true h), λ a. absurd (Any-never P live none a))

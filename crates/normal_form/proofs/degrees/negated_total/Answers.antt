@@ -15,23 +15,23 @@ none = record { coef = 0; var = record { 0 = 0 }; negated = false }
 one_more : (ts : List NormalTerm) (i sum more : ℕ) → i < length ts → sum ≡ sum_over (λ _ negated. negated) (take i ts) → more ≡ cond (get_or ts i none).negated (get_or ts i none).coef 0 → sum + more ≡ sum_over (λ _ negated. negated) (take (i + 1) ts)
 one_more ts i sum more h s m = omega (arith, sum_over_more (λ _ negated. negated) ts i none h, s, m)
 
-bounded : (ts : List NormalTerm) (i sum : ℕ) → sum ≡ sum_over (λ _ negated. negated) (take i ts) → total ts ≤ largest_sum → sum ≤ 2 ^ 120
+bounded : (ts : List NormalTerm) (i sum : ℕ) → sum ≡ sum_over (λ _ negated. negated) (take i ts) → total ts ≤ largest_sum → sum ≤ largest_sum
 bounded ts i sum s h = omega (arith, sum_over_take (λ _ negated. negated) i ts, s, h)
 
 pub overflow_add-sum : goal.overflow_add-sum
 overflow_add-sum c =
-    let small : c.loop-term.sum + c.negated_coefficient-sum.result ≤ 2 ^ 120 = bounded c.args.terms.now (c.loop-term.term-index + 1) _ (one_more c.args.terms.now c.loop-term.term-index c.loop-term.sum c.negated_coefficient-sum.result c.loop-term-test.true c.loop-term.invariant c.negated_coefficient-sum.ensures) c.requires in
+    let small : c.loop-term.sum + c.negated_coefficient-sum.result ≤ largest_sum = bounded c.args.terms.now (c.loop-term.term-index + 1) _ (one_more c.args.terms.now c.loop-term.term-index c.loop-term.sum c.negated_coefficient-sum.result c.loop-term-test.true c.loop-term.invariant c.negated_coefficient-sum.ensures) c.requires in
     record { fits = omega (arith, small) }
 
 pub loop-term-preserved : goal.loop-term-preserved
 loop-term-preserved c = one_more c.args.terms.now c.loop-term.term-index c.loop-term.sum c.negated_coefficient-sum.result c.loop-term-test.true c.loop-term.invariant c.negated_coefficient-sum.ensures
 
 pub overflow_cast-result : goal.overflow_cast-result
-overflow_cast-result c = let small : c.loop-term.sum ≤ 2 ^ 120 = bounded c.args.terms.now c.loop-term.term-index c.loop-term.sum c.loop-term.invariant c.requires in
+overflow_cast-result c = let small : c.loop-term.sum ≤ largest_sum = bounded c.args.terms.now c.loop-term.term-index c.loop-term.sum c.loop-term.invariant c.requires in
     fits_signed_from_abs w128 (pos c.loop-term.sum) (omega (arith, small))
 
 is_pos : (ts : List NormalTerm) (i sum : ℕ) → sum ≡ sum_over (λ _ negated. negated) (take i ts) → total ts ≤ largest_sum → to_z w128 sum ≡ pos sum
-is_pos ts i sum s h = let small : sum ≤ 2 ^ 120 = bounded ts i sum s h in to_z_pos w128 sum (omega (arith, small))
+is_pos ts i sum s h = let small : sum ≤ largest_sum = bounded ts i sum s h in to_z_pos w128 sum (omega (arith, small))
 
 pub returns-clause-value : goal.returns-clause-value
 returns-clause-value c =
@@ -41,5 +41,5 @@ returns-clause-value c =
 pub returns-clause-size : goal.returns-clause-size
 returns-clause-size c =
     let is : to_z w128 c.loop-term.sum ≡ pos c.loop-term.sum = is_pos c.args.terms.now c.loop-term.term-index c.loop-term.sum c.loop-term.invariant c.requires in
-    let small : c.loop-term.sum ≤ 2 ^ 120 = bounded c.args.terms.now c.loop-term.term-index c.loop-term.sum c.loop-term.invariant c.requires in
+    let small : c.loop-term.sum ≤ largest_sum = bounded c.args.terms.now c.loop-term.term-index c.loop-term.sum c.loop-term.invariant c.requires in
     omega (arith, ints, is, small)

@@ -1,5 +1,5 @@
 -- Of each literal and its opposite one is true.
-use Rattle.normal_form.proofs.Opposite as opposites
+use Rattle.normal_form.proofs.Negations as opposites
 use Rattle.normal_form.proofs.laws.negation_meaning.Goals as goal
 
 pub returns : goal.returns

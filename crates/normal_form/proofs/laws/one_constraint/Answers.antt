@@ -1,5 +1,5 @@
 -- The coefficients determine a list that rises.
-use Rattle.normal_form.proofs.OneForm as forms
+use Rattle.normal_form.proofs.OneList as forms
 use Rattle.normal_form.proofs.laws.one_constraint.Goals as goal
 
 pub returns : goal.returns

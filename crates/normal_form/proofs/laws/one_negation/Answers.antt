@@ -1,5 +1,5 @@
 -- The opposite literals with the degree of the definition are the negation, and the coefficients determine it.
-use Rattle.normal_form.proofs.Opposite as opposites
+use Rattle.normal_form.proofs.Negations as opposites
 use Rattle.normal_form.proofs.laws.one_negation.Goals as goal
 
 pub returns : goal.returns

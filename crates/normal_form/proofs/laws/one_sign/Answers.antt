@@ -1,5 +1,5 @@
 -- A list that rises has each variable once.
-use Rattle.normal_form.proofs.Merge.{one_side}
+use Rattle.normal_form.proofs.FromBalance.{one_side}
 use Rattle.normal_form.proofs.laws.one_sign.Goals as goal
 
 pub returns : goal.returns

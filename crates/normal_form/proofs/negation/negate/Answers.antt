@@ -4,8 +4,8 @@ use Rattle.linear.specs.Valuation.{Valuation}
 use Rattle.normal_form.specs.Normal.{NormalConstraint, Holds, IsNormal, total}
 use Rattle.normal_form.specs.Negation.{IsNegation}
 use Rattle.normal_form.specs.Balance.{flipped}
-use Rattle.normal_form.proofs.Opposite.{negation_from, negation_meaning, not_fitting}
-use Rattle.normal_form.proofs.Results.{if_ok_from}
+use Rattle.normal_form.proofs.Negations.{negation_from, negation_meaning, not_fitting}
+use Rattle.normal_form.proofs.FormDegrees.{if_ok_from}
 use Rattle.normal_form.proofs.negation.negate.Goals as goal
 
 terms_are : (c : goal.After-finish) → c.in_ok-opposite.opposite ≡ flipped c.args.constraint.now.terms
@@ -20,8 +20,8 @@ negation_of c m t d = negation_from c.args.constraint.now m c.terms.ensures.norm
 pub returns-clause-form : goal.returns-clause-form
 returns-clause-form c = if_ok_from c.finish.result (λ m. m.terms ≡ c.in_ok-opposite.opposite) (λ m. m.degree ≡ c.saturating_sub.result) IsNormal (IsNegation c.args.constraint.now) (λ m t d normal. negation_of c m t d) c.finish.ensures.terms c.finish.ensures.degree c.finish.ensures.normal
 
-pub returns-clause-opposite : goal.returns-clause-opposite
-returns-clause-opposite c = if_ok_from c.finish.result (λ m. m.terms ≡ c.in_ok-opposite.opposite) (λ m. m.degree ≡ c.saturating_sub.result) IsNormal (λ m. (a : Valuation) → Holds a m ↔ (Holds a c.args.constraint.now → ⊥)) (λ m t d normal. negation_meaning c.args.constraint.now m c.terms.ensures.normal.rises (negation_of c m t d)) c.finish.ensures.terms c.finish.ensures.degree c.finish.ensures.normal
+pub returns-clause-meaning : goal.returns-clause-meaning
+returns-clause-meaning c = if_ok_from c.finish.result (λ m. m.terms ≡ c.in_ok-opposite.opposite) (λ m. m.degree ≡ c.saturating_sub.result) IsNormal (λ m. (a : Valuation) → Holds a m ↔ (Holds a c.args.constraint.now → ⊥)) (λ m t d normal. negation_meaning c.args.constraint.now m c.terms.ensures.normal.rises (negation_of c m t d)) c.finish.ensures.terms c.finish.ensures.degree c.finish.ensures.normal
 
 pub returns-clause-too_large : goal.returns-clause-too_large
 returns-clause-too_large c e = not_fitting c.args.constraint.now c.in_ok-opposite.opposite c.saturating_sub.result c.terms.ensures.normal (terms_are c) (degree_is c) (c.finish.ensures.too_large.0 e)

@@ -4,7 +4,7 @@ use Rattle.normal_form.specs.declared.term.NormalTerm.{NormalTerm}
 use Rattle.normal_form.specs.Normal.{variable_bound, Rises}
 use Rattle.normal_form.specs.Balance.{flipped}
 use Rattle.normal_form.proofs.Sums.{rises_at, bound_take}
-use Rattle.normal_form.proofs.Opposite.{flipped_bound}
+use Rattle.normal_form.proofs.Negations.{flipped_bound}
 use Rattle.normal_form.proofs.opposites.flip.Goals as goal
 
 -- the term that the code reads past the end

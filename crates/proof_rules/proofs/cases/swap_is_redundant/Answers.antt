@@ -3,8 +3,8 @@ use Rattle.std.proofs.lemmas.Int.{ints}
 use Rattle.std.proofs.lemmas.List.Elements.{All-nil, All-cons}
 use Rattle.normal_form.specs.Cases.{plain, negated, normal}
 use Rattle.normal_form.proofs.NormalForm.{is_form}
-use Rattle.normal_form.proofs.Opposite.{negation_from}
-use Rattle.propagate.proofs.Somewhere.{any_here}
+use Rattle.normal_form.proofs.Negations.{negation_from}
+use Rattle.propagate.proofs.AnyOf.{any_here}
 use Rattle.substitution.specs.Cases.{swap}
 use Rattle.substitution.specs.Covering.{Covers}
 use Rattle.substitution.specs.Under.{substituted}

@@ -2,7 +2,7 @@
 use Rattle.std.proofs.Common.{refl, [], ◌∷◌}
 use Rattle.normal_form.specs.Cases.{plain, negated, normal}
 use Rattle.propagate.specs.Cases.{unit_not, one_of_two}
-use Rattle.propagate.proofs.Outcomes.{conflict_met}
+use Rattle.propagate.proofs.SearchIsRight.{conflict_met}
 use Rattle.propagate.proofs.cases.cases_of_one_variable.Goals as goal
 
 pub returns : goal.returns

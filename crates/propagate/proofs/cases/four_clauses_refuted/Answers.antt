@@ -2,7 +2,7 @@
 use Rattle.std.proofs.Common.{refl, [], ◌∷◌}
 use Rattle.normal_form.specs.Cases.{plain, negated, normal}
 use Rattle.propagate.specs.Cases.{x, unit, four_clauses}
-use Rattle.propagate.proofs.Outcomes.{conflict_met, test_forced}
+use Rattle.propagate.proofs.SearchIsRight.{conflict_met, test_forced}
 use Rattle.std.proofs.Common.{lit<}
 use Rattle.propagate.proofs.cases.four_clauses_refuted.Goals as goal
 

@@ -1,7 +1,7 @@
 -- By the slow search.
 use Rattle.std.proofs.Common.{refl, [], ◌∷◌, inl}
 use Rattle.propagate.specs.Cases.{x, not_x, one_of_two}
-use Rattle.propagate.proofs.Outcomes.{conflict_met, closure_met}
+use Rattle.propagate.proofs.SearchIsRight.{conflict_met, closure_met}
 use Rattle.propagate.proofs.cases.listing_continued.Goals as goal
 
 pub returns-clause-false_given : goal.returns-clause-false_given

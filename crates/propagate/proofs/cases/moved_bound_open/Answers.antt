@@ -1,7 +1,7 @@
 -- By the slow search.
 use Rattle.std.proofs.Common.{refl, [], ◌∷◌}
 use Rattle.propagate.specs.Cases.{not_x, improving_moved}
-use Rattle.propagate.proofs.Outcomes.{no_conflict_met}
+use Rattle.propagate.proofs.SearchIsRight.{no_conflict_met}
 use Rattle.propagate.proofs.cases.moved_bound_open.Goals as goal
 
 pub returns : goal.returns

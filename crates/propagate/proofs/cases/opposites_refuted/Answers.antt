@@ -1,7 +1,7 @@
 -- By the slow search.
 use Rattle.std.proofs.Common.{refl, [], ◌∷◌}
 use Rattle.normal_form.specs.Cases.{plain, negated, normal}
-use Rattle.propagate.proofs.Outcomes.{conflict_met}
+use Rattle.propagate.proofs.SearchIsRight.{conflict_met}
 use Rattle.propagate.proofs.cases.opposites_refuted.Goals as goal
 
 pub returns : goal.returns

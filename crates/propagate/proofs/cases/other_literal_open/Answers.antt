@@ -1,7 +1,7 @@
 -- By the slow search.
 use Rattle.std.proofs.Common.{refl, [], ◌∷◌}
 use Rattle.propagate.specs.Cases.{x, not_x, unit, unit_not, one_of_two}
-use Rattle.propagate.proofs.Outcomes.{no_conflict_met}
+use Rattle.propagate.proofs.SearchIsRight.{no_conflict_met}
 use Rattle.propagate.proofs.cases.other_literal_open.Goals as goal
 
 pub returns : goal.returns

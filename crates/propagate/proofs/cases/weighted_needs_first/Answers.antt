@@ -1,7 +1,7 @@
 -- By the slow search.
 use Rattle.std.proofs.Common.{refl, [], ◌∷◌}
 use Rattle.propagate.specs.Cases.{x, not_x, unit_not, weighted}
-use Rattle.propagate.proofs.Outcomes.{conflict_met, closure_met, no_conflict_met}
+use Rattle.propagate.proofs.SearchIsRight.{conflict_met, closure_met, no_conflict_met}
 use Rattle.propagate.proofs.cases.weighted_needs_first.Goals as goal
 
 pub returns-clause-first : goal.returns-clause-first

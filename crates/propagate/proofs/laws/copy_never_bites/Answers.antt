@@ -1,5 +1,5 @@
 -- The closure is what one chain has, and the constraint would lengthen it.
-use Rattle.propagate.proofs.Gathered.{never_bites}
+use Rattle.propagate.proofs.JoinedChains.{never_bites}
 use Rattle.propagate.proofs.laws.copy_never_bites.Goals as goal
 
 pub returns : goal.returns

@@ -1,5 +1,5 @@
 -- Its degree is its coefficient sum and one.
-use Rattle.propagate.proofs.Zero.{zero_broken, zero_refuted}
+use Rattle.propagate.proofs.DegreeZero.{zero_broken, zero_refuted}
 use Rattle.propagate.proofs.laws.degree_zero.Goals as goal
 
 pub returns-clause-broken : goal.returns-clause-broken

@@ -1,5 +1,5 @@
 -- Where one ends without a conflict, the other stays within it.
-use Rattle.propagate.proofs.Ends as ends
+use Rattle.propagate.proofs.ChainEnds as ends
 use Rattle.propagate.proofs.laws.one_end.Goals as goal
 
 pub returns : goal.returns

@@ -1,5 +1,5 @@
 -- The slow search ends.
-use Rattle.propagate.proofs.Ending as ending
+use Rattle.propagate.proofs.SearchEnds as ending
 use Rattle.propagate.proofs.Consistency.{one_closure}
 use Rattle.propagate.proofs.laws.one_outcome.Goals as goal
 

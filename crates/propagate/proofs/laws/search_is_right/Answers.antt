@@ -1,5 +1,5 @@
 -- Each step adds a forced literal; where none is left, the listing is settled.
-use Rattle.propagate.proofs.Outcomes.{conflict_met, closure_met, no_conflict_met}
+use Rattle.propagate.proofs.SearchIsRight.{conflict_met, closure_met, no_conflict_met}
 use Rattle.propagate.proofs.laws.search_is_right.Goals as goal
 
 pub returns-clause-conflict : goal.returns-clause-conflict

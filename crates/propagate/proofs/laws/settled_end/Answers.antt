@@ -1,5 +1,5 @@
 -- What is forced by fewer literals is listed, or forced, or leads to a conflict in the settled listing.
-use Rattle.propagate.proofs.Ends.{settled_stays, settled_free}
+use Rattle.propagate.proofs.ChainEnds.{settled_stays, settled_free}
 use Rattle.propagate.proofs.laws.settled_end.Goals as goal
 
 pub returns-clause-stays : goal.returns-clause-stays

@@ -1,6 +1,6 @@
 -- The variables rise, so the last one is the greatest.
 use Rattle.std.proofs.Common.{arith}
-use Rattle.propagate.proofs.Bounds.{last_bound}
+use Rattle.propagate.proofs.LastVariable.{last_bound}
 use Rattle.propagate.proofs.refutation.bound.Goals as goal
 
 pub returns : goal.returns

@@ -1,7 +1,7 @@
 -- The walk from nothing ends in a broken constraint, or in a settled listing.
 use Rattle.std.proofs.Common.{ℕ, List, map, ap}
 use Rattle.linear.specs.declared.term.Lit.{Lit}
-use Rattle.propagate.proofs.Steps.{decided_by}
+use Rattle.propagate.proofs.ReasonedChains.{decided_by}
 use Rattle.propagate.proofs.refutation.refuted.Goals as goal
 
 pub returns : goal.returns

@@ -4,7 +4,7 @@ use Rattle.std.proofs.lemmas.List.{length-map}
 use Rattle.linear.specs.declared.term.Lit.{Lit}
 use Rattle.normal_form.specs.Normal.{NormalConstraint}
 use Rattle.propagate.specs.Walk.{IsForcedStep}
-use Rattle.propagate.proofs.Steps.{forced_variable, fewer_left, chain_more, listing_more}
+use Rattle.propagate.proofs.ReasonedChains.{forced_variable, fewer_left, chain_more, listing_more}
 use Rattle.propagate.proofs.walk.complete.Goals as goal
 
 pub push-requires-clause-variable : goal.push-requires-clause-variable

@@ -1,7 +1,7 @@
 -- The listing is what was given and the literals of the steps so far.
 use Rattle.std.proofs.Common.{◌≡◌, ◌≤◌, ◌++◌, length, map}
 use Rattle.propagate.specs.Walk.{IsReasonedChain, literals_of}
-use Rattle.propagate.proofs.Ending.{unset_below, bound_of}
+use Rattle.propagate.proofs.SearchEnds.{unset_below, bound_of}
 use Rattle.propagate.proofs.walk.complete.Given as goal
 
 abbrev pub invariant-loop-trail : goal.invariant-loop-trail

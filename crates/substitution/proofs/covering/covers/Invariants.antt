@@ -1,9 +1,9 @@
 use Rattle.std.proofs.Common.{◌≡◌, ◌≤◌, take, length}
-use Rattle.substitution.specs.Covering.{excess}
+use Rattle.substitution.proofs.Excess.{term_excess}
 use Rattle.substitution.proofs.Pass.{IsAhead}
 use Rattle.substitution.proofs.covering.covers.Given as goal
 
 abbrev pub invariant-loop-index : goal.invariant-loop-index
 invariant-loop-index l =
-    (l.excess ≡ excess (take l.index l.constraint.terms) l.other) × (l.place ≤ length l.other.terms)
+    (l.excess ≡ term_excess (take l.index l.constraint.terms) l.other) × (l.place ≤ length l.other.terms)
     × IsAhead l.constraint.terms l.index l.place l.other.terms

@@ -5,12 +5,12 @@ use Rattle.std.proofs.lemmas.Int.{ints}
 use mir.Syntax.{w128}
 use Rattle.normal_form.specs.NormalOf.{size_sum}
 use Rattle.substitution.specs.Under.{constant_under}
-use Rattle.substitution.specs.Objective.{not_raised}
+use Rattle.substitution.specs.Objective.{largest_objective, not_raised}
 use Rattle.substitution.proofs.PuttingIn.{same_signed}
 use Rattle.substitution.proofs.Difference.{constant_size, difference_small}
 use Rattle.substitution.proofs.objective.difference.Goals as goal
 
-kept : (z right : ℤ) → neg_ℤ z ≡ right → unsigned_abs right ≤ 2 ^ 82 → to_z w128 (of_z w128 (pos 0 -ℤ to_z w128 (of_z w128 z))) ≡ right
+kept : (z right : ℤ) → neg_ℤ z ≡ right → unsigned_abs right ≤ largest_objective → to_z w128 (of_z w128 (pos 0 -ℤ to_z w128 (of_z w128 z))) ≡ right
 kept z right e h =
     let inner : to_z w128 (of_z w128 z) ≡ z = omega (arith, ints, e, h) in
     rw inner (omega (arith, ints, e, h))

@@ -3,7 +3,7 @@ use Rattle.std.proofs.Common.{map, List}
 use Rattle.std.proofs.lemmas.Result.{IfOk-weaker}
 use Rattle.normal_form.specs.Normal.{NormalConstraint}
 use Rattle.propagate.specs.Reach.{IsReach}
-use Rattle.propagate.proofs.Reaching.{same_reach, start_same}
+use Rattle.propagate.proofs.WalkEnds.{same_reach, start_same}
 use Rattle.propagate.proofs.reach.Reach.of.Goals as goal
 
 pub returns-in-Some : goal.returns-in-Some

@@ -1,6 +1,6 @@
 -- A literal that is listed adds nothing.
 use Rattle.std.proofs.Common.{sym, ◌∙◌}
-use Rattle.propagate.proofs.Reaching.{listed_already}
+use Rattle.propagate.proofs.WalkEnds.{listed_already}
 use Rattle.propagate.proofs.trail.Trail.admit.Goals as goal
 
 pub returns-clause-admitted : goal.returns-clause-admitted

@@ -1,7 +1,7 @@
 -- The literals so far are those of the trail; a literal whose opposite is there contradicts them.
 use Rattle.std.proofs.Common.{false, ◌∙◌, arith}
 use Rattle.linear.specs.declared.term.Lit.{Lit}
-use Rattle.propagate.proofs.Reaching.{contradicts_at, same_more, consistent_more}
+use Rattle.propagate.proofs.WalkEnds.{contradicts_at, same_more, consistent_more}
 use Rattle.propagate.proofs.trail.Trail.of.Goals as goal
 
 abbrev first : Lit

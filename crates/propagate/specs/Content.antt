@@ -1,0 +1,46 @@
+-- Constraints under their ids, and chains whose reasons are ids.
+use Rattle.std.specs.Prelude.{◌≡◌, ℕ, ◌<◌, List, [], ◌∷◌, ◌++◌, map, Option, None, Some, MatchOption}
+use Rattle.std.specs.FinMap as fin
+use Rattle.std.specs.Ordering.{nat_cmp}
+use Rattle.linear.specs.declared.term.Lit.{Lit}
+use Rattle.normal_form.specs.Normal.{NormalConstraint}
+use Rattle.propagate.specs.declared.trace.Trace.{Trace}
+use Rattle.propagate.specs.Slack.{IsBroken, IsForced}
+use Rattle.propagate.specs.Chain.{LeadsToConflict, IsClosure}
+
+-- constraints by their ids
+abbrev pub Content : Type 0
+Content = fin.FinMap nat_cmp NormalConstraint
+
+-- the least id above another that has a constraint, none where there is none above
+abbrev pub IsLeastAbove : Content → ℕ → Option ℕ → Type 0
+IsLeastAbove content id None = (k : ℕ) → id < k → fin.get content k ≡ None
+IsLeastAbove content id (Some next) = (id < next) × ((n : NormalConstraint) × (fin.get content next ≡ Some n))
+    × ((k : ℕ) → id < k → k < next → fin.get content k ≡ None)
+
+-- the constraint of the id forces the literal
+abbrev pub IsForcedIn : Content → List Lit → Lit → ℕ → Type 0
+IsForcedIn content listing l id = (n : NormalConstraint) × (fin.get content id ≡ Some n) × IsForced listing l n
+
+-- the constraint of the id has negative slack
+abbrev pub IsBrokenIn : Content → List Lit → ℕ → Type 0
+IsBrokenIn content listing id = (n : NormalConstraint) × (fin.get content id ≡ Some n) × IsBroken listing n
+
+-- each literal is forced in the constraint of its id under what is given and those before it
+abbrev pub AreForcedIn : Content → List Lit → List (Lit × ℕ) → Type 0
+AreForcedIn content given [] = Unit {0}
+AreForcedIn content given (p ∷ ps) = IsForcedIn content given p.0 p.1 × AreForcedIn content (given ++ p.0 ∷ []) ps
+
+-- the literals without their ids
+abbrev pub traced : List (Lit × ℕ) → List Lit
+traced = map (λ p. p.0)
+
+-- the chain comes to an end: no chain leads to a conflict, and what is given or forced is all there
+pub record IsEnd (content : Content) (given listing : List Lit) : Type 0 where
+  pub no_conflict : LeadsToConflict (fin.values content) given → ⊥
+  pub closure : IsClosure (fin.values content) given listing
+
+-- a chain from what is given, with its reasons; then a constraint that has negative slack, or else the end
+pub record IsTrace (content : Content) (given : List Lit) (t : Trace) : Type 0 where
+  pub chain : AreForcedIn content given t.forced
+  pub end : MatchOption t.conflict (IsEnd content given (given ++ traced t.forced)) (IsBrokenIn content (given ++ traced t.forced))

@@ -1,0 +1,114 @@
+//! The plain propagator: it keeps nothing but the constraints, and passes over all of them until nothing changes.
+//!
+//! It is slow where a database is large, since each question begins anew, and short enough to be read at a glance: what a
+//! faster one answers is compared with it. For a question it lends all constraints into one list, so that extra ones
+//! stand in the list beside them, and no constraint is copied.
+
+ghost use Rattle.std.specs.Prelude.{◌≡◌, ◌++◌, IfOk, OnOk, List, map};
+ghost use Rattle.std.specs.FinMap as fin;
+ghost use Rattle.std.specs.List.Sorted.{IsStrictlySortedBy};
+ghost use Rattle.std.specs.Ordering.{nat_cmp};
+
+use super::propagator::{Id, Propagator};
+use super::reach::Reach;
+use super::refutation::refuted;
+use super::trace::Trace;
+use linear::Lit;
+use normal_form::Normal;
+use std::alloc::{AllocError, Global};
+use std::collections::BTreeMap;
+use std::ops::Bound;
+
+/// Constraints by their ids.
+#[derive(Debug, Drop)]
+pub struct ScanPropagator {
+    all: BTreeMap<Id, Normal>,
+    alloc: Global,
+}
+
+// The constraints of a map, by rising id.
+fn lent(alloc: Global, all: &BTreeMap<Id, Normal>) -> Result<Vec<&Normal>, AllocError>
+    ensures constraints { IfOk result (λ v. map (λ n. n.now) v.items ≡ fin.values (fin.from_entries {R = nat_cmp} all.now.entries)) }
+    ensures rise { OnOk result (IsStrictlySortedBy nat_cmp (map (λ e. e.0) all.now.entries)) }
+{
+    let mut constraints = Vec::with_capacity(alloc, all.len())?;
+    for constraint in all.values() {
+        constraints.push(constraint)?;
+    }
+    Ok(constraints)
+}
+
+// The ids of a map, as they rise.
+fn ids(alloc: Global, all: &BTreeMap<Id, Normal>) -> Result<Vec<Id>, AllocError>
+    ensures { IfOk result (λ v. v.items ≡ map (λ e. e.0) all.now.entries) }
+{
+    let mut ids = Vec::with_capacity(alloc, all.len())?;
+    for id in all.keys() {
+        ids.push(*id)?;
+    }
+    Ok(ids)
+}
+
+impl ScanPropagator {
+    // The constraints by rising id, and the extra ones behind them.
+    fn beside<'a>(&'a self, extras: &'a [Normal]) -> Result<Vec<&'a Normal>, AllocError>
+        ensures { IfOk result (λ v. map (λ n. n.now) v.items ≡ fin.values (fin.from_entries {R = nat_cmp} self.now.all.entries) ++ extras.now) }
+    {
+        let mut constraints = lent(self.alloc, &self.all)?;
+        for constraint in extras {
+            constraints.push(constraint)?;
+        }
+        Ok(constraints)
+    }
+}
+
+impl Propagator for ScanPropagator {
+    ghost content = { λ p. fin.from_entries p.all.entries };
+
+    fn empty(alloc: Global) -> Self {
+        ScanPropagator {
+            all: BTreeMap::new(alloc),
+            alloc,
+        }
+    }
+
+    fn insert(&mut self, id: Id, constraint: Normal) -> Result<(), AllocError> {
+        self.all.insert(id, constraint)?;
+        Ok(())
+    }
+
+    fn remove(&mut self, id: Id) -> Option<Normal> {
+        self.all.remove(&id)
+    }
+
+    fn get(&self, id: Id) -> Option<&Normal> {
+        self.all.get(&id)
+    }
+
+    fn after(&self, id: Id) -> Option<Id> {
+        match self
+            .all
+            .range((Bound::Excluded(id), Bound::Unbounded))
+            .next()
+        {
+            Some((next, _)) => Some(*next),
+            None => None,
+        }
+    }
+
+    fn refute(&mut self, extras: &[Normal]) -> Result<bool, AllocError> {
+        let constraints = self.beside(extras)?;
+        refuted(self.alloc, constraints.as_slice())
+    }
+
+    fn extend(&mut self, given: &[Lit]) -> Result<Reach, AllocError> {
+        let constraints = lent(self.alloc, &self.all)?;
+        Reach::of(self.alloc, constraints.as_slice(), given)
+    }
+
+    fn trace(&mut self, given: &[Lit]) -> Result<Trace, AllocError> {
+        let constraints = lent(self.alloc, &self.all)?;
+        let ids = ids(self.alloc, &self.all)?;
+        Trace::of(self.alloc, constraints.as_slice(), ids.as_slice(), given)
+    }
+}

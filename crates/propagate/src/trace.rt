@@ -1,0 +1,76 @@
+//! What a listing forces, step by step and with reasons: what a solver that learns from conflicts asks for.
+
+ghost use Rattle.std.specs.Prelude.{◌≡◌, ◌<◌, All, IfOk, IfSome, length, map, slice_index_or};
+ghost use Rattle.std.specs.Option.{option_map};
+ghost use Rattle.propagate.specs.Literals.{IsConsistent};
+ghost use Rattle.propagate.specs.TraceByPlaces.{named};
+
+use super::propagator::Id;
+use super::reach::literal_count;
+use super::refutation::variable_count;
+use super::scan::Forced;
+use super::trail::Trail;
+use super::walk::{Walk, complete};
+use linear::{Lit, Seq};
+use normal_form::Normal;
+use std::alloc::{AllocError, Global};
+
+/// Each literal that is forced, with the id of a constraint that forces it under the listing and the literals before
+/// it; and the id of a constraint that then has negative slack, if there is one.
+#[derive(Debug, Drop)]
+pub struct Trace {
+    pub forced: Seq<(Lit, Id)>,
+    pub conflict: Option<Id>,
+}
+
+// The steps with ids for the places of their reasons.
+fn with_ids(alloc: Global, steps: &[Forced], ids: &[Id]) -> Result<Vec<(Lit, Id)>, AllocError>
+    requires { All (λ s. s.reason < length ids.now) steps.now }
+    ensures { IfOk result (λ v. v.items ≡ map (named ids.now) steps.now) }
+{
+    let mut forced = Vec::with_capacity(alloc, steps.len())?;
+    for step in steps {
+        forced.push((step.literal, ids[step.reason]))?;
+    }
+    Ok(forced)
+}
+
+impl Trace {
+    ghost use Rattle.propagate.specs.TraceByPlaces.{IsTraceByPlaces, named};
+
+    // What a walk says, with ids for the places of constraints.
+    fn from_walk(alloc: Global, walk: Walk, ids: &[Id]) -> Result<Trace, AllocError>
+        requires steps { All (λ s. s.reason < length ids.now) walk.steps.items }
+        requires broken { IfSome walk.broken (λ place. place < length ids.now) }
+        ensures forced { IfOk result (λ t. t.forced ≡ map (named ids.now) walk.steps.items) }
+        ensures conflict { IfOk result (λ t. t.conflict ≡ option_map (λ place. slice_index_or ids.now place 0) walk.broken) }
+    {
+        let Walk {
+            trail: _,
+            steps,
+            broken,
+        } = walk;
+        Ok(Trace {
+            forced: Seq::from_vec(with_ids(alloc, steps.as_slice(), ids)?),
+            conflict: broken.map(|place| ids[place]),
+        })
+    }
+
+    /// The trace of a listing over constraints, which have these ids.
+    pub(crate) fn of(
+        alloc: Global,
+        constraints: &[&Normal],
+        ids: &[Id],
+        given: &[Lit],
+    ) -> Result<Trace, AllocError>
+        requires consistent { IsConsistent given.now }
+        requires count { length ids.now ≡ length constraints.now }
+        ensures { IfOk result (IsTraceByPlaces (map (λ n. n.now) constraints.now) ids.now given.now) }
+    {
+        let count = variable_count(constraints).max(literal_count(given));
+        match Trail::of(alloc, count, given)? {
+            Some(start) => Trace::from_walk(alloc, complete(alloc, constraints, start)?, ids),
+            None => unreachable!(),
+        }
+    }
+}
