@@ -171,6 +171,9 @@ one_or_two false true false a h = inl refl
 one_or_two false false e true h = inr refl
 one_or_two false false e false h = absurd (omega (arith, h))
 
+pub symbol_sizes : (b : ℕ) (rest : List ℕ) → 0 < symbol_length (b ∷ rest) → (symbol_length (b ∷ rest) ≡ 1) ⊎ (symbol_length (b ∷ rest) ≡ 2)
+symbol_sizes b rest some = one_or_two ((b == 59) || (b == 58) || (b == 61)) ((b == 60) || (b == 62)) (begins 61 rest) ((b == 45) && begins_arrow_head rest) some
+
 both_true : (a b : Bool) → (a && b) ≡ true → (a ≡ true) × (b ≡ true)
 both_true true b h = (refl, h)
 both_true false b h = absurd (cc h)
@@ -180,12 +183,12 @@ not_true true h = absurd (cc h)
 not_true false h = refl
 
 -- the second byte of a symbol would be a symbol by itself
-record IsSecond (rest : List ℕ) : Type 0 where
-  byte : ℕ
-  more : List ℕ
-  is : rest ≡ byte ∷ more
-  dense : is_white byte ≡ false
-  single : symbol_length (byte ∷ more) ≡ 1
+pub record IsSecond (rest : List ℕ) : Type 0 where
+  pub byte : ℕ
+  pub more : List ℕ
+  pub is : rest ≡ byte ∷ more
+  pub dense : is_white byte ≡ false
+  pub single : symbol_length (byte ∷ more) ≡ 1
 
 after_equals : (rest : List ℕ) → begins 61 rest ≡ true → IsSecond rest
 after_equals rest h = let m = begins_is 61 rest h in record { byte = 61; more = m.0; is = m.1; dense = refl; single = refl }
@@ -198,7 +201,7 @@ after_arrow (c ∷ more) h =
     let size : symbol_length (62 ∷ more) ≡ 1 = rw e refl in
     record { byte = 62; more = more; is = ap (λ (x : ℕ). x ∷ more) ((Decides-eqb c 62).0 t.0); dense = refl; single = size }
 
-second_byte : (b : ℕ) (rest : List ℕ) → symbol_length (b ∷ rest) ≡ 2 → IsSecond rest
+pub second_byte : (b : ℕ) (rest : List ℕ) → symbol_length (b ∷ rest) ≡ 2 → IsSecond rest
 second_byte b rest h =
     elim (two_bytes ((b == 59) || (b == 58) || (b == 61)) ((b == 60) || (b == 62)) (begins 61 rest) ((b == 45) && begins_arrow_head rest) h) [
       | inl e ↦ after_equals rest e
@@ -222,7 +225,7 @@ pub symbol_first : (p : Place) (text : List ℕ) → p.comment ≡ false → beg
 symbol_first p [] plain w s = absurd (omega (arith, s))
 symbol_first p (b ∷ rest) plain w s =
     let Goal : ℕ → Type 0 = λ n. lexemes_from p (b ∷ rest) ≡ lexeme_at p (take n (b ∷ rest)) ∷ lexemes_from (behind n p) (drop n (b ∷ rest)) in
-    elim (one_or_two ((b == 59) || (b == 58) || (b == 61)) ((b == 60) || (b == 62)) (begins 61 rest) ((b == 45) && begins_arrow_head rest) s) [
+    elim (symbol_sizes b rest s) [
       | inl one ↦ subst Goal (sym one) (sized_cut 1 p b rest plain w one refl)
       | inr two ↦ subst Goal (sym two) (two_byte_token p b rest plain w two (second_byte b rest two))
     ]

@@ -6,3 +6,4 @@ pub mod Token
 pub mod Cutting
 pub mod Cursor
 pub mod Span
+pub mod TokensOf
