@@ -2,7 +2,7 @@
 use Rattle.std.proofs.Common.{◌≡◌, ℕ, zero, suc, ◌+◌, ◌<◌, ◌≤◌, Bool, true, false, not, ◌&&◌, List, [], ◌∷◌, ◌++◌, length, take, drop, refl, ap, subst, ◌∙◌, arith, add-one}
 use Rattle.std.specs.Prelude.{if◌then◌else◌}
 use Rattle.std.proofs.lemmas.List.{drop-drop, length-take-le}
-use Rattle.pb_text.specs.Lexeme.{Place, cut, is_white, lexemes_from, lexeme_at}
+use Rattle.pb_text.specs.Lexeme.{Position, cut, is_white, lexemes_from, lexeme_at}
 use Rattle.pb_text.specs.Cutting.{begins_white, begins_word, behind}
 use Rattle.pb_text.proofs.Cutting.{word_grows, word_ends, word_first}
 use Rattle.pb_text.proofs.Positions.{AreDense}
@@ -14,7 +14,7 @@ pub record IsWordFront (n : ℕ) (rest : List ℕ) : Type 0 where
   pub ends : begins_word (drop n rest) ≡ false
 
 -- what the cut of a word's front comes to
-word_cut : (n : ℕ) (p : Place) (rest : List ℕ) → p.comment ≡ false → ((k : ℕ) → k < n → begins_word (drop k rest) ≡ true) →
+word_cut : (n : ℕ) (p : Position) (rest : List ℕ) → p.comment ≡ false → ((k : ℕ) → k < n → begins_word (drop k rest) ≡ true) →
     cut p rest ≡ record { word = take n rest ++ (cut (behind n p) (drop n rest)).word; tokens = (cut (behind n p) (drop n rest)).tokens }
 word_cut zero p rest plain bytes = let e : p.start + 0 ≡ p.start = omega arith in rw e refl
 word_cut (suc n) p rest plain bytes =
@@ -26,7 +26,7 @@ word_cut (suc n) p rest plain bytes =
     subst (λ (m : ℕ). Grown m (drop (suc n) rest)) (add-one n) (subst (Grown (n + 1)) f after)
 
 -- a longest word is the first token
-pub word_token : (n : ℕ) (p : Place) (rest : List ℕ) → p.comment ≡ false → 0 < n → IsWordFront n rest →
+pub word_token : (n : ℕ) (p : Position) (rest : List ℕ) → p.comment ≡ false → 0 < n → IsWordFront n rest →
     lexemes_from p rest ≡ lexeme_at p (take n rest) ∷ lexemes_from (behind n p) (drop n rest)
 word_token n p rest plain some w =
     let l : 0 < length (take n rest) = let within : n ≤ length rest = w.within in rw length-take-le some in

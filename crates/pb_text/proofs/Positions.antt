@@ -2,21 +2,21 @@
 use Rattle.std.proofs.Common.{◌≡◌, ℕ, zero, suc, ◌+◌, ◌<◌, ◌≤◌, ◌==◌, Bool, true, false, ◌||◌, List, [], ◌∷◌, ◌++◌, length, take, drop, refl, ap, subst, sym, ◌∙◌, arith, add-one}
 use Rattle.std.specs.Prelude.{if◌then◌else◌, count_by, cond, fold}
 use Rattle.std.proofs.lemmas.List.{drop-drop, length-drop}
-use Rattle.pb_text.specs.Lexeme.{Place, past, begins, begins_comment, is_white}
+use Rattle.pb_text.specs.Lexeme.{Position, past, begins, begins_comment, is_white}
 use Rattle.pb_text.specs.Span.{line_of}
 use Rattle.pb_text.specs.Cutting.{begins_white, behind}
 use Rattle.pb_text.specs.TokensOf.{line_start, on_comment_line, parts_tokens}
 use Rattle.pb_text.proofs.Cutting.{take_next, past_plain, behind_more}
 
 -- a position of the text, and what follows it
-pub record IsAt (text : List ℕ) (p : Place) (rest : List ℕ) : Type 0 where
+pub record IsAt (text : List ℕ) (p : Position) (rest : List ℕ) : Type 0 where
   pub here : drop p.start text ≡ rest
   pub line : p.line ≡ line_of text p.start
   pub comment : p.comment ≡ on_comment_line text p.start
 
-pub past_start : (p : Place) (b : ℕ) (rest : List ℕ) → (past p b rest).start ≡ p.start + 1
+pub past_start : (p : Position) (b : ℕ) (rest : List ℕ) → (past p b rest).start ≡ p.start + 1
 past_start p b rest =
-    let next : Bool → Place = λ t. if t then record { start = p.start + 1; line = p.line + 1; comment = begins_comment rest } else record { start = p.start + 1; line = p.line; comment = p.comment } in
+    let next : Bool → Position = λ t. if t then record { start = p.start + 1; line = p.line + 1; comment = begins_comment rest } else record { start = p.start + 1; line = p.line; comment = p.comment } in
     elim (b == 10) as (λ (t : Bool). (next t).start ≡ p.start + 1) [ true ↦ refl | false ↦ refl ]
 
 fold_push : (g : ℕ → ℕ) (a : ℕ) (xs : List ℕ) (y : ℕ) → fold (λ n x. n + g x) a (xs ++ y ∷ []) ≡ fold (λ n x. n + g x) a xs + g y
@@ -49,7 +49,7 @@ comment_next text n b rest h =
     by false = refl
 
 -- the position behind a byte
-pub next_at : (text : List ℕ) (p : Place) (b : ℕ) (rest : List ℕ) → IsAt text p (b ∷ rest) → IsAt text (past p b rest) rest
+pub next_at : (text : List ℕ) (p : Position) (b : ℕ) (rest : List ℕ) → IsAt text p (b ∷ rest) → IsAt text (past p b rest) rest
 next_at text p b rest at =
     let there : drop (p.start + 1) text ≡ rest = drop_next p.start text b rest at.here in
     let line : line_of text (p.start + 1) ≡ line_of text p.start + cond (b == 10) 1 0 = line_next text p.start b rest at.here in
@@ -82,12 +82,12 @@ no_lf b h = last (b == 32) (b == 9) (b == 13) (b == 10) h
 abbrev pub AreDense : ℕ → List ℕ → Type 0
 AreDense n rest = (k : ℕ) → k < n → begins_white (drop k rest) ≡ false
 
-one_behind : (text : List ℕ) (p : Place) (rest : List ℕ) → IsAt text p rest → 0 < length rest → begins_white rest ≡ false → IsAt text (behind 1 p) (drop 1 rest)
+one_behind : (text : List ℕ) (p : Position) (rest : List ℕ) → IsAt text p rest → 0 < length rest → begins_white rest ≡ false → IsAt text (behind 1 p) (drop 1 rest)
 one_behind text p [] at some dense = absurd (omega (arith, some))
-one_behind text p (b ∷ rest) at some dense = subst (λ (q : Place). IsAt text q rest) (past_plain p b rest (no_lf b dense)) (next_at text p b rest at)
+one_behind text p (b ∷ rest) at some dense = subst (λ (q : Position). IsAt text q rest) (past_plain p b rest (no_lf b dense)) (next_at text p b rest at)
 
 -- the position behind so many bytes that are no white space
-pub behind_at : (n : ℕ) (text : List ℕ) (p : Place) (rest : List ℕ) → IsAt text p rest → n ≤ length rest → AreDense n rest → IsAt text (behind n p) (drop n rest)
+pub behind_at : (n : ℕ) (text : List ℕ) (p : Position) (rest : List ℕ) → IsAt text p rest → n ≤ length rest → AreDense n rest → IsAt text (behind n p) (drop n rest)
 behind_at zero text p rest at l dense = let e : p.start + 0 ≡ p.start = omega arith in rw e at
 behind_at (suc n) text p rest at l dense =
     let before : IsAt text (behind n p) (drop n rest) = behind_at n text p rest at (omega (arith, l)) (λ k h. dense k (omega (arith, h))) in
@@ -95,8 +95,8 @@ behind_at (suc n) text p rest at l dense =
     one_behind text (behind n p) (drop n rest) before (omega (arith, length-drop n rest)) (dense n (omega arith)) in
     let e : behind 1 (behind n p) ≡ behind (suc n) p = behind_more n p ∙ ap (λ (m : ℕ). behind m p) (add-one n) in
     let f : drop 1 (drop n rest) ≡ drop (suc n) rest = drop-drop 1 n rest ∙ ap (λ (m : ℕ). drop m rest) (add-one n) in
-    subst (λ (q : Place). IsAt text q (drop (suc n) rest)) e (subst (λ (xs : List ℕ). IsAt text (behind 1 (behind n p)) xs) f more)
+    subst (λ (q : Position). IsAt text q (drop (suc n) rest)) e (subst (λ (xs : List ℕ). IsAt text (behind 1 (behind n p)) xs) f more)
 
 -- does the byte at a position part tokens
-pub parts_here : (text : List ℕ) (p : Place) (rest : List ℕ) → IsAt text p rest → parts_tokens text p.start ≡ (p.comment || begins_white rest)
+pub parts_here : (text : List ℕ) (p : Position) (rest : List ℕ) → IsAt text p rest → parts_tokens text p.start ≡ (p.comment || begins_white rest)
 parts_here text p rest at = ap (λ (c : Bool). c || begins_white (drop p.start text)) (sym at.comment) ∙ ap (λ (xs : List ℕ). p.comment || begins_white xs) at.here

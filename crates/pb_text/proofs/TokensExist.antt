@@ -2,7 +2,7 @@
 use Rattle.std.proofs.Common.{◌≡◌, ℕ, zero, suc, ◌+◌, ◌<◌, ◌≤◌, Bool, true, false, ◌||◌, ◌⊎◌, inl, inr, List, [], ◌∷◌, length, take, drop, refl, ap, subst, sym, ◌∙◌, arith}
 use Rattle.std.proofs.lemmas.Bool.{cases_lt}
 use Rattle.std.proofs.lemmas.List.{drop-drop, length-take-le, length-drop}
-use Rattle.pb_text.specs.Lexeme.{Lexeme, Place, past, is_white, begins_comment, symbol_length, lexemes, lexemes_from, lexeme_at}
+use Rattle.pb_text.specs.Lexeme.{Lexeme, Position, past, is_white, begins_comment, symbol_length, lexemes, lexemes_from, lexeme_at}
 use Rattle.pb_text.specs.Cutting.{begins_white, begins_word, behind}
 use Rattle.pb_text.specs.Span.{StandsIn}
 use Rattle.pb_text.specs.TokensOf.{parts_tokens, IsGap, IsSymbolAt, IsWordAt, IsTokenOf, AreTokensFrom, AreTokensOf}
@@ -12,10 +12,10 @@ use Rattle.pb_text.proofs.FirstToken.{IsWordFront, word_token, word_size, word_f
 
 -- one byte that parts tokens, before a gap
 gap_grows : (text : List ℕ) (from to : ℕ) → parts_tokens text from ≡ true → IsGap text (from + 1) to → IsGap text from to
-gap_grows text from to here gap place low high =
-    elim (cases_lt from place) [
-      | inl l ↦ gap place (omega (arith, l)) high
-      | inr l ↦ let e : from ≡ place = omega (arith, l, low) in subst (λ (k : ℕ). parts_tokens text k ≡ true) e here
+gap_grows text from to here gap position low high =
+    elim (cases_lt from position) [
+      | inl l ↦ gap position (omega (arith, l)) high
+      | inr l ↦ let e : from ≡ position = omega (arith, l, low) in subst (λ (k : ℕ). parts_tokens text k ≡ true) e here
     ]
 
 -- one byte that parts tokens, before tokens
@@ -24,14 +24,14 @@ gap_before text from [] here a = gap_grows text from (length text) here a
 gap_before text from (t ∷ ts) here a = let l = a.0 in (omega (arith, l), gap_grows text from t.start here a.1, a.2, a.3)
 
 -- no byte of the token at a position parts tokens
-dense_at : (n : ℕ) (text : List ℕ) (p : Place) (rest : List ℕ) → IsAt text p rest → p.comment ≡ false → n ≤ length rest → AreDense n rest →
+dense_at : (n : ℕ) (text : List ℕ) (p : Position) (rest : List ℕ) → IsAt text p rest → p.comment ≡ false → n ≤ length rest → AreDense n rest →
     (k : ℕ) → k < n → parts_tokens text (p.start + k) ≡ false
 dense_at n text p rest at plain l dense k h =
     let there : IsAt text (behind k p) (drop k rest) = behind_at k text p rest at (omega (arith, l, h)) (λ j lt. dense j (omega (arith, lt, h))) in
     parts_here text (behind k p) (drop k rest) there ∙ ap (λ (c : Bool). c || begins_white (drop k rest)) plain ∙ dense k h
 
 -- a token of this size at a position, in front of the tokens behind it
-token_here : (n : ℕ) (text : List ℕ) (p : Place) (rest : List ℕ) (ts : List Lexeme) → IsAt text p rest → p.comment ≡ false → 0 < n → n ≤ length rest → AreDense n rest →
+token_here : (n : ℕ) (text : List ℕ) (p : Position) (rest : List ℕ) (ts : List Lexeme) → IsAt text p rest → p.comment ≡ false → 0 < n → n ≤ length rest → AreDense n rest →
     (IsSymbolAt text p.start n ⊎ IsWordAt text p.start n) → AreTokensFrom text (p.start + n) ts → AreTokensFrom text p.start (lexeme_at p (take n rest) ∷ ts)
 token_here n text p rest ts at plain some l dense form after =
     let size : length (take n rest) ≡ n = length-take-le n rest l in
@@ -43,7 +43,7 @@ token_here n text p rest ts at plain some l dense form after =
     (omega arith, λ k low high. absurd (omega (arith, low, high)), is, subst (λ (m : ℕ). AreTokensFrom text (p.start + m) ts) (sym size) after)
 
 -- a word at the front of what follows a position is one of the text
-word_at : (n : ℕ) (text : List ℕ) (p : Place) (rest : List ℕ) → IsAt text p rest → IsWordFront n rest → IsWordAt text p.start n
+word_at : (n : ℕ) (text : List ℕ) (p : Position) (rest : List ℕ) → IsAt text p rest → IsWordFront n rest → IsWordAt text p.start n
 word_at n text p rest at w =
     let same : (k : ℕ) → drop (p.start + k) text ≡ drop k rest = λ k. sym (drop-drop k p.start text) ∙ ap (drop k) at.here in
     record { bytes = λ k h. ap begins_word (same k) ∙ w.bytes k h; ends = ap begins_word (same n) ∙ w.ends }
@@ -80,7 +80,7 @@ pub or_parts : (a b : Bool) → (a || b) ≡ false → (a ≡ false) × (b ≡ f
 or_parts true b h = absurd (cc h)
 or_parts false b h = (refl, h)
 
-tokens_from : (n : ℕ) (text : List ℕ) (p : Place) (rest : List ℕ) → length rest ≤ n → IsAt text p rest → AreTokensFrom text p.start (lexemes_from p rest)
+tokens_from : (n : ℕ) (text : List ℕ) (p : Position) (rest : List ℕ) → length rest ≤ n → IsAt text p rest → AreTokensFrom text p.start (lexemes_from p rest)
 tokens_from n text p [] l at =
     let over : length text ≤ p.start = let e : length (drop p.start text) ≡ 0 = ap length at.here in omega (arith, e, length-drop p.start text) in
     subst (AreTokensFrom text p.start) (sym (end_empty p [] refl)) (λ k low high. absurd (omega (arith, low, high, over)))
@@ -92,7 +92,7 @@ tokens_from (suc n) text p (b ∷ rest) l at =
     goal = AreTokensFrom text p.start (lexemes_from p (b ∷ rest))
 
     by : (t : Bool) → (p.comment || is_white b) ≡ t
-        → ((text : List ℕ) (p : Place) (rest : List ℕ) → length rest ≤ n → IsAt text p rest → AreTokensFrom text p.start (lexemes_from p rest))
+        → ((text : List ℕ) (p : Position) (rest : List ℕ) → length rest ≤ n → IsAt text p rest → AreTokensFrom text p.start (lexemes_from p rest))
         → AreTokensFrom text p.start (lexemes_from p (b ∷ rest))
     by true e further =
         let next : AreTokensFrom text (past p b rest).start (lexemes_from (past p b rest) rest) = further text (past p b rest) rest (omega (arith, l)) (next_at text p b rest at) in

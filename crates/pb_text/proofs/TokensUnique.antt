@@ -3,7 +3,7 @@ use Rattle.std.proofs.Common.{◌≡◌, ℕ, zero, suc, ◌+◌, ◌<◌, ◌�
 use Rattle.std.proofs.lemmas.Bool.{cases_lt}
 use Rattle.std.proofs.lemmas.List.{drop-drop, length-drop, length-take}
 use Rattle.pb_text.specs.declared.kind.Kind.{Kind}
-use Rattle.pb_text.specs.Lexeme.{Lexeme, Place, past, is_white, begins_comment, symbol_length, lexemes, lexemes_from, lexeme_at, kind_of}
+use Rattle.pb_text.specs.Lexeme.{Lexeme, Position, past, is_white, begins_comment, symbol_length, lexemes, lexemes_from, lexeme_at, kind_of}
 use Rattle.pb_text.specs.Cutting.{begins_white, begins_word, behind}
 use Rattle.pb_text.specs.Span.{line_of}
 use Rattle.pb_text.specs.TokensOf.{parts_tokens, on_comment_line, IsSymbolAt, IsWordAt, IsTokenOf, AreTokensFrom, AreTokensOf}
@@ -13,7 +13,7 @@ use Rattle.pb_text.proofs.FirstToken.{IsWordFront, word_token}
 use Rattle.pb_text.proofs.TokensExist.{or_parts}
 
 -- a token is known by its start, its line, its bytes and their kind
-same_token : (t : Lexeme) (p : Place) (w : List ℕ) → t.text ≡ w → t.start ≡ p.start → t.line ≡ p.line → t.kind ≡ kind_of t.text → t ≡ lexeme_at p w
+same_token : (t : Lexeme) (p : Position) (w : List ℕ) → t.text ≡ w → t.start ≡ p.start → t.line ≡ p.line → t.kind ≡ kind_of t.text → t ≡ lexeme_at p w
 same_token t p w text start line kind =
     ap (λ (k : Kind). let u : Lexeme = record { kind = k; line = t.line; start = t.start; text = t.text } in u) kind
     ∙ ap (λ (n : ℕ). let u : Lexeme = record { kind = kind_of t.text; line = n; start = t.start; text = t.text } in u) line
@@ -55,13 +55,13 @@ begins_here text from t ts plain a =
     ]
 
 -- the token that begins at a position, and what stands behind it
-record IsFirst (text : List ℕ) (p : Place) (rest : List ℕ) (t : Lexeme) : Type 0 where
+record IsFirst (text : List ℕ) (p : Position) (rest : List ℕ) (t : Lexeme) : Type 0 where
   within : length t.text ≤ length rest
   token : t ≡ lexeme_at p (take (length t.text) rest)
   dense : AreDense (length t.text) rest
   lexemes : lexemes_from p rest ≡ lexeme_at p (take (length t.text) rest) ∷ lexemes_from (behind (length t.text) p) (drop (length t.text) rest)
 
-is_first : (text : List ℕ) (p : Place) (rest : List ℕ) (t : Lexeme) → IsAt text p rest → p.comment ≡ false → begins_white rest ≡ false → t.start ≡ p.start → IsTokenOf text t → IsFirst text p rest t
+is_first : (text : List ℕ) (p : Position) (rest : List ℕ) (t : Lexeme) → IsAt text p rest → p.comment ≡ false → begins_white rest ≡ false → t.start ≡ p.start → IsTokenOf text t → IsFirst text p rest t
 is_first text p rest t at plain dark start is =
     let here : drop t.start text ≡ rest = ap (λ (k : ℕ). drop k text) start ∙ at.here in
     let n : ℕ = length t.text in
@@ -85,7 +85,7 @@ is_first text p rest t at plain dark start is =
     }
 
 -- at the end of the text no token stands
-none_at_end : (text : List ℕ) (p : Place) (t : Lexeme) (ts : List Lexeme) {A : Type 0} → IsAt text p [] → AreTokensFrom text p.start (t ∷ ts) → A
+none_at_end : (text : List ℕ) (p : Position) (t : Lexeme) (ts : List Lexeme) {A : Type 0} → IsAt text p [] → AreTokensFrom text p.start (t ∷ ts) → A
 none_at_end text p t ts at a =
     let e : length (drop p.start text) ≡ 0 = ap length at.here in
     let f : length (take (length t.text) (drop t.start text)) ≡ length t.text = ap length a.2.stands.slice in
@@ -93,7 +93,7 @@ none_at_end text p t ts at a =
     let some = a.2.stands.some in
     absurd (omega (arith, e, f, low, some, length-drop p.start text, length-drop t.start text, length-take (length t.text) (drop t.start text)))
 
-one_list : (n : ℕ) (text : List ℕ) (p : Place) (rest : List ℕ) (ts : List Lexeme) → length rest ≤ n → IsAt text p rest → AreTokensFrom text p.start ts → ts ≡ lexemes_from p rest
+one_list : (n : ℕ) (text : List ℕ) (p : Position) (rest : List ℕ) (ts : List Lexeme) → length rest ≤ n → IsAt text p rest → AreTokensFrom text p.start ts → ts ≡ lexemes_from p rest
 one_list n text p [] [] l at a = sym (end_empty p [] refl)
 one_list n text p [] (t ∷ ts) l at a = none_at_end text p t ts at a
 one_list zero text p (b ∷ rest) ts l at a = absurd (omega (arith, l))
@@ -104,7 +104,7 @@ one_list (suc n) text p (b ∷ rest) ts l at a =
     inside = let e : length (drop p.start text) ≡ length (b ∷ rest) = ap length at.here in omega (arith, e, length-drop p.start text)
 
     by : (s : Bool) → (p.comment || is_white b) ≡ s
-        → ((text : List ℕ) (p : Place) (rest : List ℕ) (ts : List Lexeme) → length rest ≤ n → IsAt text p rest → AreTokensFrom text p.start ts → ts ≡ lexemes_from p rest)
+        → ((text : List ℕ) (p : Position) (rest : List ℕ) (ts : List Lexeme) → length rest ≤ n → IsAt text p rest → AreTokensFrom text p.start ts → ts ≡ lexemes_from p rest)
         → (ts : List Lexeme) → AreTokensFrom text p.start ts → ts ≡ lexemes_from p (b ∷ rest)
     by true e further ts a =
         let here : parts_tokens text p.start ≡ true = parts_here text p (b ∷ rest) at ∙ e in

@@ -4,7 +4,7 @@
 -- before white space, before a symbol and at the end of the text. (The OPB format of Roussel and Manquinho and the
 -- VeriPB proof format, with white space around symbols left free.)
 --
--- `lexemes` computes the tokens from the right, as a fold; here each place of the text is asked by itself. That both say
+-- `lexemes` computes the tokens from the right, as a fold; here each position of the text is asked by itself. That both say
 -- the same, so that a text has one list of tokens, is a law of this crate.
 use Rattle.std.specs.Prelude.{◌≡◌, ℕ, zero, suc, ◌+◌, ◌<◌, ◌≤◌, Bool, true, false, ◌||◌, ◌⊎◌, if◌then◌else◌, List, [], ◌∷◌, length, drop, map}
 use Rattle.pb_text.specs.declared.kind.Kind.{Kind}
@@ -12,22 +12,22 @@ use Rattle.pb_text.specs.Lexeme.{Lexeme, begins, begins_comment, symbol_length}
 use Rattle.pb_text.specs.Cutting.{begins_white, begins_word}
 use Rattle.pb_text.specs.Span.{StandsIn}
 
--- where the line begins on which a place stands: behind the last LF before it
+-- where the line begins on which a position stands: behind the last LF before it
 abbrev pub line_start : List ℕ → ℕ → ℕ
 line_start text zero = zero
-line_start text (suc place) = if begins 10 (drop place text) then suc place else line_start text place
+line_start text (suc position) = if begins 10 (drop position text) then suc position else line_start text position
 
--- does a place stand on a comment line
+-- does a position stand on a comment line
 abbrev pub on_comment_line : List ℕ → ℕ → Bool
-on_comment_line text place = begins_comment (drop (line_start text place) text)
+on_comment_line text position = begins_comment (drop (line_start text position) text)
 
--- does the byte at a place part tokens: is it white space or on a comment line
+-- does the byte at a position part tokens: is it white space or on a comment line
 abbrev pub parts_tokens : List ℕ → ℕ → Bool
-parts_tokens text place = on_comment_line text place || begins_white (drop place text)
+parts_tokens text position = on_comment_line text position || begins_white (drop position text)
 
--- nothing but white space and comment lines stands from one place to another
+-- nothing but white space and comment lines stands from one position to another
 abbrev pub IsGap : List ℕ → ℕ → ℕ → Type 0
-IsGap text from to = (place : ℕ) → from ≤ place → place < to → parts_tokens text place ≡ true
+IsGap text from to = (position : ℕ) → from ≤ position → position < to → parts_tokens text position ≡ true
 
 -- a symbol or a stray byte of its longest length: `>=` is never cut as `>` and `=`
 abbrev pub IsSymbolAt : List ℕ → ℕ → ℕ → Type 0
@@ -44,7 +44,7 @@ pub record IsTokenOf (text : List ℕ) (t : Lexeme) : Type 0 where
   pub dense : (k : ℕ) → k < length t.text → parts_tokens text (t.start + k) ≡ false
   pub form : IsSymbolAt text t.start (length t.text) ⊎ IsWordAt text t.start (length t.text)
 
--- the tokens from a place on: one behind another, with gaps before them, between them and behind them
+-- the tokens from a position on: one behind another, with gaps before them, between them and behind them
 abbrev pub AreTokensFrom : List ℕ → ℕ → List Lexeme → Type 0
 AreTokensFrom text from [] = IsGap text from (length text)
 AreTokensFrom text from (t ∷ ts) = (from ≤ t.start) × IsGap text from t.start × IsTokenOf text t × AreTokensFrom text (t.start + length t.text) ts

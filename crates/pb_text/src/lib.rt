@@ -6,8 +6,8 @@ mod classify;
 mod cursor;
 mod kind;
 mod laws;
+mod lookahead;
 mod number;
-mod size;
 mod spot;
 #[cfg(test)]
 mod tests;
@@ -16,6 +16,7 @@ mod tokens;
 
 pub use kind::{Kind, Symbol};
 pub use laws::{kinds_of_words, one_list_of_tokens, tokens_in_order, tokens_stand_in_text};
-pub use number::{NumFault, integer};
+pub use lookahead::Lookahead;
+pub use number::{LARGEST_NUMBER, NumFault, integer};
 pub use token::{Literal, Token, as_literal};
 pub use tokens::{Tokens, end_line};

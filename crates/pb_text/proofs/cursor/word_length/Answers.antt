@@ -2,7 +2,7 @@ use Rattle.std.proofs.Common.{◌≡◌, ◌∙◌, ap, arith, List, ℕ, drop, 
 use Rattle.std.proofs.lemmas.List.{drop-drop}
 use Rattle.pb_text.specs.Cutting.{begins_word}
 use Rattle.pb_text.proofs.Cutting.{word_grows, word_ends, word_not_empty}
-use Rattle.pb_text.proofs.size.word_length.Goals as goal
+use Rattle.pb_text.proofs.cursor.word_length.Goals as goal
 
 pub loop-tail-preserved : goal.loop-tail-preserved
 loop-tail-preserved c =

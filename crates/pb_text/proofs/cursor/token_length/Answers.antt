@@ -1,8 +1,8 @@
 use Rattle.std.proofs.Common.{◌≡◌, ◌<◌, ◌∙◌, ap, arith, false, length, take, refl}
 use Rattle.std.proofs.lemmas.List.{length-take-le}
-use Rattle.pb_text.specs.Lexeme.{Place, Cut, symbol_length}
+use Rattle.pb_text.specs.Lexeme.{Position, Cut, symbol_length}
 use Rattle.pb_text.proofs.Cutting.{symbol_first, word_first, empty_word}
-use Rattle.pb_text.proofs.size.token_length.Goals as goal
+use Rattle.pb_text.proofs.cursor.token_length.Goals as goal
 
 pub returns-then-size-gt0-clause-token : goal.returns-then-size-gt0-clause-token
 returns-then-size-gt0-clause-token c p plain some =
@@ -11,7 +11,7 @@ returns-then-size-gt0-clause-token c p plain some =
 
 pub returns-else-size-gt0-clause-end : goal.returns-else-size-gt0-clause-end
 returns-else-size-gt0-clause-end c none =
-    let p : Place = record { start = 0; line = 1; comment = false } in
+    let p : Position = record { start = 0; line = 1; comment = false } in
     let s : symbol_length c.args.text.now ≡ 0 = omega (arith, c.symbol_length-size.ensures.symbol) in
     empty_word p c.args.text.now refl c.requires s
     (ap (λ (d : Cut). d.word) (c.word_length.ensures.word p refl) ∙ rw none refl)
