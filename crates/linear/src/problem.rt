@@ -12,8 +12,8 @@ use super::term::Term;
 use std::alloc::{AllocError, Global};
 use std::marker::Model;
 
-/// A linear 0-1 problem: names, an objective to be minimised or none, and constraints. Integers are at most
-/// 2^62 in size; a statement has at most 2^20 terms, and there are at most 2^20 variables and constraints.
+/// A linear 0-1 problem: names, an objective to be minimised or none, and constraints. Its sizes
+/// are within the limits (`LARGEST_INTEGER`, `MOST_TERMS`, `MOST_VARIABLES`, `MOST_CONSTRAINTS`) by its type.
 #[derive(Drop)]
 pub struct Problem {
     names: Names,
@@ -47,6 +47,13 @@ impl Problem {
             objective,
             constraints,
         }
+    }
+
+    /// What holds of every problem, for a proof that needs it where nothing else of the problem is asked.
+    pub fn reveal(&self)
+        ensures { IsWithin self.now }
+    {
+        let _ = &self.names;
     }
 
     /// The names, by the numbers of the variables.

@@ -2,7 +2,7 @@ use Rattle.std.proofs.Common.{◌≡◌, map, length, sym, ap, ◌∙◌, subst}
 use Rattle.std.proofs.lemmas.List.{length-map}
 use Rattle.linear.specs.Table.{IsTable, with_name}
 use Rattle.linear.proofs.Tables.{IsTable-with_name, map-insert_key, place_of-new}
-use Rattle.linear.proofs.names.Names.intern.Goals as goal
+use Rattle.linear.proofs.names.Names.add.Goals as goal
 
 names_after : (c : goal.In_ok-insert) → map (λ v. v.items) c.insert.new.self.keys ≡ with_name c.args.self.now c.args.name.now
 names_after c =
@@ -22,4 +22,4 @@ returns-clause-ok c = names_after c
 pub returns-clause-number : goal.returns-clause-number
 returns-clause-number c =
     let names = c.args.self.now in
-    c.len-place.ensures.len ∙ sym (length-map c.self.inside.set.keys (λ v. v.items)) ∙ ap length c.self.view_is ∙ sym (place_of-new names c.args.name.now (c.in_default.ensures))
+    c.len-number.ensures.len ∙ sym (length-map c.self.inside.set.keys (λ v. v.items)) ∙ ap length c.self.view_is ∙ sym (place_of-new names c.args.name.now c.requires.unknown)
