@@ -106,7 +106,8 @@ impl Names {
             (IsFullFor self.old most name.now)
             (λ v. v.0 ≡ place_of self.old name.now)) }
         ensures some { IfOk result (λ found. IfSome found (λ _. self.new ≡ with_name self.old name.now)) }
-        ensures few { IfOk result (λ found. IfSome found (λ _. length self.old ≤ most → length self.new ≤ most)) }
+        ensures few { length self.old ≤ most → length self.new ≤ most }
+        ensures table { IsTable self.new }
         ensures none { IfOk result (λ found. found ≡ None → self.new ≡ self.old) }
         ensures err { OnErr result (self.new ≡ self.old) }
     {
@@ -128,6 +129,7 @@ impl Names {
         ensures ok { OnOk result (self.new ≡ with_name self.old name.now) }
         ensures number { IfOk result (λ v. v.0 ≡ place_of self.old name.now) }
         ensures err { OnErr result (self.new ≡ self.old) }
+        ensures table { IsTable self.new }
     {
         let number = self.set.len();
         let own = Vec::from_slice(*self.set.allocator(), name)?;

@@ -2,7 +2,7 @@
 -- of the text counts as a token.
 use Rattle.std.specs.Prelude.{◌≡◌, ℕ, ◌≤◌, Bool, true, false, if◌then◌else◌, Option, Some, None, List, [], ◌∷◌, ◌++◌, length, All, count_by}
 use Rattle.pb_text.specs.Lexeme.{Lexeme, lexemes}
-use Rattle.pb_text.specs.Span.{line_of}
+pub use Rattle.pb_text.specs.Ahead.{line_of_next}
 use Rattle.linear.specs.Opb.{Opb}
 use Rattle.linear.specs.Limits.{most_terms, most_variables, most_constraints, IsWithin}
 use Rattle.opb_read.specs.Kinds.{is_literal, begins_objective, statements_of, IsLargeInteger}
@@ -80,11 +80,6 @@ pub record IsTooMany (before rest : List Lexeme) : Type 0 where
   pub stands : CanGoOn (begins_objective (before ++ rest)) (before ++ token ∷ [])
   pub counts : AreCountsWithin (before ++ token ∷ []) → ⊥
   pub none : IsBeyondLimits before rest
-
--- the line of the token that stands next, or of the text's end
-abbrev pub line_of_next : List ℕ → List Lexeme → ℕ
-line_of_next text [] = line_of text (length text)
-line_of_next text (t ∷ rest) = t.line
 
 -- A fault of this code and line: the tokens before its token begin a problem and are within the limits; with its token
 -- they begin none, or (of a limit) none within the limits; and the line is its token's.

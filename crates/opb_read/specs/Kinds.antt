@@ -2,28 +2,13 @@
 use Rattle.std.specs.Prelude.{◌≡◌, ◌<◌, ◌&&◌, Bool, true, false, if◌then◌else◌, Option, Some, None, List, [], ◌∷◌, drop, unsigned_abs, codes, bytes_eq}
 use Rattle.pb_text.specs.Lexeme.{Lexeme}
 use Rattle.pb_text.specs.declared.kind.Kind.{Kind}
-use Rattle.pb_text.specs.declared.kind.Kind.TheVariants.{Integer, Literal, Symbol}
-use Rattle.pb_text.specs.declared.kind.Symbol.TheVariants.{Semicolon, Colon, AtLeast, Equals}
+pub use Rattle.pb_text.specs.Kinds.{is_integer, is_literal, is_semicolon, is_colon}
+use Rattle.pb_text.specs.declared.kind.Kind.TheVariants.{Symbol}
+use Rattle.pb_text.specs.declared.kind.Symbol.TheVariants.{AtLeast, Equals}
 use Rattle.pb_text.specs.Number.{integer_value}
 use Rattle.linear.specs.Limits.{largest_integer}
 use Rattle.linear.specs.declared.constraint.Relation.{Relation}
 use Rattle.linear.specs.declared.constraint.Relation.TheVariants as relations
-
-abbrev pub is_integer : Kind → Bool
-is_integer Integer = true
-is_integer _ = false
-
-abbrev pub is_literal : Kind → Bool
-is_literal Literal = true
-is_literal _ = false
-
-abbrev pub is_semicolon : Kind → Bool
-is_semicolon (Symbol Semicolon) = true
-is_semicolon _ = false
-
-abbrev pub is_colon : Kind → Bool
-is_colon (Symbol Colon) = true
-is_colon _ = false
 
 -- `>=` or `=`
 abbrev pub relation_of : Kind → Option Relation

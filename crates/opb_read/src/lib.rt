@@ -1,17 +1,12 @@
 //! Reads linear OPB problem files.
 #![tactic(auto)]
 
-mod constraints;
+mod ahead;
 mod fault;
 mod laws;
-mod lookahead;
-mod number;
-mod objective;
 mod place;
 mod reader;
 mod reading;
-mod statement;
-mod sum;
 mod variables;
 
 pub use fault::{OpbCode, OpbFault};

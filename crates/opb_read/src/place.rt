@@ -1,7 +1,6 @@
 //! Which fault a token is that cannot stand in its place.
 
 ghost use Rattle.std.specs.Prelude.{◌≡◌};
-ghost use Rattle.opb_read.specs.Ahead as ahead;
 ghost use Rattle.opb_read.specs.Denial.{IsForm};
 
 use crate::fault::OpbCode;
@@ -69,19 +68,5 @@ pub(crate) fn fault_at_start(token: Token<'_>, after: Option<Kind>) -> OpbCode
         (Kind::Literal, _, Some(Kind::Symbol(Symbol::Colon))) => marked(token.text),
         (Kind::Other, [b'[', ..], _) => OpbCode::UnsupportedForm,
         (kind, _, _) => Place::Start.fault(Some(kind)),
-    }
-}
-
-/// Whether a token of this kind may begin a constraint.
-pub(crate) fn begins_constraint(kind: Kind) -> bool
-    ensures { result ≡ ahead.begins_constraint kind }
-{
-    match kind {
-        Kind::Integer | Kind::Symbol(Symbol::AtLeast | Symbol::Equals) => true,
-        Kind::Symbol(Symbol::Semicolon | Symbol::Colon | Symbol::AtMost | Symbol::Arrow)
-        | Kind::Stray
-        | Kind::Literal
-        | Kind::Misspelt
-        | Kind::Other => false,
     }
 }

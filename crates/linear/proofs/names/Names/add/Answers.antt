@@ -23,3 +23,8 @@ pub returns-clause-number : goal.returns-clause-number
 returns-clause-number c =
     let names = c.args.self.now in
     c.len-number.ensures.len ∙ sym (length-map c.self.inside.set.keys (λ v. v.items)) ∙ ap length c.self.view_is ∙ sym (place_of-new names c.args.name.now c.requires.unknown)
+
+pub returns-clause-table : goal.returns-clause-table
+returns-clause-table c =
+    let table = subst IsTable c.self.view_is c.self.invariant in
+    subst IsTable (sym (names_after c)) (IsTable-with_name c.args.self.now c.args.name.now table c.requires.spelled c.requires.room)
