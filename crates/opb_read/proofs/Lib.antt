@@ -16,4 +16,5 @@ pub mod SumSteps
 pub mod StatementSteps
 pub mod ConstraintSteps
 pub mod OnePlace
+pub mod ReadAsWritten
 mod Examples

@@ -1,6 +1,7 @@
 pub mod Kinds
 pub mod Pieces
 pub mod Forms
+pub mod Written
 pub mod Spells
 pub mod Faults
 pub mod Ahead

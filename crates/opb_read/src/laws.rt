@@ -1,8 +1,13 @@
 //! Laws about what a text spells, as contracts of functions that do nothing.
 
-ghost use Rattle.std.specs.Prelude.{◌≡◌, ℕ, List};
+ghost use Rattle.std.specs.Prelude.{◌≡◌, ◌↔◌, ℕ, List, Some};
+ghost use Rattle.pb_text.specs.Lexeme.{Lexeme};
+ghost use Rattle.linear.specs.declared.constraint.Signed.{Signed};
+ghost use Rattle.linear.specs.declared.term.Term.{Term};
 ghost use Rattle.linear.specs.Opb.{Opb};
+ghost use Rattle.opb_read.specs.Forms.{constraint_of, objective_of};
 ghost use Rattle.opb_read.specs.Spells.{Spells};
+ghost use Rattle.opb_read.specs.Written.{WritesConstraint, WritesSum};
 ghost use Rattle.opb_read.specs.Denial.{IsForm};
 ghost use Rattle.opb_read.specs.FaultPlace.{IsFaultAt};
 
@@ -12,6 +17,19 @@ use crate::fault::OpbCode;
 #[tactic(auto, using(crate::proofs::Spelled::one_problem))]
 pub fn one_problem()
     ensures { (text : List ℕ) (p q : Opb) → Spells text p → Spells text q → p ≡ q }
+{}
+
+/// A piece gives a constraint exactly where it is written as that constraint: term by term an integer and a literal, then
+/// the relation and the right side.
+pub fn constraints_as_written()
+    ensures { (names : List (List ℕ)) (piece : List Lexeme) (c : Signed) →
+        (constraint_of names piece ≡ Some c) ↔ WritesConstraint names c piece }
+{}
+
+/// A piece gives the sum of an objective exactly where it is written as that sum.
+pub fn objectives_as_written()
+    ensures { (names : List (List ℕ)) (piece : List Lexeme) (terms : List Term) →
+        (objective_of names piece ≡ Some terms) ↔ WritesSum names terms piece }
 {}
 
 /// Two faults of form of one text stand on one line: what the contract of `read` says of a fault's place fixes its line.

@@ -10,7 +10,7 @@ mod reading;
 mod variables;
 
 pub use fault::{OpbCode, OpbFault};
-pub use laws::{one_place, one_problem};
+pub use laws::{constraints_as_written, objectives_as_written, one_place, one_problem};
 pub use reading::read;
 
 #[cfg(test)]

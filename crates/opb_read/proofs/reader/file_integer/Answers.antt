@@ -1,4 +1,4 @@
-use Rattle.std.proofs.Common.{ℕ, ◌<◌, ◌^◌, Err, refl, arith}
+use Rattle.std.proofs.Common.{ℕ, ◌<◌, Err, refl, arith}
 use Rattle.std.specs.Prelude.{IsErrOf, ℤ}
 use Rattle.pb_text.specs.Number.{largest_number}
 use Rattle.linear.specs.Limits.{largest_integer}
