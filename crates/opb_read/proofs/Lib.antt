@@ -15,6 +15,7 @@ pub mod Reaching
 pub mod SumSteps
 pub mod StatementSteps
 pub mod ConstraintSteps
-pub mod OnePlace
+pub mod CountsOfBeginnings
+pub mod OneFaultLine
 pub mod ReadAsWritten
 mod Examples

@@ -45,10 +45,10 @@ next_is : (rest : List Lexeme) (t : Lexeme) → rest ≡ t ∷ drop 1 rest → n
 next_is rest t at = ap next_token at
 
 -- the counts of the statements, and of the tokens that they stand in
-abbrev plain : Progress
+abbrev pub plain : Progress
 plain = record { place = Start; names = []; terms = 0; constraints = 0 }
 
-abbrev marked : Progress
+abbrev pub marked : Progress
 marked = record { place = ObjectiveMark; names = []; terms = 0; constraints = 0 }
 
 plain_holds : HoldsLimits plain
@@ -85,7 +85,7 @@ few_all first others h o = All-cons IsFew first others (omega (arith, h)) o
 few_first : (first : List Lexeme) (others : List (List Lexeme)) → All IsFew (first ∷ others) → 0 + literals first ≤ most_terms
 few_first first others h = let at : literals first ≤ most_terms = All-head IsFew first others h in omega (arith, at)
 
-counts_plain : (tokens : List Lexeme) → begins_objective tokens ≡ false → CountsFrom plain tokens → AreCountsWithin tokens
+pub counts_plain : (tokens : List Lexeme) → begins_objective tokens ≡ false → CountsFrom plain tokens → AreCountsWithin tokens
 counts_plain tokens e w =
     let at = is_plain tokens e in
     let sum : 0 + (cond (is_begun (pieces tokens).first) 1 0 + count_by is_begun (pieces tokens).others) ≤ most_constraints = w.constraints in
@@ -95,7 +95,7 @@ counts_plain tokens e w =
       constraints = subst (λ ps. count_by is_begun ps ≤ most_constraints) (sym at.ahead) (omega (arith, begun-cons (pieces tokens).first (pieces tokens).others, sum));
     }
 
-plain_counts : (tokens : List Lexeme) → begins_objective tokens ≡ false → AreCountsWithin tokens → CountsFrom plain tokens
+pub plain_counts : (tokens : List Lexeme) → begins_objective tokens ≡ false → AreCountsWithin tokens → CountsFrom plain tokens
 plain_counts tokens e w =
     let at = is_plain tokens e in
     let few : All IsFew ((pieces tokens).first ∷ (pieces tokens).others) = subst (λ l. All IsFew ((pieces l).first ∷ (pieces l).others)) at.all w.terms in
@@ -107,7 +107,7 @@ plain_counts tokens e w =
       constraints = omega (arith, begun-cons (pieces tokens).first (pieces tokens).others, sum);
     }
 
-counts_marked : (a b : Lexeme) (passed : List Lexeme) → begins_objective (a ∷ b ∷ []) ≡ true → CountsFrom marked passed → AreCountsWithin (a ∷ b ∷ passed)
+pub counts_marked : (a b : Lexeme) (passed : List Lexeme) → begins_objective (a ∷ b ∷ []) ≡ true → CountsFrom marked passed → AreCountsWithin (a ∷ b ∷ passed)
 counts_marked a b passed e w =
     let at = is_marked a b passed e in
     let sum : 0 + (0 + count_by is_begun (pieces passed).others) ≤ most_constraints = w.constraints in
@@ -117,7 +117,7 @@ counts_marked a b passed e w =
       constraints = subst (λ ps. count_by is_begun ps ≤ most_constraints) (sym at.ahead) (omega (arith, sum));
     }
 
-marked_counts : (a b : Lexeme) (passed : List Lexeme) → begins_objective (a ∷ b ∷ []) ≡ true → AreCountsWithin (a ∷ b ∷ passed) → CountsFrom marked passed
+pub marked_counts : (a b : Lexeme) (passed : List Lexeme) → begins_objective (a ∷ b ∷ []) ≡ true → AreCountsWithin (a ∷ b ∷ passed) → CountsFrom marked passed
 marked_counts a b passed e w =
     let at = is_marked a b passed e in
     let few : All IsFew ((pieces passed).first ∷ (pieces passed).others) = subst (λ l. All IsFew ((pieces l).first ∷ (pieces l).others)) at.all w.terms in

@@ -1,6 +1,6 @@
 //! Laws about what a text spells, as contracts of functions that do nothing.
 
-ghost use Rattle.std.specs.Prelude.{◌≡◌, ◌↔◌, ℕ, List, Some};
+ghost use Rattle.std.specs.Prelude.{◌≡◌, ◌≢◌, ◌↔◌, ℕ, List, Some};
 ghost use Rattle.pb_text.specs.Lexeme.{Lexeme};
 ghost use Rattle.linear.specs.declared.constraint.Signed.{Signed};
 ghost use Rattle.linear.specs.declared.term.Term.{Term};
@@ -8,7 +8,6 @@ ghost use Rattle.linear.specs.Opb.{Opb};
 ghost use Rattle.opb_read.specs.Forms.{constraint_of, objective_of};
 ghost use Rattle.opb_read.specs.Spells.{Spells};
 ghost use Rattle.opb_read.specs.Written.{WritesConstraint, WritesSum};
-ghost use Rattle.opb_read.specs.Denial.{IsForm};
 ghost use Rattle.opb_read.specs.FaultPlace.{IsFaultAt};
 
 use crate::fault::OpbCode;
@@ -32,7 +31,8 @@ pub fn objectives_as_written()
         (objective_of names piece ≡ Some terms) ↔ WritesSum names terms piece }
 {}
 
-/// Two faults of form of one text stand on one line: what the contract of `read` says of a fault's place fixes its line.
+/// Two faults of one text stand on one line, whatever their codes, want of memory aside: what the contract of `read` says of
+/// a fault's place fixes its line.
 pub fn one_place()
-    ensures { (text : List ℕ) (c d : OpbCode) (k l : ℕ) → IsForm c → IsForm d → IsFaultAt text c k → IsFaultAt text d l → k ≡ l }
+    ensures { (text : List ℕ) (c d : OpbCode) (k l : ℕ) → c ≢ OpbCode.OutOfMemory → d ≢ OpbCode.OutOfMemory → IsFaultAt text c k → IsFaultAt text d l → k ≡ l }
 {}
