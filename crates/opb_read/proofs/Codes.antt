@@ -14,6 +14,17 @@ tells_form IntegerTooLarge F L M h f = absurd h
 tells_form TooMany F L M h f = absurd h
 tells_form OutOfMemory F L M h f = absurd h
 
+pub form_told : (code : OpbCode) (F L M : Type 0) → IsForm code → Tells code F L M → F
+form_told BadToken F L M h f = f
+form_told NoRelation F L M h f = f
+form_told NoSemicolon F L M h f = f
+form_told BadName F L M h f = f
+form_told ObjectiveLate F L M h f = f
+form_told UnsupportedForm F L M h f = f
+form_told IntegerTooLarge F L M h f = absurd h
+form_told TooMany F L M h f = absurd h
+form_told OutOfMemory F L M h f = absurd h
+
 pub tells_many : (code : OpbCode) (F L M P : Type 0) → IsTooManyOr P code → (P → M) → Tells code F L M
 tells_many BadToken F L M P h f = absurd h
 tells_many NoRelation F L M P h f = absurd h

@@ -1,9 +1,9 @@
 -- Counts within the limits stay so in a beginning: what tokens say with more tokens behind them, they say at least.
-use Rattle.std.proofs.Common.{◌≡◌, ℕ, ◌+◌, ◌≤◌, Bool, true, false, cond, if◌then◌else◌, List, [], ◌∷◌, ◌++◌, length, refl, sym, ap, subst, ◌∙◌, arith}
+use Rattle.std.proofs.Common.{◌≡◌, ℕ, ◌+◌, ◌≤◌, Bool, true, false, cond, if◌then◌else◌, List, [], ◌∷◌, ◌++◌, length, refl, sym, subst, arith}
 use Rattle.std.specs.Prelude.{All, count_by}
 use Rattle.std.proofs.lemmas.List.Elements.{All-nil, All-cons, All-head, All-tail}
 use Rattle.pb_text.specs.Lexeme.{Lexeme}
-use Rattle.linear.specs.Limits.{most_terms, most_variables, most_constraints}
+use Rattle.linear.specs.Limits.{most_terms, most_constraints}
 use Rattle.linear.specs.Table.{with_name, with_word}
 use Rattle.pb_text.specs.Word.{name_of}
 use Rattle.opb_read.specs.Kinds.{is_literal, is_semicolon, begins_objective}

@@ -9,12 +9,14 @@ use Rattle.opb_read.specs.Kinds.{begins_objective, statements_of}
 use Rattle.opb_read.specs.Pieces.{pieces}
 use Rattle.opb_read.specs.Forms.{names_in}
 use Rattle.opb_read.specs.Spells.{problem_of}
-use Rattle.opb_read.specs.Denial.{Tells}
+use Rattle.opb_read.specs.Denial.{Tells, IsForm}
 use Rattle.opb_read.specs.Progress.{Progress, Passes, Refuses, HoldsLimits, StopsAt, start_of}
-use Rattle.opb_read.specs.FaultPlace.{CanGoOn, is_begun, pieces_of, constraint_pieces, AreCountsWithin, IsWithinSoFar, next_token, IsNoForm, IsTooLarge, IsTooMany, line_of_next, IsFaultAt}
+use Rattle.opb_read.specs.FaultPlace.{CanGoOn, is_begun, pieces_of, constraint_pieces, AreCountsWithin, IsWithinSoFar, next_token, IsNoForm, IsTooLarge, IsTooMany, line_of_next, place_behind, IsCodeThere, IsFaultAt}
 use Rattle.opb_read.specs.declared.fault.OpbCode.{OpbCode}
 use Rattle.opb_read.specs.declared.place.Place.TheVariants.{Start, ObjectiveMark}
-use Rattle.opb_read.proofs.Codes.{tells_more}
+use Rattle.opb_read.proofs.Codes.{tells_more, form_told}
+use Rattle.opb_read.specs.declared.place.Place.{Place}
+use Rattle.std.specs.Prelude.{Option, None}
 use Rattle.opb_read.proofs.Accepting.{accepts}
 use Rattle.opb_read.proofs.Reaching.{passes_holds}
 use Rattle.opb_read.proofs.Going.{passes_accepts, goes_on_plain, goes_on_marked, reads_one, no_form_plain, no_form_marked}
@@ -28,6 +30,7 @@ record Found (code : OpbCode) (tokens rest : List Lexeme) : Type 0 where
   begins : CanGoOn (begins_objective (before ++ rest)) before
   within : IsWithinSoFar before
   stops : Tells code (IsNoForm before rest) (IsTooLarge before rest) (IsTooMany before rest)
+  code_is : IsForm code → IsCodeThere code before rest
 
 -- no mark stands at the front of what stands before
 before_plain : (before rest : List Lexeme) → begins_objective (before ++ rest) ≡ false → begins_objective before ≡ false
@@ -138,6 +141,12 @@ room_marked : (a b : Lexeme) (body : List Lexeme) (p : Opb) → begins_objective
 room_marked a b body p e is w =
     subst (λ x. Room (record { place = if x then ObjectiveMark else Start; names = []; terms = 0; constraints = 0 }) (if x then body else a ∷ b ∷ body)) e (problem_room (a ∷ b ∷ body) p is w)
 
+-- what was passed leads to the place where it ends
+passes_place : (passed : List Lexeme) (s q : Progress) → Passes s passed q → place_behind s.place passed ≡ Some q.place
+passes_place [] s q h = let e : q ≡ s = h in ap (λ (x : Progress). let p : Option Place = Some x.place in p) (sym e)
+passes_place (t ∷ ts) s q h =
+    ap (λ (o : Option Place). let p : Option Place = elim o [ None ↦ None | Some next ↦ place_behind next ts ] in p) h.1.stands ∙ passes_place ts h.0 q h.2
+
 found_plain : (code : OpbCode) (tokens before rest : List Lexeme) (q : Progress) → begins_objective tokens ≡ false → tokens ≡ before ++ rest → Passes plain before q
     → Refuses code q rest → Found code tokens rest
 found_plain code tokens before rest q e split h stop =
@@ -147,7 +156,7 @@ found_plain code tokens before rest q e split h stop =
       begins = subst (λ b. CanGoOn b before) (sym front) (goes_on_plain before q.place (before_plain before rest front) reads);
       within = record { integers = subst (All IsSmall) (sym (is_plain before (before_plain before rest front)).all) (passes_integers before plain q h); counts = counts_plain before (before_plain before rest front) (subst (CountsFrom plain) (append-nil before) (counts_all before plain q plain_holds holds h)) };
       stops = tells_more code _ _ _ _ _ _
-          (λ form. no_form_plain before rest q.place reads front form)
+          (λ form. no_form_plain before rest q.place reads front form.stands)
           (λ large. record {
             token = large.token;
             next = next_is rest large.token large.next;
@@ -164,6 +173,13 @@ found_plain code tokens before rest q e split h stop =
             none = λ more alike p is w. not_over q rest more alike.token over (passes_room before more plain q h (room_plain (before ++ more) p (alike.front ∙ front) is w));
           })
           stop;
+      code_is = λ form. record {
+        place = q.place;
+        leads = ap (λ b. place_behind (if b then ObjectiveMark else Start) (statements_of before)) (before_plain before rest front)
+            ∙ ap (place_behind Start) (is_plain before (before_plain before rest front)).all
+            ∙ passes_place before plain q h;
+        named = (form_told code _ _ _ form stop).named;
+      };
     }
   where
     front : begins_objective (before ++ rest) ≡ false
@@ -187,7 +203,7 @@ found_marked code tokens a b passed rest q e split h stop =
         counts = counts_marked a b passed e (subst (CountsFrom marked) (append-nil passed) (counts_all passed marked q marked_holds holds h));
       };
       stops = tells_more code _ _ _ _ _ _
-          (λ form. no_form_marked a b passed rest q.place reads e form)
+          (λ form. no_form_marked a b passed rest q.place reads e form.stands)
           (λ large. record {
             token = large.token;
             next = next_is rest large.token large.next;
@@ -204,6 +220,13 @@ found_marked code tokens a b passed rest q e split h stop =
             none = λ more alike p is w. not_over q rest more alike.token over (passes_room passed more marked q h (room_marked a b (passed ++ more) p e is w));
           })
           stop;
+      code_is = λ form. record {
+        place = q.place;
+        leads = ap (λ x. place_behind (if x then ObjectiveMark else Start) (statements_of (a ∷ b ∷ passed))) e
+            ∙ ap (place_behind ObjectiveMark) (is_marked a b passed e).all
+            ∙ passes_place passed marked q h;
+        named = (form_told code _ _ _ form stop).named;
+      };
     }
   where
     reads : (more : List Lexeme) → accepts ObjectiveMark (passed ++ more) ≡ accepts q.place more
@@ -239,4 +262,4 @@ pub fault_at : (text : List ℕ) (code : OpbCode) (line : ℕ) (rest : List Lexe
     → IsFaultAt text code line
 fault_at text code line rest h at =
     let f = found code (lexemes text) rest h in
-    record { before = f.before; rest = rest; split = f.split; begins = f.begins; within = f.within; stops = f.stops; stands = at }
+    record { before = f.before; rest = rest; split = f.split; begins = f.begins; within = f.within; stops = f.stops; code_is = f.code_is; stands = at }

@@ -29,3 +29,8 @@ next_relation (t ∷ rest) = relation_of t.kind
 -- may a token of this kind begin a constraint: an integer or a relation
 abbrev pub begins_constraint : Kind → Bool
 begins_constraint k = is_integer k || is_some (relation_of k)
+
+-- does a token stand next that may begin a constraint
+abbrev pub starts_constraint : List Lexeme → Bool
+starts_constraint [] = false
+starts_constraint (t ∷ rest) = begins_constraint t.kind

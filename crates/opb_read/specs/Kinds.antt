@@ -1,5 +1,5 @@
 -- What may stand where in a problem file, by the kind of a token.
-use Rattle.std.specs.Prelude.{◌≡◌, ◌<◌, ◌&&◌, Bool, true, false, if◌then◌else◌, Option, Some, None, List, [], ◌∷◌, drop, unsigned_abs, codes, bytes_eq}
+use Rattle.std.specs.Prelude.{◌≡◌, ℕ, ◌<◌, ◌&&◌, Bool, true, false, if◌then◌else◌, Option, Some, None, List, [], ◌∷◌, drop, unsigned_abs, codes, bytes_eq}
 use Rattle.pb_text.specs.Lexeme.{Lexeme}
 use Rattle.pb_text.specs.declared.kind.Kind.{Kind}
 pub use Rattle.pb_text.specs.Kinds.{is_integer, is_literal, is_semicolon, is_colon}
@@ -16,11 +16,15 @@ relation_of (Symbol AtLeast) = Some relations.AtLeast
 relation_of (Symbol Equals) = Some relations.Equal
 relation_of _ = None
 
+-- this word and `:` stand next
+abbrev pub begins_mark : List ℕ → List Lexeme → Bool
+begins_mark word [] = false
+begins_mark word (a ∷ []) = false
+begins_mark word (a ∷ b ∷ rest) = bytes_eq a.text word && is_colon b.kind
+
 -- `min` and `:`, with which an objective begins
 abbrev pub begins_objective : List Lexeme → Bool
-begins_objective [] = false
-begins_objective (a ∷ []) = false
-begins_objective (a ∷ b ∷ rest) = bytes_eq a.text (codes "min") && is_colon b.kind
+begins_objective tokens = begins_mark (codes "min") tokens
 
 -- the statements: what stands behind the mark of an objective, or all
 abbrev pub statements_of : List Lexeme → List Lexeme

@@ -7,5 +7,6 @@ pub mod Faults
 pub mod Ahead
 pub mod Denial
 pub mod Places
+pub mod FaultCodes
 pub mod Progress
 pub mod FaultPlace

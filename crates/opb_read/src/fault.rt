@@ -25,10 +25,10 @@ pub enum OpbCode {
     /// A form of the format's wider family: a product, `<=`, `max:`, `soft:`, a weight in brackets, a constant in the objective.
     #[error("a form that is left out")]
     UnsupportedForm,
-    /// An integer above 2^62 in size.
+    /// An integer above the limit in size (`linear::LARGEST_INTEGER`).
     #[error("an integer above 2^62 in size")]
     IntegerTooLarge,
-    /// A term above 2^20 in its statement, or a variable or constraint above 2^20 in the text.
+    /// A term too many in its statement, or a variable or constraint too many in the text (`linear::MOST_TERMS` and beside it).
     #[error("too many terms, variables or constraints")]
     TooMany,
     /// A growth was refused.

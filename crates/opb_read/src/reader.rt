@@ -10,8 +10,9 @@ ghost use Rattle.linear.specs.Limits.{largest_integer, most_constraints, most_te
 ghost use Rattle.pb_text.specs.Lexeme.{lexemes};
 ghost use Rattle.pb_text.specs.Number.{integer_value};
 ghost use Rattle.pb_text.specs.Token.{lexeme_of};
-ghost use Rattle.opb_read.specs.Ahead.{begins_integer, begins_semicolon, next_relation};
+ghost use Rattle.opb_read.specs.Ahead.{begins_integer, begins_semicolon, next_relation, starts_constraint};
 ghost use Rattle.opb_read.specs.Denial.{constraints_ahead, DeniesClosing, DeniesConstraints, DeniesObjective, DeniesProblem, DeniesSum, FollowsConstraint, FollowsObjective, IsForm};
+ghost use Rattle.opb_read.specs.FaultCodes.{code_at};
 ghost use Rattle.opb_read.specs.Forms.{behind_terms, closing_of, names_in, objective_of, terms_of};
 ghost use Rattle.opb_read.specs.Kinds.{statements_of};
 ghost use Rattle.opb_read.specs.Pieces.{pieces};
@@ -19,7 +20,7 @@ ghost use Rattle.opb_read.specs.Progress.{Progress, HoldsLimits, IsBehindSum, Pa
 
 use crate::ahead::{begins_constraint, begins_objective, next_integer, next_relation};
 use crate::fault::OpbCode;
-use crate::place::{Place, fault_at_start};
+use crate::place::Place;
 use crate::variables::Variables;
 use linear::{LARGEST_INTEGER, MOST_CONSTRAINTS, MOST_TERMS, Relation, Seq, Signed, Term};
 use pb_text::{Kind, Lookahead, Symbol, Token, as_literal, integer};
@@ -67,10 +68,10 @@ impl<'a> Reader<'a> {
         };
         self.left.advance();
         let Some(token) = self.left.next() else {
-            return Err(behind.fault(None));
+            return Err(behind.fault(&self.left));
         };
         let Some(literal) = as_literal(token) else {
-            return Err(behind.fault(Some(token.kind)));
+            return Err(behind.fault(&self.left));
         };
         if count == MOST_TERMS {
             return Err(OpbCode::TooMany);
@@ -98,10 +99,11 @@ impl<'a> Reader<'a> {
     {
         let mut terms = Vec::new(alloc);
         while let Some(coefficient) = next_integer(&self.left) {
-            let term = self.term(coefficient, terms.len(), behind)?;
-            if terms.push(term).is_err() {
+            if terms.reserve(1).is_err() {
                 return Err(OpbCode::OutOfMemory);
             }
+            let term = self.term(coefficient, terms.len(), behind)?;
+            terms.push_reserved(term);
         }
         Ok(terms)
     }
@@ -114,12 +116,12 @@ impl<'a> Reader<'a> {
         ensures left { OnOk result (self.new.left ≡ drop 1 self.old.left) }
         ensures variables { self.new.variables ≡ self.old.variables }
         ensures form { IfErr result IsForm }
+        ensures code { IfErr result (λ code. code ≡ code_at behind self.old.left) }
         ensures none { OnErr result (begins_semicolon self.old.left ≡ false) }
         ensures stays { OnErr result (self.new.left ≡ self.old.left) }
     {
-        let kind = self.left.kind();
-        let Some(Kind::Symbol(Symbol::Semicolon)) = kind else {
-            return Err(behind.fault(kind));
+        let Some(Kind::Symbol(Symbol::Semicolon)) = self.left.kind() else {
+            return Err(behind.fault(&self.left));
         };
         self.left.advance();
         Ok(())
@@ -139,11 +141,11 @@ impl<'a> Reader<'a> {
             (s : Progress) → IsBehindSum s self.old.variables self.old.left → StopsAt code s self.old.left self.new.left) }
     {
         let Some(relation) = next_relation(&self.left) else {
-            return Err(Place::Literal.fault(self.left.kind()));
+            return Err(Place::Literal.fault(&self.left));
         };
         self.left.advance();
         let Some(token) = next_integer(&self.left) else {
-            return Err(Place::Relation.fault(self.left.kind()));
+            return Err(Place::Relation.fault(&self.left));
         };
         let Some(right) = file_integer(token) else {
             return Err(OpbCode::IntegerTooLarge);
@@ -155,7 +157,7 @@ impl<'a> Reader<'a> {
 
     /// The constraint that stands next.
     pub(crate) fn constraint(&mut self, alloc: Global) -> Result<Signed, OpbCode>
-        requires { self.old.left ≢ [] }
+        requires { starts_constraint self.old.left ≡ true }
         ensures constraint { IfOk result (λ c. FollowsConstraint (names_in self.old.variables self.old.left) c self.old.left self.new.left) }
         ensures names { OnOk result (names_in self.old.variables self.old.left ≡ names_in self.new.variables self.new.left) }
         ensures piece { OnOk result ((pieces self.old.left).others ≡ (pieces self.new.left).first ∷ (pieces self.new.left).others) }
@@ -184,11 +186,12 @@ impl<'a> Reader<'a> {
         requires next { self.now.left ≡ lexeme_of token ∷ drop 1 self.now.left }
         requires few { count ≤ most_constraints }
         ensures room { OnOk result (count < most_constraints) }
+        ensures starts { OnOk result (starts_constraint self.now.left ≡ true) }
         ensures denies { IfErr result (λ code. (names : List (List ℕ)) → DeniesConstraints code names count self.now.left) }
         ensures refuses { IfErr result (λ code. (names : List (List ℕ)) → Refuses code (at_start names count) self.now.left) }
     {
         if !begins_constraint(token.kind) {
-            return Err(fault_at_start(token, self.left.kind_after()));
+            return Err(Place::Start.fault(&self.left));
         }
         if count == MOST_CONSTRAINTS {
             return Err(OpbCode::TooMany);
@@ -209,10 +212,11 @@ impl<'a> Reader<'a> {
         let mut constraints = Vec::new(alloc);
         while let Some(token) = self.left.next() {
             self.start(token, constraints.len())?;
-            let constraint = self.constraint(alloc)?;
-            if constraints.push(constraint).is_err() {
+            if constraints.reserve(1).is_err() {
                 return Err(OpbCode::OutOfMemory);
             }
+            let constraint = self.constraint(alloc)?;
+            constraints.push_reserved(constraint);
         }
         Ok(constraints)
     }
@@ -232,11 +236,7 @@ impl<'a> Reader<'a> {
             HoldsLimits (at_mark self.old.variables) → StopsAt code (at_mark self.old.variables) self.old.left self.new.left) }
     {
         let terms = self.sum(alloc, Place::ObjectiveCoefficient)?;
-        let behind = if terms.is_empty() {
-            Place::ObjectiveMark
-        } else {
-            Place::ObjectiveLiteral
-        };
+        let behind = Place::behind_terms(&terms);
         self.semicolon(behind)?;
         Ok(Seq::from_vec(terms))
     }

@@ -11,12 +11,12 @@ use Rattle.opb_read.proofs.reader.Reader.closing.Goals as goal
 pub returns-in_default-clause-denies : goal.returns-in_default-clause-denies
 returns-in_default-clause-denies c =
     let none : next_relation c.args.self.now.left ≡ None = sym c.next_relation.ensures ∙ c.in_default.is in
-    no_relation c.fault.result c.args.self.now.left c.fault.ensures none
+    no_relation c.fault.result c.args.self.now.left c.fault.ensures.form none
 
 pub returns-in_default-next_integer-clause-denies : goal.returns-in_default-next_integer-clause-denies
 returns-in_default-next_integer-clause-denies c =
     let none : begins_integer (drop 1 c.args.self.now.left) ≡ false = ap begins_integer (sym c.advance.ensures) ∙ c.in_default-next_integer.ensures in
-    no_integer c.fault-in_default-next_integer.result c.args.self.now.left c.fault-in_default-next_integer.ensures none
+    no_integer c.fault-in_default-next_integer.result c.args.self.now.left c.fault-in_default-next_integer.ensures.form none
 
 pub returns-in_default-file_integer-clause-denies : goal.returns-in_default-file_integer-clause-denies
 returns-in_default-file_integer-clause-denies c =
@@ -33,7 +33,7 @@ returns-in_err-semicolon-clause-denies c =
 pub returns-in_default-clause-stops : goal.returns-in_default-clause-stops
 returns-in_default-clause-stops c s h =
     let none : next_relation c.args.self.now.left ≡ None = sym c.next_relation.ensures ∙ c.in_default.is in
-    stops_at_relation c.fault.result s c.args.self.now.variables c.args.self.now.left c.fault.ensures h none
+    stops_at_relation c.fault.result s c.args.self.now.variables c.args.self.now.left c.fault.ensures.form c.fault.ensures.code h none
 
 pub returns-in_default-next_integer-clause-stops : goal.returns-in_default-next_integer-clause-stops
 returns-in_default-next_integer-clause-stops c s h =
@@ -44,7 +44,8 @@ returns-in_default-next_integer-clause-stops c s h =
     c.args.self.now.left
     c.advance.new.self
     c.in-Some.relation
-    c.fault-in_default-next_integer.ensures
+    c.fault-in_default-next_integer.ensures.form
+    c.fault-in_default-next_integer.ensures.code
     h
     (sym c.next_relation.ensures ∙ c.in-Some.is)
     c.advance.ensures
@@ -84,6 +85,7 @@ returns-in_err-semicolon-clause-stops c =
     c.in-Some.relation
     b
     c.in_err-semicolon.ensures.form
+    c.in_err-semicolon.ensures.code
     h
     (sym c.next_relation.ensures ∙ c.in-Some.is)
     c.advance.ensures
