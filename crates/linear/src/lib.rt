@@ -18,6 +18,3 @@ pub use names::Names;
 pub use problem::Problem;
 pub use seq::Seq;
 pub use term::{Lit, Term, Var};
-
-#[cfg(test)]
-mod tests;

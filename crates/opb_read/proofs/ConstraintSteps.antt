@@ -16,9 +16,9 @@ use Rattle.opb_read.specs.Progress.{IsOver, Refuses, HoldsLimits, at_start, star
 use Rattle.opb_read.specs.declared.fault.OpbCode.{OpbCode}
 use Rattle.opb_read.specs.declared.place.Place.{Place}
 use Rattle.opb_read.specs.declared.place.Place.TheVariants.{Start, ObjectiveMark, Coefficient, Relation}
-use Rattle.opb_read.proofs.Codes.{tells_form}
+use Rattle.opb_read.proofs.CasesOfCodes.{tells_form}
 use Rattle.opb_read.proofs.AllConstraints.{begins_none}
-use Rattle.opb_read.proofs.Reaching.{reaches_then, reaches_holds, stops_here, stops_then, over_constraints}
+use Rattle.opb_read.proofs.TokensPassed.{reaches_then, reaches_holds, stops_here, stops_then, over_constraints}
 
 -- a token that begins no constraint
 pub refused_start : (code : OpbCode) (names : List (List ℕ)) (n : ℕ) (t : Lexeme) (rest : List Lexeme) → IsForm code → code ≡ code_at Start (t ∷ rest) → begins_constraint t.kind ≡ false → Refuses code (at_start names n) (t ∷ rest)

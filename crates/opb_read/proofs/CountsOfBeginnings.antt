@@ -10,10 +10,10 @@ use Rattle.opb_read.specs.Kinds.{is_literal, is_semicolon, begins_objective}
 use Rattle.opb_read.specs.Pieces.{Pieces, pieces}
 use Rattle.opb_read.specs.Forms.{names_in}
 use Rattle.opb_read.specs.FaultPlace.{is_begun, AreCountsWithin}
-use Rattle.opb_read.proofs.Numbering.{names_in-more, with_name-atmost}
+use Rattle.opb_read.proofs.NumbersOfNames.{names_in-more, with_name-atmost}
 use Rattle.opb_read.proofs.Statements.{within_piece, end_of_piece}
-use Rattle.opb_read.proofs.Measures.{IsFew, literals, literals-cons, begun-cons, CountsFrom}
-use Rattle.opb_read.proofs.Stopping.{plain, marked, counts_plain, plain_counts, counts_marked, marked_counts}
+use Rattle.opb_read.proofs.CountsOfPassed.{IsFew, literals, literals-cons, begun-cons, CountsFrom}
+use Rattle.opb_read.proofs.StopsAreFaults.{plain, marked, counts_plain, plain_counts, counts_marked, marked_counts}
 
 names_fewer : (names : List (List ℕ)) (ts more : List Lexeme) → length (names_in names ts) ≤ length (names_in names (ts ++ more))
 names_fewer names [] more = names_in-more names more

@@ -19,7 +19,7 @@ use Rattle.opb_read.specs.FaultPlace.{CanGoOn, AreCountsWithin, IsWithinSoFar, n
 use Rattle.opb_read.specs.declared.fault.OpbCode.{OpbCode}
 use Rattle.opb_read.specs.declared.fault.OpbCode.TheVariants.{BadToken, NoRelation, NoSemicolon, BadName, ObjectiveLate, UnsupportedForm, IntegerTooLarge, TooMany, OutOfMemory}
 use Rattle.opb_read.proofs.CountsOfBeginnings.{beginning_counts}
-use Rattle.opb_read.proofs.Measures.{IsSmall}
+use Rattle.opb_read.proofs.CountsOfPassed.{IsSmall}
 
 -- what can go on further has no fault of form before
 no_later : (before : List Lexeme) (t : Lexeme) (middle rest : List Lexeme) → CanGoOn (begins_objective ((before ++ t ∷ middle) ++ rest)) (before ++ t ∷ middle)

@@ -19,10 +19,10 @@ use Rattle.opb_read.specs.declared.fault.OpbCode.{OpbCode}
 use Rattle.opb_read.specs.declared.fault.OpbCode.TheVariants.{IntegerTooLarge}
 use Rattle.opb_read.specs.declared.place.Place.{Place}
 use Rattle.opb_read.specs.declared.place.Place.TheVariants.{Start, ObjectiveMark, ObjectiveCoefficient, ObjectiveLiteral, Coefficient, Literal, Relation, RightSide}
-use Rattle.opb_read.proofs.Codes.{tells_form}
+use Rattle.opb_read.proofs.CasesOfCodes.{tells_form}
 use Rattle.opb_read.proofs.Sums.{terms_pair, behind_none}
-use Rattle.opb_read.proofs.Accepting.{semicolon_no_integer}
-use Rattle.opb_read.proofs.Reaching.{placed, reaches_one, reaches_then, reaches_holds, stops_here, stops_then, step_integer, step_relation, step_end, large_integer}
+use Rattle.opb_read.proofs.FormByTokens.{semicolon_no_integer}
+use Rattle.opb_read.proofs.TokensPassed.{placed, reaches_one, reaches_then, reaches_holds, stops_here, stops_then, step_integer, step_relation, step_end, large_integer}
 
 -- no relation stands behind the sum
 pub stops_at_relation : (code : OpbCode) (s : Progress) (names : List (List ℕ)) (left : List Lexeme) → IsForm code → code ≡ code_at Literal left → IsBehindSum s names left → next_relation left ≡ None → StopsAt code s left left

@@ -16,8 +16,8 @@ use Rattle.opb_read.specs.Progress.{Progress, Reaches, IsInSum, behind_sum, Pass
 use Rattle.opb_read.specs.declared.fault.OpbCode.{OpbCode}
 use Rattle.opb_read.specs.declared.fault.OpbCode.TheVariants.{IntegerTooLarge, TooMany, OutOfMemory}
 use Rattle.opb_read.specs.declared.place.Place.{Place}
-use Rattle.opb_read.proofs.Codes.{tells_form, tells_many}
-use Rattle.opb_read.proofs.Reaching.{placed, reaches_none, reaches_one, reaches_then, reaches_holds, stops_here, stops_then, step_integer, step_literal, large_integer, over_terms, over_variables, no_literal}
+use Rattle.opb_read.proofs.CasesOfCodes.{tells_form, tells_many}
+use Rattle.opb_read.proofs.TokensPassed.{placed, reaches_none, reaches_one, reaches_then, reaches_holds, stops_here, stops_then, step_integer, step_literal, large_integer, over_terms, over_variables, no_literal}
 
 -- the size of an integer that was read
 pub small_value : (n z : ℤ) → n ≡ z → unsigned_abs n ≤ largest_integer → unsigned_abs z ≤ largest_integer

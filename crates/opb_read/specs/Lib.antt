@@ -10,3 +10,4 @@ pub mod Places
 pub mod FaultCodes
 pub mod Progress
 pub mod FaultPlace
+pub mod Cases

@@ -2,6 +2,7 @@
 #![tactic(auto)]
 
 mod ahead;
+pub mod cases;
 mod fault;
 mod laws;
 mod place;
@@ -12,6 +13,3 @@ mod variables;
 pub use fault::{OpbCode, OpbFault};
 pub use laws::{constraints_as_written, objectives_as_written, one_place, one_problem};
 pub use reading::read;
-
-#[cfg(test)]
-mod tests;

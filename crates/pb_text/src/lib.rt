@@ -9,8 +9,6 @@ mod laws;
 mod lookahead;
 mod number;
 mod spot;
-#[cfg(test)]
-mod tests;
 mod token;
 mod tokens;
 

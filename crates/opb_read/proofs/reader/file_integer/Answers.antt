@@ -5,7 +5,7 @@ use Rattle.linear.specs.Limits.{largest_integer}
 use Rattle.pb_text.specs.Number.{integer_size}
 use Rattle.pb_text.specs.declared.number.NumFault.{NumFault}
 use Rattle.pb_text.specs.declared.number.NumFault.TheVariants.{NotNumber, NumberTooLarge}
-use Rattle.opb_read.proofs.Size.{size_of_value}
+use Rattle.opb_read.proofs.SizeOfValue.{size_of_value}
 use Rattle.opb_read.proofs.reader.file_integer.Goals as goal
 
 -- the fault of an integer token is that it is large

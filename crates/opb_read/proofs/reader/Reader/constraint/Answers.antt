@@ -12,7 +12,7 @@ use Rattle.opb_read.specs.Progress.{HoldsLimits, at_start, behind_sum, IsBehindS
 use Rattle.opb_read.specs.declared.place.Place.TheVariants.{Coefficient, Literal}
 use Rattle.opb_read.specs.Denial.{DeniesClosing, FollowsConstraint}
 use Rattle.opb_read.proofs.Statements.{same_sum, sum_denied, closing_denied, constraint_read}
-use Rattle.opb_read.proofs.Reaching.{reaches_then, stops_then}
+use Rattle.opb_read.proofs.TokensPassed.{reaches_then, stops_then}
 use Rattle.opb_read.proofs.StatementSteps.{in_constraint_sum, no_terms_passed, behind_its_sum}
 use Rattle.opb_read.proofs.ConstraintSteps.{not_empty, starts_with_relation}
 use Rattle.opb_read.proofs.reader.Reader.constraint.Goals as goal

@@ -10,7 +10,7 @@ use Rattle.linear.specs.declared.constraint.Signed.{Signed}
 use Rattle.opb_read.specs.Denial.{FollowsConstraint, DeniesConstraints, constraints_ahead}
 use Rattle.opb_read.specs.Progress.{Refuses, Reaches, at_start}
 use Rattle.opb_read.specs.declared.fault.OpbCode.TheVariants.{OutOfMemory}
-use Rattle.opb_read.proofs.Reaching.{reaches_none}
+use Rattle.opb_read.proofs.TokensPassed.{reaches_none}
 use Rattle.opb_read.proofs.ConstraintSteps.{stops_at_start, stops_in_constraint, one_more}
 use Rattle.opb_read.proofs.AllConstraints.{next_constraint, denied_all, denied_later}
 use Rattle.opb_read.proofs.reader.Reader.constraints.Goals as goal

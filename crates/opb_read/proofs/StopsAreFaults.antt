@@ -14,14 +14,14 @@ use Rattle.opb_read.specs.Progress.{Progress, Passes, Refuses, HoldsLimits, Stop
 use Rattle.opb_read.specs.FaultPlace.{CanGoOn, is_begun, pieces_of, constraint_pieces, AreCountsWithin, IsWithinSoFar, next_token, IsNoForm, IsTooLarge, IsTooMany, line_of_next, place_behind, IsCodeThere, IsFaultAt}
 use Rattle.opb_read.specs.declared.fault.OpbCode.{OpbCode}
 use Rattle.opb_read.specs.declared.place.Place.TheVariants.{Start, ObjectiveMark}
-use Rattle.opb_read.proofs.Codes.{tells_more, form_told}
+use Rattle.opb_read.proofs.CasesOfCodes.{tells_more, form_told}
 use Rattle.opb_read.specs.declared.place.Place.{Place}
 use Rattle.std.specs.Prelude.{Option, None}
-use Rattle.opb_read.proofs.Accepting.{accepts}
-use Rattle.opb_read.proofs.Reaching.{passes_holds}
-use Rattle.opb_read.proofs.Going.{passes_accepts, goes_on_plain, goes_on_marked, reads_one, no_form_plain, no_form_marked}
-use Rattle.opb_read.proofs.Measures.{IsSmall, IsFew, literals, begun-cons, CountsFrom, passes_integers, counts_all, counts_one, keeps_one}
-use Rattle.opb_read.proofs.Limited.{Room, passes_room, not_over, not_large, problem_room}
+use Rattle.opb_read.proofs.FormByTokens.{accepts}
+use Rattle.opb_read.proofs.TokensPassed.{passes_holds}
+use Rattle.opb_read.proofs.PassedCanGoOn.{passes_accepts, goes_on_plain, goes_on_marked, reads_one, no_form_plain, no_form_marked}
+use Rattle.opb_read.proofs.CountsOfPassed.{IsSmall, IsFew, literals, begun-cons, CountsFrom, passes_integers, counts_all, counts_one, keeps_one}
+use Rattle.opb_read.proofs.LimitsLeaveRoom.{Room, passes_room, not_over, not_large, problem_room}
 
 -- what was passed, in the words of the fault's place
 record Found (code : OpbCode) (tokens rest : List Lexeme) : Type 0 where

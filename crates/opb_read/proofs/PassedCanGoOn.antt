@@ -12,7 +12,7 @@ use Rattle.opb_read.specs.Progress.{Progress, Passes}
 use Rattle.opb_read.specs.FaultPlace.{CanGoOn, next_token, IsNoForm}
 use Rattle.opb_read.specs.declared.place.Place.{Place}
 use Rattle.opb_read.specs.declared.place.Place.TheVariants.{Start, ObjectiveMark, ObjectiveCoefficient, ObjectiveLiteral, Coefficient, Literal, Relation, RightSide}
-use Rattle.opb_read.proofs.Accepting.{accepts, accepts_next, accepts_none, problem_form}
+use Rattle.opb_read.proofs.FormByTokens.{accepts, accepts_next, accepts_none, problem_form}
 
 pub passes_accepts : (passed more : List Lexeme) (s q : Progress) → Passes s passed q → accepts s.place (passed ++ more) ≡ accepts q.place more
 passes_accepts [] more s q h = ap (λ (x : Progress). accepts x.place more) (sym h)

@@ -16,7 +16,7 @@ use Rattle.opb_read.specs.FaultPlace.{is_begun}
 use Rattle.opb_read.specs.declared.place.Place.{Place}
 use Rattle.opb_read.specs.declared.place.Place.TheVariants.{Start, ObjectiveMark, ObjectiveCoefficient, ObjectiveLiteral, Coefficient, Literal, Relation, RightSide}
 use Rattle.opb_read.proofs.Statements.{within_piece, end_of_piece}
-use Rattle.opb_read.proofs.Accepting.{semicolon_no_integer}
+use Rattle.opb_read.proofs.FormByTokens.{semicolon_no_integer}
 
 -- an integer within the limit, or another token
 abbrev pub IsSmall : Lexeme → Type 0

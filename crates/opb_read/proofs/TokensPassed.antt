@@ -17,7 +17,7 @@ use Rattle.opb_read.specs.declared.fault.OpbCode.{OpbCode}
 use Rattle.opb_read.specs.declared.place.Place.{Place}
 use Rattle.opb_read.specs.declared.place.Place.TheVariants.{Start, ObjectiveMark, ObjectiveCoefficient, ObjectiveLiteral, Coefficient, Literal, Relation, RightSide}
 use Rattle.opb_read.proofs.Statements.{relation_not_end, end_not_literal}
-use Rattle.opb_read.proofs.Accepting.{semicolon_no_integer}
+use Rattle.opb_read.proofs.FormByTokens.{semicolon_no_integer}
 
 pub reaches_none : (s : Progress) (left : List Lexeme) → Reaches s left s left
 reaches_none s left = record { passed = []; split = refl; passes = refl }

@@ -21,11 +21,11 @@ use Rattle.opb_read.specs.Progress.{Progress, moved, KeepsCounts, Passes, IsOver
 use Rattle.opb_read.specs.FaultPlace.{next_token}
 use Rattle.opb_read.specs.declared.place.Place.{Place}
 use Rattle.opb_read.specs.declared.place.Place.TheVariants.{Start, ObjectiveMark, ObjectiveCoefficient, ObjectiveLiteral, Coefficient, Literal, Relation, RightSide}
-use Rattle.opb_read.proofs.Numbering.{names_in-more}
+use Rattle.opb_read.proofs.NumbersOfNames.{names_in-more}
 use Rattle.opb_read.proofs.Statements.{within_piece, end_of_piece, both_true}
 use Rattle.opb_read.proofs.Sums.{terms_pair, behind_pair, terms_none, behind_none}
-use Rattle.opb_read.proofs.Accepting.{accepts, accepts_next, spelled, accepts_spelled, semicolon_no_integer, problem_form}
-use Rattle.opb_read.proofs.Measures.{IsSmall, literals, IsFew, literals-cons, in_objective, at_end, inside, terms_end, terms_inside, constraints_end, constraints_inside}
+use Rattle.opb_read.proofs.FormByTokens.{accepts, accepts_next, spelled, accepts_spelled, semicolon_no_integer, problem_form}
+use Rattle.opb_read.proofs.CountsOfPassed.{IsSmall, literals, IsFew, literals-cons, in_objective, at_end, inside, terms_end, terms_inside, constraints_end, constraints_inside}
 
 -- room for all tokens behind a progress, which may stand there up to the end
 pub record Room (s : Progress) (tokens : List Lexeme) : Type 0 where
