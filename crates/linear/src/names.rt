@@ -1,4 +1,8 @@
 //! Names of variables, numbered in order of first occurrence.
+//!
+//! Below the texts a variable is a number, and this table is all that knows its name; so the order is part of what a problem
+//! is, and the table is a list in the contracts and a hash set in the code. A name is kept once. A new one is hashed twice, to
+//! look it up and to put it in: the set takes a name only as one that is owned, and a copy for each occurrence would cost more.
 
 ghost use Rattle.std.specs.Prelude.{◌≡◌, ◌<◌, ◌≤◌, ◌↔◌, true, false, [], Some, None, length, ◌+◌, take, slice_get, MatchOption, IfOk, IfSome, OnOk, OnErr, IsTrue};
 ghost use Rattle.std.specs.Option.{option_copied};

@@ -1,4 +1,8 @@
 //! Problems within the limits, what satisfies them and what an assignment is worth.
+//!
+//! That a problem is within its limits is a fact of the type: whoever has one may add up its sums, and no reader above has to
+//! ask again. What it means is the plain sum over its own signed terms, in which a variable may stand many times; the normal
+//! forms of cutting planes come above, and are shown to mean the same.
 
 ghost use Rattle.std.specs.Prelude.{◌≡◌, ◌↔◌, length, IsTrue, IfOk};
 ghost use Rattle.std.specs.Option.{option_copied};

@@ -1,4 +1,5 @@
-//! Why a text is refused, and where.
+//! Why a text is refused, and where. The numbers and names of the codes are part of what users and scripts see, so they are
+//! fixed by contract.
 
 ghost use Rattle.std.specs.Prelude.{◌≡◌};
 

@@ -1,4 +1,5 @@
-//! Laws about what a text spells, as contracts of functions that do nothing.
+//! Laws about what a text spells and where its fault stands, as contracts of functions that do nothing: what a reader of the
+//! definitions would otherwise have to believe.
 
 ghost use Rattle.std.specs.Prelude.{◌≡◌, ◌≢◌, ◌↔◌, ℕ, List, Some};
 ghost use Rattle.pb_text.specs.Lexeme.{Lexeme};

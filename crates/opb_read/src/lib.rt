@@ -1,4 +1,8 @@
-//! Reads linear OPB problem files.
+//! Reads linear OPB problem files (Roussel and Manquinho).
+//!
+//! What a text spells is a function of its tokens, cut at each `;`, so it spells one problem at most. The reader goes from left
+//! to right, one token after another, as a person looks for the first thing that is wrong; that it finds the problem that
+//! the text spells, and otherwise the first token that cannot stand in its place, is the contract of `read`.
 #![tactic(auto)]
 
 mod ahead;

@@ -1,4 +1,9 @@
 //! Tokens of the two formats: where words and symbols stand in a text, and what a word is.
+//!
+//! The OPB format (Roussel and Manquinho) and VeriPB's proof format have the same words, so one crate cuts both, and what a
+//! name is can never differ between a problem and its proof. Nothing is copied and no memory is taken: a token is a slice of
+//! its text. What the tokens of a text are is said twice, as a fold that computes and in the words of the formats, and a law
+//! says that both are one (`one_list_of_tokens`).
 #![tactic(auto)]
 
 pub mod cases;

@@ -1,4 +1,8 @@
 //! The number of an integer word.
+//!
+//! Numbers have no bound in the formats; here they have one, `LARGEST_NUMBER`, far above all that a problem within its limits
+//! and a proof of it need, and far enough below what an `i128` holds that a few of them add up safely. A longer word is
+//! still a number in the grammar, and refused as too large and not as no number.
 
 ghost use Rattle.std.specs.Prelude.{◌≡◌, ◌≢◌, ◌<◌, ◌≤◌, if◌then◌else◌, true, pos, neg_ℤ, IfOk, SomeIff};
 ghost use Rattle.std.specs.Result.{IsErrOf};

@@ -1,4 +1,5 @@
-//! A position in a text from which its tokens are cut.
+//! A position in a text from which its tokens are cut. The types stand apart from the code that moves them, since the
+//! definitions speak of the types and the code's contracts speak of the definitions.
 
 ghost use Rattle.std.specs.Prelude.{◌+◌, ◌<◌, ◌≤◌, ◌^◌, length};
 

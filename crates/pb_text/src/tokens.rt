@@ -1,4 +1,5 @@
-//! The tokens of a text, one after another.
+//! The tokens of a text, one after another. A reader is seen as the list of the tokens still to come, so what it gives next
+//! and what is left then are one equation.
 
 ghost use Rattle.std.specs.Prelude.{◌≡◌, length};
 ghost use Rattle.pb_text.specs.Span.{line_of};
