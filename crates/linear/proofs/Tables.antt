@@ -1,5 +1,5 @@
 -- Tables of names: what the keys of the index set say of the names, and that a table stays one.
-use Rattle.std.proofs.Common.{◌≡◌, ℕ, ◌+◌, ◌<◌, ◌^◌, Bool, true, false, not, cond, ◌||◌, List, [], ◌∷◌, ◌++◌, map, length, take, if◌then◌else◌, ltb, get_or, zero, suc, Some, None, is_some, refl, sym, ap, subst, ◌∙◌, arith}
+use Rattle.std.proofs.Common.{◌≡◌, ℕ, ◌+◌, ◌<◌, Bool, true, false, not, cond, ◌||◌, List, [], ◌∷◌, ◌++◌, map, length, take, if◌then◌else◌, ltb, get_or, zero, suc, Some, None, is_some, refl, sym, ap, subst, ◌∙◌, arith}
 use Rattle.std.specs.List.{list_any, position_or_len, position, IsDistinct, AllByRecursion}
 use Rattle.std.specs.Cmp.Lexicographic.{nat_list_eq_equiv}
 use Rattle.std.proofs.lemmas.List.{length-append, length-take, map-append, take_more, get_or-map, length-map}
@@ -8,6 +8,7 @@ use Rattle.std.proofs.lemmas.Bool.{true≢false}
 use Rattle.indexmap.proofs.MapLemmas.{distinct-take}
 use Rattle.pb_text.specs.Name.{is_name}
 use Rattle.linear.specs.Table.{same_name, has_name, place_of, with_name, IsTable}
+use Rattle.linear.specs.Largest.{most_names}
 
 module _ {X : Type 0} (f : X → List ℕ) where
   pub list_any-map : (p : List ℕ → Bool) (xs : List X) → list_any p (map f xs) ≡ list_any (λ x. p (f x)) xs
@@ -70,7 +71,7 @@ distinct-push (n ∷ ns) name h d = by (same_name name n) refl (distinct-push ns
     by true e rest = absurd (true≢false (sym (ap (λ b. b || has_name ns name) e) ∙ h))
     by false e rest = (pushed ns (nat_list_eq_equiv.symm n name ∙ e) d.0, rest (sym (ap (λ b. b || has_name ns name) e) ∙ h) d.1)
 
-pub IsTable-with_name : (names : List (List ℕ)) (name : List ℕ) → IsTable names → is_name name ≡ true → length names < 2 ^ 32 → IsTable (with_name names name)
+pub IsTable-with_name : (names : List (List ℕ)) (name : List ℕ) → IsTable names → is_name name ≡ true → length names < most_names → IsTable (with_name names name)
 IsTable-with_name names name t spelled room = by (has_name names name) refl
   where
     by : (b : Bool) → has_name names name ≡ b → IsTable (if b then names else names ++ name ∷ [])

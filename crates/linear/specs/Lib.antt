@@ -1,5 +1,6 @@
 pub mod Valuation
 pub mod Sum
+pub mod Largest
 pub mod Table
 pub mod Opb
 pub mod Limits

@@ -1,22 +1,10 @@
--- The limits within which a problem is read: 2^62 for the size of an integer, 2^20 terms of a statement,
--- 2^20 variables, 2^20 constraints (an equality is one).
-use Rattle.std.specs.Prelude.{ℕ, ◌^◌, ◌<◌, ◌≤◌, List, All, length, IfSome, unsigned_abs}
+-- What it is for a problem, or a part of one, to be within the limits of a problem file.
+use Rattle.std.specs.Prelude.{ℕ, ◌<◌, ◌≤◌, List, All, length, IfSome, unsigned_abs}
+pub use Rattle.linear.specs.Largest.{largest_integer, most_terms, most_variables, most_constraints, most_names, largest_objective}
 use Rattle.linear.specs.declared.term.Term.{Term}
 use Rattle.linear.specs.declared.constraint.Signed.{Signed}
 use Rattle.linear.specs.Table.{IsTable}
 use Rattle.linear.specs.Opb.{Opb}
-
-abbrev pub largest_integer : ℕ
-largest_integer = 2 ^ 62
-
-abbrev pub most_terms : ℕ
-most_terms = 2 ^ 20
-
-abbrev pub most_variables : ℕ
-most_variables = 2 ^ 20
-
-abbrev pub most_constraints : ℕ
-most_constraints = 2 ^ 20
 
 -- a term of a variable that the table numbers, with a coefficient within the limit
 pub record IsTermWithin (variables : ℕ) (t : Term) : Type 0 where

@@ -4,6 +4,7 @@
 
 mod assignment;
 mod constraint;
+mod limits;
 mod names;
 mod problem;
 mod seq;
@@ -12,10 +13,8 @@ mod term;
 
 pub use assignment::Assignment;
 pub use constraint::{Relation, Signed};
+pub use limits::{LARGEST_INTEGER, MOST_CONSTRAINTS, MOST_NAMES, MOST_TERMS, MOST_VARIABLES};
 pub use names::Names;
 pub use problem::Problem;
 pub use seq::Seq;
 pub use term::{Lit, Term, Var};
-
-#[cfg(test)]
-mod tests;

@@ -1,8 +1,13 @@
 //! Names of variables, numbered in order of first occurrence.
+//!
+//! Below the texts a variable is a number, and this table is all that knows its name; so the order is part of what a problem
+//! is, and the table is a list in the contracts and a hash set in the code. A name is kept once. A new one is hashed twice, to
+//! look it up and to put it in: the set takes a name only as one that is owned, and a copy for each occurrence would cost more.
 
-ghost use Rattle.std.specs.Prelude.{◌≡◌, ◌<◌, ◌≤◌, ◌^◌, ◌↔◌, true, false, [], Some, None, length, ◌+◌, take, slice_get, MatchOption, IfOk, OnOk, OnErr, IsTrue};
+ghost use Rattle.std.specs.Prelude.{◌≡◌, ◌<◌, ◌≤◌, ◌↔◌, true, false, [], Some, None, length, ◌+◌, take, slice_get, MatchOption, IfOk, IfSome, OnOk, OnErr, IsTrue};
 ghost use Rattle.std.specs.Option.{option_copied};
-ghost use Rattle.linear.specs.Table.{has_name, place_of, with_name, IsTable};
+ghost use Rattle.linear.specs.Largest.{most_names};
+ghost use Rattle.linear.specs.Table.{has_name, place_of, with_name, IsFullFor, IsTable};
 ghost use Rattle.pb_text.specs.Name.{is_name};
 
 use super::term::Var;
@@ -36,6 +41,13 @@ impl Names {
         Names {
             set: IndexSet::new(alloc),
         }
+    }
+
+    /// What holds of every table, for a proof that needs it where nothing else of the table is asked.
+    pub fn reveal(&self)
+        ensures { IsTable self.now }
+    {
+        let _ = &self.set;
     }
 
     /// How many names there are.
@@ -78,18 +90,55 @@ impl Names {
     /// memory the table stays as it was.
     pub fn intern(&mut self, name: &[u8]) -> Result<Var, AllocError>
         requires spelled { is_name name.now ≡ true }
-        requires room { length self.old < 2 ^ 32 }
+        requires room { length self.old < most_names }
         ensures ok { OnOk result (self.new ≡ with_name self.old name.now) }
         ensures number { IfOk result (λ v. v.0 ≡ place_of self.old name.now) }
         ensures err { OnErr result (self.new ≡ self.old) }
     {
-        if let Some(var) = self.find(name) {
-            return Ok(var);
+        match self.find(name) {
+            Some(var) => Ok(var),
+            None => self.add(name),
         }
-        let place = self.set.len();
+    }
+
+    /// The variable of a name, as `intern` gives it, where the table may have so many names: `None` where the name is new
+    /// and the table has them all. Where there is no variable, and on want of memory, the table stays as it was.
+    pub fn intern_within(&mut self, name: &[u8], most: usize) -> Result<Option<Var>, AllocError>
+        requires spelled { is_name name.now ≡ true }
+        requires room { most ≤ most_names }
+        ensures cases { IfOk result (λ found. MatchOption found
+            (IsFullFor self.old most name.now)
+            (λ v. v.0 ≡ place_of self.old name.now)) }
+        ensures some { IfOk result (λ found. IfSome found (λ _. self.new ≡ with_name self.old name.now)) }
+        ensures few { length self.old ≤ most → length self.new ≤ most }
+        ensures table { IsTable self.new }
+        ensures none { IfOk result (λ found. found ≡ None → self.new ≡ self.old) }
+        ensures err { OnErr result (self.new ≡ self.old) }
+    {
+        if let Some(var) = self.find(name) {
+            return Ok(Some(var));
+        }
+        if self.set.len() >= most {
+            return Ok(None);
+        }
+        let var = self.add(name)?;
+        Ok(Some(var))
+    }
+
+    /// The next variable, for a name that the table does not have.
+    fn add(&mut self, name: &[u8]) -> Result<Var, AllocError>
+        requires spelled { is_name name.now ≡ true }
+        requires unknown { has_name self.old name.now ≡ false }
+        requires room { length self.old < most_names }
+        ensures ok { OnOk result (self.new ≡ with_name self.old name.now) }
+        ensures number { IfOk result (λ v. v.0 ≡ place_of self.old name.now) }
+        ensures err { OnErr result (self.new ≡ self.old) }
+        ensures table { IsTable self.new }
+    {
+        let number = self.set.len();
         let own = Vec::from_slice(*self.set.allocator(), name)?;
         self.set.insert(own)?;
-        Ok(Var(place as u32))
+        Ok(Var(number as u32))
     }
 
     /// Takes the newest names away, so that `len` names are left, or all where there are no more.

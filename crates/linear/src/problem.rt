@@ -1,4 +1,8 @@
 //! Problems within the limits, what satisfies them and what an assignment is worth.
+//!
+//! That a problem is within its limits is a fact of the type: whoever has one may add up its sums, and no reader above has to
+//! ask again. What it means is the plain sum over its own signed terms, in which a variable may stand many times; the normal
+//! forms of cutting planes come above, and are shown to mean the same.
 
 ghost use Rattle.std.specs.Prelude.{◌≡◌, ◌↔◌, length, IsTrue, IfOk};
 ghost use Rattle.std.specs.Option.{option_copied};
@@ -12,8 +16,8 @@ use super::term::Term;
 use std::alloc::{AllocError, Global};
 use std::marker::Model;
 
-/// A linear 0-1 problem: names, an objective to be minimised or none, and constraints. Integers are at most
-/// 2^62 in size; a statement has at most 2^20 terms, and there are at most 2^20 variables and constraints.
+/// A linear 0-1 problem: names, an objective to be minimised or none, and constraints. Its sizes
+/// are within the limits (`LARGEST_INTEGER`, `MOST_TERMS`, `MOST_VARIABLES`, `MOST_CONSTRAINTS`) by its type.
 #[derive(Drop)]
 pub struct Problem {
     names: Names,
@@ -47,6 +51,13 @@ impl Problem {
             objective,
             constraints,
         }
+    }
+
+    /// What holds of every problem, for a proof that needs it where nothing else of the problem is asked.
+    pub fn reveal(&self)
+        ensures { IsWithin self.now }
+    {
+        let _ = &self.names;
     }
 
     /// The names, by the numbers of the variables.

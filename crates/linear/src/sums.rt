@@ -1,4 +1,5 @@
-//! Sums of signed terms under an assignment.
+//! Sums of signed terms under an assignment, added up in the order of the terms. No partial sum can wrap, since the limits
+//! bound every term and their number.
 
 ghost use Rattle.std.specs.Prelude.{◌≡◌, ◌↔◌, ◌<◌, length, IsTrue};
 ghost use Rattle.linear.specs.Limits.{IsSumWithin, IsConstraintWithin};

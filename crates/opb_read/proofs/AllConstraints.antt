@@ -14,7 +14,7 @@ use Rattle.opb_read.specs.Forms.{behind_terms}
 use Rattle.opb_read.specs.Denial.{constraints_ahead, FollowsConstraint, DeniesConstraints, IsForm}
 use Rattle.opb_read.specs.declared.fault.OpbCode.{OpbCode}
 use Rattle.opb_read.specs.declared.fault.OpbCode.TheVariants.{TooMany}
-use Rattle.opb_read.proofs.Codes.{says_form, says_more}
+use Rattle.opb_read.proofs.CasesOfCodes.{says_form, says_more}
 use Rattle.opb_read.proofs.Sums.{ends_sum}
 use Rattle.opb_read.proofs.Statements.{first_constraint, closes_next, no_some}
 

@@ -1,29 +1,50 @@
 -- Steps of reading the constraints, and where it stops.
-use Rattle.std.proofs.Common.{◌≡◌, ℕ, ◌+◌, ◌<◌, ◌≤◌, Bool, true, false, is_some, if◌then◌else◌, Some, None, List, ◌∷◌, drop, refl, sym, ap, subst, ◌∙◌, arith}
+use Rattle.std.proofs.Common.{◌≡◌, ℕ, ◌+◌, ◌<◌, ◌≤◌, Bool, true, false, is_some, if◌then◌else◌, Some, None, List, [], ◌∷◌, ◌||◌, drop, refl, sym, ap, subst, ◌∙◌, arith}
 use Rattle.pb_text.specs.Lexeme.{Lexeme}
+use Rattle.std.specs.Prelude.{Option}
+use Rattle.linear.specs.declared.constraint.Relation as linear
 use Rattle.pb_text.specs.declared.kind.Kind.{Kind}
 use Rattle.pb_text.specs.declared.kind.Kind.TheVariants as kinds
 use Rattle.pb_text.specs.declared.kind.Symbol.TheVariants as symbols
 use Rattle.linear.specs.Limits.{most_constraints}
-use Rattle.opb_read.specs.Kinds.{is_semicolon, relation_of, begins_objective, statements_of}
-use Rattle.opb_read.specs.Ahead.{begins_constraint}
+use Rattle.opb_read.specs.Kinds.{is_integer, is_semicolon, relation_of, begins_objective, statements_of}
+use Rattle.opb_read.specs.Ahead.{begins_constraint, begins_integer, next_relation, starts_constraint}
 use Rattle.opb_read.specs.Denial.{IsForm}
+use Rattle.opb_read.specs.FaultCodes.{code_at}
 use Rattle.opb_read.specs.Places.{next_place, begun}
 use Rattle.opb_read.specs.Progress.{IsOver, Refuses, HoldsLimits, at_start, start_of, Reaches, StopsAt}
 use Rattle.opb_read.specs.declared.fault.OpbCode.{OpbCode}
 use Rattle.opb_read.specs.declared.place.Place.{Place}
 use Rattle.opb_read.specs.declared.place.Place.TheVariants.{Start, ObjectiveMark, Coefficient, Relation}
-use Rattle.opb_read.proofs.Codes.{tells_form}
+use Rattle.opb_read.proofs.CasesOfCodes.{tells_form}
 use Rattle.opb_read.proofs.AllConstraints.{begins_none}
-use Rattle.opb_read.proofs.Reaching.{reaches_then, reaches_holds, stops_here, stops_then, over_constraints}
+use Rattle.opb_read.proofs.TokensPassed.{reaches_then, reaches_holds, stops_here, stops_then, over_constraints}
 
 -- a token that begins no constraint
-pub refused_start : (code : OpbCode) (names : List (List ℕ)) (n : ℕ) (t : Lexeme) (rest : List Lexeme) → IsForm code → begins_constraint t.kind ≡ false → Refuses code (at_start names n) (t ∷ rest)
-refused_start code names n t rest form none =
+pub refused_start : (code : OpbCode) (names : List (List ℕ)) (n : ℕ) (t : Lexeme) (rest : List Lexeme) → IsForm code → code ≡ code_at Start (t ∷ rest) → begins_constraint t.kind ≡ false → Refuses code (at_start names n) (t ∷ rest)
+refused_start code names n t rest form named none =
     let both = begins_none t.kind none in
     tells_form code _ _ _ form
-    (ap (λ b. is_some (if b then Some Coefficient else if is_some (relation_of t.kind) then Some Relation else None)) both.0
-    ∙ ap (λ r. is_some (if is_some r then Some Relation else None)) both.1)
+    (record {
+      stands = ap (λ b. is_some (if b then Some Coefficient else if is_some (relation_of t.kind) then Some Relation else None)) both.0
+          ∙ ap (λ r. is_some (if is_some r then Some Relation else None)) both.1;
+      named = named;
+    })
+
+-- a constraint has a first token
+pub not_empty : (left : List Lexeme) → starts_constraint left ≡ true → left ≡ [] → ⊥
+not_empty [] h e = cc
+not_empty (t ∷ rest) h e = let some : ◌≡◌ {A = List Lexeme} (t ∷ rest) [] = e in cc
+
+-- which is a relation where it is no integer
+pub starts_with_relation : (left : List Lexeme) → starts_constraint left ≡ true → begins_integer left ≡ false → next_relation left ≡ None → ⊥
+starts_with_relation [] h i r = cc
+starts_with_relation (t ∷ rest) h i r = by (is_integer t.kind) (relation_of t.kind) i r h
+  where
+    by : (b : Bool) (o : Option linear.Relation) → b ≡ false → o ≡ None → (b || is_some o) ≡ true → ⊥
+    by true o e n g = cc
+    by false None e n g = cc
+    by false (Some x) e n g = cc
 
 -- where a token that begins one leads
 record Begins (k : Kind) : Type 0 where

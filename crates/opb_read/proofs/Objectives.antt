@@ -14,7 +14,7 @@ use Rattle.opb_read.specs.Forms.{terms_of, behind_terms, names_in, objective_of,
 use Rattle.opb_read.specs.Spells.{decision_problem, optimisation_problem, problem_of}
 use Rattle.opb_read.specs.Denial.{IsForm, DeniesSum, DeniesObjective, DeniesProblem, FollowsObjective, DeniesConstraints, constraints_ahead, finished}
 use Rattle.opb_read.specs.declared.fault.OpbCode.{OpbCode}
-use Rattle.opb_read.proofs.Codes.{says_form, says_more}
+use Rattle.opb_read.proofs.CasesOfCodes.{says_form, says_more}
 use Rattle.opb_read.proofs.Statements.{same_sum, first_nil, semicolon_pieces, integer_first, no_some}
 
 -- the sum of an objective is all of its piece

@@ -11,20 +11,23 @@ use Rattle.linear.specs.declared.term.Term.{Term}
 use Rattle.opb_read.specs.Kinds.{is_integer, is_semicolon, relation_of}
 use Rattle.opb_read.specs.Ahead.{begins_integer, begins_semicolon, next_relation}
 use Rattle.opb_read.specs.Denial.{IsForm}
+use Rattle.opb_read.specs.FaultCodes.{code_at}
 use Rattle.opb_read.specs.Forms.{is_term, term_of, terms_of, behind_terms}
 use Rattle.opb_read.specs.Places.{next_place, may_stand, is_start, begun}
 use Rattle.opb_read.specs.Progress.{Progress, Reaches, StopsAt, HoldsLimits, at_start, at_mark, IsInSum, behind_sum, IsBehindSum}
 use Rattle.opb_read.specs.declared.fault.OpbCode.{OpbCode}
 use Rattle.opb_read.specs.declared.fault.OpbCode.TheVariants.{IntegerTooLarge}
+use Rattle.opb_read.specs.declared.place.Place.{Place}
 use Rattle.opb_read.specs.declared.place.Place.TheVariants.{Start, ObjectiveMark, ObjectiveCoefficient, ObjectiveLiteral, Coefficient, Literal, Relation, RightSide}
-use Rattle.opb_read.proofs.Codes.{tells_form}
+use Rattle.opb_read.proofs.CasesOfCodes.{tells_form}
 use Rattle.opb_read.proofs.Sums.{terms_pair, behind_none}
-use Rattle.opb_read.proofs.Accepting.{semicolon_no_integer}
-use Rattle.opb_read.proofs.Reaching.{placed, reaches_one, reaches_then, reaches_holds, stops_here, stops_then, step_integer, step_relation, step_end, large_integer}
+use Rattle.opb_read.proofs.FormByTokens.{semicolon_no_integer}
+use Rattle.opb_read.proofs.TokensPassed.{placed, reaches_one, reaches_then, reaches_holds, stops_here, stops_then, step_integer, step_relation, step_end, large_integer}
 
 -- no relation stands behind the sum
-pub stops_at_relation : (code : OpbCode) (s : Progress) (names : List (List ℕ)) (left : List Lexeme) → IsForm code → IsBehindSum s names left → next_relation left ≡ None → StopsAt code s left left
-stops_at_relation code s names left form h none = stops_here code s left (tells_form code _ _ _ form (by left refl none))
+pub stops_at_relation : (code : OpbCode) (s : Progress) (names : List (List ℕ)) (left : List Lexeme) → IsForm code → code ≡ code_at Literal left → IsBehindSum s names left → next_relation left ≡ None → StopsAt code s left left
+stops_at_relation code s names left form named h none =
+    stops_here code s left (tells_form code _ _ _ form (record { stands = by left refl none; named = named ∙ ap (λ (p : Place). code_at p left) (sym (h.due none)) }))
   where
     by : (l : List Lexeme) → left ≡ l → next_relation l ≡ None → may_stand s.place l ≡ false
     by [] e n = h.ends e
@@ -42,10 +45,10 @@ relation_passed s names left left1 r h e at = by left refl e at
         reaches_one s left t left1 (placed s Relation) (g ∙ ap (λ l. t ∷ l) (sym d)) (step_relation s t r n stands h.within h.few)
 
 -- no integer stands behind the relation
-pub stops_at_right : (code : OpbCode) (s : Progress) (names : List (List ℕ)) (left left1 : List Lexeme) (r : linear.Relation) → IsForm code → IsBehindSum s names left → next_relation left ≡ Some r
+pub stops_at_right : (code : OpbCode) (s : Progress) (names : List (List ℕ)) (left left1 : List Lexeme) (r : linear.Relation) → IsForm code → code ≡ code_at Relation left1 → IsBehindSum s names left → next_relation left ≡ Some r
     → left1 ≡ drop 1 left → begins_integer left1 ≡ false → StopsAt code s left left1
-stops_at_right code s names left left1 r form h e at none =
-    stops_then code s (placed s Relation) left left1 left1 (relation_passed s names left left1 r h e at) (stops_here code (placed s Relation) left1 (tells_form code _ _ _ form (by left1 none)))
+stops_at_right code s names left left1 r form named h e at none =
+    stops_then code s (placed s Relation) left left1 left1 (relation_passed s names left left1 r h e at) (stops_here code (placed s Relation) left1 (tells_form code _ _ _ form (record { stands = by left1 none; named = named })))
   where
     by : (l : List Lexeme) → begins_integer l ≡ false → may_stand Relation l ≡ false
     by [] n = refl
@@ -70,13 +73,13 @@ right_passed s names left left1 left2 r b h e at eb kb small =
     (step_integer (placed s Relation) b RightSide kb refl (reaches_holds s (placed s Relation) left left1 h.within here) small (omega (arith, h.few))))
 
 -- no `;` stands behind the right side
-pub stops_at_end : (code : OpbCode) (s : Progress) (names : List (List ℕ)) (left left1 left2 : List Lexeme) (r : linear.Relation) (b : Lexeme) → IsForm code → IsBehindSum s names left
+pub stops_at_end : (code : OpbCode) (s : Progress) (names : List (List ℕ)) (left left1 left2 : List Lexeme) (r : linear.Relation) (b : Lexeme) → IsForm code → code ≡ code_at RightSide left2 → IsBehindSum s names left
     → next_relation left ≡ Some r → left1 ≡ drop 1 left → left1 ≡ b ∷ left2 → b.kind ≡ kinds.Integer → unsigned_abs (integer_value b.text) ≤ largest_integer
     → begins_semicolon left2 ≡ false → StopsAt code s left left2
-stops_at_end code s names left left1 left2 r b form h e at eb kb small none =
+stops_at_end code s names left left1 left2 r b form named h e at eb kb small none =
     stops_then code s (placed s RightSide) left left2 left2
     (right_passed s names left left1 left2 r b h e at eb kb small)
-    (stops_here code (placed s RightSide) left2 (tells_form code _ _ _ form (by left2 none)))
+    (stops_here code (placed s RightSide) left2 (tells_form code _ _ _ form (record { stands = by left2 none; named = named })))
   where
     by : (l : List Lexeme) → begins_semicolon l ≡ false → may_stand RightSide l ≡ false
     by [] n = refl
@@ -118,13 +121,14 @@ no_terms_passed names (a ∷ b ∷ rest) e = by (is_term a b) refl
 
 -- behind the sum of a constraint
 pub behind_its_sum : (names now : List (List ℕ)) (n count : ℕ) (left left1 : List Lexeme) → HoldsLimits (at_start names n) → n < most_constraints
-    → Reaches (at_start names n) left (behind_sum (at_start names n) Literal now count) left1 → begins_integer left1 ≡ false → (count ≡ 0 → left1 ≡ [] → ⊥)
+    → Reaches (at_start names n) left (behind_sum (at_start names n) Literal now count) left1 → begins_integer left1 ≡ false → (count ≡ 0 → next_relation left1 ≡ None → ⊥)
     → IsBehindSum (behind_sum (at_start names n) Literal now count) now left1
 behind_its_sum names now n count left left1 h few r none some = record {
   within = reaches_holds (at_start names n) (behind_sum (at_start names n) Literal now count) left left1 h r;
   table = refl;
   stands = λ t rest e. at (count == 0) t (sym (ap begins_integer e) ∙ none);
   ends = λ e. ended (count == 0) refl e;
+  due = λ e. behind_literal (count == 0) refl e;
   few = few;
 }
   where
@@ -134,14 +138,18 @@ behind_its_sum names now n count left left1 h few r none some = record {
 
     ended : (b : Bool) → (count == 0) ≡ b → left1 ≡ [] → is_start (if b then Start else Literal) ≡ false
     ended false g e = refl
-    ended true g e = let zero_terms : count ≡ 0 = grind (arith, nat_tests) in absurd (some zero_terms e)
+    ended true g e = let zero_terms : count ≡ 0 = grind (arith, nat_tests) in absurd (some zero_terms (ap next_relation e))
+
+    behind_literal : (b : Bool) → (count == 0) ≡ b → next_relation left1 ≡ None → (if b then Start else Literal) ≡ Literal
+    behind_literal false g e = refl
+    behind_literal true g e = let zero_terms : count ≡ 0 = grind (arith, nat_tests) in absurd (some zero_terms e)
 
 -- behind the sum of an objective no `;` stands
-pub stops_at_mark : (code : OpbCode) (names now : List (List ℕ)) (count : ℕ) (left left1 : List Lexeme) → IsForm code
+pub stops_at_mark : (code : OpbCode) (names now : List (List ℕ)) (count : ℕ) (left left1 : List Lexeme) → IsForm code → code ≡ code_at (if count == 0 then ObjectiveMark else ObjectiveLiteral) left1
     → Reaches (at_mark names) left (behind_sum (at_mark names) ObjectiveLiteral now count) left1 → begins_integer left1 ≡ false → begins_semicolon left1 ≡ false → StopsAt code (at_mark names) left left1
-stops_at_mark code names now count left left1 form r none no_end =
+stops_at_mark code names now count left left1 form named r none no_end =
     let q = behind_sum (at_mark names) ObjectiveLiteral now count in
-    stops_then code (at_mark names) q left left1 left1 r (stops_here code q left1 (tells_form code _ _ _ form (by (count == 0) left1 none no_end)))
+    stops_then code (at_mark names) q left left1 left1 r (stops_here code q left1 (tells_form code _ _ _ form (record { stands = by (count == 0) left1 none no_end; named = named })))
   where
     by : (b : Bool) (l : List Lexeme) → begins_integer l ≡ false → begins_semicolon l ≡ false → may_stand (if b then ObjectiveMark else ObjectiveLiteral) l ≡ false
     by true [] i e = refl

@@ -18,7 +18,7 @@ use Rattle.opb_read.specs.Ahead.{begins_integer, begins_semicolon, next_relation
 use Rattle.opb_read.specs.Denial.{constraints_ahead, FollowsConstraint, DeniesSum, DeniesClosing, DeniesConstraints, IsForm}
 use Rattle.opb_read.specs.declared.fault.OpbCode.{OpbCode}
 use Rattle.opb_read.specs.declared.fault.OpbCode.TheVariants.{IntegerTooLarge}
-use Rattle.opb_read.proofs.Codes.{says_form, says_more}
+use Rattle.opb_read.proofs.CasesOfCodes.{says_form, says_more}
 use Rattle.linear.specs.Limits.{IsConstraintWithin, largest_integer, most_terms}
 use Rattle.linear.specs.Table.{with_name}
 use Rattle.pb_text.specs.Word.{name_of}

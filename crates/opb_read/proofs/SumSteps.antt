@@ -10,13 +10,14 @@ use Rattle.linear.specs.Limits.{largest_integer, most_terms, most_variables, mos
 use Rattle.linear.specs.Table.{with_name}
 use Rattle.opb_read.specs.Ahead.{begins_literal}
 use Rattle.opb_read.specs.Denial.{IsForm, IsTooManyOr}
+use Rattle.opb_read.specs.FaultCodes.{code_at}
 use Rattle.opb_read.specs.Places.{next_place, begun}
 use Rattle.opb_read.specs.Progress.{Progress, Reaches, IsInSum, behind_sum, PassesTerms, StopsInSum}
 use Rattle.opb_read.specs.declared.fault.OpbCode.{OpbCode}
 use Rattle.opb_read.specs.declared.fault.OpbCode.TheVariants.{IntegerTooLarge, TooMany, OutOfMemory}
 use Rattle.opb_read.specs.declared.place.Place.{Place}
-use Rattle.opb_read.proofs.Codes.{tells_form, tells_many}
-use Rattle.opb_read.proofs.Reaching.{placed, reaches_none, reaches_one, reaches_then, reaches_holds, stops_here, stops_then, step_integer, step_literal, large_integer, over_terms, over_variables, no_literal}
+use Rattle.opb_read.proofs.CasesOfCodes.{tells_form, tells_many}
+use Rattle.opb_read.proofs.TokensPassed.{placed, reaches_none, reaches_one, reaches_then, reaches_holds, stops_here, stops_then, step_integer, step_literal, large_integer, over_terms, over_variables, no_literal}
 
 -- the size of an integer that was read
 pub small_value : (n z : ℤ) → n ≡ z → unsigned_abs n ≤ largest_integer → unsigned_abs z ≤ largest_integer
@@ -48,12 +49,12 @@ stops_at_coefficient behind count names left a e k large s after h =
     stops_here IntegerTooLarge s left (large_integer s left a behind e k h.integer h.within h.few large)
 
 -- behind a coefficient no literal stands
-pub stops_at_literal : (code : OpbCode) (behind : Place) (count : ℕ) (names : List (List ℕ)) (left left1 : List Lexeme) (a : Lexeme) → IsForm code → left ≡ a ∷ left1
+pub stops_at_literal : (code : OpbCode) (behind : Place) (count : ℕ) (names : List (List ℕ)) (left left1 : List Lexeme) (a : Lexeme) → IsForm code → code ≡ code_at behind left1 → left ≡ a ∷ left1
     → a.kind ≡ kinds.Integer → unsigned_abs (integer_value a.text) ≤ largest_integer → begins_literal left1 ≡ false → StopsInSum code behind count names left left1
-stops_at_literal code behind count names left left1 a form e k small none s after h =
+stops_at_literal code behind count names left left1 a form named e k small none s after h =
     stops_then code s (placed s behind) left left1 left1
     (coefficient_passed behind after count names left left1 a s h e k small)
-    (stops_here code (placed s behind) left1 (tells_form code _ _ _ form (no_literal behind after left1 h.name none)))
+    (stops_here code (placed s behind) left1 (tells_form code _ _ _ form (record { stands = no_literal behind after left1 h.name none; named = named })))
 
 -- behind a coefficient a literal of one term too many stands
 pub stops_at_term : (behind : Place) (count : ℕ) (names : List (List ℕ)) (left left1 : List Lexeme) (a b : Lexeme) → left ≡ a ∷ left1 → left1 ≡ b ∷ drop 1 left1

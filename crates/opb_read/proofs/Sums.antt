@@ -16,8 +16,8 @@ use Rattle.opb_read.specs.Forms.{is_term, term_of, terms_of, behind_terms, names
 use Rattle.opb_read.specs.Denial.{DeniesSum, IsForm, IsTooManyOr, IsCutTerm}
 use Rattle.opb_read.specs.declared.fault.OpbCode.{OpbCode}
 use Rattle.opb_read.specs.declared.fault.OpbCode.TheVariants.{IntegerTooLarge, TooMany}
-use Rattle.opb_read.proofs.Codes.{says_form, says_many, says_more}
-use Rattle.opb_read.proofs.Numbering.{number_at_end, names_in-more}
+use Rattle.opb_read.proofs.CasesOfCodes.{says_form, says_many, says_more}
+use Rattle.opb_read.proofs.NumbersOfNames.{number_at_end, names_in-more}
 
 pub not_literal : (k : Kind) → (k ≡ Literal → ⊥) → is_literal k ≡ false
 not_literal (Symbol s) h = refl

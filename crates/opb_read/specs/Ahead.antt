@@ -1,21 +1,10 @@
--- The tokens ahead of a reader: what it has in sight, and what is left behind that.
-use Rattle.std.specs.Prelude.{Bool, false, ◌||◌, is_some, Option, Some, None, List, [], ◌∷◌}
+-- What stands next among the tokens ahead of a reader, in the words of the grammar.
+use Rattle.std.specs.Prelude.{Bool, false, ◌||◌, is_some, Option, None, List, [], ◌∷◌}
 use Rattle.pb_text.specs.Lexeme.{Lexeme}
-use Rattle.pb_text.specs.Token.{lexeme_of}
+pub use Rattle.pb_text.specs.Ahead.{next_kind, line_of_next}
 use Rattle.pb_text.specs.declared.kind.Kind.{Kind}
-use Rattle.pb_text.specs.declared.token.Token.{Token}
 use Rattle.linear.specs.declared.constraint.Relation.{Relation}
 use Rattle.opb_read.specs.Kinds.{is_integer, is_literal, is_semicolon, relation_of}
-
--- a token in sight, if there is one, and the rest
-abbrev pub onto : Option Token → List Lexeme → List Lexeme
-onto None rest = rest
-onto (Some t) rest = lexeme_of t ∷ rest
-
--- the kind of the next token, if there is one
-abbrev pub next_kind : List Lexeme → Option Kind
-next_kind [] = None
-next_kind (t ∷ rest) = Some t.kind
 
 -- does an integer stand next
 abbrev pub begins_integer : List Lexeme → Bool
@@ -40,3 +29,8 @@ next_relation (t ∷ rest) = relation_of t.kind
 -- may a token of this kind begin a constraint: an integer or a relation
 abbrev pub begins_constraint : Kind → Bool
 begins_constraint k = is_integer k || is_some (relation_of k)
+
+-- does a token stand next that may begin a constraint
+abbrev pub starts_constraint : List Lexeme → Bool
+starts_constraint [] = false
+starts_constraint (t ∷ rest) = begins_constraint t.kind

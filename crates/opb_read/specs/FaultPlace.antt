@@ -2,14 +2,18 @@
 -- of the text counts as a token.
 use Rattle.std.specs.Prelude.{◌≡◌, ℕ, ◌≤◌, Bool, true, false, if◌then◌else◌, Option, Some, None, List, [], ◌∷◌, ◌++◌, length, All, count_by}
 use Rattle.pb_text.specs.Lexeme.{Lexeme, lexemes}
-use Rattle.pb_text.specs.Span.{line_of}
+pub use Rattle.pb_text.specs.Ahead.{line_of_next}
 use Rattle.linear.specs.Opb.{Opb}
 use Rattle.linear.specs.Limits.{most_terms, most_variables, most_constraints, IsWithin}
 use Rattle.opb_read.specs.Kinds.{is_literal, begins_objective, statements_of, IsLargeInteger}
 use Rattle.opb_read.specs.Pieces.{Pieces, pieces}
 use Rattle.opb_read.specs.Forms.{names_in}
 use Rattle.opb_read.specs.Spells.{problem_of}
-use Rattle.opb_read.specs.Denial.{Tells}
+use Rattle.opb_read.specs.Denial.{Tells, IsForm}
+use Rattle.opb_read.specs.FaultCodes.{code_at}
+use Rattle.opb_read.specs.Places.{next_place}
+use Rattle.opb_read.specs.declared.place.Place.{Place}
+use Rattle.opb_read.specs.declared.place.Place.TheVariants.{Start, ObjectiveMark}
 use Rattle.opb_read.specs.declared.fault.OpbCode.{OpbCode}
 
 -- Some text behind these tokens makes a problem of them, with an objective at its front or with none: so their pieces
@@ -81,13 +85,24 @@ pub record IsTooMany (before rest : List Lexeme) : Type 0 where
   pub counts : AreCountsWithin (before ++ token ∷ []) → ⊥
   pub none : IsBeyondLimits before rest
 
--- the line of the token that stands next, or of the text's end
-abbrev pub line_of_next : List ℕ → List Lexeme → ℕ
-line_of_next text [] = line_of text (length text)
-line_of_next text (t ∷ rest) = t.line
+-- the place in a statement to which tokens lead, where each of them may stand in its place
+abbrev pub place_behind : Place → List Lexeme → Option Place
+place_behind place [] = Some place
+place_behind place (t ∷ ts) = elim (next_place place t.kind) [ None ↦ None | Some next ↦ place_behind next ts ]
+
+-- the same from the front of a text on
+abbrev pub place_in_text : List Lexeme → Option Place
+place_in_text tokens = place_behind (if begins_objective tokens then ObjectiveMark else Start) (statements_of tokens)
+
+-- the code is that of the token that stands next, at the place to which the tokens before it lead
+pub record IsCodeThere (code : OpbCode) (before rest : List Lexeme) : Type 0 where
+  pub place : Place
+  pub leads : place_in_text before ≡ Some place
+  pub named : code ≡ code_at place rest
 
 -- A fault of this code and line: the tokens before its token begin a problem and are within the limits; with its token
--- they begin none, or (of a limit) none within the limits; and the line is its token's.
+-- they begin none, or (of a limit) none within the limits; a code of form is the one that the table of faults gives for
+-- its token at its place; and the line is its token's.
 pub record IsFaultAt (text : List ℕ) (code : OpbCode) (line : ℕ) : Type 0 where
   pub before : List Lexeme
   pub rest : List Lexeme
@@ -95,4 +110,5 @@ pub record IsFaultAt (text : List ℕ) (code : OpbCode) (line : ℕ) : Type 0 wh
   pub begins : CanGoOn (begins_objective (before ++ rest)) before
   pub within : IsWithinSoFar before
   pub stops : Tells code (IsNoForm before rest) (IsTooLarge before rest) (IsTooMany before rest)
+  pub code_is : IsForm code → IsCodeThere code before rest
   pub stands : line ≡ line_of_next text rest

@@ -4,7 +4,8 @@ use Rattle.std.specs.Option.{option_map}
 use Rattle.pb_text.specs.Lexeme.{Lexeme}
 use Rattle.pb_text.specs.Word.{is_negated, name_of}
 use Rattle.pb_text.specs.Number.{integer_value}
-use Rattle.linear.specs.Table.{place_of, with_name}
+use Rattle.linear.specs.Table.{place_of}
+pub use Rattle.linear.specs.Table.{names_in}
 use Rattle.linear.specs.declared.term.Term.{Term}
 use Rattle.linear.specs.declared.constraint.Signed.{Signed}
 use Rattle.linear.specs.declared.constraint.Relation.{Relation}
@@ -63,8 +64,3 @@ constraints_of names piece (next ∷ others) =
       | None ↦ None
       | Some c ↦ option_map (λ cs. c ∷ cs) (constraints_of names next others)
     ]
-
--- a table of names and the names of literals that it does not have, in order of first occurrence
-abbrev pub names_in : List (List ℕ) → List Lexeme → List (List ℕ)
-names_in names [] = names
-names_in names (t ∷ rest) = names_in (if is_literal t.kind then with_name names (name_of t.text) else names) rest

@@ -1,29 +1,14 @@
 -- What may stand where in a problem file, by the kind of a token.
-use Rattle.std.specs.Prelude.{◌≡◌, ◌<◌, ◌&&◌, Bool, true, false, if◌then◌else◌, Option, Some, None, List, [], ◌∷◌, drop, unsigned_abs, codes, bytes_eq}
+use Rattle.std.specs.Prelude.{◌≡◌, ℕ, ◌<◌, ◌&&◌, Bool, true, false, if◌then◌else◌, Option, Some, None, List, [], ◌∷◌, drop, unsigned_abs, codes, bytes_eq}
 use Rattle.pb_text.specs.Lexeme.{Lexeme}
 use Rattle.pb_text.specs.declared.kind.Kind.{Kind}
-use Rattle.pb_text.specs.declared.kind.Kind.TheVariants.{Integer, Literal, Symbol}
-use Rattle.pb_text.specs.declared.kind.Symbol.TheVariants.{Semicolon, Colon, AtLeast, Equals}
+pub use Rattle.pb_text.specs.Kinds.{is_integer, is_literal, is_semicolon, is_colon}
+use Rattle.pb_text.specs.declared.kind.Kind.TheVariants.{Symbol}
+use Rattle.pb_text.specs.declared.kind.Symbol.TheVariants.{AtLeast, Equals}
 use Rattle.pb_text.specs.Number.{integer_value}
 use Rattle.linear.specs.Limits.{largest_integer}
 use Rattle.linear.specs.declared.constraint.Relation.{Relation}
 use Rattle.linear.specs.declared.constraint.Relation.TheVariants as relations
-
-abbrev pub is_integer : Kind → Bool
-is_integer Integer = true
-is_integer _ = false
-
-abbrev pub is_literal : Kind → Bool
-is_literal Literal = true
-is_literal _ = false
-
-abbrev pub is_semicolon : Kind → Bool
-is_semicolon (Symbol Semicolon) = true
-is_semicolon _ = false
-
-abbrev pub is_colon : Kind → Bool
-is_colon (Symbol Colon) = true
-is_colon _ = false
 
 -- `>=` or `=`
 abbrev pub relation_of : Kind → Option Relation
@@ -31,11 +16,15 @@ relation_of (Symbol AtLeast) = Some relations.AtLeast
 relation_of (Symbol Equals) = Some relations.Equal
 relation_of _ = None
 
+-- this word and `:` stand next
+abbrev pub begins_mark : List ℕ → List Lexeme → Bool
+begins_mark word [] = false
+begins_mark word (a ∷ []) = false
+begins_mark word (a ∷ b ∷ rest) = bytes_eq a.text word && is_colon b.kind
+
 -- `min` and `:`, with which an objective begins
 abbrev pub begins_objective : List Lexeme → Bool
-begins_objective [] = false
-begins_objective (a ∷ []) = false
-begins_objective (a ∷ b ∷ rest) = bytes_eq a.text (codes "min") && is_colon b.kind
+begins_objective tokens = begins_mark (codes "min") tokens
 
 -- the statements: what stands behind the mark of an objective, or all
 abbrev pub statements_of : List Lexeme → List Lexeme

@@ -1,10 +1,13 @@
 pub mod Kinds
 pub mod Pieces
 pub mod Forms
+pub mod Written
 pub mod Spells
 pub mod Faults
 pub mod Ahead
 pub mod Denial
 pub mod Places
+pub mod FaultCodes
 pub mod Progress
 pub mod FaultPlace
+pub mod Cases

@@ -7,10 +7,12 @@ use Rattle.linear.specs.Limits.{most_terms, most_variables, most_constraints}
 use Rattle.opb_read.specs.Kinds.{is_literal, is_semicolon, relation_of, begins_objective, IsLargeInteger}
 use Rattle.opb_read.specs.Forms.{names_in}
 use Rattle.opb_read.specs.Places.{next_place, may_stand, is_start, begun}
+use Rattle.opb_read.specs.Ahead.{next_relation}
 use Rattle.opb_read.specs.Denial.{Tells}
+use Rattle.opb_read.specs.FaultCodes.{code_at}
 use Rattle.opb_read.specs.declared.fault.OpbCode.{OpbCode}
 use Rattle.opb_read.specs.declared.place.Place.{Place}
-use Rattle.opb_read.specs.declared.place.Place.TheVariants.{Start, ObjectiveMark, Relation}
+use Rattle.opb_read.specs.declared.place.Place.TheVariants.{Start, ObjectiveMark, Literal, Relation}
 
 -- a place, the names so far, how many terms of the statement stand before, and how many constraints
 pub record Progress : Type 0 where
@@ -69,9 +71,14 @@ pub record IsLarge (s : Progress) (left : List Lexeme) : Type 0 where
   pub counts : KeepsCounts s token place
   pub integer : IsLargeInteger token
 
+-- the token that stands next may not stand at this place, and has the code that the table of faults gives
+pub record IsMisplaced (code : OpbCode) (place : Place) (left : List Lexeme) : Type 0 where
+  pub stands : may_stand place left ≡ false
+  pub named : code ≡ code_at place left
+
 -- what a fault says of the token that stands next: it may not stand there, or (of a limit) it breaks one
 abbrev pub Refuses : OpbCode → Progress → List Lexeme → Type 0
-Refuses code s left = Tells code (may_stand s.place left ≡ false) (IsLarge s left) (IsOver s left)
+Refuses code s left = Tells code (IsMisplaced code s.place left) (IsLarge s left) (IsOver s left)
 
 -- reading stops with a fault at the tokens `to`
 pub record StopsAt (code : OpbCode) (s : Progress) (from to : List Lexeme) : Type 0 where
@@ -133,4 +140,5 @@ pub record IsBehindSum (s : Progress) (names : List (List ℕ)) (left : List Lex
   pub table : s.names ≡ names
   pub stands : (t : Lexeme) (rest : List Lexeme) → left ≡ t ∷ rest → next_place s.place t.kind ≡ (if is_some (relation_of t.kind) then Some Relation else None)
   pub ends : left ≡ [] → is_start s.place ≡ false
+  pub due : next_relation left ≡ None → s.place ≡ Literal
   pub few : s.constraints < most_constraints

@@ -1,4 +1,5 @@
-//! Why a text is refused, and where.
+//! Why a text is refused, and where. The numbers and names of the codes are part of what users and scripts see, so they are
+//! fixed by contract.
 
 ghost use Rattle.std.specs.Prelude.{◌≡◌};
 
@@ -25,10 +26,10 @@ pub enum OpbCode {
     /// A form of the format's wider family: a product, `<=`, `max:`, `soft:`, a weight in brackets, a constant in the objective.
     #[error("a form that is left out")]
     UnsupportedForm,
-    /// An integer above 2^62 in size.
+    /// An integer above the limit in size (`linear::LARGEST_INTEGER`).
     #[error("an integer above 2^62 in size")]
     IntegerTooLarge,
-    /// A term above 2^20 in its statement, or a variable or constraint above 2^20 in the text.
+    /// A term too many in its statement, or a variable or constraint too many in the text (`linear::MOST_TERMS` and beside it).
     #[error("too many terms, variables or constraints")]
     TooMany,
     /// A growth was refused.

@@ -1,22 +1,19 @@
-//! Reads linear OPB problem files.
+//! Reads linear OPB problem files (Roussel and Manquinho).
+//!
+//! What a text spells is a function of its tokens, cut at each `;`, so it spells one problem at most. The reader goes from left
+//! to right, one token after another, as a person looks for the first thing that is wrong; that it finds the problem that
+//! the text spells, and otherwise the first token that cannot stand in its place, is the contract of `read`.
 #![tactic(auto)]
 
-mod constraints;
+mod ahead;
+pub mod cases;
 mod fault;
 mod laws;
-mod lookahead;
-mod number;
-mod objective;
 mod place;
 mod reader;
 mod reading;
-mod statement;
-mod sum;
 mod variables;
 
 pub use fault::{OpbCode, OpbFault};
-pub use laws::{one_place, one_problem};
+pub use laws::{constraints_as_written, objectives_as_written, one_place, one_problem};
 pub use reading::read;
-
-#[cfg(test)]
-mod tests;

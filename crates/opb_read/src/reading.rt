@@ -35,17 +35,19 @@ fn statements(reader: &mut Reader<'_>, alloc: Global) -> Result<Statements, OpbC
 /// Reads a problem file in the linear OPB format of Roussel and Manquinho: at most one objective `min: <sum> ;` and
 /// then constraints `<sum> >= <integer> ;` or `<sum> = <integer> ;`.
 ///
-/// A sum is a list, which may be empty, of integers and literals in turn. Integers are at most 2^62 in size; a statement
-/// has at most 2^20 terms, and there are at most 2^20 variables and constraints. Variables are numbered from 0 in order
+/// A sum is a list, which may be empty, of integers and literals in turn. The sizes are limited: `LARGEST_INTEGER`,
+/// `MOST_TERMS` of a statement, `MOST_VARIABLES` and `MOST_CONSTRAINTS` of `linear`. Variables are numbered from 0 in order
 /// of first occurrence.
 ///
 /// Reading goes from left to right, and the first token that cannot stand in its place gives the fault, with its line;
 /// the end of the text counts as a token. Codes 1 to 6 come only where the text spells no problem, 7 and 8 only where it
 /// spells none within the limits. All before the fault's token is within the limits and can go on to a problem; with that
-/// token it can go on to none. With the token of a 7 or 8 it can go on to one, but to none within the limits: a 7 is an
-/// integer above 2^62 in size, an 8 makes the terms of a statement, the variables or the constraints too many. Which of
-/// the codes 1 to 6 a token has no clause says. A refused growth is `OutOfMemory`, with the line of the token where it came, which
-/// no clause fixes.
+/// token it can go on to none, and its code of 1 to 6 is the one that the table of faults gives at the place to which the
+/// tokens before it lead (`code_at`). With the token of a 7 or 8 it can go on to a problem, but to none within the limits:
+/// a 7 is an integer that is too large, an 8 makes the terms of a statement, the variables or the constraints too many.
+///
+/// A refused growth is `OutOfMemory`, with the line of the token where it came: the first token of the term or of the
+/// constraint that found no room, or the literal whose name found none. That a growth was refused no clause can say.
 pub fn read(alloc: Global, text: &[u8]) -> Result<Problem, OpbFault>
     ensures spells { IfOk result (λ p. Spells text.now p) }
     ensures within { IfOk result (λ p. IsWithin p) }

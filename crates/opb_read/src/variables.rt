@@ -1,12 +1,9 @@
-//! The variables of a text, at most 2^20.
+//! The variables of a text, no more than the limit: the bound is a fact of the type, so that no reader has to carry it.
 
 use crate::fault::OpbCode;
-use linear::{Names, Var};
+use linear::{MOST_VARIABLES, Names, Var};
 use std::alloc::Global;
 use std::marker::Model;
-
-/// How many variables a text may have.
-const MOST_VARIABLES: usize = 1 << 20;
 
 /// The names so far, in order of first occurrence.
 #[derive(Drop)]
@@ -53,15 +50,10 @@ impl Variables {
         ensures err { OnErr result (self.new ≡ self.old) }
         ensures refused { IfErr result (IsTooManyOr (most_variables < length (with_name self.old name.now))) }
     {
-        if self.names.len() < MOST_VARIABLES {
-            return match self.names.intern(name) {
-                Ok(var) => Ok(var),
-                Err(_) => Err(OpbCode::OutOfMemory),
-            };
-        }
-        match self.names.find(name) {
-            Some(var) => Ok(var),
-            None => Err(OpbCode::TooMany),
+        match self.names.intern_within(name, MOST_VARIABLES) {
+            Ok(Some(var)) => Ok(var),
+            Ok(None) => Err(OpbCode::TooMany),
+            Err(_) => Err(OpbCode::OutOfMemory),
         }
     }
 

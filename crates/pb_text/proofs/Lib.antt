@@ -2,5 +2,8 @@ pub mod Cutting
 pub mod Comment
 pub mod KindTests
 pub mod Digits
+pub mod Positions
+pub mod FirstToken
+pub mod TokensExist
+pub mod TokensUnique
 pub mod Spans
-pub mod Examples

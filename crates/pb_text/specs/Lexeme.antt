@@ -5,7 +5,7 @@ use Rattle.pb_text.specs.declared.kind.Kind.{Kind}
 use Rattle.pb_text.specs.declared.kind.Kind.TheVariants as kinds
 use Rattle.pb_text.specs.declared.kind.Symbol.TheVariants as symbols
 
--- a token: its kind, its line counted from 1, the place of its first byte counted from 0, and its bytes
+-- a token: its kind, its line counted from 1, the position of its first byte counted from 0, and its bytes
 pub record Lexeme : Type 0 where
   pub kind : Kind
   pub line : ℕ
@@ -60,20 +60,20 @@ symbol_length (b ∷ rest) =
     else if (b == 45) && begins_arrow_head rest then 2  -- `->`, but not before `=`
     else 0
 
--- a place in a text: how many bytes stand before it, its line, and whether that line is a comment
-pub record Place : Type 0 where
+-- a position in a text: how many bytes stand before it, its line, and whether that line is a comment
+pub record Position : Type 0 where
   pub start : ℕ
   pub line : ℕ
   pub comment : Bool
 
--- the place behind byte `b`, where `rest` follows
-abbrev pub past : Place → ℕ → List ℕ → Place
+-- the position behind byte `b`, where `rest` follows
+abbrev pub past : Position → ℕ → List ℕ → Position
 past p b rest =
     if b == 10 then record { start = p.start + 1; line = p.line + 1; comment = begins_comment rest }
     else record { start = p.start + 1; line = p.line; comment = p.comment }
 
--- the token at a place that has these bytes
-abbrev pub lexeme_at : Place → List ℕ → Lexeme
+-- the token at a position that has these bytes
+abbrev pub lexeme_at : Position → List ℕ → Lexeme
 lexeme_at p text = record { kind = kind_of text; line = p.line; start = p.start; text = text }
 
 -- a text cut into tokens: the bytes of the word at its very front, if one stands there, and the tokens after it
@@ -81,24 +81,24 @@ pub record Cut : Type 0 where
   pub word : List ℕ
   pub tokens : List Lexeme
 
--- all tokens of a text that was cut, `p` being the place of its front
-abbrev pub all_tokens : Place → Cut → List Lexeme
+-- all tokens of a text that was cut, `p` being the position of its front
+abbrev pub all_tokens : Position → Cut → List Lexeme
 all_tokens p c = elim c.word [ [] ↦ c.tokens | b ∷ rest ↦ lexeme_at p (b ∷ rest) ∷ c.tokens ]
 
 -- White space and the bytes of a comment line part tokens. A symbol is a token: its second byte, which was cut by
 -- itself when the rest was, is no token of its own. Any other byte goes in front of the word that follows it.
-abbrev pub cut : Place → List ℕ → Cut
+abbrev pub cut : Position → List ℕ → Cut
 cut p [] = record { word = []; tokens = [] }
 cut p (b ∷ rest) =
-    let next : Place = past p b rest in
+    let next : Position = past p b rest in
     let after : Cut = cut next rest in
     let size : ℕ = symbol_length (b ∷ rest) in
     if p.comment || is_white b then record { word = []; tokens = all_tokens next after }
     else if size == 0 then record { word = b ∷ after.word; tokens = after.tokens }
     else record { word = []; tokens = lexeme_at p (take size (b ∷ rest)) ∷ drop (size - 1) (all_tokens next after) }
 
--- the tokens of the text that stands at a place
-unfoldable pub lexemes_from : Place → List ℕ → List Lexeme
+-- the tokens of the text that stands at a position
+unfoldable pub lexemes_from : Position → List ℕ → List Lexeme
 lexemes_from p text = all_tokens p (cut p text)
 
 -- the tokens of a text

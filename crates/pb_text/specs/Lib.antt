@@ -2,7 +2,10 @@ pub mod Name
 pub mod Word
 pub mod Number
 pub mod Lexeme
+pub mod Kinds
 pub mod Token
 pub mod Cutting
 pub mod Cursor
 pub mod Span
+pub mod TokensOf
+pub mod Ahead

@@ -2,6 +2,10 @@
 use Rattle.std.specs.Prelude.{ℕ, ◌+◌, ◌-◌, ◌*◌, ◌^◌, Bool, false, ◌==◌, if◌then◌else◌, List, [], ◌∷◌, length, ℤ, pos, neg_ℤ}
 use Rattle.pb_text.specs.Word.{without_sign}
 
+-- the largest size of a number that either format writes
+abbrev pub largest_number : ℕ
+largest_number = 2 ^ 120
+
 -- the number that digits write: each digit counts by the power of ten of its place
 abbrev pub digits_value : List ℕ → ℕ
 digits_value [] = 0

@@ -1,4 +1,7 @@
 //! What a token is by its bytes.
+//!
+//! A word that begins as a literal does and is none (`x`, `~`, `x1+2`) is a kind of its own: a name has two bytes at least, in
+//! both formats, so that the words `d`, `s`, `w` and `+` of a proof are no names, and who misspells a name is to be told so.
 
 ghost use Rattle.std.specs.Prelude.{◌≡◌};
 ghost use Rattle.std.specs.List.{list_all};

@@ -1,10 +1,20 @@
-//! Passing the white space and the comment lines before a token.
+//! Cutting a text, one token at a time: passing what stands before a token, and measuring the token.
+//!
+//! A comment is a line, so a cursor remembers whether only spaces and tabs stand before it on its line; nothing else of what
+//! it has passed matters, and the text is read once, without looking back. A symbol is looked for in front of each byte of a
+//! word, since words end at symbols and not only at white space (`x1>=1` is three tokens). The format is that of OPB by Roussel
+//! and Manquinho, and of VeriPB's proofs, with white space before symbols left free.
 
-ghost use Rattle.std.specs.Prelude.{◌≡◌, ◌<◌, ◌≤◌, ◌==◌, true, length, MatchOption};
+ghost use Rattle.std.specs.Prelude.{◌≡◌, ℕ, ◌+◌, ◌<◌, ◌≤◌, ◌==◌, false, [], ◌∷◌, true, length, take, drop, MatchOption};
 ghost use Rattle.std.specs.List.{position_or_len};
 ghost use Rattle.pb_text.specs.Cursor.{ahead, comment_at, IsAtToken};
+ghost use Rattle.pb_text.specs.Cutting.{begins_white, begins_word, behind};
+ghost use Rattle.pb_text.specs.Lexeme as cutting;
+ghost use Rattle.pb_text.specs.Lexeme.{Position, cut, lexemes_from, lexeme_at};
 
 use crate::spot::{Cursor, Spot};
+
+// White space and comment lines.
 
 /// How many bytes stand before the first LF.
 fn line_length(text: &[u8]) -> usize
@@ -84,4 +94,73 @@ pub(crate) fn past_gaps(c: Cursor<'_>) -> Cursor<'_>
         at = next;
     }
     at
+}
+
+// Symbols and words.
+
+/// How many bytes the symbol has with which a text begins, a stray `<` or `>` included; 0 where it begins with none.
+fn symbol_length(text: &[u8]) -> usize
+    ensures symbol { result ≡ cutting.symbol_length text.now }
+    ensures within { result ≤ length text.now }
+{
+    match text {
+        [b';' | b':' | b'=', ..] => 1,
+        [b'<' | b'>', b'=', ..] => 2,
+        [b'<' | b'>', ..] => 1,
+        [b'-', b'>', b'=', ..] => 0,
+        [b'-', b'>', ..] => 2,
+        _ => 0,
+    }
+}
+
+/// What follows the byte of a word at the front; `None` where white space, a symbol or the end stands there.
+fn past_word_byte(text: &[u8]) -> Option<&[u8]>
+    ensures { MatchOption
+        result
+        (begins_word text.now ≡ false)
+        (λ rest. (begins_word text.now ≡ true) × (rest.now ≡ drop 1 text.now)) }
+{
+    match text {
+        [] | [b' ' | b'\t' | b'\r' | b'\n', ..] => None,
+        [_, rest @ ..] => {
+            if symbol_length(text) == 0 {
+                Some(rest)
+            } else {
+                None
+            }
+        }
+    }
+}
+
+/// How many bytes the word has that stands at the front of a text; 0 where none does.
+fn word_length(text: &[u8]) -> usize
+    ensures within { result ≤ length text.now }
+    ensures word { (p : Position) →
+        p.comment ≡ false →
+        cut p text.now ≡ record {
+          word = take result text.now;
+          tokens = lexemes_from (behind result p) (drop result text.now);
+        } }
+{
+    let mut rest = text;
+    let mut size = 0;
+    while let Some(tail) = past_word_byte(rest) {
+        rest = tail;
+        size += 1;
+    }
+    size
+}
+
+/// How many bytes the token has that stands at the front of a text; 0 at its end.
+pub(crate) fn token_length(text: &[u8]) -> usize
+    requires { begins_white text.now ≡ false }
+    ensures within { result ≤ length text.now }
+    ensures end { result ≡ 0 → text.now ≡ [] }
+    ensures token { (p : Position) →
+        p.comment ≡ false →
+        0 < result →
+        lexemes_from p text.now ≡ lexeme_at p (take result text.now) ∷ lexemes_from (behind result p) (drop result text.now) }
+{
+    let size = symbol_length(text);
+    if size > 0 { size } else { word_length(text) }
 }

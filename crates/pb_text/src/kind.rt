@@ -1,4 +1,5 @@
-//! The kinds of tokens.
+//! The kinds of tokens, told by the bytes alone, so that a token means the same wherever it stands. What a word that is no
+//! integer and no literal means (`min`, `pol`, `*`) its place in a grammar decides.
 
 /// The symbols of the two formats.
 #[derive(Clone, Copy, Debug, PartialEq, Eq)]

@@ -1,11 +1,19 @@
 //! Laws about the tokens of a text, for proofs above. Nothing here runs.
 
 ghost use Rattle.std.specs.Prelude.{◌≡◌, ◌↔◌, ℕ, All, List, true};
-ghost use Rattle.pb_text.specs.Lexeme.{kind_of, lexemes};
+ghost use Rattle.pb_text.specs.Lexeme.{Lexeme, kind_of, lexemes};
 ghost use Rattle.pb_text.specs.Span.{AreInOrder, StandsIn};
+ghost use Rattle.pb_text.specs.TokensOf.{AreTokensOf};
 ghost use Rattle.pb_text.specs.Word.{is_integer, is_literal, is_misspelt};
 
 use crate::kind::Kind;
+
+/// A text has exactly one list of tokens in the words of the formats, and it is the one that `Tokens` gives: slices of the
+/// text one behind another; between them white space and comment lines alone, of which no token has a byte; each a symbol
+/// or stray byte of its longest length, or a longest word.
+pub fn one_list_of_tokens()
+    ensures { (text : List ℕ) (ts : List Lexeme) → AreTokensOf text ts ↔ (ts ≡ lexemes text) }
+{}
 
 /// Each token of a text is the slice of the text at its start and is not empty; its line is 1 and the number of LF bytes
 /// before it, and its kind is the kind of its bytes.

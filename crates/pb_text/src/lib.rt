@@ -1,20 +1,25 @@
 //! Tokens of the two formats: where words and symbols stand in a text, and what a word is.
+//!
+//! The OPB format (Roussel and Manquinho) and VeriPB's proof format have the same words, so one crate cuts both, and what a
+//! name is can never differ between a problem and its proof. Nothing is copied and no memory is taken: a token is a slice of
+//! its text. What the tokens of a text are is said twice, as a fold that computes and in the words of the formats, and a law
+//! says that both are one (`one_list_of_tokens`).
 #![tactic(auto)]
 
+pub mod cases;
 mod classify;
 mod cursor;
 mod kind;
 mod laws;
+mod lookahead;
 mod number;
-mod size;
 mod spot;
-#[cfg(test)]
-mod tests;
 mod token;
 mod tokens;
 
 pub use kind::{Kind, Symbol};
-pub use laws::{kinds_of_words, tokens_in_order, tokens_stand_in_text};
-pub use number::{NumFault, integer};
+pub use laws::{kinds_of_words, one_list_of_tokens, tokens_in_order, tokens_stand_in_text};
+pub use lookahead::Lookahead;
+pub use number::{LARGEST_NUMBER, NumFault, integer};
 pub use token::{Literal, Token, as_literal};
 pub use tokens::{Tokens, end_line};

@@ -1,10 +1,14 @@
 //! The number of an integer word.
+//!
+//! Numbers have no bound in the formats; here they have one, `LARGEST_NUMBER`, far above all that a problem within its limits
+//! and a proof of it need, and far enough below what an `i128` holds that a few of them add up safely. A longer word is
+//! still a number in the grammar, and refused as too large and not as no number.
 
-ghost use Rattle.std.specs.Prelude.{◌≡◌, ◌≢◌, ◌^◌, ◌<◌, ◌≤◌, if◌then◌else◌, true, pos, neg_ℤ, IfOk, SomeIff};
+ghost use Rattle.std.specs.Prelude.{◌≡◌, ◌≢◌, ◌<◌, ◌≤◌, if◌then◌else◌, true, pos, neg_ℤ, IfOk, SomeIff};
 ghost use Rattle.std.specs.Result.{IsErrOf};
 ghost use Rattle.std.specs.List.{list_all};
 ghost use Rattle.pb_text.specs.Name.{is_digit};
-ghost use Rattle.pb_text.specs.Number.{digits_value, integer_size, integer_value, is_negative};
+ghost use Rattle.pb_text.specs.Number.{digits_value, integer_size, integer_value, is_negative, largest_number};
 ghost use Rattle.pb_text.specs.Word.{without_sign};
 
 use crate::kind::Kind;
@@ -19,19 +23,19 @@ pub enum NumFault {
     NumberTooLarge,
 }
 
-/// The greatest size of an integer.
-const LIMIT: u128 = 1 << 120;
+/// The largest size of a number that either format writes.
+pub const LARGEST_NUMBER: u128 = 1 << 120;
 
 /// The number that digits write, where it is at most 2^120.
 fn size_of_digits(digits: &[u8]) -> Option<u128>
     requires { list_all is_digit digits.now ≡ true }
-    ensures { SomeIff result (digits_value digits.now ≤ 2 ^ 120) (digits_value digits.now) }
+    ensures { SomeIff result (digits_value digits.now ≤ largest_number) (digits_value digits.now) }
 {
     let mut rest = digits;
     let mut value: u128 = 0;
     while let Some((b, tail)) = rest.split_first() {
         value = value * 10 + u128::from(*b - b'0');
-        if value > LIMIT {
+        if value > LARGEST_NUMBER {
             return None;
         }
         rest = tail;
@@ -51,7 +55,7 @@ fn digits_of(text: &[u8]) -> &[u8]
 
 /// A size with the sign of its word.
 fn signed(text: &[u8], size: u128) -> i128
-    requires { size ≤ 2 ^ 120 }
+    requires { size ≤ largest_number }
     ensures { result ≡ (if is_negative text.now then neg_ℤ (pos size) else pos size) }
 {
     match text {
@@ -68,10 +72,10 @@ fn signed(text: &[u8], size: u128) -> i128
 #[tactic(auto, using(crate::proofs::KindTests::integer_digits), unfolding(crate::specs::Number::integer_size, crate::specs::Number::integer_value))]
 pub fn integer(t: Token<'_>) -> Result<i128, NumFault>
     ensures value { IfOk result (λ n. n ≡ integer_value t.entry.text.now) }
-    ensures ok { IfOk result (λ _. (t.entry.kind ≡ Kind.Integer) × (integer_size t.entry.text.now ≤ 2 ^ 120)) }
+    ensures ok { IfOk result (λ _. (t.entry.kind ≡ Kind.Integer) × (integer_size t.entry.text.now ≤ largest_number)) }
     ensures not_number { IsErrOf result NumFault.NotNumber → t.entry.kind ≢ Kind.Integer }
     ensures too_large { IsErrOf result NumFault.NumberTooLarge →
-        (t.entry.kind ≡ Kind.Integer) × (2 ^ 120 < integer_size t.entry.text.now) }
+        (t.entry.kind ≡ Kind.Integer) × (largest_number < integer_size t.entry.text.now) }
 {
     let Kind::Integer = t.kind else {
         return Err(NumFault::NotNumber);

@@ -1,4 +1,5 @@
-//! A place in a text from which its tokens are cut.
+//! A position in a text from which its tokens are cut. The types stand apart from the code that moves them, since the
+//! definitions speak of the types and the code's contracts speak of the definitions.
 
 ghost use Rattle.std.specs.Prelude.{◌+◌, ◌<◌, ◌≤◌, ◌^◌, length};
 
@@ -11,7 +12,7 @@ pub enum Spot {
     Within,
 }
 
-/// A place between two tokens.
+/// A position between two tokens.
 #[derive(Clone, Copy)]
 pub struct Cursor<'a> {
     /// The bytes that follow.
@@ -20,7 +21,7 @@ pub struct Cursor<'a> {
     pub start: usize,
     /// How many of them are LF.
     pub breaks: u64,
-    /// Where on its line the place is.
+    /// Where on its line the position is.
     pub spot: Spot,
     ghost fits: { (start + length rest.now < 2 ^ 64) × (breaks ≤ start) },
 }

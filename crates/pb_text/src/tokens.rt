@@ -1,11 +1,11 @@
-//! The tokens of a text, one after another.
+//! The tokens of a text, one after another. A reader is seen as the list of the tokens still to come, so what it gives next
+//! and what is left then are one equation.
 
-ghost use Rattle.std.specs.Prelude.{◌≡◌, ◌-◌, ◌^◌, length, min};
+ghost use Rattle.std.specs.Prelude.{◌≡◌, length};
 ghost use Rattle.pb_text.specs.Span.{line_of};
 
 use crate::classify::kind_of;
-use crate::cursor::past_gaps;
-use crate::size::token_length;
+use crate::cursor::{past_gaps, token_length};
 use crate::spot::{Cursor, Spot};
 use crate::token::Token;
 use std::marker::Model;
@@ -80,11 +80,9 @@ impl<'a> Tokens<'a> {
     }
 }
 
-/// The line of a text's end: 1 and the number of LF bytes in the text. (It stops at the greatest `u64`, which no text in
-/// memory reaches.)
+/// The line of a text's end: 1 and the number of LF bytes in the text.
 pub fn end_line(text: &[u8]) -> u64
-    ensures { result ≡ min (2 ^ 64 - 1) (line_of text.now (length text.now)) }
+    ensures { result ≡ line_of text.now (length text.now) }
 {
-    let breaks = text.iter().filter(|b| **b == b'\n').count() as u64;
-    breaks.saturating_add(1)
+    1 + text.iter().filter(|b| **b == b'\n').count() as u64
 }

@@ -1,6 +1,7 @@
-use Rattle.std.proofs.Common.{◌≡◌, ◌*◌, ◌^◌, drop, pos, neg_ℤ, ◌+ℤ◌, ◌≤ℤ◌}
+use Rattle.std.proofs.Common.{◌≡◌, ◌*◌, drop, pos, neg_ℤ, ◌+ℤ◌, ◌≤ℤ◌}
 use Rattle.linear.specs.Sum.{sum_of}
 use Rattle.linear.specs.Valuation.{valuation_of}
+use Rattle.linear.specs.Limits.{largest_integer}
 use Rattle.linear.proofs.sums.sum.Given as goal
 
 -- the sum so far and that of the terms that are left make the whole sum, and the sum so far is small
@@ -9,6 +10,6 @@ invariant-loop-term l =
     let a = valuation_of l.assignment in
     record {
       so_far : l.sum +ℤ sum_of a (drop l.term-index l.terms) ≡ sum_of a l.terms;
-      low : neg_ℤ (pos (l.term-index * 2 ^ 62)) ≤ℤ l.sum;
-      high : l.sum ≤ℤ pos (l.term-index * 2 ^ 62);
+      low : neg_ℤ (pos (l.term-index * largest_integer)) ≤ℤ l.sum;
+      high : l.sum ≤ℤ pos (l.term-index * largest_integer);
     }

@@ -1,4 +1,4 @@
-use Rattle.opb_read.proofs.OnePlace.{one_place}
+use Rattle.opb_read.proofs.OneFaultLine.{one_place}
 use Rattle.opb_read.proofs.laws.one_place.Goals as goal
 
 pub returns : goal.returns

@@ -4,7 +4,7 @@ use Rattle.opb_read.specs.Denial.{DeniesProblem}
 use Rattle.opb_read.proofs.Spelled.{denied_text, spells_text}
 use Rattle.opb_read.specs.Kinds.{statements_of}
 use Rattle.opb_read.specs.Progress.{StopsAt, start_of}
-use Rattle.opb_read.proofs.Stopping.{fault_at}
+use Rattle.opb_read.proofs.StopsAreFaults.{fault_at}
 use Rattle.opb_read.proofs.reading.read.Goals as goal
 
 pub returns-in-Ok-clause-spells : goal.returns-in-Ok-clause-spells

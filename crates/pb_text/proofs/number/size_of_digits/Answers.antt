@@ -9,12 +9,12 @@ loop-b-preserved c =
     record {
       digits = digits_after c.in-Some.b.now c.loop-b.rest.now c.in-Some.tail.now e c.loop-b.invariant.digits;
       value = value_after c.loop-b.value c.in-Some.b.now c.from.result _ c.loop-b.rest.now c.in-Some.tail.now e c.from.ensures c.loop-b.invariant.value;
-      small = c.if-value-gt-LIMIT.false;
+      small = c.if-value-gt-LARGEST_NUMBER.false;
     }
 
-pub returns-then-value-gt-LIMIT : goal.returns-then-value-gt-LIMIT
-returns-then-value-gt-LIMIT c small =
+pub returns-then-value-gt-LARGEST_NUMBER : goal.returns-then-value-gt-LARGEST_NUMBER
+returns-then-value-gt-LARGEST_NUMBER c small =
     let read = c.loop-b.value * 10 + c.from.result in
     let e : read * 10 ^ length c.in-Some.tail.now + digits_value c.in-Some.tail.now ≡ digits_value c.args.digits.now =
     value_after c.loop-b.value c.in-Some.b.now c.from.result _ c.loop-b.rest.now c.in-Some.tail.now c.in-Some.ensures.cases.0 c.from.ensures c.loop-b.invariant.value in
-    omega (arith, small, e, at_least_read read c.in-Some.tail.now, c.if-value-gt-LIMIT.true)
+    omega (arith, small, e, at_least_read read c.in-Some.tail.now, c.if-value-gt-LARGEST_NUMBER.true)

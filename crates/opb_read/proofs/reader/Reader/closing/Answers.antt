@@ -10,17 +10,17 @@ use Rattle.opb_read.proofs.reader.Reader.closing.Goals as goal
 
 pub returns-in_default-clause-denies : goal.returns-in_default-clause-denies
 returns-in_default-clause-denies c =
-    let none : next_relation c.args.self.now.left ≡ None = sym c.relation.ensures ∙ c.in_default.is in
-    no_relation c.fault.result c.args.self.now.left c.fault.ensures none
+    let none : next_relation c.args.self.now.left ≡ None = sym c.next_relation.ensures ∙ c.in_default.is in
+    no_relation c.fault.result c.args.self.now.left c.fault.ensures.form none
 
-pub returns-in_default-integer-clause-denies : goal.returns-in_default-integer-clause-denies
-returns-in_default-integer-clause-denies c =
-    let none : begins_integer (drop 1 c.args.self.now.left) ≡ false = ap begins_integer (sym c.advance.ensures) ∙ c.in_default-integer.ensures in
-    no_integer c.fault-in_default-integer.result c.args.self.now.left c.fault-in_default-integer.ensures none
+pub returns-in_default-next_integer-clause-denies : goal.returns-in_default-next_integer-clause-denies
+returns-in_default-next_integer-clause-denies c =
+    let none : begins_integer (drop 1 c.args.self.now.left) ≡ false = ap begins_integer (sym c.advance.ensures) ∙ c.in_default-next_integer.ensures in
+    no_integer c.fault-in_default-next_integer.result c.args.self.now.left c.fault-in_default-next_integer.ensures.form none
 
 pub returns-in_default-file_integer-clause-denies : goal.returns-in_default-file_integer-clause-denies
 returns-in_default-file_integer-clause-denies c =
-    large_right c.args.self.now.left (lexeme_of c.in-Some-integer.token) (drop 1 c.advance.new.self) (sym c.advance.ensures ∙ c.in-Some-integer.ensures.1) c.in_default-file_integer.ensures
+    large_right c.args.self.now.left (lexeme_of c.in-Some-next_integer.token) (drop 1 c.advance.new.self) (sym c.advance.ensures ∙ c.in-Some-next_integer.ensures.1) c.in_default-file_integer.ensures
 
 pub returns-in_err-semicolon-clause-denies : goal.returns-in_err-semicolon-clause-denies
 returns-in_err-semicolon-clause-denies c =
@@ -32,23 +32,24 @@ returns-in_err-semicolon-clause-denies c =
 
 pub returns-in_default-clause-stops : goal.returns-in_default-clause-stops
 returns-in_default-clause-stops c s h =
-    let none : next_relation c.args.self.now.left ≡ None = sym c.relation.ensures ∙ c.in_default.is in
-    stops_at_relation c.fault.result s c.args.self.now.variables c.args.self.now.left c.fault.ensures h none
+    let none : next_relation c.args.self.now.left ≡ None = sym c.next_relation.ensures ∙ c.in_default.is in
+    stops_at_relation c.fault.result s c.args.self.now.variables c.args.self.now.left c.fault.ensures.form c.fault.ensures.code h none
 
-pub returns-in_default-integer-clause-stops : goal.returns-in_default-integer-clause-stops
-returns-in_default-integer-clause-stops c s h =
+pub returns-in_default-next_integer-clause-stops : goal.returns-in_default-next_integer-clause-stops
+returns-in_default-next_integer-clause-stops c s h =
     stops_at_right
-    c.fault-in_default-integer.result
+    c.fault-in_default-next_integer.result
     s
     c.args.self.now.variables
     c.args.self.now.left
     c.advance.new.self
     c.in-Some.relation
-    c.fault-in_default-integer.ensures
+    c.fault-in_default-next_integer.ensures.form
+    c.fault-in_default-next_integer.ensures.code
     h
-    (sym c.relation.ensures ∙ c.in-Some.is)
+    (sym c.next_relation.ensures ∙ c.in-Some.is)
     c.advance.ensures
-    c.in_default-integer.ensures
+    c.in_default-next_integer.ensures
 
 pub returns-in_default-file_integer-clause-stops : goal.returns-in_default-file_integer-clause-stops
 returns-in_default-file_integer-clause-stops c s h =
@@ -58,18 +59,18 @@ returns-in_default-file_integer-clause-stops c s h =
     c.args.self.now.left
     c.advance.new.self
     c.in-Some.relation
-    (lexeme_of c.in-Some-integer.token)
+    (lexeme_of c.in-Some-next_integer.token)
     h
-    (sym c.relation.ensures ∙ c.in-Some.is)
+    (sym c.next_relation.ensures ∙ c.in-Some.is)
     c.advance.ensures
-    c.in-Some-integer.ensures.1
-    c.in-Some-integer.ensures.0
+    c.in-Some-next_integer.ensures.1
+    c.in-Some-next_integer.ensures.0
     c.in_default-file_integer.ensures
 
 pub returns-in_err-semicolon-clause-stops : goal.returns-in_err-semicolon-clause-stops
 returns-in_err-semicolon-clause-stops c =
     let left = c.args.self.now.left in
-    let b = lexeme_of c.in-Some-integer.token in
+    let b = lexeme_of c.in-Some-next_integer.token in
     let code = c.in_err-semicolon.field-0.0 in
     let p = err_from_is_err_and c.from_residual.result c.from_residual.ensures.1 in
     rw (p.1, p.2) (λ s h.
@@ -84,18 +85,19 @@ returns-in_err-semicolon-clause-stops c =
     c.in-Some.relation
     b
     c.in_err-semicolon.ensures.form
+    c.in_err-semicolon.ensures.code
     h
-    (sym c.relation.ensures ∙ c.in-Some.is)
+    (sym c.next_relation.ensures ∙ c.in-Some.is)
     c.advance.ensures
-    (c.in-Some-integer.ensures.1 ∙ ap (λ l. b ∷ l) (sym c.advance-2.ensures))
-    c.in-Some-integer.ensures.0
+    (c.in-Some-next_integer.ensures.1 ∙ ap (λ l. b ∷ l) (sym c.advance-2.ensures))
+    c.in-Some-next_integer.ensures.0
     (small_value _ _ c.in-Some-file_integer.ensures.0 c.in-Some-file_integer.ensures.1)
     c.in_err-semicolon.ensures.none))
 
 pub returns-clause-passes : goal.returns-clause-passes
 returns-clause-passes c s h =
     let left = c.args.self.now.left in
-    let b = lexeme_of c.in-Some-integer.token in
+    let b = lexeme_of c.in-Some-next_integer.token in
     subst (λ n. Reaches s left (at_start n (s.constraints + 1)) c.semicolon.new.self.left) (sym c.semicolon.ensures.variables)
     (closing_passed
     s
@@ -107,10 +109,10 @@ returns-clause-passes c s h =
     c.in-Some.relation
     b
     h
-    (sym c.relation.ensures ∙ c.in-Some.is)
+    (sym c.next_relation.ensures ∙ c.in-Some.is)
     c.advance.ensures
-    (c.in-Some-integer.ensures.1 ∙ ap (λ l. b ∷ l) (sym c.advance-2.ensures))
-    c.in-Some-integer.ensures.0
+    (c.in-Some-next_integer.ensures.1 ∙ ap (λ l. b ∷ l) (sym c.advance-2.ensures))
+    c.in-Some-next_integer.ensures.0
     (small_value _ _ c.in-Some-file_integer.ensures.0 c.in-Some-file_integer.ensures.1)
     c.in_ok-semicolon.ensures.ok
     c.in_ok-semicolon.ensures.left)

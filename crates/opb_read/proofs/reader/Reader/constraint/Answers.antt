@@ -1,4 +1,4 @@
-use Rattle.std.proofs.Common.{◌≡◌, ℕ, ◌+◌, ◌<◌, false, List, [], ◌∷◌, length, refl, arith, sym, ap, subst, ◌∙◌, FitsSigned, rules}
+use Rattle.std.proofs.Common.{◌≡◌, ℕ, ◌+◌, ◌<◌, true, false, List, [], ◌∷◌, length, refl, arith, sym, ap, subst, ◌∙◌, FitsSigned, rules}
 use Rattle.std.proofs.lemmas.Int.{to_z-of_z}
 use Rattle.std.proofs.lemmas.Result.{err_from_is_err_and}
 use mir.Syntax.{w128}
@@ -6,21 +6,22 @@ use Rattle.opb_read.specs.Pieces.{pieces}
 use Rattle.pb_text.specs.Lexeme.{Lexeme}
 use Rattle.linear.specs.Limits.{most_constraints}
 use Rattle.linear.specs.declared.term.Term.{Term}
-use Rattle.opb_read.specs.Ahead.{begins_integer}
+use Rattle.opb_read.specs.Ahead.{begins_integer, next_relation, starts_constraint}
 use Rattle.opb_read.specs.Forms.{names_in, closing_of, terms_of, behind_terms}
 use Rattle.opb_read.specs.Progress.{HoldsLimits, at_start, behind_sum, IsBehindSum, PassesTerms}
 use Rattle.opb_read.specs.declared.place.Place.TheVariants.{Coefficient, Literal}
 use Rattle.opb_read.specs.Denial.{DeniesClosing, FollowsConstraint}
 use Rattle.opb_read.proofs.Statements.{same_sum, sum_denied, closing_denied, constraint_read}
-use Rattle.opb_read.proofs.Reaching.{reaches_then, stops_then}
+use Rattle.opb_read.proofs.TokensPassed.{reaches_then, stops_then}
 use Rattle.opb_read.proofs.StatementSteps.{in_constraint_sum, no_terms_passed, behind_its_sum}
+use Rattle.opb_read.proofs.ConstraintSteps.{not_empty, starts_with_relation}
 use Rattle.opb_read.proofs.reader.Reader.constraint.Goals as goal
 
 pub returns-in_err-terms-clause-denies : goal.returns-in_err-terms-clause-denies
 returns-in_err-terms-clause-denies c =
     let left = c.args.self.now.left in
     let p = err_from_is_err_and c.from_residual.result c.from_residual.ensures.1 in
-    rw (p.1, p.2) (sum_denied c.in_err-terms.field-0.0 (names_in c.args.self.now.variables left) left c.requires c.in_err-terms.ensures.denies)
+    rw (p.1, p.2) (sum_denied c.in_err-terms.field-0.0 (names_in c.args.self.now.variables left) left (not_empty left c.requires) c.in_err-terms.ensures.denies)
 
 pub returns-in_err-relation-clause-denies : goal.returns-in_err-relation-clause-denies
 returns-in_err-relation-clause-denies c =
@@ -28,7 +29,7 @@ returns-in_err-relation-clause-denies c =
     let code = c.in_err-relation.field-0.0 in
     let p = err_from_is_err_and c.from_residual-in_err-relation.result c.from_residual-in_err-relation.ensures.1 in
     rw (p.1, p.2)
-    (closing_denied code (names_in c.args.self.now.variables left) left c.requires (subst (DeniesClosing code) c.in_ok-terms.ensures.left c.in_err-relation.ensures.denies))
+    (closing_denied code (names_in c.args.self.now.variables left) left (not_empty left c.requires) (subst (DeniesClosing code) c.in_ok-terms.ensures.left c.in_err-relation.ensures.denies))
 
 pub returns-clause-constraint : goal.returns-clause-constraint
 returns-clause-constraint c =
@@ -68,12 +69,13 @@ returns-in_err-terms-clause-stops c =
     rw (p.1, p.2) (λ n h few. c.in_err-terms.ensures.stops (at_start vars n) Literal (in_constraint_sum vars n h few))
 
 -- behind the sum
-behind : (vars now : List (List ℕ)) (left left1 : List Lexeme) (ts : List Term) (n : ℕ) → HoldsLimits (at_start vars n) → n < most_constraints → (left ≡ [] → ⊥)
+behind : (vars now : List (List ℕ)) (left left1 : List Lexeme) (ts : List Term) (n : ℕ) → HoldsLimits (at_start vars n) → n < most_constraints → starts_constraint left ≡ true
     → ts ≡ terms_of (names_in vars left) left → left1 ≡ behind_terms left → begins_integer left1 ≡ false → PassesTerms Coefficient 0 vars left (length ts) now left1
     → IsBehindSum (behind_sum (at_start vars n) Literal now (length ts)) now left1
 behind vars now left left1 ts n h few some terms at none r =
-    behind_its_sum vars now n (length ts) left left1 h few (r (at_start vars n) Literal (in_constraint_sum vars n h few)) none (λ zero_terms empty.
-    some (sym (no_terms_passed (names_in vars left) left (sym terms ∙ nothing ts zero_terms)) ∙ sym at ∙ empty))
+    behind_its_sum vars now n (length ts) left left1 h few (r (at_start vars n) Literal (in_constraint_sum vars n h few)) none (λ zero_terms no_relation.
+    let same : left1 ≡ left = at ∙ no_terms_passed (names_in vars left) left (sym terms ∙ nothing ts zero_terms) in
+    starts_with_relation left some (ap begins_integer (sym same) ∙ none) (ap next_relation (sym same) ∙ no_relation))
   where
     nothing : (xs : List Term) → length xs ≡ 0 → xs ≡ []
     nothing [] e = refl

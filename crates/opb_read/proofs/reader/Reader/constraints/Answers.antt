@@ -10,7 +10,7 @@ use Rattle.linear.specs.declared.constraint.Signed.{Signed}
 use Rattle.opb_read.specs.Denial.{FollowsConstraint, DeniesConstraints, constraints_ahead}
 use Rattle.opb_read.specs.Progress.{Refuses, Reaches, at_start}
 use Rattle.opb_read.specs.declared.fault.OpbCode.TheVariants.{OutOfMemory}
-use Rattle.opb_read.proofs.Reaching.{reaches_none}
+use Rattle.opb_read.proofs.TokensPassed.{reaches_none}
 use Rattle.opb_read.proofs.ConstraintSteps.{stops_at_start, stops_in_constraint, one_more}
 use Rattle.opb_read.proofs.AllConstraints.{next_constraint, denied_all, denied_later}
 use Rattle.opb_read.proofs.reader.Reader.constraints.Goals as goal
@@ -64,15 +64,7 @@ returns-in_err-constraint-clause-stops c =
 pub returns-then-is_err-clause-stops : goal.returns-then-is_err-clause-stops
 returns-then-is_err-clause-stops c =
     let l = c.loop-token in
-    let vars = c.args.self.now.variables in
-    let left = c.args.self.now.left in
-    let now = c.constraint.new.self.variables in
-    let n = length l.constraints.items in
-    let count : c.len.result ≡ n = search rules in
-    let room : n < most_constraints = omega (arith, count, c.in_ok-start.ensures.room) in
-    stops_at_start OutOfMemory vars now (n + 1) left c.constraint.new.self.left
-    (one_more vars l.self.variables now n (n + 1) left l.self.left c.constraint.new.self.left refl room l.invariant.4 c.in_ok-constraint.ensures.passes)
-    tt
+    stops_at_start OutOfMemory c.args.self.now.variables l.self.variables (length l.constraints.items) c.args.self.now.left l.self.left l.invariant.4 tt
 
 pub loop-token-init : goal.loop-token-init
 loop-token-init c =
@@ -100,7 +92,7 @@ loop-token-preserved c =
     let l = c.loop-token in
     let done = l.constraints.items in
     let k = c.in_ok-constraint.constraint in
-    let more = c.push.new.self.items in
+    let more = c.push_reserved.new.self.items in
     let items : more ≡ done ++ k ∷ [] = grind (arith, common_steps) in
     let count : c.len.result ≡ length done = search rules in
     let room : length done < most_constraints = omega (arith, count, c.in_ok-start.ensures.room) in

@@ -1,11 +1,14 @@
-use Rattle.std.proofs.Common.{◌≡◌, ◌∷◌, false, true, length, drop, sym, ap, subst, ◌∙◌}
+use Rattle.std.proofs.Common.{◌≡◌, ◌∷◌, ◌==◌, if◌then◌else◌, List, false, true, length, drop, sym, ap, subst, ◌∙◌, rules}
+use Rattle.linear.specs.declared.term.Term.{Term}
 use Rattle.opb_read.specs.Pieces.{pieces}
 use Rattle.std.proofs.lemmas.Result.{err_from_is_err_and}
 use Rattle.opb_read.specs.Ahead.{begins_semicolon}
 use Rattle.opb_read.specs.Forms.{names_in, behind_terms}
 use Rattle.opb_read.proofs.Objectives.{objective_sum_denied, objective_open, objective_read}
 use Rattle.opb_read.specs.Progress.{Reaches, StopsAt, at_mark, at_start}
-use Rattle.opb_read.specs.declared.place.Place.TheVariants.{ObjectiveLiteral}
+use Rattle.opb_read.specs.declared.place.Place.{Place}
+use Rattle.opb_read.specs.declared.place.Place.TheVariants.{ObjectiveMark, ObjectiveLiteral}
+use Rattle.opb_read.specs.FaultCodes.{code_at}
 use Rattle.opb_read.proofs.StatementSteps.{in_objective_sum, stops_at_mark, mark_passed}
 use Rattle.opb_read.proofs.reader.Reader.objective_sum.Goals as goal
 
@@ -48,6 +51,7 @@ returns-in_err-semicolon-clause-stops c =
     let vars = c.args.self.now.variables in
     let left = c.args.self.now.left in
     let code = c.in_err-semicolon.field-0.0 in
+    let terms : c.deref.result.now ≡ c.in_ok-terms.terms.items = search rules in
     let p = err_from_is_err_and c.from_residual-in_err-semicolon.result c.from_residual-in_err-semicolon.ensures.1 in
     rw (p.1, p.2) (λ h.
     subst (StopsAt code (at_mark vars) left) (sym c.in_err-semicolon.ensures.stays)
@@ -59,6 +63,7 @@ returns-in_err-semicolon-clause-stops c =
     left
     c.sum.new.self.left
     c.in_err-semicolon.ensures.form
+    (c.in_err-semicolon.ensures.code ∙ ap (λ (p : Place). code_at p c.sum.new.self.left) (c.behind_terms-behind.ensures ∙ ap (λ (ts : List Term). if length ts == 0 then ObjectiveMark else ObjectiveLiteral) terms))
     (c.in_ok-terms.ensures.passes (at_mark vars) ObjectiveLiteral (in_objective_sum vars h))
     c.in_ok-terms.ensures.end
     c.in_err-semicolon.ensures.none))

@@ -1,4 +1,6 @@
-use Rattle.std.proofs.Common.{◌≡◌, true, false, drop, sym, subst, arith, rules}
+use Rattle.std.proofs.Common.{◌≡◌, true, false, drop, sym, ap, subst, ◌∙◌, arith, rules}
+use Rattle.opb_read.specs.FaultCodes.{code_at}
+use Rattle.opb_read.specs.declared.place.Place.TheVariants.{Start}
 use Rattle.pb_text.specs.Token.{lexeme_of}
 use Rattle.linear.specs.Limits.{most_constraints}
 use Rattle.opb_read.specs.Ahead.{begins_constraint}
@@ -10,13 +12,13 @@ use Rattle.opb_read.proofs.reader.Reader.start.Goals as goal
 
 pub returns-then-not-begins_constraint-clause-denies : goal.returns-then-not-begins_constraint-clause-denies
 returns-then-not-begins_constraint-clause-denies c names =
-    let code = c.fault_at_start.result in
+    let code = c.fault.result in
     let no : begins_constraint c.args.token.kind ≡ false = first_of (cc, search rules, grind arith) in
     let none = begins_none c.args.token.kind no in
     subst
     (λ l. DeniesConstraints code names c.args.count l)
     (sym c.requires.next)
-    (denied_start code names c.args.count (lexeme_of c.args.token) (drop 1 c.args.self.now.left) c.fault_at_start.ensures none.0 none.1)
+    (denied_start code names c.args.count (lexeme_of c.args.token) (drop 1 c.args.self.now.left) c.fault.ensures.form none.0 none.1)
 
 pub returns-then-count-eq-MOST_CONSTRAINTS-clause-denies : goal.returns-then-count-eq-MOST_CONSTRAINTS-clause-denies
 returns-then-count-eq-MOST_CONSTRAINTS-clause-denies c names =
@@ -25,9 +27,9 @@ returns-then-count-eq-MOST_CONSTRAINTS-clause-denies c names =
 
 pub returns-then-not-begins_constraint-clause-refuses : goal.returns-then-not-begins_constraint-clause-refuses
 returns-then-not-begins_constraint-clause-refuses c names =
-    let code = c.fault_at_start.result in
+    let code = c.fault.result in
     let no_start : begins_constraint c.args.token.kind ≡ false = first_of (cc, search rules, grind arith) in
-    subst (λ l. Refuses code (at_start names c.args.count) l) (sym c.requires.next) (refused_start code names c.args.count (lexeme_of c.args.token) (drop 1 c.args.self.now.left) c.fault_at_start.ensures no_start)
+    subst (λ l. Refuses code (at_start names c.args.count) l) (sym c.requires.next) (refused_start code names c.args.count (lexeme_of c.args.token) (drop 1 c.args.self.now.left) c.fault.ensures.form (c.fault.ensures.code ∙ ap (code_at Start) c.requires.next) no_start)
 
 pub returns-then-count-eq-MOST_CONSTRAINTS-clause-refuses : goal.returns-then-count-eq-MOST_CONSTRAINTS-clause-refuses
 returns-then-count-eq-MOST_CONSTRAINTS-clause-refuses c names =

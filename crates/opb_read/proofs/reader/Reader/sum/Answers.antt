@@ -41,12 +41,7 @@ returns-then-is_err-clause-denies c = tt
 pub returns-then-is_err-clause-stops : goal.returns-then-is_err-clause-stops
 returns-then-is_err-clause-stops c =
     let l = c.loop-coefficient in
-    let n = length l.terms.items in
-    let count : c.len.result ≡ n = search rules in
-    let term : PassesTerms c.args.behind n l.self.variables l.self.left 1 c.term.new.self.variables c.term.new.self.left =
-    subst (λ n. PassesTerms c.args.behind n l.self.variables l.self.left 1 c.term.new.self.variables c.term.new.self.left) count c.in_ok-term.ensures.passes in
-    sum_wants c.args.behind c.args.self.now.variables c.term.new.self.variables c.args.self.now.left c.term.new.self.left (n + 1)
-    (sum_goes_on c.args.behind c.args.self.now.variables l.self.variables c.term.new.self.variables c.args.self.now.left l.self.left c.term.new.self.left n (n + 1) refl l.invariant.5 term)
+    sum_wants c.args.behind c.args.self.now.variables l.self.variables c.args.self.now.left l.self.left (length l.terms.items) l.invariant.5
 
 pub loop-coefficient-init : goal.loop-coefficient-init
 loop-coefficient-init c =
@@ -88,14 +83,14 @@ loop-coefficient-preserved c =
     let names = names_in c.args.self.now.variables whole in
     let l = c.loop-coefficient in
     let t = c.in_ok-term.term in
-    let items : c.push.new.self.items ≡ l.terms.items ++ t ∷ [] = grind (arith, common_steps) in
+    let items : c.push_reserved.new.self.items ≡ l.terms.items ++ t ∷ [] = grind (arith, common_steps) in
     let count : c.len.result ≡ length l.terms.items = search rules in
     let room : length l.terms.items < most_terms = omega (arith, count, c.in_ok-term.ensures.room) in
     let n =
     next
     names
     l.terms.items
-    c.push.new.self.items
+    c.push_reserved.new.self.items
     t
     l.self.left
     c.term.new.self.left
@@ -108,7 +103,7 @@ loop-coefficient-preserved c =
     (subst (λ n. IsTermWithin (length n) t) l.invariant.2 c.in_ok-term.ensures.within) in
     let term : PassesTerms c.args.behind (length l.terms.items) l.self.variables l.self.left 1 c.term.new.self.variables c.term.new.self.left =
     subst (λ k. PassesTerms c.args.behind k l.self.variables l.self.left 1 c.term.new.self.variables c.term.new.self.left) count c.in_ok-term.ensures.passes in
-    let more : length c.push.new.self.items ≡ length l.terms.items + 1 = ap length items ∙ length-append l.terms.items (t ∷ []) in (
+    let more : length c.push_reserved.new.self.items ≡ length l.terms.items + 1 = ap length items ∙ length-append l.terms.items (t ∷ []) in (
       n.terms,
       sym c.in_ok-term.ensures.behind ∙ l.invariant.1,
       sym c.in_ok-term.ensures.names ∙ l.invariant.2,
@@ -123,7 +118,7 @@ loop-coefficient-preserved c =
           l.self.left
           c.term.new.self.left
           (length l.terms.items)
-          (length c.push.new.self.items)
+          (length c.push_reserved.new.self.items)
           more
           l.invariant.5
           term,

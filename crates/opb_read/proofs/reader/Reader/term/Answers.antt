@@ -28,7 +28,7 @@ returns-in_default-next-clause-denies c =
     subst
     (λ l. DeniesSum c.fault.result names c.args.count l)
     (sym c.requires.next)
-    (denied_form c.fault.result names c.args.count (lexeme_of c.args.coefficient) (drop 1 c.args.self.now.left) c.fault.ensures c.requires.integer none)
+    (denied_form c.fault.result names c.args.count (lexeme_of c.args.coefficient) (drop 1 c.args.self.now.left) c.fault.ensures.form c.requires.integer none)
 
 pub returns-in_default-as_literal-clause-denies : goal.returns-in_default-as_literal-clause-denies
 returns-in_default-as_literal-clause-denies c =
@@ -38,7 +38,7 @@ returns-in_default-as_literal-clause-denies c =
     subst
     (λ l. DeniesSum code names c.args.count l)
     (sym c.requires.next)
-    (denied_form code names c.args.count (lexeme_of c.args.coefficient) (drop 1 c.args.self.now.left) c.fault-in_default-as_literal.ensures c.requires.integer none)
+    (denied_form code names c.args.count (lexeme_of c.args.coefficient) (drop 1 c.args.self.now.left) c.fault-in_default-as_literal.ensures.form c.requires.integer none)
 
 pub returns-then-count-eq-MOST_TERMS-clause-denies : goal.returns-then-count-eq-MOST_TERMS-clause-denies
 returns-then-count-eq-MOST_TERMS-clause-denies c =
@@ -138,7 +138,8 @@ returns-in_default-next-clause-stops c =
     left
     c.advance.new.self
     a
-    c.fault.ensures
+    c.fault.ensures.form
+    c.fault.ensures.code
     (c.requires.next ∙ ap (λ l. a ∷ l) (sym c.advance.ensures))
     c.requires.integer
     (small_value _ _ c.in-Some.ensures.0 c.in-Some.ensures.1)
@@ -157,7 +158,8 @@ returns-in_default-as_literal-clause-stops c =
     left
     c.advance.new.self
     a
-    c.fault-in_default-as_literal.ensures
+    c.fault-in_default-as_literal.ensures.form
+    c.fault-in_default-as_literal.ensures.code
     (c.requires.next ∙ ap (λ l. a ∷ l) (sym c.advance.ensures))
     c.requires.integer
     (small_value _ _ c.in-Some.ensures.0 c.in-Some.ensures.1)

@@ -1,0 +1,135 @@
+//! Small files that are read, and small files that are refused, with the answers that the format gives them.
+
+use opb_read::{OpbCode, OpbFault, read};
+use std::alloc::Global;
+
+/// A file that is refused, with the line and the code of its fault.
+#[derive(Clone, Copy)]
+struct Refused {
+    text: &'static [u8],
+    line: u64,
+    code: OpbCode,
+}
+
+fn file(text: &'static [u8], line: u64, code: OpbCode) -> Refused {
+    Refused { text, line, code }
+}
+
+fn is_refused(alloc: Global, case: &Refused) -> bool {
+    match read(alloc, case.text) {
+        Ok(_) => false,
+        Err(fault) => fault.line == case.line && fault.code == case.code,
+    }
+}
+
+/// How many names, objective terms and constraints a file has that is read.
+fn sizes(alloc: Global, text: &[u8]) -> Option<(usize, Option<usize>, usize)> {
+    let Ok(problem) = read(alloc, text) else {
+        return None;
+    };
+    let objective = match problem.objective() {
+        Some(terms) => Some(terms.len()),
+        None => None,
+    };
+    Some((
+        problem.names().len(),
+        objective,
+        problem.constraints().len(),
+    ))
+}
+
+#[test]
+fn files_are_read(rt: HostRuntime) {
+    let cases: [(&'static [u8], (usize, Option<usize>, usize)); 12] = [
+        (b"", (0, None, 0)),
+        (b"* #variable= 1 #constraint= 1\r\n", (0, None, 0)),
+        (b"min: ;", (0, Some(0), 0)),
+        (b">= 1 ;", (0, None, 1)),
+        (b"min:+1 x1;+1 x1>=1;", (1, Some(1), 1)),
+        (
+            b"-2 x1 3 x2 -2 x1 >= -1 ;\r\n1 x1 1 ~x1 >= 1 ;",
+            (2, None, 2),
+        ),
+        (b"2 x1 2 x2 = 1 ;\n", (2, None, 1)),
+        (b"1 min 1 max >= 1 ;\n* end", (2, None, 1)),
+        (b"\r\n \t* one\r\n1 x1\r>=\t1\n;", (1, None, 1)),
+        (b"1 x1>=1;1 a[1]{2}^- =1;", (2, None, 2)),
+        (b"4611686018427387904 x1 >= 0 ;", (1, None, 1)),
+        (
+            b"-4611686018427387904 x1 >= -4611686018427387904 ;",
+            (1, None, 1),
+        ),
+    ];
+    for (text, wanted) in cases {
+        assert!(&rt; sizes(rt.alloc(), text) == Some(wanted));
+    }
+}
+
+#[test]
+fn files_are_refused_at_the_first_token_that_cannot_stand(rt: HostRuntime) {
+    let cases = [
+        file(b"1 x >= 1 ;", 1, OpbCode::BadName),
+        file(b"x1 >= 1 ;", 1, OpbCode::BadToken),
+        file(b"1 x1 ;", 1, OpbCode::NoRelation),
+        file(b"1 x1 >= 1 1 x2 >= 1 ;", 1, OpbCode::NoSemicolon),
+        file(b"1 x1 >= 1 ;\nmin: 1 x1 ;", 2, OpbCode::ObjectiveLate),
+        file(b"min: 1 x1 3 ;", 1, OpbCode::UnsupportedForm),
+        file(b"max: 1 x1 ;", 1, OpbCode::UnsupportedForm),
+        file(b"soft: 6 ;", 1, OpbCode::UnsupportedForm),
+        file(b"mix: 1 x1 ;", 1, OpbCode::BadToken),
+        file(b"max 1 x1 ;", 1, OpbCode::BadToken),
+        file(b"soft 6 ;", 1, OpbCode::BadToken),
+        file(b"+ 3 x1 >= 1 ;", 1, OpbCode::BadToken),
+        file(b"1 x1 x2 >= 1 ;", 1, OpbCode::UnsupportedForm),
+        file(b"min\n: 1 x1 ;\nmin\n: 1 x1 ;", 3, OpbCode::ObjectiveLate),
+        file(b"min: ;\nmin: ;", 2, OpbCode::ObjectiveLate),
+        file(b"1 1 x1 >= 1 ;", 1, OpbCode::BadToken),
+        file(b"min: 3 ;", 1, OpbCode::UnsupportedForm),
+        file(b"1 ~ x1 >= 1 ;", 1, OpbCode::BadName),
+        file(b"1\nx1\n>=\n1\nx2 ;", 5, OpbCode::NoSemicolon),
+        // bytes that belong to no word
+        file(b"\n\xff 1 ;", 2, OpbCode::BadToken),
+        file(b"1 \0x1 >= 1 ;", 1, OpbCode::BadToken),
+        file(b"1 x1\x80 >= 1 ;", 1, OpbCode::BadName),
+        file(b"1 x1 >= 1\0 ;", 1, OpbCode::BadToken),
+        file(b"1 x1 >= 1 \xff;", 1, OpbCode::NoSemicolon),
+        file(b"\r* no comment", 1, OpbCode::BadToken),
+        file(b"\r\n\r\n1 x1 >= 1 \r\n", 4, OpbCode::NoSemicolon),
+        // integers beyond the limit
+        file(
+            b"4611686018427387905 x1 >= 0 ;",
+            1,
+            OpbCode::IntegerTooLarge,
+        ),
+        file(
+            b"-4611686018427387905 x1 >= 0 ;",
+            1,
+            OpbCode::IntegerTooLarge,
+        ),
+        file(
+            b"1 x1 >=\n4611686018427387905 ;",
+            2,
+            OpbCode::IntegerTooLarge,
+        ),
+        file(b"4611686018427387905 ;", 1, OpbCode::IntegerTooLarge),
+        file(
+            b"min: 1329227995784915872903807060280344577 x1 ;",
+            1,
+            OpbCode::IntegerTooLarge,
+        ),
+    ];
+    for case in &cases {
+        assert!(&rt; is_refused(rt.alloc(), case));
+    }
+}
+
+#[test]
+fn faults_have_names(rt: HostRuntime) {
+    let fault = OpbFault {
+        line: 1,
+        code: OpbCode::UnsupportedForm,
+    };
+    assert!(&rt; fault.name() == "UnsupportedForm");
+    assert!(&rt; fault.code.number() == 6);
+    assert!(&rt; OpbCode::OutOfMemory.name() == "OutOfMemory");
+}

@@ -1,0 +1,116 @@
+//! Names, lists, assignments and problems, with ample memory.
+
+use linear::{Assignment, Lit, Names, Problem, Relation, Seq, Signed, Term, Var};
+use opb_read::read;
+use pb_text::{Literal, Tokens, as_literal};
+use std::alloc::{AllocError, Global};
+
+fn literal(text: &[u8]) -> Option<Literal<'_>> {
+    as_literal(Tokens::new(text).next()?)
+}
+
+#[test]
+fn names_are_numbered(rt: HostRuntime) {
+    let mut names = Names::new(rt.alloc());
+    assert!(&rt; names.is_empty());
+    let x1 = literal(b"x1").expect(&rt, "a literal").name;
+    let x2 = literal(b"x2").expect(&rt, "a literal").name;
+    assert!(&rt; names.intern(x1) == Ok(Var(0)));
+    assert!(&rt; names.intern_within(x2, 1) == Ok(None));
+    assert!(&rt; names.intern_within(x1, 1) == Ok(Some(Var(0))));
+    assert!(&rt; names.intern_within(x2, 2) == Ok(Some(Var(1))));
+    names.reveal();
+    assert!(&rt; names.len() == 2);
+    assert!(&rt; names.find(b"x2") == Some(Var(1)));
+    assert!(&rt; names.find(b"X1").is_none());
+    let same = names.copy(rt.alloc()).expect(&rt, "memory");
+    names.truncate(0);
+    assert!(&rt; names.is_empty());
+    assert!(&rt; names.get(Var(0)).is_none());
+    assert!(&rt; same.get(Var(1)) == Some(b"x2".as_slice()));
+}
+
+#[test]
+fn assignments_have_values(rt: HostRuntime) {
+    let mut values = Vec::new(rt.alloc());
+    values.push(true).expect(&rt, "memory");
+    values.push(false).expect(&rt, "memory");
+    let assignment = Assignment::from_vec(values);
+    assert!(&rt; assignment.len() == 2);
+    assert!(&rt; assignment.as_slice().len() == 2);
+    for negated in [false, true] {
+        let lit = Lit {
+            var: Var(0),
+            negated,
+        };
+        assert!(&rt; assignment.is_true(lit) != negated);
+    }
+}
+
+fn same_terms(left: &Seq<Term>, right: &Seq<Term>) -> bool {
+    left.as_slice() == right.as_slice()
+}
+
+fn same_constraints(left: &[Signed], right: &[Signed]) -> bool {
+    left.len() == right.len()
+        && left.iter().zip(right.iter()).all(|(a, b)| {
+            same_terms(&a.terms, &b.terms) && a.relation == b.relation && a.right == b.right
+        })
+}
+
+/// Whether two problems are the same in objective and constraints, and in the number of their names.
+fn same(left: &Problem, right: &Problem) -> bool {
+    let objectives = match (left.objective(), right.objective()) {
+        (Some(a), Some(b)) => same_terms(a, b),
+        (None, None) => true,
+        _ => false,
+    };
+    objectives
+        && left.names().len() == right.names().len()
+        && same_constraints(left.constraints(), right.constraints())
+}
+
+fn term(coef: i128, var: u32, negated: bool) -> Term {
+    Term {
+        coef,
+        var: Var(var),
+        negated,
+    }
+}
+
+/// The terms `2 x2 -3 ~x1`, the first two names of the file being `x1` and `x2`.
+fn wanted_terms(alloc: Global) -> Result<Seq<Term>, AllocError> {
+    let mut terms = Vec::new(alloc);
+    terms.push(term(2, 1, false))?;
+    terms.push(term(-3, 0, true))?;
+    Ok(Seq::from_vec(terms))
+}
+
+#[test]
+fn a_problem_is_read_copied_and_judged(rt: HostRuntime) {
+    let alloc = rt.alloc();
+    let problem = read(alloc, b"min: 1 x1 ; +02 x2 -3 ~x1 = -0 ;").expect(&rt, "a problem");
+    let terms = wanted_terms(alloc).expect(&rt, "memory");
+    for constraint in problem.constraints() {
+        assert!(&rt; constraint.relation == Relation::Equal);
+        assert!(&rt; constraint.right == 0);
+        assert!(&rt; same_terms(&constraint.terms, &terms));
+    }
+    let copy = problem.copy(alloc).expect(&rt, "memory");
+    assert!(&rt; same(&problem, &copy));
+    assert!(&rt; copy.names().get(Var(1)) == Some(b"x2".as_slice()));
+    let other = read(alloc, b"min: 1 x1 ; +02 x2 -3 x1 = -0 ;").expect(&rt, "a problem");
+    assert!(&rt; !same(&problem, &other));
+    let list = terms.clone().expect(&rt, "memory");
+    assert!(&rt; !list.is_empty());
+    assert!(&rt; list.into_vec().len() == terms.len());
+}
+
+#[test]
+fn the_empty_problem_is_satisfied(rt: HostRuntime) {
+    let problem = Problem::new(Names::new(rt.alloc()), None, Vec::new(rt.alloc()));
+    problem.reveal();
+    let assignment = Assignment::from_vec(Vec::new(rt.alloc()));
+    assert!(&rt; problem.satisfied(&assignment));
+    assert!(&rt; problem.value(&assignment) == 0);
+}
