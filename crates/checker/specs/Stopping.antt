@@ -1,14 +1,12 @@
 -- Where judging a proof stops, and why: the lines before one are read and legal, and that one is not.
-use Rattle.std.specs.Prelude.{◌≡◌, ◌≢◌, ℕ, ℤ, pos, ◌⊎◌, Bool, Option, List, [], ◌∷◌, Any, ⊤}
+use Rattle.std.specs.Prelude.{◌≡◌, ◌≢◌, ℕ, ℤ, pos, ◌⊎◌, Bool, Option, List, [], ◌∷◌, ⊤}
 use Rattle.linear.specs.Opb.{Opb}
-use Rattle.proof_rules.specs.Contradiction.{IsContradiction}
-use Rattle.proof_rules.specs.Fault.{OrMemory, IsStepFault}
+use Rattle.proof_rules.specs.Fault.{OrMemory, IsStepFault, IsConclusionFault}
 use Rattle.proof_rules.specs.Forms.{problem_ids}
 use Rattle.kernel.specs.Held.{IsJudgedStep, IsJudged}
 use Rattle.proof_rules.specs.Justified.{IsJustified}
-use Rattle.proof_rules.specs.State.{State, IsStart, constraints}
+use Rattle.proof_rules.specs.State.{State, IsStart}
 use Rattle.proof_steps.specs.declared.conclusion.Conclusion.{Conclusion}
-use Rattle.proof_steps.specs.declared.conclusion.Conclusion.TheVariants as conclusions
 use Rattle.proof_rules.specs.declared.fault.StepFault.{StepFault}
 use Rattle.proof_rules.specs.declared.fault.StepFault.TheVariants as judgings
 use Rattle.proof_steps.specs.declared.step.Step.{Step}
@@ -81,11 +79,11 @@ IsRefusedStep p s step code =
     ((code ≡ Reading readings.RuleLeftOut) × (IsJudgedStep step → ⊥))
     ⊎ ((f : StepFault) × (code ≡ Judging f) × OrMemory f (IsStepFault p s step f))
 
--- a conclusion is of a kind that is not judged yet, or it is UNSAT and no live constraint is a contradiction
-abbrev pub IsRefusedConclusion : State → Conclusion → Code → Type 0
-IsRefusedConclusion s c code =
+-- a conclusion is of a kind that is not judged yet, or has a fault
+abbrev pub IsRefusedConclusion : Opb → State → Conclusion → Code → Type 0
+IsRefusedConclusion p s c code =
     ((code ≡ Reading readings.RuleLeftOut) × (IsJudged c → ⊥))
-    ⊎ ((code ≡ Judging judgings.LowerNotShown) × (c ≡ conclusions.Unsat) × (Any IsContradiction (constraints s) → ⊥))
+    ⊎ ((f : StepFault) × (code ≡ Judging f) × OrMemory f (IsConclusionFault p s c f))
 
 -- why judging stops at each place
 abbrev pub StopsAtCount : ℕ → List (List ℕ) → List Numbered → ℕ → ℕ → Code → Type 0
@@ -96,10 +94,10 @@ StopsAtStep p s names left last line code =
     IsUnread places.Step names left last line code
     ⊎ ((step : Step) × IsRead places.Step names left line (lines.Step step) × IsRefusedStep p s step code)
 
-abbrev pub StopsAtConclusion : State → List (List ℕ) → List Numbered → ℕ → ℕ → Code → Type 0
-StopsAtConclusion s names left last line code =
+abbrev pub StopsAtConclusion : Opb → State → List (List ℕ) → List Numbered → ℕ → ℕ → Code → Type 0
+StopsAtConclusion p s names left last line code =
     IsUnread places.Conclusion names left last line code
-    ⊎ ((c : Conclusion) × IsRead places.Conclusion names left line (lines.Conclusion c) × IsRefusedConclusion s c code)
+    ⊎ ((c : Conclusion) × IsRead places.Conclusion names left line (lines.Conclusion c) × IsRefusedConclusion p s c code)
 
 -- a line stands behind the end line
 abbrev pub IsTextAfterEnd : List Numbered → ℕ → Code → Type 0
@@ -121,7 +119,7 @@ pub data IsStopped (p : Opb) (proof : List ℕ) (line : ℕ) (code : Code) : Typ
   at_step : (s : State) (names : List (List ℕ)) (left : List Numbered) → AtSteps p proof s names left
       → StopsAtStep p s names left (lines_of proof).last line code → IsStopped p proof line code
   at_conclusion : (s : State) (names : List (List ℕ)) (left : List Numbered) → AtConclusion p proof s names left
-      → StopsAtConclusion s names left (lines_of proof).last line code → IsStopped p proof line code
+      → StopsAtConclusion p s names left (lines_of proof).last line code → IsStopped p proof line code
   at_end : (names : List (List ℕ)) (left : List Numbered) → AtEnd p proof names left
       → IsUnread places.End names left (lines_of proof).last line code → IsStopped p proof line code
   behind_end : (left : List Numbered) → BehindEnd p proof left → IsTextAfterEnd left line code → IsStopped p proof line code

@@ -1,21 +1,26 @@
 //! Judging a proof line by line: each line is read and then judged, so the first line with a fault decides.
 
-ghost use Rattle.std.specs.Prelude.{◌≡◌, ◌↔◌, pos, [], IfOk, IfErr, OnOk, IsTrue};
+ghost use Rattle.std.specs.Prelude.{◌≡◌, ◌↔◌, pos, [], IfOk, IfErr, OnOk, IsTrue, length};
 ghost use Rattle.proof_rules.specs.Claim.{Claim};
-ghost use Rattle.kernel.specs.Held.{IsJudgedStep, IsJudged};
+ghost use Rattle.kernel.specs.Held.{IsJudgedStep, IsJudged, HasAtLeast};
 ghost use Rattle.proof_rules.specs.Justified.{IsJustified};
 ghost use Rattle.proof_rules.specs.Legal.{Legal};
 ghost use Rattle.checker.specs.Headline.{IsProved};
 ghost use Rattle.checker.specs.Stopping.{IsRead, IsUnread, IsTextAfterEnd, IsRefusedStep, IsStopped, StopsBy, StopsAtCount, StopsAtStep, StopsAmongSteps, StopsAtConclusion};
+ghost use Rattle.proof_text.specs.Writable.{IsLineWritable};
 ghost use Rattle.checker.specs.Taking.{Takes, TakesLine, TakesToOutput};
 
 use super::verdict::Code;
-use kernel::{Accepted, Kernel};
+use kernel::Accepted;
 use linear::{Names, Problem};
 use proof_rules::StepFault;
 use proof_steps::{Conclusion, Step};
 use proof_text::{Line, Place, ProofFault, ProofReader, read_line};
+use propagate::ScanPropagator;
 use std::alloc::{AllocError, Global};
+
+/// The judge of steps, over the plain propagator.
+type Kernel<'a> = kernel::Kernel<'a, ScanPropagator>;
 
 /// Why judging stops before the end: at a line, or for want of memory apart from any line.
 #[derive(Clone, Copy, Debug)]
@@ -73,6 +78,7 @@ impl<'a> Lines<'a> {
     /// The next line that counts, as what it says at its place.
     fn next(&mut self, place: Place) -> Result<Read, Stop>
         ensures line { IfOk result (λ read. Takes place self.old.names self.old.reader.lines read.line self.new.names self.new.reader.lines) }
+        ensures writable { IfOk result (λ read. IsLineWritable (length self.new.names) read.line) }
         ensures number { IfOk result (λ read. IsRead place self.old.names self.old.reader.lines read.number read.line) }
         ensures last { self.new.reader.last ≡ self.old.reader.last }
         ensures stop { IfErr result (StopsBy (IsUnread place self.old.names self.old.reader.lines self.old.reader.last)) }
@@ -118,7 +124,7 @@ pub(crate) fn judge(alloc: Global, problem: &Problem, proof: &[u8]) -> Result<Ac
         names: problem.names().copy(alloc)?,
     };
     lines.next(Place::Header)?;
-    judge_count(&mut lines, kernel.given())?;
+    judge_count(&mut lines, kernel.next_id() - 1)?;
     judge_steps(&mut lines, &mut kernel)?;
     let accepted = judge_conclusion(&mut lines, &mut kernel)?;
     lines.next(Place::End)?;
@@ -127,7 +133,7 @@ pub(crate) fn judge(alloc: Global, problem: &Problem, proof: &[u8]) -> Result<Ac
 }
 
 /// The count line gives the number of the file's constraints, an equality counted twice.
-fn judge_count(lines: &mut Lines<'_>, given: usize) -> Result<(), Stop>
+fn judge_count(lines: &mut Lines<'_>, given: u64) -> Result<(), Stop>
     ensures count { OnOk result (Takes Place.Count lines.old.names lines.old.reader.lines (Line.Count (pos given)) lines.new.names lines.new.reader.lines) }
     ensures last { lines.new.reader.last ≡ lines.old.reader.last }
     ensures stop { IfErr result (StopsBy (StopsAtCount given lines.old.names lines.old.reader.lines lines.old.reader.last)) }
@@ -136,14 +142,14 @@ fn judge_count(lines: &mut Lines<'_>, given: usize) -> Result<(), Stop>
     let Line::Count(count) = line else {
         unreachable!();
     };
-    if count != given as i128 {
+    if count != i128::from(given) {
         return Err(stop_reading(number, ProofFault::BadCount));
     }
     Ok(())
 }
 
 /// The steps, up to the output line.
-fn judge_steps(lines: &mut Lines<'_>, kernel: &mut Kernel) -> Result<(), Stop>
+fn judge_steps(lines: &mut Lines<'_>, kernel: &mut Kernel<'_>) -> Result<(), Stop>
     ensures problem { kernel.new.problem ≡ kernel.old.problem }
     ensures steps { OnOk result (TakesToOutput kernel.old.problem kernel.old.state lines.old.names lines.old.reader.lines kernel.new.state lines.new.names lines.new.reader.lines) }
     ensures last { lines.new.reader.last ≡ lines.old.reader.last }
@@ -154,7 +160,7 @@ fn judge_steps(lines: &mut Lines<'_>, kernel: &mut Kernel) -> Result<(), Stop>
 }
 
 /// Judges the next line among the steps.
-fn judge_line(lines: &mut Lines<'_>, kernel: &mut Kernel) -> Result<Taken, Stop>
+fn judge_line(lines: &mut Lines<'_>, kernel: &mut Kernel<'_>) -> Result<Taken, Stop>
     ensures problem { kernel.new.problem ≡ kernel.old.problem }
     ensures line { IfOk result (λ taken. TakesLine kernel.old.problem kernel.old.state lines.old.names lines.old.reader.lines taken kernel.new.state lines.new.names lines.new.reader.lines) }
     ensures last { lines.new.reader.last ≡ lines.old.reader.last }
@@ -172,7 +178,8 @@ fn judge_line(lines: &mut Lines<'_>, kernel: &mut Kernel) -> Result<Taken, Stop>
 }
 
 /// Judges a step. What reads well and is not judged yet is left out.
-fn judge_step(kernel: &mut Kernel, step: &Step, number: u64) -> Result<(), Stop>
+fn judge_step(kernel: &mut Kernel<'_>, step: &Step, number: u64) -> Result<(), Stop>
+    requires { HasAtLeast step.now }
     ensures problem { kernel.new.problem ≡ kernel.old.problem }
     ensures legal { OnOk result (Legal kernel.old.problem kernel.old.state step.now kernel.new.state) }
     ensures stop { IfErr result (StopsBy (λ line code. (line ≡ number) × IsRefusedStep kernel.old.problem kernel.old.state step.now code)) }
@@ -191,7 +198,7 @@ fn is_judged_step(step: &Step) -> bool
     ensures { IsTrue result ↔ IsJudgedStep step.now }
 {
     match step {
-        Step::Pol(_) => true,
+        Step::Pol(_) | Step::Rup(_) => true,
         _ => false,
     }
 }
@@ -207,12 +214,12 @@ fn is_judged_conclusion(conclusion: &Conclusion) -> bool
 }
 
 /// The conclusion.
-fn judge_conclusion(lines: &mut Lines<'_>, kernel: &mut Kernel) -> Result<Accepted, Stop>
+fn judge_conclusion(lines: &mut Lines<'_>, kernel: &mut Kernel<'_>) -> Result<Accepted, Stop>
     ensures claim { IfOk result (λ accepted. Claim kernel.old.problem accepted.conclusion accepted.best) }
     ensures justified { IfOk result (λ accepted. IsJustified kernel.old.problem kernel.old.state accepted.conclusion accepted.best) }
     ensures line { IfOk result (λ accepted. Takes Place.Conclusion lines.old.names lines.old.reader.lines (Line.Conclusion accepted.conclusion) lines.new.names lines.new.reader.lines) }
     ensures last { lines.new.reader.last ≡ lines.old.reader.last }
-    ensures stop { IfErr result (StopsBy (StopsAtConclusion kernel.old.state lines.old.names lines.old.reader.lines lines.old.reader.last)) }
+    ensures stop { IfErr result (StopsBy (StopsAtConclusion kernel.old.problem kernel.old.state lines.old.names lines.old.reader.lines lines.old.reader.last)) }
 {
     let Read { number, line } = lines.next(Place::Conclusion)?;
     match line {
