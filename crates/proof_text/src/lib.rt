@@ -2,31 +2,28 @@
 //! each says at its place.
 #![tactic(auto)]
 
-mod body;
+mod before_semicolon;
+mod cases;
 mod conclude;
 mod constraint;
 mod fault;
 mod frame;
-mod front;
+mod keyword;
+mod laws;
 mod line;
+mod line_names;
+mod line_words;
 mod lookahead;
-mod part;
 mod pol;
 mod read;
 mod reader;
 mod refusal;
-mod rule;
 mod step;
-mod table;
+mod values;
 mod witness;
-mod write;
-mod writer;
 
 pub use fault::ProofFault;
+pub use keyword::{ConclusionKind, Rule};
 pub use line::{Line, Place};
 pub use read::{read_line, read_step};
 pub use reader::{NumberedLine, ProofReader};
-pub use write::{write_end, write_step};
-
-#[cfg(test)]
-mod tests;

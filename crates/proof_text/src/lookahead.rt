@@ -14,7 +14,7 @@ pub(crate) struct Lookahead<'a> {
 impl<'a> Model for Lookahead<'a> {
     ghost use Rattle.std.specs.Prelude.{◌≡◌, None, ℕ, List, []};
     ghost use Rattle.proof_text.specs.Words.{texts};
-    ghost use Rattle.proof_text.specs.Ahead.{onto};
+    ghost use Rattle.proof_text.specs.WordsAhead.{onto};
 
     ghost Value = { List (List ℕ) };
 

@@ -1,6 +1,6 @@
 //! First words that begin no step: which fault they are.
 
-ghost use Rattle.proof_text.specs.Denial.{IsForm};
+ghost use Rattle.proof_text.specs.PartsDenied.{IsForm};
 
 use crate::fault::ProofFault;
 use pb_text::{Kind, Token};
