@@ -1,5 +1,5 @@
 -- A line, the lines of steps and a whole text have one reading.
-use Rattle.std.proofs.Common.{◌≡◌, ℕ, ℤ, ◌+◌, Option, Some, List, [], ◌∷◌, ◌++◌, length, length-append, refl, sym, ap, subst, ◌∙◌, arith}
+use Rattle.std.proofs.Common.{◌≡◌, ℕ, ℤ, Option, Some, List, [], ◌∷◌, ◌++◌, length, length-append, refl, sym, ap, subst, ◌∙◌, arith}
 use Rattle.proof_steps.specs.declared.step.Step.{Step}
 use Rattle.proof_steps.specs.declared.conclusion.Conclusion.{Conclusion}
 use Rattle.proof_text.specs.declared.line.Line.{Line}

@@ -62,7 +62,7 @@ DeniesPlaced _ place names ws = ⊥
 -- What a fault says of a line at its place, `names` being the table before it. At the header the one fault is BadHeader:
 -- the line is no header. At the count it is BadCount: the line is no count, or its integer is too large. At the conclusion
 -- no rule is unknown or left out. Behind the end the fault is TextAfterEnd.
-abbrev pub DeniesLine : ProofFault → Place → List (List ℕ) → List (List ℕ) → Type 0
+unfoldable pub DeniesLine : ProofFault → Place → List (List ℕ) → List (List ℕ) → Type 0
 DeniesLine fault places.Header names ws = (fault ≡ faults.BadHeader) × NoLine places.Header names ws
 DeniesLine fault places.Count names ws =
     (fault ≡ faults.BadCount) × ((line : Line) → line_of places.Count names ws ≡ Some line → AreSmall (measured places.Count ws) → ⊥)

@@ -1,4 +1,7 @@
 //! The words of a line up to its first `;`, which is due.
+//!
+//! The constraint of `rup` and `red` ends with a `;` that may not be missing, since more stands behind it: hints, which
+//! are never judged, or a substitution. So the words before it and those behind it are read by different readers.
 
 use crate::lookahead::Lookahead;
 use pb_text::{Kind, Symbol, Token};

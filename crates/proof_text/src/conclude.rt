@@ -1,4 +1,8 @@
-//! The conclusion line.
+//! The conclusion line: its kind, bounds, and the hints that may stand behind a colon.
+//!
+//! A hint of an id saves a checker a search and counts for nothing here. A hint of literals is a solution that will be judged, so it
+//! is kept; one without literals is a solution of no literals, and not the same as none. The lower bound `-INF` is this
+//! product's own spelling for "no bound".
 
 ghost use Rattle.std.specs.Prelude.{◌≡◌, ℕ, List, [], ◌∷◌, true, false, is_some, drop, IfOk, IfErr, OnOk, MatchOption};
 ghost use Rattle.proof_text.specs.Words.{AreSmall, unclosed};

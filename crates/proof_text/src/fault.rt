@@ -1,4 +1,4 @@
-//! Why a line of a proof is refused.
+//! Why a line of a proof is refused. The numbers are printed and stay: programs compare them.
 
 use std::alloc::{AllocError, AllocFailed};
 use thiserror::Error;

@@ -1,4 +1,7 @@
-//! The lines around the steps: header, count, output and end.
+//! The lines around the steps: header, count, output and end. Each is a fixed list of words, but for the integer of the count.
+//!
+//! The count says how many constraints the checker must have read from the problem file, so that a proof of another file is
+//! refused before its first step. Only the output `NONE` is read: the others promise a file that this product does not write.
 
 ghost use Rattle.std.specs.Prelude.{◌≡◌, ℤ, Some, None, false, true, IfErr, MatchOption, OnOk};
 ghost use Rattle.proof_text.specs.Words.{are_words, AreSmall};

@@ -1,4 +1,5 @@
-//! The words with which the lines of steps and the judgements of conclusions begin.
+//! The words with which steps and conclusions begin. They are compared with the whole word, so `polx` is no `pol`, and the one-letter
+//! forms `p` and `u` of the format's first version stand for their rules.
 
 ghost use Rattle.std.specs.Prelude.{◌≡◌};
 ghost use Rattle.proof_text.specs.Rules as rules;

@@ -1,5 +1,11 @@
-//! The names of a proof while a line is read. A name that finds no number is remembered, since a line that is wrong
-//! elsewhere has that fault first.
+//! The names of a proof while one line is read.
+//!
+//! A line that is refused adds no name, and the first of its words that cannot stand gives its fault. So names go into
+//! the table as they are met, by one look-up each, and a refused line takes its own out again from the end; and a name for
+//! which no number is left is only remembered, since a later word may be the one that cannot stand.
+//!
+//! The table is owned for the line: were it borrowed, contracts could not say what became of it, since they lose the end of a
+//! borrow of something that owns memory once a struct holds it.
 
 use linear::{Lit, Names, Var};
 use pb_text::Literal;

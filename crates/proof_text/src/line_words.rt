@@ -1,4 +1,7 @@
 //! The words of a line up to its end, without the `;` that may close it.
+//!
+//! The format lets nearly every line end with a `;` or without one. That is settled here once, so that the readers of the forms see words
+//! alone, and a second `;`, or one with words behind it, is a word like any other and stands in no form.
 
 use crate::lookahead::Lookahead;
 use pb_text::{Kind, Symbol, Token};

@@ -1,4 +1,7 @@
 //! The words of a line that are left, with the next two in sight.
+//!
+//! Two words are enough for the whole format: an integer belongs to the `*` or `d` behind it, a name to the `w`; a `;` closes a
+//! line only where nothing stands behind it, and begins a subproof where `begin` does.
 
 use pb_text::{Kind, Symbol, Token, Tokens};
 use std::marker::Model;

@@ -1,4 +1,8 @@
 //! What a line says at its place.
+//!
+//! The words of a line are cut once, here, and handed on: the choice between a step and the output line looks at the first of
+//! them. The place decides which faults there are. Among the steps a rule may be unknown or left out; at the conclusion no rule is
+//! due, so that whatever stands there is a bad line; the header, the count and the text behind the end have one fault each.
 
 ghost use Rattle.std.specs.Prelude.{◌≡◌, false, length, IfOk, IfErr, OnErr};
 ghost use Rattle.proof_text.specs.Words.{words};
@@ -129,6 +133,7 @@ fn step_or_output(
     Ok(Line::Step(step))
 }
 
+#[tactic(auto, unfolding(crate::specs::Faults::DeniesLine))]
 /// What a line says at its place. Names that the table does not have are added in order; a refused line adds none.
 /// A step or a conclusion can be written again.
 ///

@@ -1,4 +1,8 @@
 //! The lines of a proof that count, with their numbers.
+//!
+//! Proofs are long, so a line is found by its LF and lent from the text, and nothing is copied. Whether it counts is told by its bytes, without
+//! cutting a token, since whoever reads it cuts its words anyway. Comment lines are no part of the format's grammar: a line
+//! whose first byte other than space and tab is `*` is passed over, as in the problem files of Roussel and Manquinho's format.
 
 ghost use Rattle.std.specs.Prelude.{◌≡◌, ◌+◌, ◌<◌, ◌≤◌, ◌^◌, true, length};
 ghost use Rattle.std.specs.List.{list_all};

@@ -1,4 +1,7 @@
-//! Steps, rule by rule.
+//! Steps, rule by rule: what stands behind the word of a rule.
+//!
+//! Each rule has a function of its own with one contract for all: what the words say is the step, the names of its literals are
+//! met in order, and each fault says of the words what it should. A new rule is one more function and one more arm.
 
 ghost use Rattle.std.specs.Prelude.{◌≡◌, false, IfOk, IfErr};
 ghost use Rattle.proof_text.specs.StepsRead.{IsStepRead};

@@ -1,4 +1,7 @@
-//! The parts of which lines are made: integers and literals.
+//! The values that words write: integers and literals, one of them or all up to the end of a line.
+//!
+//! An integer in an integer's place that is too large has a fault of its own; everywhere else it is a word that cannot stand. So the
+//! size is asked only where an integer may stand.
 
 ghost use Rattle.std.specs.Prelude.{◌≡◌, [], ◌∷◌, true, IfOk, IfErr, OnOk};
 ghost use Rattle.pb_text.specs.Lexeme.{kind_of};

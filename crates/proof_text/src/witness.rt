@@ -1,4 +1,8 @@
 //! Substitutions: names and their images in turn.
+//!
+//! The arrow may be missing and leaves one reading all the same, since names and images alternate. A name stands on the left once:
+//! two images would be two substitutions. That is seen from the variables' numbers, or, where names found no number, from the names themselves, so
+//! that the second occurrence, which is the first word that cannot stand, is the fault in either case.
 
 ghost use Rattle.std.specs.Prelude.{◌≡◌, ℕ, List, [], ◌∷◌, true, false, ◌&&◌, map, None, Some, if◌then◌else◌, IfOk, IfErr, OnOk, codes, bytes_eq};
 ghost use Rattle.std.specs.List.{list_any};

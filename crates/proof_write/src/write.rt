@@ -1,4 +1,7 @@
 //! Written proofs: a line for each step, and the lines behind the steps. What is written reads back as it was.
+//!
+//! A writer that fails in the middle of a line would leave a text that a later append turns into nonsense, so a refused growth
+//! takes the line out again.
 
 ghost use Rattle.std.specs.Prelude.{◌≡◌, [], ◌∷◌, ◌++◌, length, codes, OnOk, OnErr};
 ghost use Rattle.linear.specs.Table.{IsTable};

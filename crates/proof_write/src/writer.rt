@@ -1,4 +1,7 @@
 //! Words at the end of a line that is being written, each with a space before it.
+//!
+//! One space before each word, also before `;`, keeps every word a token of its own whatever its neighbours are: `x1->x2`
+//! would read back too, but a sign behind a word would become part of it.
 
 ghost use Rattle.std.specs.Prelude.{◌≡◌, ◌<◌, ◌∷◌, [], ◌++◌, length, All, OnOk};
 ghost use Rattle.std.specs.List.{flat_map};

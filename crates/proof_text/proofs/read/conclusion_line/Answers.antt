@@ -2,12 +2,14 @@ use Rattle.std.proofs.Common.{◌≡◌, ◌≤◌, length, sym, ap, subst, ◌�
 use Rattle.proof_text.specs.Numbering.{most_names}
 use Rattle.proof_text.specs.ConclusionsRead.{IsConclusionLineRead}
 use Rattle.proof_text.specs.Spells.{IsLine}
+use Rattle.proof_text.specs.Faults.{DeniesLine}
 use Rattle.proof_text.specs.declared.line.Line.TheVariants as lines
 use Rattle.proof_text.specs.declared.line.Place.TheVariants as places
 use Rattle.proof_text.proofs.LinesAtPlaces.{fresh, conclusion_placed, conclusion_full, conclusion_denied}
 use Rattle.proof_text.proofs.read.conclusion_line.Goals as goal
 
 pub returns-then-is_full-clause-denies : goal.returns-then-is_full-clause-denies
+unfolding DeniesLine
 returns-then-is_full-clause-denies c =
     let names = c.args.names.now in
     let k = c.new-table.result in
@@ -31,4 +33,5 @@ returns-else-is_full-clause-line c =
     (subst (λ ns. length ns ≤ most_names) c.into_names.ensures.names c.into_names.ensures.table.numbered))
 
 pub returns-in-Err-clause-denies : goal.returns-in-Err-clause-denies
+unfolding DeniesLine
 returns-in-Err-clause-denies c = (c.in-Err.ensures.plain, conclusion_denied c.in-Err.fault c.args.names.now c.args.words c.in-Err.ensures.denies)

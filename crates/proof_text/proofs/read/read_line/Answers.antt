@@ -4,12 +4,14 @@ use Rattle.proof_text.specs.Frame.{count_of}
 use Rattle.std.proofs.lemmas.Result.{IfOk-weaker}
 use Rattle.proof_text.specs.declared.line.Place.TheVariants as places
 use Rattle.proof_text.specs.Spells.{IsLine}
+use Rattle.proof_text.specs.Faults.{DeniesLine}
 use Rattle.proof_text.specs.Writable.{IsLineWritable}
 use Rattle.proof_text.proofs.LinesAtPlaces.{no_count_line}
 use Rattle.proof_text.proofs.ReadIsWritable.{line_writable}
 use Rattle.proof_text.proofs.read.read_line.Goals as goal
 
 pub returns-in-None-clause-denies : goal.returns-in-None-clause-denies
+unfolding DeniesLine
 returns-in-None-clause-denies c =
     let ws = words c.args.line.now in
     let at = c.new-in-Count.ensures ∙ ap unclosed c.new-words.ensures in

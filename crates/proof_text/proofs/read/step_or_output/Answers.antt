@@ -2,10 +2,12 @@ use Rattle.std.proofs.Common.{◌≡◌, true, false, codes, sym, ap, ◌∙◌}
 use Rattle.std.proofs.lemmas.Result.{err_from_is_err_and}
 use Rattle.proof_text.specs.Words.{is_first, are_words}
 use Rattle.proof_text.specs.Frame.{output}
+use Rattle.proof_text.specs.Faults.{DeniesLine}
 use Rattle.proof_text.proofs.LinesAtPlaces.{output_placed, output_denied, step_placed, step_denied_here}
 use Rattle.proof_text.proofs.read.step_or_output.Goals as goal
 
 pub returns-in_err-output-clause-denies : goal.returns-in_err-output-clause-denies
+unfolding DeniesLine
 returns-in_err-output-clause-denies c =
     let f = c.in_err-output.field-0.0 in
     let ws = c.args.words in
@@ -22,6 +24,7 @@ returns-then-begins-clause-line c =
     c.len-count.ensures.table.numbered
 
 pub returns-in_err-step-clause-denies : goal.returns-in_err-step-clause-denies
+unfolding DeniesLine
 returns-in_err-step-clause-denies c =
     let f = c.in_err-step.field-0.0 in
     let ws = c.args.words in
