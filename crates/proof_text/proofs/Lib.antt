@@ -1,24 +1,18 @@
-pub mod Parting
-pub mod Unclosed
-pub mod Numbers
-pub mod Parts
-pub mod Loops
-pub mod Items
-pub mod Halves
-pub mod Written
-pub mod Substituted
-pub mod Writable
-pub mod Apart
-pub mod Stepping
-pub mod Counting
-pub mod Concluding
-pub mod Placing
-pub mod Cuts
-pub mod Texts
-pub mod Numerals
-pub mod Named
-pub mod ReadBack
-pub mod LinesBack
-pub mod EndBack
-mod Examples
-mod TextExamples
+pub mod LinesParted
+pub mod ClosingSemicolon
+pub mod FirstSemicolon
+pub mod NamesNumbered
+pub mod WordsByKind
+pub mod PartsInTurn
+pub mod PolItems
+pub mod ConstraintsRead
+pub mod SubstitutionsRead
+pub mod ReadIsWritable
+pub mod NamesOnLeft
+pub mod StepsRead
+pub mod CountLine
+pub mod ConclusionsRead
+pub mod LinesAtPlaces
+pub mod OneReading
+pub mod Computed
+mod ProofsComputed

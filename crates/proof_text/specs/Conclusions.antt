@@ -1,5 +1,5 @@
 -- What a proof's conclusion says.
-use Rattle.std.specs.Prelude.{◌≡◌, ℕ, ◌&&◌, ◌||◌, not, Bool, true, false, is_some, if◌then◌else◌, Option, Some, None, List, [], ◌∷◌, drop, codes, bytes_eq}
+use Rattle.std.specs.Prelude.{ℕ, ◌&&◌, ◌||◌, Bool, true, false, is_some, if◌then◌else◌, Option, Some, None, List, [], ◌∷◌, drop, codes, bytes_eq}
 use Rattle.pb_text.specs.Lexeme.{kind_of}
 use Rattle.pb_text.specs.Number.{integer_value}
 use Rattle.linear.specs.declared.term.Lit.{Lit}
@@ -9,20 +9,19 @@ use Rattle.proof_steps.specs.declared.conclusion.Upper.{Upper}
 use Rattle.proof_steps.specs.declared.conclusion.Upper.TheVariants as uppers
 use Rattle.proof_steps.specs.declared.conclusion.Conclusion.{Conclusion}
 use Rattle.proof_steps.specs.declared.conclusion.Conclusion.TheVariants as conclusions
-use Rattle.proof_text.specs.declared.rule.Verdict.{Verdict}
-use Rattle.proof_text.specs.declared.rule.Verdict.TheVariants as verdicts
+use Rattle.proof_text.specs.declared.keyword.ConclusionKind.{ConclusionKind}
+use Rattle.proof_text.specs.declared.keyword.ConclusionKind.TheVariants as kinds
 use Rattle.proof_text.specs.Kinds.{is_integer, is_colon}
-use Rattle.proof_text.specs.Words.{is_empty, is_first, unclosed, begins_integer, AreSmall}
-use Rattle.proof_text.specs.Numbering.{Known, met_in}
+use Rattle.proof_text.specs.Words.{is_empty, is_first, unclosed}
 use Rattle.proof_text.specs.Forms.{are_literals, literals_of}
 
 -- the word with which a conclusion begins
-unfoldable pub verdict_of : List ℕ → Option Verdict
-verdict_of word =
-    if bytes_eq word (codes "NONE") then Some verdicts.Nothing
-    else if bytes_eq word (codes "SAT") then Some verdicts.Sat
-    else if bytes_eq word (codes "UNSAT") then Some verdicts.Unsat
-    else if bytes_eq word (codes "BOUNDS") then Some verdicts.Bounds
+unfoldable pub conclusion_kind_of : List ℕ → Option ConclusionKind
+conclusion_kind_of word =
+    if bytes_eq word (codes "NONE") then Some kinds.Nothing
+    else if bytes_eq word (codes "SAT") then Some kinds.Sat
+    else if bytes_eq word (codes "UNSAT") then Some kinds.Unsat
+    else if bytes_eq word (codes "BOUNDS") then Some kinds.Bounds
     else None
 
 -- a hint of literals: nothing, or `:` and literals
@@ -49,11 +48,6 @@ abbrev pub past_id : List (List ℕ) → List (List ℕ)
 past_id [] = []
 past_id (a ∷ []) = a ∷ []
 past_id (a ∷ b ∷ rest) = if is_id_hint a b then rest else a ∷ b ∷ rest
-
--- no `:` stands first without an integer behind it
-abbrev pub begins_right : List (List ℕ) → Bool
-begins_right [] = true
-begins_right (w ∷ rest) = not (is_colon (kind_of w)) || begins_integer rest
 
 -- a lower bound: an integer, `INF` or `-INF`
 abbrev pub is_lower : List ℕ → Bool
@@ -87,60 +81,35 @@ bounds_of names [] = None
 bounds_of names (l ∷ rest) = if is_lower l then bounds_by names (lower_of l) (past_id rest) else None
 
 -- the conclusion that the words behind its first one say
-abbrev pub conclusion_by : Verdict → List (List ℕ) → List (List ℕ) → Option Conclusion
-conclusion_by verdicts.Nothing names ws = if is_empty ws then Some conclusions.Nothing else None
-conclusion_by verdicts.Sat names ws = if is_hint ws then Some (conclusions.Sat (hint_of names ws)) else None
-conclusion_by verdicts.Unsat names ws = if is_empty (past_id ws) then Some conclusions.Unsat else None
-conclusion_by verdicts.Bounds names ws = bounds_of names ws
+abbrev pub conclusion_by : ConclusionKind → List (List ℕ) → List (List ℕ) → Option Conclusion
+conclusion_by kinds.Nothing names ws = if is_empty ws then Some conclusions.Nothing else None
+conclusion_by kinds.Sat names ws = if is_hint ws then Some (conclusions.Sat (hint_of names ws)) else None
+conclusion_by kinds.Unsat names ws = if is_empty (past_id ws) then Some conclusions.Unsat else None
+conclusion_by kinds.Bounds names ws = bounds_of names ws
 
 -- the words of the literals that a conclusion hints at
-abbrev pub literals_by : Verdict → List (List ℕ) → List (List ℕ)
-literals_by verdicts.Sat ws = hinted ws
-literals_by verdicts.Bounds ws = hinted (drop 1 (past_id (drop 1 ws)))
+abbrev pub literals_by : ConclusionKind → List (List ℕ) → List (List ℕ)
+literals_by kinds.Sat ws = hinted ws
+literals_by kinds.Bounds ws = hinted (drop 1 (past_id (drop 1 ws)))
 literals_by _ ws = []
 
 -- whether the words behind its first one are a conclusion; no table matters
-abbrev pub is_conclusion : Verdict → List (List ℕ) → Bool
-is_conclusion verdict ws = is_some (conclusion_by verdict [] ws)
-
--- a hint of literals, as it is read
-pub record IsHintRead (k : Known) (ws : List (List ℕ)) (hint : Option (List Lit)) (new : Known) : Type 0 where
-  pub form : is_hint ws ≡ true
-  pub value : hint ≡ hint_of new.names ws
-  pub known : new ≡ met_in k (hinted ws)
-  pub small : AreSmall ws
-
--- the words behind its first one are this conclusion, as it is read
-pub record IsConclusionRead (verdict : Verdict) (k : Known) (ws : List (List ℕ)) (c : Conclusion) (new : Known) : Type 0 where
-  pub says : conclusion_by verdict new.names ws ≡ Some c
-  pub known : new ≡ met_in k (literals_by verdict ws)
-  pub small : AreSmall ws
+abbrev pub is_conclusion : ConclusionKind → List (List ℕ) → Bool
+is_conclusion kind ws = is_some (conclusion_by kind [] ws)
 
 -- the conclusion that words say behind the word `conclusion`
-abbrev pub judgement_of : List (List ℕ) → List (List ℕ) → Option Conclusion
-judgement_of names [] = None
-judgement_of names (w ∷ rest) = elim (verdict_of w) [ None ↦ None | Some verdict ↦ conclusion_by verdict names rest ]
+abbrev pub conclusion_said : List (List ℕ) → List (List ℕ) → Option Conclusion
+conclusion_said names [] = None
+conclusion_said names (w ∷ rest) = elim (conclusion_kind_of w) [ None ↦ None | Some kind ↦ conclusion_by kind names rest ]
 
-abbrev pub judgement_literals : List (List ℕ) → List (List ℕ)
-judgement_literals [] = []
-judgement_literals (w ∷ rest) = elim (verdict_of w) [ None ↦ [] | Some verdict ↦ literals_by verdict rest ]
-
--- the words behind `conclusion` are this conclusion, as it is read
-pub record IsJudgementRead (k : Known) (ws : List (List ℕ)) (c : Conclusion) (new : Known) : Type 0 where
-  pub says : judgement_of new.names ws ≡ Some c
-  pub known : new ≡ met_in k (judgement_literals ws)
-  pub small : AreSmall (drop 1 ws)
+abbrev pub literals_said : List (List ℕ) → List (List ℕ)
+literals_said [] = []
+literals_said (w ∷ rest) = elim (conclusion_kind_of w) [ None ↦ [] | Some kind ↦ literals_by kind rest ]
 
 -- the conclusion that a line's words say
 unfoldable pub conclusion_of : List (List ℕ) → List (List ℕ) → Option Conclusion
-conclusion_of names ws = if is_first (codes "conclusion") ws then judgement_of names (unclosed (drop 1 ws)) else None
+conclusion_of names ws = if is_first (codes "conclusion") ws then conclusion_said names (unclosed (drop 1 ws)) else None
 
 -- the words of the literals that a conclusion's line hints at
 unfoldable pub conclusion_literals : List (List ℕ) → List (List ℕ)
-conclusion_literals ws = judgement_literals (unclosed (drop 1 ws))
-
--- the words of a line are this conclusion, as it is read
-pub record IsConclusionLineRead (k : Known) (ws : List (List ℕ)) (c : Conclusion) (new : Known) : Type 0 where
-  pub says : conclusion_of new.names ws ≡ Some c
-  pub known : new ≡ met_in k (conclusion_literals ws)
-  pub small : AreSmall (drop 1 (unclosed (drop 1 ws)))
+conclusion_literals ws = literals_said (unclosed (drop 1 ws))

@@ -1,7 +1,6 @@
 -- What the faults of a line say of it.
 use Rattle.std.specs.Prelude.{◌≡◌, ℕ, ◌<◌, Some, List, length, codes, ⊤}
 use Rattle.proof_steps.specs.declared.step.Step.{Step}
-use Rattle.proof_text.specs.declared.rule.Rule.{Rule}
 use Rattle.proof_text.specs.declared.line.Place.{Place}
 use Rattle.proof_text.specs.declared.line.Place.TheVariants as places
 use Rattle.proof_text.specs.declared.line.Line.{Line}
@@ -9,30 +8,20 @@ use Rattle.proof_text.specs.declared.fault.ProofFault.{ProofFault}
 use Rattle.proof_text.specs.declared.fault.ProofFault.TheVariants as faults
 use Rattle.proof_text.specs.Words.{AreSmall}
 use Rattle.proof_text.specs.Numbering.{names_in, most_names}
-use Rattle.proof_text.specs.Steps.{step_by, counted_by, step_of, counted, IsProper}
-use Rattle.proof_text.specs.Denial.{IsPlain}
+use Rattle.proof_text.specs.Steps.{step_of, counted, IsProper}
 use Rattle.proof_text.specs.Spells.{line_of, naming, measured, IsProperLine}
 
 -- a table with more names than 32 bits can number
 abbrev pub AreTooMany : List (List ℕ) → Type 0
 AreTooMany names = most_names < length names
 
--- the words behind a rule's own word are no step
-abbrev pub NoStepBy : Rule → List (List ℕ) → List (List ℕ) → Type 0
-NoStepBy rule names ws = (step : Step) → step_by rule (names_in names (counted_by rule ws)) ws ≡ Some step → IsProper step → ⊥
-
--- what a fault says of the words behind a rule's own word
-abbrev pub DeniesRule : ProofFault → Rule → List (List ℕ) → List (List ℕ) → Type 0
-DeniesRule faults.UnknownRule rule names ws = NoStepBy rule names ws
-DeniesRule faults.RuleLeftOut rule names ws = NoStepBy rule names ws
-DeniesRule faults.BadLine rule names ws = NoStepBy rule names ws
-DeniesRule faults.IntegerTooLarge rule names ws = AreSmall (counted_by rule ws) → ⊥
-DeniesRule faults.TooManyIds rule names ws =
-    AreSmall (counted_by rule ws)
-    × ((step : Step) × (step_by rule (names_in names (counted_by rule ws)) ws ≡ Some step) × IsProper step)
-    × AreTooMany (names_in names (counted_by rule ws))
-DeniesRule faults.OutOfMemory rule names ws = ⊤
-DeniesRule _ rule names ws = ⊥
+-- a fault where no rule is due, so that none is unknown or left out
+abbrev pub IsPlain : ProofFault → Type 0
+IsPlain faults.BadLine = ⊤
+IsPlain faults.IntegerTooLarge = ⊤
+IsPlain faults.TooManyIds = ⊤
+IsPlain faults.OutOfMemory = ⊤
+IsPlain _ = ⊥
 
 -- the words of a line are no step
 abbrev pub NoStep : List (List ℕ) → List (List ℕ) → Type 0
@@ -73,7 +62,7 @@ DeniesPlaced _ place names ws = ⊥
 -- What a fault says of a line at its place, `names` being the table before it. At the header the one fault is BadHeader:
 -- the line is no header. At the count it is BadCount: the line is no count, or its integer is too large. At the conclusion
 -- no rule is unknown or left out. Behind the end the fault is TextAfterEnd.
-abbrev pub DeniesLine : ProofFault → Place → List (List ℕ) → List (List ℕ) → Type 0
+unfoldable pub DeniesLine : ProofFault → Place → List (List ℕ) → List (List ℕ) → Type 0
 DeniesLine fault places.Header names ws = (fault ≡ faults.BadHeader) × NoLine places.Header names ws
 DeniesLine fault places.Count names ws =
     (fault ≡ faults.BadCount) × ((line : Line) → line_of places.Count names ws ≡ Some line → AreSmall (measured places.Count ws) → ⊥)

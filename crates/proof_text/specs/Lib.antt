@@ -1,8 +1,7 @@
+-- what the format says
 pub mod Lines
-pub mod Reader
 pub mod Kinds
 pub mod Words
-pub mod Ahead
 pub mod Numbering
 pub mod Forms
 pub mod Rules
@@ -11,8 +10,15 @@ pub mod Conclusions
 pub mod Frame
 pub mod Spells
 pub mod Faults
-pub mod Denial
-pub mod Reading
-pub mod Growth
-pub mod Writing
+pub mod Writable
 pub mod ProofSpells
+-- the words of the worked cases
+pub mod Cases
+-- what private functions keep and promise one another
+pub mod LinesAhead
+pub mod WordsAhead
+pub mod NamesMet
+pub mod PartsRead
+pub mod PartsDenied
+pub mod StepsRead
+pub mod ConclusionsRead

@@ -1,5 +1,6 @@
 -- The lines of a proof's text, and those that count.
-use Rattle.std.specs.Prelude.{ℕ, ◌+◌, ◌==◌, Bool, true, false, if◌then◌else◌, List, [], ◌∷◌, count_by}
+use Rattle.std.specs.Prelude.{ℕ, ◌+◌, ◌==◌, Bool, true, false, not, if◌then◌else◌, List, [], ◌∷◌, count_by}
+use Rattle.std.specs.List.{list_all}
 use Rattle.pb_text.specs.Lexeme.{lexemes}
 
 -- a line with its number
@@ -35,6 +36,10 @@ counting number (line ∷ others) = onto (record { number = number; text = line 
 -- the lines that count of a text whose first line has this number
 unfoldable pub counting_from : ℕ → List ℕ → List Numbered
 counting_from number text = let p : Parted = parted text in counting number (p.first ∷ p.others)
+
+-- is a text one line, without LF
+abbrev pub has_no_break : List ℕ → Bool
+has_no_break text = list_all (λ b. not (b == 10)) text
 
 -- how many LF bytes a text has
 abbrev pub breaks : List ℕ → ℕ

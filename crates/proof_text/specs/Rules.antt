@@ -1,7 +1,7 @@
 -- The rules of steps, by the words with which their lines begin.
 use Rattle.std.specs.Prelude.{ℕ, ◌||◌, if◌then◌else◌, Option, Some, None, List, codes, bytes_eq}
-use Rattle.proof_text.specs.declared.rule.Rule.{Rule}
-use Rattle.proof_text.specs.declared.rule.Rule.TheVariants as rules
+use Rattle.proof_text.specs.declared.keyword.Rule.{Rule}
+use Rattle.proof_text.specs.declared.keyword.Rule.TheVariants as rules
 
 unfoldable pub rule_of : List ℕ → Option Rule
 rule_of word =

@@ -6,10 +6,10 @@ use Rattle.linear.specs.declared.constraint.Relation.TheVariants as relations
 use Rattle.substitution.specs.Images.{NamesOnce}
 use Rattle.proof_steps.specs.declared.step.Step.{Step}
 use Rattle.proof_steps.specs.declared.step.Step.TheVariants as steps
-use Rattle.proof_text.specs.declared.rule.Rule.{Rule}
-use Rattle.proof_text.specs.declared.rule.Rule.TheVariants as rules
+use Rattle.proof_text.specs.declared.keyword.Rule.{Rule}
+use Rattle.proof_text.specs.declared.keyword.Rule.TheVariants as rules
 use Rattle.proof_text.specs.Words.{is_first, unclosed, halves, AreSmall}
-use Rattle.proof_text.specs.Numbering.{Known, met_in, names_in, most_names}
+use Rattle.proof_text.specs.Numbering.{names_in, most_names}
 use Rattle.proof_text.specs.Forms.{are_literals, literals_of, are_integers, integers_of, terms_of, behind_terms, closing_of, are_items, items_of, are_images, images_of}
 use Rattle.proof_text.specs.Rules.{rule_of}
 
@@ -17,12 +17,6 @@ use Rattle.proof_text.specs.Rules.{rule_of}
 abbrev pub constraint_of : List (List ℕ) → List (List ℕ) → Option Signed
 constraint_of names ws =
     option_map (λ right. record { terms = terms_of names ws; relation = relations.AtLeast; right = right }) (closing_of (behind_terms ws))
-
--- the words are this constraint, its variables numbered by any table that has met them, and perhaps `more`
-pub record IsConstraintRead (k : Known) (ws : List (List ℕ)) (c : Signed) (new : Known) : Type 0 where
-  pub says : (more : List (List ℕ)) → constraint_of (met_in new more).names ws ≡ Some c
-  pub known : new ≡ met_in k ws
-  pub small : AreSmall ws
 
 -- a constraint, `;`, and whatever follows
 abbrev pub rup_by : List (List ℕ) → List (List ℕ) → Option (List (List ℕ)) → Option Step
@@ -70,13 +64,6 @@ abbrev pub IsProper : Step → Type 0
 IsProper (steps.Red c images) = NamesOnce images
 IsProper _ = ⊤
 
--- the words behind a rule's own word are this step, as it is read
-pub record IsStepRead (rule : Rule) (k : Known) (ws : List (List ℕ)) (step : Step) (new : Known) : Type 0 where
-  pub says : step_by rule new.names ws ≡ Some step
-  pub proper : IsProper step
-  pub known : new ≡ met_in k (counted_by rule ws)
-  pub small : AreSmall (counted_by rule ws)
-
 -- the step that a line's words say, its variables numbered by the table `names`
 unfoldable pub step_of : List (List ℕ) → List (List ℕ) → Option Step
 step_of names [] = None
@@ -86,13 +73,6 @@ step_of names (w ∷ rest) = elim (rule_of w) [ None ↦ None | Some rule ↦ st
 unfoldable pub counted : List (List ℕ) → List (List ℕ)
 counted [] = []
 counted (w ∷ rest) = elim (rule_of w) [ None ↦ [] | Some rule ↦ counted_by rule rest ]
-
--- the words of a line are this step, as it is read
-pub record IsStepLineRead (k : Known) (ws : List (List ℕ)) (step : Step) (new : Known) : Type 0 where
-  pub says : step_of new.names ws ≡ Some step
-  pub proper : IsProper step
-  pub known : new ≡ met_in k (counted ws)
-  pub small : AreSmall (counted ws)
 
 -- The words of a line are this step: its variables are numbered by the table `new`, which is the table `old` and the
 -- names that the step brings, in order, and has no more than can be numbered; no name stands twice on the left; and the

@@ -1,19 +1,24 @@
-//! The conclusion line.
+//! The conclusion line: its kind, bounds, and the hints that may stand behind a colon.
+//!
+//! A hint of an id saves a checker a search and counts for nothing here. A hint of literals is a solution that will be judged, so it
+//! is kept; one without literals is a solution of no literals, and not the same as none. The lower bound `-INF` is this
+//! product's own spelling for "no bound".
 
 ghost use Rattle.std.specs.Prelude.{◌≡◌, ℕ, List, [], ◌∷◌, true, false, is_some, drop, IfOk, IfErr, OnOk, MatchOption};
 ghost use Rattle.proof_text.specs.Words.{AreSmall, unclosed};
 ghost use Rattle.proof_text.specs.Forms.{are_literals, literals_of};
 ghost use Rattle.proof_text.specs.Conclusions as conclusions;
-ghost use Rattle.proof_text.specs.Conclusions.{IsHintRead, IsConclusionRead, IsJudgementRead, IsConclusionLineRead};
-ghost use Rattle.proof_text.specs.Numbering.{Known};
-ghost use Rattle.proof_text.specs.Denial.{Denies, IsPlain};
+ghost use Rattle.proof_text.specs.ConclusionsRead.{begins_right, IsHintRead, IsConclusionRead, AreConclusionWordsRead, IsConclusionLineRead};
+ghost use Rattle.proof_text.specs.NamesMet.{NamesMet};
+ghost use Rattle.proof_text.specs.PartsDenied.{Denies};
+ghost use Rattle.proof_text.specs.Faults.{IsPlain};
 
-use crate::body::Body;
 use crate::fault::ProofFault;
+use crate::keyword::{ConclusionKind, conclusion_kind_of};
+use crate::line_names::LineNames;
+use crate::line_words::LineWords;
 use crate::lookahead::Lookahead;
-use crate::part::{lits, number};
-use crate::rule::{Verdict, verdict_of};
-use crate::table::Table;
+use crate::values::{lits, number};
 use linear::{Lit, Seq};
 use pb_text::{Kind, Symbol, Token};
 use proof_steps::{Conclusion, Lower, Upper};
@@ -22,8 +27,8 @@ use std::alloc::Global;
 /// A hint of literals, if one stands here.
 fn hint(
     alloc: Global,
-    mut words: Body<'_>,
-    table: &mut Table,
+    mut words: LineWords<'_>,
+    table: &mut LineNames,
 ) -> Result<Option<Seq<Lit>>, ProofFault>
     ensures read { IfOk result (λ h. IsHintRead table.old words.entry h table.new) }
     ensures kept { table.new.before ≡ table.old.before }
@@ -40,11 +45,11 @@ fn hint(
 }
 
 /// Passes a hint of an id, if one stands here. It is read and not kept.
-fn pass_id(words: &mut Body<'_>) -> Result<(), ProofFault>
+fn pass_id(words: &mut LineWords<'_>) -> Result<(), ProofFault>
     ensures left { OnOk result (words.new ≡ conclusions.past_id words.old) }
     ensures small { OnOk result (AreSmall words.new → AreSmall words.old) }
     ensures later { OnOk result (AreSmall words.old → AreSmall words.new) }
-    ensures denies { IfErr result (λ f. Denies f (conclusions.begins_right words.old) words.old) }
+    ensures denies { IfErr result (λ f. Denies f (begins_right words.old) words.old) }
     ensures plain { IfErr result IsPlain }
 {
     let Some(token) = words.next() else {
@@ -93,9 +98,9 @@ fn upper(token: Token<'_>) -> Result<Upper, ProofFault>
 }
 
 /// `NONE`, behind the word.
-fn nothing(words: Body<'_>) -> Result<Conclusion, ProofFault>
-    ensures read { IfOk result (λ c. (k : Known) → IsConclusionRead Verdict.Nothing k words.entry c k) }
-    ensures denies { IfErr result (λ f. Denies f (conclusions.is_conclusion Verdict.Nothing words.entry) words.entry) }
+fn nothing(words: LineWords<'_>) -> Result<Conclusion, ProofFault>
+    ensures read { IfOk result (λ c. (k : NamesMet) → IsConclusionRead ConclusionKind.Nothing k words.entry c k) }
+    ensures denies { IfErr result (λ f. Denies f (conclusions.is_conclusion ConclusionKind.Nothing words.entry) words.entry) }
     ensures plain { IfErr result IsPlain }
 {
     if words.is_empty() {
@@ -106,19 +111,19 @@ fn nothing(words: Body<'_>) -> Result<Conclusion, ProofFault>
 }
 
 /// `SAT`, behind the word.
-fn sat(alloc: Global, words: Body<'_>, table: &mut Table) -> Result<Conclusion, ProofFault>
-    ensures read { IfOk result (λ c. IsConclusionRead Verdict.Sat table.old words.entry c table.new) }
+fn sat(alloc: Global, words: LineWords<'_>, table: &mut LineNames) -> Result<Conclusion, ProofFault>
+    ensures read { IfOk result (λ c. IsConclusionRead ConclusionKind.Sat table.old words.entry c table.new) }
     ensures kept { table.new.before ≡ table.old.before }
-    ensures denies { IfErr result (λ f. Denies f (conclusions.is_conclusion Verdict.Sat words.entry) words.entry) }
+    ensures denies { IfErr result (λ f. Denies f (conclusions.is_conclusion ConclusionKind.Sat words.entry) words.entry) }
     ensures plain { IfErr result IsPlain }
 {
     Ok(Conclusion::Sat(hint(alloc, words, table)?))
 }
 
 /// `UNSAT`, behind the word.
-fn unsat(mut words: Body<'_>) -> Result<Conclusion, ProofFault>
-    ensures read { IfOk result (λ c. (k : Known) → IsConclusionRead Verdict.Unsat k words.entry c k) }
-    ensures denies { IfErr result (λ f. Denies f (conclusions.is_conclusion Verdict.Unsat words.entry) words.entry) }
+fn unsat(mut words: LineWords<'_>) -> Result<Conclusion, ProofFault>
+    ensures read { IfOk result (λ c. (k : NamesMet) → IsConclusionRead ConclusionKind.Unsat k words.entry c k) }
+    ensures denies { IfErr result (λ f. Denies f (conclusions.is_conclusion ConclusionKind.Unsat words.entry) words.entry) }
     ensures plain { IfErr result IsPlain }
 {
     pass_id(&mut words)?;
@@ -130,10 +135,14 @@ fn unsat(mut words: Body<'_>) -> Result<Conclusion, ProofFault>
 }
 
 /// `BOUNDS`, behind the word.
-fn bounds(alloc: Global, mut words: Body<'_>, table: &mut Table) -> Result<Conclusion, ProofFault>
-    ensures read { IfOk result (λ c. IsConclusionRead Verdict.Bounds table.old words.entry c table.new) }
+fn bounds(
+    alloc: Global,
+    mut words: LineWords<'_>,
+    table: &mut LineNames,
+) -> Result<Conclusion, ProofFault>
+    ensures read { IfOk result (λ c. IsConclusionRead ConclusionKind.Bounds table.old words.entry c table.new) }
     ensures kept { table.new.before ≡ table.old.before }
-    ensures denies { IfErr result (λ f. Denies f (conclusions.is_conclusion Verdict.Bounds words.entry) words.entry) }
+    ensures denies { IfErr result (λ f. Denies f (conclusions.is_conclusion ConclusionKind.Bounds words.entry) words.entry) }
     ensures plain { IfErr result IsPlain }
 {
     let Some(token) = words.take() else {
@@ -150,42 +159,42 @@ fn bounds(alloc: Global, mut words: Body<'_>, table: &mut Table) -> Result<Concl
 }
 
 /// What stands behind `conclusion`.
-fn judgement(
+fn conclusion_words(
     alloc: Global,
-    mut words: Body<'_>,
-    table: &mut Table,
+    mut words: LineWords<'_>,
+    table: &mut LineNames,
 ) -> Result<Conclusion, ProofFault>
-    ensures read { IfOk result (λ c. IsJudgementRead table.old words.entry c table.new) }
+    ensures read { IfOk result (λ c. AreConclusionWordsRead table.old words.entry c table.new) }
     ensures kept { table.new.before ≡ table.old.before }
-    ensures denies { IfErr result (λ f. Denies f (is_some (conclusions.judgement_of [] words.entry)) (drop 1 words.entry)) }
+    ensures denies { IfErr result (λ f. Denies f (is_some (conclusions.conclusion_said [] words.entry)) (drop 1 words.entry)) }
     ensures plain { IfErr result IsPlain }
 {
     let Some(token) = words.take() else {
         return Err(ProofFault::BadLine);
     };
-    let Some(verdict) = verdict_of(token.text) else {
+    let Some(kind) = conclusion_kind_of(token.text) else {
         return Err(ProofFault::BadLine);
     };
-    judged(alloc, verdict, words, table)
+    of_kind(alloc, kind, words, table)
 }
 
-/// What stands behind the word of a verdict.
-fn judged(
+/// What stands behind the word of a kind.
+fn of_kind(
     alloc: Global,
-    verdict: Verdict,
-    words: Body<'_>,
-    table: &mut Table,
+    kind: ConclusionKind,
+    words: LineWords<'_>,
+    table: &mut LineNames,
 ) -> Result<Conclusion, ProofFault>
-    ensures read { IfOk result (λ c. IsConclusionRead verdict table.old words.entry c table.new) }
+    ensures read { IfOk result (λ c. IsConclusionRead kind table.old words.entry c table.new) }
     ensures kept { table.new.before ≡ table.old.before }
-    ensures denies { IfErr result (λ f. Denies f (conclusions.is_conclusion verdict words.entry) words.entry) }
+    ensures denies { IfErr result (λ f. Denies f (conclusions.is_conclusion kind words.entry) words.entry) }
     ensures plain { IfErr result IsPlain }
 {
-    match verdict {
-        Verdict::Nothing => nothing(words),
-        Verdict::Sat => sat(alloc, words, table),
-        Verdict::Unsat => unsat(words),
-        Verdict::Bounds => bounds(alloc, words, table),
+    match kind {
+        ConclusionKind::Nothing => nothing(words),
+        ConclusionKind::Sat => sat(alloc, words, table),
+        ConclusionKind::Unsat => unsat(words),
+        ConclusionKind::Bounds => bounds(alloc, words, table),
     }
 }
 
@@ -193,7 +202,7 @@ fn judged(
 pub(crate) fn conclusion(
     alloc: Global,
     mut words: Lookahead<'_>,
-    table: &mut Table,
+    table: &mut LineNames,
 ) -> Result<Conclusion, ProofFault>
     ensures read { IfOk result (λ c. IsConclusionLineRead table.old words.entry c table.new) }
     ensures kept { table.new.before ≡ table.old.before }
@@ -206,5 +215,5 @@ pub(crate) fn conclusion(
     if token.text != b"conclusion".as_slice() {
         return Err(ProofFault::BadLine);
     }
-    judgement(alloc, Body::new(words), table)
+    conclusion_words(alloc, LineWords::new(words), table)
 }

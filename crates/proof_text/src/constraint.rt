@@ -1,17 +1,19 @@
 //! Written constraints: terms, `>=` and an integer, and the `;` behind them.
+//!
+//! Terms stay as they are written, signs, zeros and repeated variables included: to bring them into normal form is the kernel's affair.
+//! `=` and `<=` would each be one constraint or two of the proof, with ids to match, and are left out where `>=` is due.
 
 ghost use Rattle.std.specs.Prelude.{◌≡◌, [], ◌∷◌, Some, is_some, false, true, ◌&&◌, IfOk, IfErr, OnOk};
 ghost use Rattle.proof_text.specs.Words.{AreSmall, begins_integer};
 ghost use Rattle.proof_text.specs.Forms.{terms_of, behind_terms, closing_of};
-ghost use Rattle.proof_text.specs.Steps.{IsConstraintRead};
-ghost use Rattle.proof_text.specs.Reading.{Takes, SoFar};
-ghost use Rattle.proof_text.specs.Denial.{Denies, IsForm};
+ghost use Rattle.proof_text.specs.PartsRead.{IsConstraintRead, Takes, SoFar};
+ghost use Rattle.proof_text.specs.PartsDenied.{Denies, IsForm};
 
+use crate::before_semicolon::BeforeSemicolon;
 use crate::fault::ProofFault;
-use crate::front::Front;
+use crate::line_names::LineNames;
 use crate::lookahead::Lookahead;
-use crate::part::{lit, number};
-use crate::table::Table;
+use crate::values::{lit, number};
 use linear::{Relation, Seq, Signed, Term};
 use pb_text::{Kind, Symbol, Token};
 use std::alloc::Global;
@@ -19,8 +21,8 @@ use std::alloc::Global;
 /// The term that begins with a coefficient.
 fn term(
     coefficient: Token<'_>,
-    words: &mut Front<'_>,
-    table: &mut Table,
+    words: &mut BeforeSemicolon<'_>,
+    table: &mut LineNames,
 ) -> Result<Term, ProofFault>
     requires { coefficient.kind ≡ Kind.Integer }
     ensures takes { IfOk result (λ t. Takes behind_terms terms_of table.old (coefficient.entry.text.now ∷ words.old.front) t table.new words.new.front) }
@@ -42,7 +44,11 @@ fn term(
 }
 
 /// The terms that stand next.
-fn terms(alloc: Global, words: &mut Front<'_>, table: &mut Table) -> Result<Seq<Term>, ProofFault>
+fn terms(
+    alloc: Global,
+    words: &mut BeforeSemicolon<'_>,
+    table: &mut LineNames,
+) -> Result<Seq<Term>, ProofFault>
     ensures read { IfOk result (λ v. SoFar behind_terms terms_of table.old words.old.front v table.new words.new.front) }
     ensures end { OnOk result (begins_integer words.new.front ≡ false) }
     ensures behind { words.new.behind ≡ words.old.behind }
@@ -68,7 +74,7 @@ fn relation_fault(token: Token<'_>) -> ProofFault
 }
 
 /// `>=` and the right side.
-fn right_side(words: &mut Front<'_>) -> Result<i128, ProofFault>
+fn right_side(words: &mut BeforeSemicolon<'_>) -> Result<i128, ProofFault>
     ensures closing { IfOk result (λ n. closing_of words.old.front ≡ Some n) }
     ensures small { OnOk result (AreSmall words.old.front) }
     ensures end { OnOk result (words.new.front ≡ []) }
@@ -95,8 +101,8 @@ fn right_side(words: &mut Front<'_>) -> Result<i128, ProofFault>
 /// A constraint, and the words behind its `;`.
 pub(crate) fn constraint<'a>(
     alloc: Global,
-    mut words: Front<'a>,
-    table: &mut Table,
+    mut words: BeforeSemicolon<'a>,
+    table: &mut LineNames,
 ) -> Result<(Signed, Lookahead<'a>), ProofFault>
     ensures read { IfOk result (λ r. IsConstraintRead table.old words.entry.front r.0 table.new) }
     ensures behind { IfOk result (λ r. words.entry.behind ≡ Some r.1) }

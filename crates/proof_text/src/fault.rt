@@ -1,4 +1,4 @@
-//! Why a line of a proof is refused.
+//! Why a line of a proof is refused. The numbers are printed and stay: programs compare them.
 
 use std::alloc::{AllocError, AllocFailed};
 use thiserror::Error;
@@ -42,7 +42,7 @@ impl ProofFault {
     ghost use Rattle.std.specs.Prelude.{◌≡◌};
     ghost use Rattle.proof_text.specs.Faults.{number_of, name_of_fault};
 
-    /// The number that stands for the fault in printed verdicts.
+    /// The number that stands for the fault in printed kinds.
     pub fn number(self) -> u8
         ensures { result ≡ number_of self }
     {

@@ -1,17 +1,20 @@
-//! The lines around the steps: header, count, output and end.
+//! The lines around the steps: header, count, output and end. Each is a fixed list of words, but for the integer of the count.
+//!
+//! The count says how many constraints the checker must have read from the problem file, so that a proof of another file is
+//! refused before its first step. Only the output `NONE` is read: the others promise a file that this product does not write.
 
 ghost use Rattle.std.specs.Prelude.{◌≡◌, ℤ, Some, None, false, true, IfErr, MatchOption, OnOk};
 ghost use Rattle.proof_text.specs.Words.{are_words, AreSmall};
 ghost use Rattle.proof_text.specs.Frame as frame;
-ghost use Rattle.proof_text.specs.Denial.{IsForm};
+ghost use Rattle.proof_text.specs.PartsDenied.{IsForm};
 
-use crate::body::Body;
 use crate::fault::ProofFault;
-use crate::part::number;
+use crate::line_words::LineWords;
+use crate::values::number;
 use pb_text::Kind;
 
 /// Whether the words are `pseudo-Boolean proof version 2.0`.
-pub(crate) fn is_header(mut words: Body<'_>) -> bool
+pub(crate) fn is_header(mut words: LineWords<'_>) -> bool
     ensures { result ≡ are_words frame.header words.entry }
 {
     words.takes(b"pseudo-Boolean")
@@ -22,7 +25,7 @@ pub(crate) fn is_header(mut words: Body<'_>) -> bool
 }
 
 /// The number behind `f`, where the words are these two and the number is within the limit.
-pub(crate) fn count(mut words: Body<'_>) -> Option<i128>
+pub(crate) fn count(mut words: LineWords<'_>) -> Option<i128>
     ensures { MatchOption
         result
         ((n : ℤ) → frame.count_of words.entry ≡ Some n → AreSmall words.entry → ⊥)
@@ -39,7 +42,7 @@ pub(crate) fn count(mut words: Body<'_>) -> Option<i128>
 }
 
 /// The words are `output NONE`; another output is left out.
-pub(crate) fn output(mut words: Body<'_>) -> Result<(), ProofFault>
+pub(crate) fn output(mut words: LineWords<'_>) -> Result<(), ProofFault>
     ensures ok { OnOk result (are_words frame.output words.entry ≡ true) }
     ensures form { IfErr result IsForm }
     ensures denies { IfErr result (λ f. are_words frame.output words.entry ≡ false) }
@@ -64,7 +67,7 @@ pub(crate) fn output(mut words: Body<'_>) -> Result<(), ProofFault>
 }
 
 /// Whether the words are `end pseudo-Boolean proof`.
-pub(crate) fn is_end(mut words: Body<'_>) -> bool
+pub(crate) fn is_end(mut words: LineWords<'_>) -> bool
     ensures { result ≡ are_words frame.ending words.entry }
 {
     words.takes(b"end")

@@ -1,32 +1,34 @@
 //! The lines of proofs (the VeriPB proof format, version 2.0, in this product's profile): which lines count, and what
 //! each says at its place.
+//!
+//! The format is read line by line, each line by words. What a line says is defined over its words alone (`specs/`), by a form for
+//! each rule, and the code is proved to read exactly that: a line is read where it says something at its place, with its integers
+//! and names within the limits, and is refused with a fault where it says nothing. Nothing here knows what a step means, so
+//! that a checker's rules and a solver's log stand on the same reading.
 #![tactic(auto)]
 
-mod body;
+mod before_semicolon;
+mod cases;
 mod conclude;
 mod constraint;
 mod fault;
 mod frame;
-mod front;
+mod keyword;
+mod laws;
 mod line;
+mod line_names;
+mod line_words;
 mod lookahead;
-mod part;
 mod pol;
 mod read;
 mod reader;
 mod refusal;
-mod rule;
 mod step;
-mod table;
+mod values;
 mod witness;
-mod write;
-mod writer;
 
 pub use fault::ProofFault;
+pub use keyword::{ConclusionKind, Rule};
 pub use line::{Line, Place};
 pub use read::{read_line, read_step};
 pub use reader::{NumberedLine, ProofReader};
-pub use write::{write_end, write_step};
-
-#[cfg(test)]
-mod tests;

@@ -1,4 +1,4 @@
-//! What the lines of a proof say, and where each may stand.
+//! What the lines of a proof say, and the sections of a proof in which they may stand.
 
 use proof_steps::{Conclusion, Step};
 

@@ -1,4 +1,7 @@
 //! The words of a line that are left, with the next two in sight.
+//!
+//! Two words are enough for the whole format: an integer belongs to the `*` or `d` behind it, a name to the `w`; a `;` closes a
+//! line only where nothing stands behind it, and begins a subproof where `begin` does.
 
 use pb_text::{Kind, Symbol, Token, Tokens};
 use std::marker::Model;
@@ -14,7 +17,7 @@ pub(crate) struct Lookahead<'a> {
 impl<'a> Model for Lookahead<'a> {
     ghost use Rattle.std.specs.Prelude.{◌≡◌, None, ℕ, List, []};
     ghost use Rattle.proof_text.specs.Words.{texts};
-    ghost use Rattle.proof_text.specs.Ahead.{onto};
+    ghost use Rattle.proof_text.specs.WordsAhead.{onto};
 
     ghost Value = { List (List ℕ) };
 

@@ -4,24 +4,24 @@
 ghost use Rattle.std.specs.Prelude.{◌≡◌, ℕ, List, ◌∷◌, true, false, IfOk, IfErr, OnOk};
 ghost use Rattle.pb_text.specs.Lexeme.{kind_of};
 ghost use Rattle.proof_text.specs.Kinds.{is_integer, is_literal};
-ghost use Rattle.proof_text.specs.Numbering.{Known};
+ghost use Rattle.proof_text.specs.NamesMet.{NamesMet};
 ghost use Rattle.proof_text.specs.Forms.{are_items, items_of};
-ghost use Rattle.proof_text.specs.Reading.{Takes, IsRead};
-ghost use Rattle.proof_text.specs.Denial.{Denies};
+ghost use Rattle.proof_text.specs.PartsRead.{Takes, IsRead};
+ghost use Rattle.proof_text.specs.PartsDenied.{Denies};
 
-use crate::body::Body;
 use crate::fault::ProofFault;
-use crate::part::{lit, number};
-use crate::table::Table;
+use crate::line_names::LineNames;
+use crate::line_words::LineWords;
+use crate::values::{lit, number};
 use linear::Seq;
 use pb_text::{Kind, Token};
 use proof_steps::Item;
 use std::alloc::Global;
 
 /// An id, or a factor with its operation.
-fn integer_item(token: Token<'_>, words: &mut Body<'_>) -> Result<Item, ProofFault>
+fn integer_item(token: Token<'_>, words: &mut LineWords<'_>) -> Result<Item, ProofFault>
     requires { token.kind ≡ Kind.Integer }
-    ensures takes { IfOk result (λ i. (k : Known) → Takes are_items items_of k (token.entry.text.now ∷ words.old) i k words.new) }
+    ensures takes { IfOk result (λ i. (k : NamesMet) → Takes are_items items_of k (token.entry.text.now ∷ words.old) i k words.new) }
     ensures denies { IfErr result (λ f. Denies f (are_items (token.entry.text.now ∷ words.old)) (token.entry.text.now ∷ words.old)) }
 {
     let number = number(token)?;
@@ -37,8 +37,8 @@ fn integer_item(token: Token<'_>, words: &mut Body<'_>) -> Result<Item, ProofFau
 /// An axiom, or a variable with the weakening by it.
 fn literal_item(
     token: Token<'_>,
-    words: &mut Body<'_>,
-    table: &mut Table,
+    words: &mut LineWords<'_>,
+    table: &mut LineNames,
 ) -> Result<Item, ProofFault>
     requires { token.kind ≡ Kind.Literal }
     ensures takes { IfOk result (λ i. Takes are_items items_of table.old (token.entry.text.now ∷ words.old) i table.new words.new) }
@@ -55,7 +55,7 @@ fn literal_item(
 /// `+` or `s`. (Both begin no name, but `s` begins with a letter, so its kind is that of a misspelt one.)
 fn operation_item(token: Token<'_>) -> Result<Item, ProofFault>
     requires { (is_integer token.kind ≡ false) × (is_literal token.kind ≡ false) }
-    ensures takes { IfOk result (λ i. (k : Known) (rest : List (List ℕ)) → Takes are_items items_of k (token.entry.text.now ∷ rest) i k rest) }
+    ensures takes { IfOk result (λ i. (k : NamesMet) (rest : List (List ℕ)) → Takes are_items items_of k (token.entry.text.now ∷ rest) i k rest) }
     ensures denies { IfErr result (λ f. (rest : List (List ℕ)) → Denies f (are_items (token.entry.text.now ∷ rest)) (token.entry.text.now ∷ rest)) }
 {
     if token.text == b"+".as_slice() {
@@ -68,7 +68,11 @@ fn operation_item(token: Token<'_>) -> Result<Item, ProofFault>
 }
 
 /// The item that a word begins.
-fn item(token: Token<'_>, words: &mut Body<'_>, table: &mut Table) -> Result<Item, ProofFault>
+fn item(
+    token: Token<'_>,
+    words: &mut LineWords<'_>,
+    table: &mut LineNames,
+) -> Result<Item, ProofFault>
     ensures takes { IfOk result (λ i. Takes are_items items_of table.old (token.entry.text.now ∷ words.old) i table.new words.new) }
     ensures kept { table.new.before ≡ table.old.before }
     ensures denies { IfErr result (λ f. Denies f (are_items (token.entry.text.now ∷ words.old)) (token.entry.text.now ∷ words.old)) }
@@ -83,8 +87,8 @@ fn item(token: Token<'_>, words: &mut Body<'_>, table: &mut Table) -> Result<Ite
 /// The items up to the end of a line.
 pub(crate) fn items(
     alloc: Global,
-    mut words: Body<'_>,
-    table: &mut Table,
+    mut words: LineWords<'_>,
+    table: &mut LineNames,
 ) -> Result<Seq<Item>, ProofFault>
     ensures read { IfOk result (λ v. IsRead are_items items_of table.old words.entry v table.new) }
     ensures kept { table.new.before ≡ table.old.before }

@@ -1,29 +1,38 @@
 //! What a line says at its place.
+//!
+//! The words of a line are cut once, here, and handed on: the choice between a step and the output line looks at the first of
+//! them. The place decides which faults there are. Among the steps a rule may be unknown or left out; at the conclusion no rule is
+//! due, so that whatever stands there is a bad line; the header, the count and the text behind the end have one fault each.
 
 ghost use Rattle.std.specs.Prelude.{◌≡◌, false, length, IfOk, IfErr, OnErr};
 ghost use Rattle.proof_text.specs.Words.{words};
-ghost use Rattle.proof_text.specs.Steps.{IsStep, IsStepLineRead};
+ghost use Rattle.proof_text.specs.Steps.{IsStep};
+ghost use Rattle.proof_text.specs.StepsRead.{IsStepLineRead};
 ghost use Rattle.proof_text.specs.Spells.{IsLine};
 ghost use Rattle.proof_text.specs.Faults.{DeniesStep, DeniesLine};
-ghost use Rattle.proof_text.specs.Writing.{IsStepWritable, IsLineWritable};
+ghost use Rattle.proof_text.specs.Writable.{IsStepWritable, IsLineWritable};
 
-use crate::body::Body;
 use crate::conclude::conclusion;
 use crate::fault::ProofFault;
 use crate::frame::{count, is_end, is_header, output};
+use crate::keyword::rule_of;
 use crate::line::{Line, Place};
+use crate::line_names::LineNames;
+use crate::line_words::LineWords;
 use crate::lookahead::Lookahead;
 use crate::refusal::rule_fault;
-use crate::rule::rule_of;
 use crate::step::step;
-use crate::table::Table;
 use linear::Names;
 use proof_steps::Step;
 use std::alloc::Global;
 use std::mem;
 
 /// The step that the words of a line say.
-fn step_line(alloc: Global, mut words: Lookahead<'_>, table: &mut Table) -> Result<Step, ProofFault>
+fn step_line(
+    alloc: Global,
+    mut words: Lookahead<'_>,
+    table: &mut LineNames,
+) -> Result<Step, ProofFault>
     requires { table.old.full ≡ false }
     ensures read { IfOk result (λ s. IsStepLineRead table.old words.entry s table.new) }
     ensures kept { table.new.before ≡ table.old.before }
@@ -35,6 +44,29 @@ fn step_line(alloc: Global, mut words: Lookahead<'_>, table: &mut Table) -> Resu
     match rule_of(token.text) {
         Some(rule) => step(alloc, rule, words, table),
         None => Err(rule_fault(token)),
+    }
+}
+
+/// The step that the words of a line say, its new names added; `read_step` says which fault comes where.
+fn step_of_words(alloc: Global, words: Lookahead<'_>, names: &mut Names) -> Result<Step, ProofFault>
+    ensures step { IfOk result (λ s. IsStep names.old words.entry s names.new) }
+    ensures err { OnErr result (names.new ≡ names.old) }
+    ensures denies { IfErr result (λ f. DeniesStep f names.old words.entry) }
+{
+    let mut table = LineNames::new(mem::replace(names, Names::new(alloc)));
+    match step_line(alloc, words, &mut table) {
+        Ok(step) => {
+            if table.is_full() {
+                *names = table.undo();
+                return Err(ProofFault::TooManyIds);
+            }
+            *names = table.into_names();
+            Ok(step)
+        }
+        Err(fault) => {
+            *names = table.undo();
+            Err(fault)
+        }
     }
 }
 
@@ -51,31 +83,21 @@ pub fn read_step(alloc: Global, line: &[u8], names: &mut Names) -> Result<Step, 
     ensures err { OnErr result (names.new ≡ names.old) }
     ensures denies { IfErr result (λ f. DeniesStep f names.old (words line.now)) }
 {
-    let mut table = Table::new(mem::replace(names, Names::new(alloc)));
-    match step_line(alloc, Lookahead::new(line), &mut table) {
-        Ok(step) => {
-            if table.is_full() {
-                *names = table.undo();
-                return Err(ProofFault::TooManyIds);
-            }
-            *names = table.into_names();
-            Ok(step)
-        }
-        Err(fault) => {
-            *names = table.undo();
-            Err(fault)
-        }
-    }
+    step_of_words(alloc, Lookahead::new(line), names)
 }
 
-/// The conclusion that a line says.
-fn read_conclusion(alloc: Global, line: &[u8], names: &mut Names) -> Result<Line, ProofFault>
-    ensures line { IfOk result (λ l. IsLine Place.Conclusion names.old (words line.now) l names.new) }
+/// The conclusion that the words of a line say, its new names added.
+fn conclusion_line(
+    alloc: Global,
+    words: Lookahead<'_>,
+    names: &mut Names,
+) -> Result<Line, ProofFault>
+    ensures line { IfOk result (λ l. IsLine Place.Conclusion names.old words.entry l names.new) }
     ensures err { OnErr result (names.new ≡ names.old) }
-    ensures denies { IfErr result (λ f. DeniesLine f Place.Conclusion names.old (words line.now)) }
+    ensures denies { IfErr result (λ f. DeniesLine f Place.Conclusion names.old words.entry) }
 {
-    let mut table = Table::new(mem::replace(names, Names::new(alloc)));
-    match conclusion(alloc, Lookahead::new(line), &mut table) {
+    let mut table = LineNames::new(mem::replace(names, Names::new(alloc)));
+    match conclusion(alloc, words, &mut table) {
         Ok(conclusion) => {
             if table.is_full() {
                 *names = table.undo();
@@ -92,22 +114,26 @@ fn read_conclusion(alloc: Global, line: &[u8], names: &mut Names) -> Result<Line
 }
 
 /// A step, or the output line behind the steps.
-fn read_step_or_output(alloc: Global, line: &[u8], names: &mut Names) -> Result<Line, ProofFault>
-    ensures line { IfOk result (λ l. IsLine Place.Step names.old (words line.now) l names.new) }
+fn step_or_output(
+    alloc: Global,
+    words: Lookahead<'_>,
+    names: &mut Names,
+) -> Result<Line, ProofFault>
+    ensures line { IfOk result (λ l. IsLine Place.Step names.old words.entry l names.new) }
     ensures err { OnErr result (names.new ≡ names.old) }
-    ensures denies { IfErr result (λ f. DeniesLine f Place.Step names.old (words line.now)) }
+    ensures denies { IfErr result (λ f. DeniesLine f Place.Step names.old words.entry) }
 {
     // That the names so far can be numbered is known by their table's type; this makes it known here.
     let _count = names.len();
-    let words = Lookahead::new(line);
     if words.begins(b"output") {
-        output(Body::new(words))?;
+        output(LineWords::new(words))?;
         return Ok(Line::Output);
     }
-    let step = read_step(alloc, line, names)?;
+    let step = step_of_words(alloc, words, names)?;
     Ok(Line::Step(step))
 }
 
+#[tactic(auto, unfolding(crate::specs::Faults::DeniesLine))]
 /// What a line says at its place. Names that the table does not have are added in order; a refused line adds none.
 /// A step or a conclusion can be written again.
 ///
@@ -128,22 +154,23 @@ pub fn read_line(
 {
     // That the names so far can be numbered is known by their table's type; this makes it known here.
     let _count = names.len();
+    let words = Lookahead::new(line);
     match place {
         Place::Header => {
-            if is_header(Body::new(Lookahead::new(line))) {
+            if is_header(LineWords::new(words)) {
                 Ok(Line::Header)
             } else {
                 Err(ProofFault::BadHeader)
             }
         }
-        Place::Count => match count(Body::new(Lookahead::new(line))) {
+        Place::Count => match count(LineWords::new(words)) {
             Some(number) => Ok(Line::Count(number)),
             None => Err(ProofFault::BadCount),
         },
-        Place::Step => read_step_or_output(alloc, line, names),
-        Place::Conclusion => read_conclusion(alloc, line, names),
+        Place::Step => step_or_output(alloc, words, names),
+        Place::Conclusion => conclusion_line(alloc, words, names),
         Place::End => {
-            if is_end(Body::new(Lookahead::new(line))) {
+            if is_end(LineWords::new(words)) {
                 Ok(Line::End)
             } else {
                 Err(ProofFault::BadLine)

@@ -1,10 +1,16 @@
 //! The lines of a proof that count, with their numbers.
+//!
+//! Proofs are long, so a line is found by its LF and lent from the text, and nothing is copied. Whether it counts is told by its bytes, without
+//! cutting a token, since whoever reads it cuts its words anyway. Comment lines are no part of the format's grammar: a line
+//! whose first byte other than space and tab is `*` is passed over, as in the problem files of Roussel and Manquinho's format.
 
-ghost use Rattle.std.specs.Prelude.{◌≡◌, ◌+◌, ◌<◌, ◌≤◌, ◌^◌, length};
+ghost use Rattle.std.specs.Prelude.{◌≡◌, ◌+◌, ◌<◌, ◌≤◌, ◌^◌, true, length};
+ghost use Rattle.std.specs.List.{list_all};
+ghost use Rattle.pb_text.specs.Lexeme.{begins_comment, is_white};
 ghost use Rattle.proof_text.specs.Lines as lines;
+ghost use Rattle.proof_text.specs.Lines.{has_no_break};
 
 use memchr::memchr;
-use pb_text::Tokens;
 use std::marker::Model;
 
 /// A line that counts: it has a token, so it is neither blank nor a comment.
@@ -16,7 +22,7 @@ pub struct NumberedLine<'a> {
     pub text: &'a [u8],
 }
 
-/// A place at the start of a line.
+/// A position at the start of a line.
 #[derive(Clone, Copy)]
 struct LineCursor<'a> {
     /// The bytes that follow.
@@ -26,21 +32,43 @@ struct LineCursor<'a> {
     ghost fits: { number + length rest.now < 2 ^ 64 },
 }
 
-/// Whether a line counts.
+/// Whether a line is a comment: its first byte other than space and tab is `*`.
+fn is_comment(line: &[u8]) -> bool
+    ensures { result ≡ begins_comment line.now }
+{
+    let mut rest = line;
+    while let [b' ' | b'\t', more @ ..] = rest {
+        rest = more;
+    }
+    matches!(rest, [b'*', ..])
+}
+
+/// Whether a line has white space alone.
+fn is_blank(line: &[u8]) -> bool
+    ensures { result ≡ list_all is_white line.now }
+{
+    line.iter()
+        .all(|b| matches!(*b, b' ' | b'\t' | b'\r' | b'\n'))
+}
+
+/// Whether a line counts. No token is cut for that: a line has one where it is neither blank nor a comment.
+#[tactic(auto, using(crate::proofs::LinesParted::counts_where))]
 fn counts(line: &[u8]) -> bool
+    requires { has_no_break line.now ≡ true }
     ensures { result ≡ lines.counts line.now }
 {
-    Tokens::new(line).next().is_some()
+    !is_blank(line) && !is_comment(line)
 }
 
 impl<'a> LineCursor<'a> {
-    ghost use Rattle.proof_text.specs.Reader.{numbered_of, pending};
+    ghost use Rattle.proof_text.specs.LinesAhead.{numbered_of, pending};
 
-    /// The line at a place, and the place behind it.
+    /// The line at a position, and the position behind it.
     fn line(self) -> (NumberedLine<'a>, LineCursor<'a>)
         requires { 0 < length self.rest.now }
         ensures lines { (pending self.entry).lines ≡ lines.onto (numbered_of result.0) (pending result.1).lines }
         ensures last { (pending result.1).last ≡ (pending self.entry).last }
+        ensures unbroken { has_no_break result.0.text.now ≡ true }
         ensures shorter { length result.1.rest.now < length self.entry.rest.now }
     {
         let number = self.number;
@@ -74,7 +102,7 @@ pub struct ProofReader<'a> {
 
 impl<'a> Model for ProofReader<'a> {
     ghost use Rattle.proof_text.specs.Lines.{Pending};
-    ghost use Rattle.proof_text.specs.Reader.{pending};
+    ghost use Rattle.proof_text.specs.LinesAhead.{pending};
 
     ghost Value = { Pending };
 
@@ -84,7 +112,7 @@ impl<'a> Model for ProofReader<'a> {
 impl<'a> ProofReader<'a> {
     ghost use Rattle.std.specs.Prelude.{[], ◌∷◌, MatchOption};
     ghost use Rattle.proof_text.specs.Lines.{lines_of};
-    ghost use Rattle.proof_text.specs.Reader.{numbered_of};
+    ghost use Rattle.proof_text.specs.LinesAhead.{numbered_of};
 
     /// All lines of a proof.
     pub fn new(proof: &'a [u8]) -> Self

@@ -1,6 +1,9 @@
-//! First words that begin no step: which fault they are.
+//! First words that begin no step, and which fault they are.
+//!
+//! A user should see apart what is misspelt, what belongs elsewhere, and what is right VeriPB that this profile leaves out
+//! (orders, core sets, checked deletions, subproofs): the last is no reproach to the proof.
 
-ghost use Rattle.proof_text.specs.Denial.{IsForm};
+ghost use Rattle.proof_text.specs.PartsDenied.{IsForm};
 
 use crate::fault::ProofFault;
 use pb_text::{Kind, Token};

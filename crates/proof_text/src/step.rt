@@ -1,52 +1,55 @@
-//! Steps, rule by rule.
+//! Steps, rule by rule: what stands behind the word of a rule.
+//!
+//! Each rule has a function of its own with one contract for all: what the words say is the step, the names of its literals are
+//! met in order, and each fault says of the words what it should. A new rule is one more function and one more arm.
 
 ghost use Rattle.std.specs.Prelude.{◌≡◌, false, IfOk, IfErr};
-ghost use Rattle.proof_text.specs.Steps.{IsStepRead};
-ghost use Rattle.proof_text.specs.Faults.{DeniesRule};
+ghost use Rattle.proof_text.specs.StepsRead.{IsStepRead};
+ghost use Rattle.proof_text.specs.PartsDenied.{DeniesRule};
 
-use crate::body::Body;
+use crate::before_semicolon::BeforeSemicolon;
 use crate::constraint::constraint;
 use crate::fault::ProofFault;
-use crate::front::Front;
+use crate::keyword::Rule;
+use crate::line_names::LineNames;
+use crate::line_words::LineWords;
 use crate::lookahead::Lookahead;
-use crate::part::{lits, numbers};
 use crate::pol::items;
-use crate::rule::Rule;
-use crate::table::Table;
+use crate::values::{lits, numbers};
 use crate::witness::{full_fault, images};
 use proof_steps::Step;
 use std::alloc::Global;
 use substitution::Substitution;
 
 /// `pol`: the items of an expression.
-fn pol(alloc: Global, words: Lookahead<'_>, table: &mut Table) -> Result<Step, ProofFault>
+fn pol(alloc: Global, words: Lookahead<'_>, table: &mut LineNames) -> Result<Step, ProofFault>
     ensures read { IfOk result (λ s. IsStepRead Rule.Pol table.old words.entry s table.new) }
     ensures kept { table.new.before ≡ table.old.before }
     ensures denies { IfErr result (λ f. DeniesRule f Rule.Pol table.old.names words.entry) }
 {
-    let items = items(alloc, Body::new(words), table)?;
+    let items = items(alloc, LineWords::new(words), table)?;
     Ok(Step::Pol(items))
 }
 
 /// `rup`: a constraint, `;`, and hints, which are passed over.
-fn rup(alloc: Global, words: Lookahead<'_>, table: &mut Table) -> Result<Step, ProofFault>
+fn rup(alloc: Global, words: Lookahead<'_>, table: &mut LineNames) -> Result<Step, ProofFault>
     ensures read { IfOk result (λ s. IsStepRead Rule.Rup table.old words.entry s table.new) }
     ensures kept { table.new.before ≡ table.old.before }
     ensures denies { IfErr result (λ f. DeniesRule f Rule.Rup table.old.names words.entry) }
 {
-    let (constraint, _hints) = constraint(alloc, Front::new(words), table)?;
+    let (constraint, _hints) = constraint(alloc, BeforeSemicolon::new(words), table)?;
     Ok(Step::Rup(constraint))
 }
 
 /// `red`: a constraint, `;`, and a substitution.
-fn red(alloc: Global, words: Lookahead<'_>, table: &mut Table) -> Result<Step, ProofFault>
+fn red(alloc: Global, words: Lookahead<'_>, table: &mut LineNames) -> Result<Step, ProofFault>
     requires { table.old.full ≡ false }
     ensures read { IfOk result (λ s. IsStepRead Rule.Red table.old words.entry s table.new) }
     ensures kept { table.new.before ≡ table.old.before }
     ensures denies { IfErr result (λ f. DeniesRule f Rule.Red table.old.names words.entry) }
 {
-    let (constraint, behind) = constraint(alloc, Front::new(words), table)?;
-    let witness = images(alloc, Body::new(behind), table)?;
+    let (constraint, behind) = constraint(alloc, BeforeSemicolon::new(words), table)?;
+    let witness = images(alloc, LineWords::new(behind), table)?;
     if table.is_full() {
         return Err(full_fault(&witness));
     }
@@ -61,27 +64,27 @@ fn red(alloc: Global, words: Lookahead<'_>, table: &mut Table) -> Result<Step, P
 }
 
 /// `sol`: literals.
-fn sol(alloc: Global, words: Lookahead<'_>, table: &mut Table) -> Result<Step, ProofFault>
+fn sol(alloc: Global, words: Lookahead<'_>, table: &mut LineNames) -> Result<Step, ProofFault>
     ensures read { IfOk result (λ s. IsStepRead Rule.Sol table.old words.entry s table.new) }
     ensures kept { table.new.before ≡ table.old.before }
     ensures denies { IfErr result (λ f. DeniesRule f Rule.Sol table.old.names words.entry) }
 {
-    let lits = lits(alloc, Body::new(words), table)?;
+    let lits = lits(alloc, LineWords::new(words), table)?;
     Ok(Step::Sol(lits))
 }
 
 /// `soli`: literals.
-fn soli(alloc: Global, words: Lookahead<'_>, table: &mut Table) -> Result<Step, ProofFault>
+fn soli(alloc: Global, words: Lookahead<'_>, table: &mut LineNames) -> Result<Step, ProofFault>
     ensures read { IfOk result (λ s. IsStepRead Rule.Soli table.old words.entry s table.new) }
     ensures kept { table.new.before ≡ table.old.before }
     ensures denies { IfErr result (λ f. DeniesRule f Rule.Soli table.old.names words.entry) }
 {
-    let lits = lits(alloc, Body::new(words), table)?;
+    let lits = lits(alloc, LineWords::new(words), table)?;
     Ok(Step::Soli(lits))
 }
 
 /// `del`: `id`, and ids.
-fn del(alloc: Global, mut words: Lookahead<'_>, table: &mut Table) -> Result<Step, ProofFault>
+fn del(alloc: Global, mut words: Lookahead<'_>, table: &mut LineNames) -> Result<Step, ProofFault>
     ensures read { IfOk result (λ s. IsStepRead Rule.Del table.old words.entry s table.new) }
     ensures kept { table.new.before ≡ table.old.before }
     ensures denies { IfErr result (λ f. DeniesRule f Rule.Del table.old.names words.entry) }
@@ -90,7 +93,7 @@ fn del(alloc: Global, mut words: Lookahead<'_>, table: &mut Table) -> Result<Ste
         return Err(ProofFault::BadLine);
     };
     if token.text == b"id".as_slice() {
-        let ids = numbers(alloc, Body::new(words))?;
+        let ids = numbers(alloc, LineWords::new(words))?;
         return Ok(Step::Del(ids));
     }
     if token.text == b"range".as_slice() || token.text == b"spec".as_slice() {
@@ -104,7 +107,7 @@ pub(crate) fn step(
     alloc: Global,
     rule: Rule,
     words: Lookahead<'_>,
-    table: &mut Table,
+    table: &mut LineNames,
 ) -> Result<Step, ProofFault>
     requires { table.old.full ≡ false }
     ensures read { IfOk result (λ s. IsStepRead rule table.old words.entry s table.new) }

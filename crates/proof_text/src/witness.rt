@@ -1,17 +1,21 @@
 //! Substitutions: names and their images in turn.
+//!
+//! The arrow may be missing and leaves one reading all the same, since names and images alternate. A name stands on the left once:
+//! two images would be two substitutions. That is seen from the variables' numbers, or, where names found no number, from the names themselves, so
+//! that the second occurrence, which is the first word that cannot stand, is the fault in either case.
 
 ghost use Rattle.std.specs.Prelude.{◌≡◌, ℕ, List, [], ◌∷◌, true, false, ◌&&◌, map, None, Some, if◌then◌else◌, IfOk, IfErr, OnOk, codes, bytes_eq};
 ghost use Rattle.std.specs.List.{list_any};
 ghost use Rattle.substitution.specs.Images.{NamesOnce};
 ghost use Rattle.proof_text.specs.Kinds.{is_semicolon};
 ghost use Rattle.proof_text.specs.Forms as forms;
-ghost use Rattle.proof_text.specs.Reading.{Takes, IsRead, IsImageRead};
-ghost use Rattle.proof_text.specs.Denial.{Denies};
+ghost use Rattle.proof_text.specs.PartsRead.{Takes, IsRead, IsImageRead};
+ghost use Rattle.proof_text.specs.PartsDenied.{Denies};
 
-use crate::body::Body;
 use crate::fault::ProofFault;
-use crate::part::lit;
-use crate::table::Table;
+use crate::line_names::LineNames;
+use crate::line_words::LineWords;
+use crate::values::lit;
 use linear::Var;
 use pb_text::{Kind, Symbol, Token};
 use std::alloc::Global;
@@ -55,7 +59,7 @@ fn repeats(words: &[&[u8]]) -> bool
 }
 
 /// The image that a word writes: a literal, or the very text `0` or `1`.
-fn image(token: Token<'_>, table: &mut Table) -> Result<Image, ProofFault>
+fn image(token: Token<'_>, table: &mut LineNames) -> Result<Image, ProofFault>
     ensures read { IfOk result (λ i. IsImageRead table.old token.entry.text.now i table.new) }
     ensures kept { table.new.before ≡ table.old.before }
     ensures denies { IfErr result (λ f. Denies f (forms.is_image token.entry.text.now) (token.entry.text.now ∷ [])) }
@@ -123,8 +127,8 @@ pub(crate) fn full_fault(witness: &Witness<'_>) -> ProofFault
 /// A name and its image; between the two an arrow may stand.
 fn pair(
     token: Token<'_>,
-    words: &mut Body<'_>,
-    table: &mut Table,
+    words: &mut LineWords<'_>,
+    table: &mut LineNames,
 ) -> Result<(Var, Image), ProofFault>
     ensures takes { IfOk result (λ p. Takes forms.are_images forms.images_of table.old (token.entry.text.now ∷ words.old) p table.new words.new) }
     ensures left { OnOk result (forms.lefts (token.entry.text.now ∷ words.old) ≡ token.entry.text.now ∷ forms.lefts words.new) }
@@ -149,8 +153,8 @@ fn pair(
 /// Names and images up to the end of a line.
 pub(crate) fn images<'a>(
     alloc: Global,
-    mut words: Body<'a>,
-    table: &mut Table,
+    mut words: LineWords<'a>,
+    table: &mut LineNames,
 ) -> Result<Witness<'a>, ProofFault>
     ensures read { IfOk result (λ w. IsRead forms.are_images forms.images_of table.old words.entry w.images.items table.new) }
     ensures names { IfOk result (λ w. map (λ s. s.now) w.names.items ≡ forms.lefts words.entry) }

@@ -1,5 +1,5 @@
 use Rattle.std.proofs.lemmas.Result.{err_from_is_err_and}
-use Rattle.proof_text.proofs.Concluding.{denied_id, denied_upper, denied_upper_hint}
+use Rattle.proof_text.proofs.ConclusionsRead.{denied_id, denied_upper, denied_upper_hint}
 use Rattle.proof_text.proofs.conclude.bounds.Goals as goal
 
 pub returns-in_err-pass_id-clause-denies : goal.returns-in_err-pass_id-clause-denies

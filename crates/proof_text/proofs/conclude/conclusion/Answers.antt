@@ -2,9 +2,10 @@ use Rattle.std.proofs.Common.{◌≡◌, [], drop, is_some, true, false, codes, 
 use Rattle.std.proofs.lemmas.Result.{IfOk-weaker, IfErr-weaker}
 use Rattle.std.specs.Str.{bytes_eq}
 use Rattle.proof_text.specs.Words.{unclosed, is_first}
-use Rattle.proof_text.specs.Conclusions.{conclusion_of, judgement_of, IsJudgementRead, IsConclusionLineRead}
-use Rattle.proof_text.specs.Denial.{Denies}
-use Rattle.proof_text.proofs.Concluding.{conclusion_read, denied_conclusion, no_conclusion}
+use Rattle.proof_text.specs.Conclusions.{conclusion_of, conclusion_said}
+use Rattle.proof_text.specs.ConclusionsRead.{AreConclusionWordsRead, IsConclusionLineRead}
+use Rattle.proof_text.specs.PartsDenied.{Denies}
+use Rattle.proof_text.proofs.ConclusionsRead.{conclusion_read, denied_conclusion, no_conclusion}
 use Rattle.proof_text.proofs.conclude.conclusion.Goals as goal
 
 pub returns-in_default-clause-denies : goal.returns-in_default-clause-denies
@@ -18,13 +19,13 @@ returns-then-ne-clause-denies c =
 pub returns-clause-read : goal.returns-clause-read
 returns-clause-read c =
     let k = c.args.table.now in
-    let new = c.judgement.new.table in
+    let new = c.conclusion_words.new.table in
     let ws = c.args.words in
     let rest = c.take.new.self in
     let w = c.in-Some.token.text.now in
     let here : bytes_eq w (codes "conclusion") ≡ true = search rules in
-    IfOk-weaker c.judgement.result (λ x. IsJudgementRead k c.new.result x new) (λ x. IsConclusionLineRead k ws x new)
-    (λ x h. conclusion_read k new w ws rest x c.in-Some.ensures here (subst (λ u. IsJudgementRead k u x new) c.new.ensures h)) c.judgement.ensures.read
+    IfOk-weaker c.conclusion_words.result (λ x. AreConclusionWordsRead k c.new.result x new) (λ x. IsConclusionLineRead k ws x new)
+    (λ x h. conclusion_read k new w ws rest x c.in-Some.ensures here (subst (λ u. AreConclusionWordsRead k u x new) c.new.ensures h)) c.conclusion_words.ensures.read
 
 pub returns-clause-denies : goal.returns-clause-denies
 returns-clause-denies c =
@@ -32,5 +33,5 @@ returns-clause-denies c =
     let rest = c.take.new.self in
     let w = c.in-Some.token.text.now in
     let here : bytes_eq w (codes "conclusion") ≡ true = search rules in
-    IfErr-weaker c.judgement.result (λ f. Denies f (is_some (judgement_of [] c.new.result)) (drop 1 c.new.result)) (λ f. Denies f (is_some (conclusion_of [] ws)) (drop 1 (unclosed (drop 1 ws))))
-    (λ f h. denied_conclusion f w ws rest c.in-Some.ensures here (subst (λ u. Denies f (is_some (judgement_of [] u)) (drop 1 u)) c.new.ensures h)) c.judgement.ensures.denies
+    IfErr-weaker c.conclusion_words.result (λ f. Denies f (is_some (conclusion_said [] c.new.result)) (drop 1 c.new.result)) (λ f. Denies f (is_some (conclusion_of [] ws)) (drop 1 (unclosed (drop 1 ws))))
+    (λ f h. denied_conclusion f w ws rest c.in-Some.ensures here (subst (λ u. Denies f (is_some (conclusion_said [] u)) (drop 1 u)) c.new.ensures h)) c.conclusion_words.ensures.denies

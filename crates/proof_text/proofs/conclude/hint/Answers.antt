@@ -2,7 +2,7 @@ use Rattle.std.proofs.Common.{◌≡◌, true, rules}
 use Rattle.std.proofs.lemmas.Result.{err_from_is_err_and}
 use Rattle.pb_text.specs.Lexeme.{kind_of}
 use Rattle.proof_text.specs.Kinds.{is_colon}
-use Rattle.proof_text.proofs.Concluding.{hint_read, denied_hint}
+use Rattle.proof_text.proofs.ConclusionsRead.{hint_read, denied_hint}
 use Rattle.proof_text.proofs.conclude.hint.Goals as goal
 
 pub returns-in_err-lits-clause-denies : goal.returns-in_err-lits-clause-denies

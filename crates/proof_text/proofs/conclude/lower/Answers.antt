@@ -1,6 +1,6 @@
 use Rattle.std.proofs.Common.{◌≡◌, true, codes, rules}
 use Rattle.std.specs.Str.{bytes_eq}
-use Rattle.proof_text.proofs.Concluding.{inf_lower, minus_lower}
+use Rattle.proof_text.proofs.ConclusionsRead.{inf_lower, minus_lower}
 use Rattle.proof_text.proofs.conclude.lower.Goals as goal
 
 pub returns-then-eq-clause-value : goal.returns-then-eq-clause-value

@@ -4,8 +4,8 @@ use Rattle.std.proofs.lemmas.Result.{err_from_is_err_and}
 use mir.Syntax.{w128}
 use Rattle.linear.specs.declared.constraint.Relation.TheVariants as relations
 use Rattle.proof_text.specs.Forms.{closing_of, behind_terms}
-use Rattle.proof_text.specs.Steps.{IsConstraintRead}
-use Rattle.proof_text.proofs.Written.{denied_front, denied_rest, constraint_read, closing_meets_none}
+use Rattle.proof_text.specs.PartsRead.{IsConstraintRead}
+use Rattle.proof_text.proofs.ConstraintsRead.{denied_front, denied_rest, constraint_read, closing_meets_none}
 use Rattle.proof_text.proofs.constraint.constraint.Goals as goal
 
 pub returns-in_err-right-clause-denies : goal.returns-in_err-right-clause-denies

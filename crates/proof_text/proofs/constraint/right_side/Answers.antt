@@ -1,5 +1,5 @@
 use Rattle.std.proofs.lemmas.Result.{err_from_is_err_and}
-use Rattle.proof_text.proofs.Written.{denied_right}
+use Rattle.proof_text.proofs.ConstraintsRead.{denied_right}
 use Rattle.proof_text.proofs.constraint.right_side.Goals as goal
 
 pub returns-in_err-right-clause-denies : goal.returns-in_err-right-clause-denies

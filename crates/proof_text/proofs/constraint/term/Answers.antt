@@ -2,8 +2,8 @@ use Rattle.std.proofs.Common.{ℤ, ◌∷◌, sym, subst, FitsSigned, rules}
 use Rattle.std.proofs.lemmas.Int.{to_z-of_z}
 use mir.Syntax.{w128}
 use Rattle.proof_text.specs.Forms.{behind_terms, terms_of}
-use Rattle.proof_text.specs.Reading.{Takes}
-use Rattle.proof_text.proofs.Written.{next_term}
+use Rattle.proof_text.specs.PartsRead.{Takes}
+use Rattle.proof_text.proofs.ConstraintsRead.{next_term}
 use Rattle.proof_text.proofs.constraint.term.Goals as goal
 
 pub returns-clause-takes : goal.returns-clause-takes

@@ -2,10 +2,10 @@ use Rattle.std.proofs.Common.{◌≡◌, ◌∷◌, [], ◌++◌, is_some, sym, 
 use Rattle.std.proofs.lemmas.Grind.{common_steps}
 use Rattle.std.proofs.lemmas.Result.{err_from_is_err_and}
 use Rattle.proof_text.specs.Forms.{behind_terms, terms_of, closing_of}
-use Rattle.proof_text.specs.Reading.{Takes}
-use Rattle.proof_text.specs.Denial.{Denies}
-use Rattle.proof_text.proofs.Loops.{one_more}
-use Rattle.proof_text.proofs.Written.{denied_terms}
+use Rattle.proof_text.specs.PartsRead.{Takes}
+use Rattle.proof_text.specs.PartsDenied.{Denies}
+use Rattle.proof_text.proofs.PartsInTurn.{one_more}
+use Rattle.proof_text.proofs.ConstraintsRead.{denied_terms}
 use Rattle.proof_text.proofs.constraint.terms.Goals as goal
 
 pub returns-in_err-term-clause-denies : goal.returns-in_err-term-clause-denies

@@ -1,6 +1,6 @@
 use Rattle.std.proofs.Common.{◌≡◌, length}
 use Rattle.proof_text.specs.Forms.{behind_terms, terms_of}
-use Rattle.proof_text.specs.Reading.{SoFar}
+use Rattle.proof_text.specs.PartsRead.{SoFar}
 use Rattle.proof_text.proofs.constraint.terms.Given as goal
 
 abbrev pub invariant-loop-coefficient : goal.invariant-loop-coefficient

@@ -3,8 +3,8 @@ use Rattle.std.proofs.lemmas.Int.{to_z-of_z}
 use mir.Syntax.{w128}
 use Rattle.proof_text.specs.Words.{is_first, AreSmall}
 use Rattle.proof_text.specs.Frame.{count_of}
-use Rattle.proof_text.proofs.Items.{passed}
-use Rattle.proof_text.proofs.Counting.{counted_by_two, no_count, none_left}
+use Rattle.proof_text.proofs.PolItems.{passed}
+use Rattle.proof_text.proofs.CountLine.{counted_by_two, no_count, none_left}
 use Rattle.proof_text.proofs.frame.count.Goals as goal
 
 pub returns-then-is_empty : goal.returns-then-is_empty

@@ -4,8 +4,8 @@ use mir.Syntax.{w128}
 use Rattle.proof_steps.specs.declared.step.Item.TheVariants as items
 use Rattle.proof_text.specs.Words.{is_first}
 use Rattle.proof_text.specs.Forms.{are_items, items_of}
-use Rattle.proof_text.specs.Reading.{Takes}
-use Rattle.proof_text.proofs.Items.{multiplied, divided, referred, passed, not_passed}
+use Rattle.proof_text.specs.PartsRead.{Takes}
+use Rattle.proof_text.proofs.PolItems.{multiplied, divided, referred, passed, not_passed}
 use Rattle.proof_text.proofs.pol.integer_item.Goals as goal
 
 pub returns-then-takes-clause-takes : goal.returns-then-takes-clause-takes

@@ -2,9 +2,9 @@ use Rattle.std.proofs.Common.{◌≡◌, ◌∷◌, [], ◌++◌, sym, subst, ar
 use Rattle.std.proofs.lemmas.Grind.{common_steps}
 use Rattle.std.proofs.lemmas.Result.{err_from_is_err_and}
 use Rattle.proof_text.specs.Forms.{are_items, items_of}
-use Rattle.proof_text.specs.Reading.{Takes}
-use Rattle.proof_text.specs.Denial.{Denies}
-use Rattle.proof_text.proofs.Loops.{one_more, denied_left}
+use Rattle.proof_text.specs.PartsRead.{Takes}
+use Rattle.proof_text.specs.PartsDenied.{Denies}
+use Rattle.proof_text.proofs.PartsInTurn.{one_more, denied_left}
 use Rattle.proof_text.proofs.pol.items.Goals as goal
 
 pub returns-in_err-item-clause-denies : goal.returns-in_err-item-clause-denies

@@ -1,6 +1,6 @@
 use Rattle.std.proofs.Common.{length}
 use Rattle.proof_text.specs.Forms.{are_items, items_of}
-use Rattle.proof_text.specs.Reading.{SoFar}
+use Rattle.proof_text.specs.PartsRead.{SoFar}
 use Rattle.proof_text.proofs.pol.items.Given as goal
 
 abbrev pub invariant-loop-token : goal.invariant-loop-token

@@ -2,8 +2,8 @@ use Rattle.std.proofs.Common.{◌≡◌, true, false, ◌∷◌, codes, sym, sub
 use Rattle.proof_steps.specs.declared.step.Item.TheVariants as items
 use Rattle.proof_text.specs.Words.{is_first}
 use Rattle.proof_text.specs.Forms.{are_items, items_of}
-use Rattle.proof_text.specs.Reading.{Takes}
-use Rattle.proof_text.proofs.Items.{weakened, axiomatic, passed, not_passed}
+use Rattle.proof_text.specs.PartsRead.{Takes}
+use Rattle.proof_text.proofs.PolItems.{weakened, axiomatic, passed, not_passed}
 use Rattle.proof_text.proofs.pol.literal_item.Goals as goal
 use Rattle.proof_text.proofs.pol.literal_item.Goals.{else-not-lit-via-then-not-lit+else-takes, else-not-lit-via-else-not-lit}
 

@@ -2,7 +2,7 @@ use Rattle.std.proofs.Common.{◌≡◌, true, false, codes, sym, ap, ◌∙◌,
 use Rattle.std.specs.Str.{bytes_eq}
 use Rattle.pb_text.specs.Lexeme.{kind_of}
 use Rattle.proof_text.specs.Kinds.{is_integer, is_literal}
-use Rattle.proof_text.proofs.Items.{added, saturated}
+use Rattle.proof_text.proofs.PolItems.{added, saturated}
 use Rattle.proof_text.proofs.pol.operation_item.Goals as goal
 
 pub returns-then-eq-clause-takes : goal.returns-then-eq-clause-takes

@@ -4,30 +4,32 @@ use Rattle.proof_text.specs.Frame.{count_of}
 use Rattle.std.proofs.lemmas.Result.{IfOk-weaker}
 use Rattle.proof_text.specs.declared.line.Place.TheVariants as places
 use Rattle.proof_text.specs.Spells.{IsLine}
-use Rattle.proof_text.specs.Writing.{IsLineWritable}
-use Rattle.proof_text.proofs.Placing.{no_count_line}
-use Rattle.proof_text.proofs.Writable.{line_writable}
+use Rattle.proof_text.specs.Faults.{DeniesLine}
+use Rattle.proof_text.specs.Writable.{IsLineWritable}
+use Rattle.proof_text.proofs.LinesAtPlaces.{no_count_line}
+use Rattle.proof_text.proofs.ReadIsWritable.{line_writable}
 use Rattle.proof_text.proofs.read.read_line.Goals as goal
 
 pub returns-in-None-clause-denies : goal.returns-in-None-clause-denies
+unfolding DeniesLine
 returns-in-None-clause-denies c =
     let ws = words c.args.line.now in
-    let at = c.new-in-Count-2.ensures ∙ ap unclosed c.new-in-Count.ensures in
+    let at = c.new-in-Count.ensures ∙ ap unclosed c.new-words.ensures in
     rw c.in-Count.is
     (refl, no_count_line c.args.names.now ws (subst (λ u. (n : ℤ) → count_of u ≡ Some n → AreSmall u → ⊥) at c.in-None.ensures))
 
 pub returns-in-Step-clause-writable : goal.returns-in-Step-clause-writable
 returns-in-Step-clause-writable c =
     let old = c.args.names.now in
-    let new = c.read_step_or_output.new.names in
-    let ws = words c.args.line.now in
-    IfOk-weaker c.read_step_or_output.result (λ l. IsLine places.Step old ws l new) (λ l. IsLineWritable (length new) l)
-    (λ l r. line_writable places.Step old ws new l r) c.read_step_or_output.ensures.line
+    let new = c.step_or_output.new.names in
+    let ws = c.new-words.result in
+    IfOk-weaker c.step_or_output.result (λ l. IsLine places.Step old ws l new) (λ l. IsLineWritable (length new) l)
+    (λ l r. line_writable places.Step old ws new l r) c.step_or_output.ensures.line
 
 pub returns-in-Conclusion-clause-writable : goal.returns-in-Conclusion-clause-writable
 returns-in-Conclusion-clause-writable c =
     let old = c.args.names.now in
-    let new = c.read_conclusion.new.names in
-    let ws = words c.args.line.now in
-    IfOk-weaker c.read_conclusion.result (λ l. IsLine places.Conclusion old ws l new) (λ l. IsLineWritable (length new) l)
-    (λ l r. line_writable places.Conclusion old ws new l r) c.read_conclusion.ensures.line
+    let new = c.conclusion_line.new.names in
+    let ws = c.new-words.result in
+    IfOk-weaker c.conclusion_line.result (λ l. IsLine places.Conclusion old ws l new) (λ l. IsLineWritable (length new) l)
+    (λ l r. line_writable places.Conclusion old ws new l r) c.conclusion_line.ensures.line

@@ -1,32 +1,13 @@
-use Rattle.std.proofs.Common.{◌≡◌, ◌≤◌, length, sym, ap, subst, ◌∙◌}
-use Rattle.proof_text.specs.Numbering.{most_names}
-use Rattle.proof_text.specs.Words.{words}
-use Rattle.proof_text.specs.Steps.{IsStepLineRead, IsStep}
-use Rattle.proof_text.proofs.Placing.{fresh, step_read, step_full}
-use Rattle.proof_text.proofs.Writable.{step_writable}
+use Rattle.std.proofs.Common.{length}
+use Rattle.std.proofs.lemmas.Result.{IfOk-weaker}
+use Rattle.proof_text.specs.Steps.{IsStep}
+use Rattle.proof_text.specs.Writable.{IsStepWritable}
+use Rattle.proof_text.proofs.ReadIsWritable.{step_writable}
 use Rattle.proof_text.proofs.read.read_step.Goals as goal
 
-pub returns-then-is_full-clause-denies : goal.returns-then-is_full-clause-denies
-returns-then-is_full-clause-denies c =
-    let names = c.args.names.now in
-    let k = c.new-table.result in
-    let new = c.step_line.new.table in
-    let ws = words c.args.line.now in
-    let start : k ≡ fresh names = c.new-table.ensures ∙ ap fresh c.replace.ensures.value in
-    let r : IsStepLineRead k ws c.in-Ok.step new = subst (λ x. IsStepLineRead k x c.in-Ok.step new) c.new-2.ensures c.in-Ok.ensures.read in
-    step_full names k new ws c.in-Ok.step start r (sym c.is_full.ensures ∙ c.if-is_full.true)
-
-pub returns-else-is_full-clause-step : goal.returns-else-is_full-clause-step
-returns-else-is_full-clause-step c =
-    let names = c.args.names.now in
-    let k = c.new-table.result in
-    let new = c.step_line.new.table in
-    let ws = words c.args.line.now in
-    let start : k ≡ fresh names = c.new-table.ensures ∙ ap fresh c.replace.ensures.value in
-    let r : IsStepLineRead k ws c.in-Ok.step new = subst (λ x. IsStepLineRead k x c.in-Ok.step new) c.new-2.ensures c.in-Ok.ensures.read in
-    subst (IsStep names ws c.in-Ok.step) (sym c.into_names.ensures.names) (step_read names k new ws c.in-Ok.step start r (sym c.is_full.ensures ∙ c.if-is_full.false)
-    (subst (λ ns. length ns ≤ most_names) c.into_names.ensures.names c.into_names.ensures.table.numbered))
-
-pub returns-else-is_full-clause-writable : goal.returns-else-is_full-clause-writable
-returns-else-is_full-clause-writable c =
-    step_writable c.args.names.now (words c.args.line.now) c.into_names.result c.in-Ok.step (returns-else-is_full-clause-step c)
+pub returns-clause-writable : goal.returns-clause-writable
+returns-clause-writable c =
+    let old = c.args.names.now in
+    let new = c.step_of_words.new.names in
+    let ws = c.new.result in
+    IfOk-weaker c.step_of_words.result (λ s. IsStep old ws s new) (λ s. IsStepWritable (length new) s) (λ s r. step_writable old ws new s r) c.step_of_words.ensures.step

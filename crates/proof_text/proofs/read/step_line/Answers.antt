@@ -1,8 +1,9 @@
 use Rattle.std.proofs.Common.{sym}
 use Rattle.std.proofs.lemmas.Result.{IfOk-weaker, IfErr-weaker}
-use Rattle.proof_text.specs.Steps.{IsStepRead, IsStepLineRead}
-use Rattle.proof_text.specs.Faults.{DeniesRule, DeniesStep}
-use Rattle.proof_text.proofs.Placing.{ruled_read, ruled_denied, unruled_denied, empty_denied}
+use Rattle.proof_text.specs.StepsRead.{IsStepRead, IsStepLineRead}
+use Rattle.proof_text.specs.PartsDenied.{DeniesRule}
+use Rattle.proof_text.specs.Faults.{DeniesStep}
+use Rattle.proof_text.proofs.LinesAtPlaces.{ruled_read, ruled_denied, unruled_denied, empty_denied}
 use Rattle.proof_text.proofs.read.step_line.Goals as goal
 
 pub returns-in_default-clause-denies : goal.returns-in_default-clause-denies

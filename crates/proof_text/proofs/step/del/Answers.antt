@@ -2,7 +2,7 @@ use Rattle.std.proofs.Common.{◌≡◌, true, codes, sym, ap, subst, ◌∙◌,
 use Rattle.std.specs.Str.{bytes_eq}
 use Rattle.proof_text.specs.Words.{AreSmall}
 use Rattle.proof_text.specs.Forms.{are_integers, integers_of}
-use Rattle.proof_text.proofs.Stepping.{del_read}
+use Rattle.proof_text.proofs.StepsRead.{del_read}
 use Rattle.proof_text.proofs.step.del.Goals as goal
 
 pub returns-then-eq-clause-read : goal.returns-then-eq-clause-read

@@ -1,7 +1,7 @@
 use Rattle.std.proofs.Common.{subst}
 use Rattle.proof_text.specs.Forms.{are_items, items_of}
-use Rattle.proof_text.specs.Reading.{IsRead}
-use Rattle.proof_text.proofs.Stepping.{pol_read}
+use Rattle.proof_text.specs.PartsRead.{IsRead}
+use Rattle.proof_text.proofs.StepsRead.{pol_read}
 use Rattle.proof_text.proofs.step.pol.Goals as goal
 
 pub returns-clause-read : goal.returns-clause-read

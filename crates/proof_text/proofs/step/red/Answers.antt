@@ -2,14 +2,14 @@ use Rattle.std.proofs.Common.{◌≡◌, Some, is_some, map, if◌then◌else◌
 use Rattle.std.proofs.lemmas.Result.{err_from_is_err_and}
 use Rattle.substitution.specs.Images.{NamesOnce}
 use Rattle.proof_steps.specs.declared.step.Step.TheVariants as steps
-use Rattle.proof_text.specs.declared.rule.Rule.TheVariants as rule
+use Rattle.proof_text.specs.declared.keyword.Rule.TheVariants as rule
 use Rattle.proof_text.specs.Words.{Halves, halves, unclosed}
 use Rattle.proof_text.specs.Forms.{are_images, images_of, lefts, repeats, closing_of, behind_terms}
 use Rattle.proof_text.specs.declared.fault.ProofFault.TheVariants as faults
-use Rattle.proof_text.specs.Reading.{IsRead}
-use Rattle.proof_text.specs.Steps.{IsConstraintRead, IsStepRead}
-use Rattle.proof_text.specs.Denial.{Denies}
-use Rattle.proof_text.proofs.Stepping.{red_read, red_says, red_known, red_small, denied_red, denied_images, denied_full, denied_twice}
+use Rattle.proof_text.specs.PartsRead.{IsRead, IsConstraintRead}
+use Rattle.proof_text.specs.StepsRead.{IsStepRead}
+use Rattle.proof_text.specs.PartsDenied.{Denies}
+use Rattle.proof_text.proofs.StepsRead.{red_read, red_says, red_known, red_small, denied_red, denied_images, denied_full, denied_twice}
 use Rattle.proof_text.proofs.step.red.Goals as goal
 
 pub returns-in_err-constraint-clause-denies : goal.returns-in_err-constraint-clause-denies

@@ -1,7 +1,7 @@
 use Rattle.std.proofs.Common.{sym, subst, ap, ◌∙◌}
 use Rattle.proof_text.specs.Words.{Halves}
-use Rattle.proof_text.specs.Steps.{IsConstraintRead}
-use Rattle.proof_text.proofs.Stepping.{rup_read}
+use Rattle.proof_text.specs.PartsRead.{IsConstraintRead}
+use Rattle.proof_text.proofs.StepsRead.{rup_read}
 use Rattle.proof_text.proofs.step.rup.Goals as goal
 
 pub returns-clause-read : goal.returns-clause-read

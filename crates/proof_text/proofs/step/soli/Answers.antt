@@ -1,7 +1,7 @@
 use Rattle.std.proofs.Common.{subst}
 use Rattle.proof_text.specs.Forms.{are_literals, literals_of}
-use Rattle.proof_text.specs.Reading.{IsRead}
-use Rattle.proof_text.proofs.Stepping.{soli_read}
+use Rattle.proof_text.specs.PartsRead.{IsRead}
+use Rattle.proof_text.proofs.StepsRead.{soli_read}
 use Rattle.proof_text.proofs.step.soli.Goals as goal
 
 pub returns-clause-read : goal.returns-clause-read

@@ -1,6 +1,6 @@
 use Rattle.std.proofs.Common.{◌≡◌, true, codes, rules}
 use Rattle.std.specs.Str.{bytes_eq}
-use Rattle.proof_text.proofs.Substituted.{zero_read, one_read, literal_image}
+use Rattle.proof_text.proofs.SubstitutionsRead.{zero_read, one_read, literal_image}
 use Rattle.proof_text.proofs.witness.image.Goals as goal
 
 pub returns-in-Literal-clause-read : goal.returns-in-Literal-clause-read

@@ -2,12 +2,12 @@ use Rattle.std.proofs.Common.{◌≡◌, ◌∷◌, [], ◌++◌, map, sym, refl
 use Rattle.std.proofs.lemmas.Grind.{common_steps}
 use Rattle.std.proofs.lemmas.Result.{err_from_is_err_and}
 use Rattle.proof_text.specs.Forms.{are_images, images_of, lefts}
-use Rattle.proof_text.specs.Reading.{Takes}
-use Rattle.proof_text.specs.Denial.{Denies}
-use Rattle.proof_text.proofs.Loops.{one_more, denied_left, all_read}
+use Rattle.proof_text.specs.PartsRead.{Takes}
+use Rattle.proof_text.specs.PartsDenied.{Denies}
+use Rattle.proof_text.proofs.PartsInTurn.{one_more, denied_left, all_read}
 use Rattle.std.proofs.lemmas.List.{append-nil}
-use Rattle.proof_text.proofs.Substituted.{no_subproof}
-use Rattle.proof_text.proofs.Apart.{more_lefts}
+use Rattle.proof_text.proofs.SubstitutionsRead.{no_subproof}
+use Rattle.proof_text.proofs.NamesOnLeft.{more_lefts}
 use Rattle.proof_text.proofs.witness.images.Goals as goal
 
 pub returns-then-begins_subproof-clause-denies : goal.returns-then-begins_subproof-clause-denies

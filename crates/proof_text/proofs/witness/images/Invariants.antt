@@ -1,6 +1,6 @@
 use Rattle.std.proofs.Common.{◌≡◌, ◌++◌, map, length}
 use Rattle.proof_text.specs.Forms.{are_images, images_of, lefts}
-use Rattle.proof_text.specs.Reading.{SoFar}
+use Rattle.proof_text.specs.PartsRead.{SoFar}
 use Rattle.proof_text.proofs.witness.images.Given as goal
 
 abbrev pub invariant-loop-token : goal.invariant-loop-token

@@ -1,7 +1,7 @@
 use Rattle.std.proofs.Common.{◌≡◌, false, sym, ◌∙◌, rules, arith}
 use Rattle.std.proofs.lemmas.Result.{err_from_is_err_and}
-use Rattle.proof_text.proofs.Substituted.{next_pair, no_image_left, denied_image}
-use Rattle.proof_text.proofs.Apart.{next_left}
+use Rattle.proof_text.proofs.SubstitutionsRead.{next_pair, no_image_left, denied_image}
+use Rattle.proof_text.proofs.NamesOnLeft.{next_left}
 use Rattle.proof_text.proofs.witness.pair.Goals as goal
 
 pub returns-in_default-take-clause-denies : goal.returns-in_default-take-clause-denies

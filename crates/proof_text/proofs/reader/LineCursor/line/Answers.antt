@@ -1,7 +1,7 @@
 use Rattle.std.proofs.Common.{ℕ, ◌+◌, List, take, ap, sym, ◌∙◌, arith}
 use Rattle.std.proofs.lemmas.List.{take_rest}
 use Rattle.proof_text.specs.Lines.{Numbered, onto, counting_from, breaks}
-use Rattle.proof_text.proofs.Parting.{last_line, last_breaks, ended_line, ended_breaks}
+use Rattle.proof_text.proofs.LinesParted.{whole_unbroken, first_unbroken, last_line, last_breaks, ended_line, ended_breaks}
 use Rattle.proof_text.proofs.reader.LineCursor.line.Goals as goal
 
 pub returns-in-None-clause-lines : goal.returns-in-None-clause-lines
@@ -24,3 +24,9 @@ returns-in-Some-clause-last c =
     let k = c.in-Some.end in
     let e = ended_breaks k text c.in-Some.ensures.0 c.in-Some.ensures.1 in
     omega (arith, e, ap breaks (take_rest text (k + 1)))
+
+pub returns-in-None-clause-unbroken : goal.returns-in-None-clause-unbroken
+returns-in-None-clause-unbroken c = whole_unbroken c.args.self.rest.now c.in-None.ensures
+
+pub returns-in-Some-clause-unbroken : goal.returns-in-Some-clause-unbroken
+returns-in-Some-clause-unbroken c = first_unbroken c.in-Some.end c.args.self.rest.now c.in-Some.ensures.0

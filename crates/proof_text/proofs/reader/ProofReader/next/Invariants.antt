@@ -1,5 +1,5 @@
 use Rattle.std.proofs.Common.{◌≡◌, length}
-use Rattle.proof_text.specs.Reader.{pending}
+use Rattle.proof_text.specs.LinesAhead.{pending}
 use Rattle.proof_text.proofs.reader.ProofReader.next.Given as goal
 
 -- what is passed does not count

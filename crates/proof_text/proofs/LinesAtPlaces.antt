@@ -1,0 +1,340 @@
+-- What a line says at its place.
+use Rattle.std.proofs.Common.{◌≡◌, ℕ, ℤ, ◌<◌, ◌≤◌, Bool, true, false, ◌&&◌, if◌then◌else◌, Option, Some, None, List, [], ◌∷◌, drop, length, is_some, refl, sym, ap, subst, ◌∙◌, arith, codes}
+use Rattle.std.specs.Option.{option_map}
+use Rattle.proof_steps.specs.declared.step.Step.{Step}
+use Rattle.proof_steps.specs.declared.conclusion.Lower.{Lower}
+use Rattle.proof_steps.specs.declared.conclusion.Conclusion.{Conclusion}
+use Rattle.proof_steps.specs.declared.conclusion.Conclusion.TheVariants as conclusions
+use Rattle.proof_text.specs.declared.keyword.Rule.{Rule}
+use Rattle.proof_text.specs.declared.keyword.ConclusionKind.{ConclusionKind}
+use Rattle.proof_text.specs.declared.keyword.ConclusionKind.TheVariants as kinds
+use Rattle.proof_text.specs.declared.line.Line.{Line}
+use Rattle.proof_text.specs.declared.line.Line.TheVariants as lines
+use Rattle.proof_text.specs.declared.line.Place.{Place}
+use Rattle.proof_text.specs.declared.line.Place.TheVariants as places
+use Rattle.pb_text.specs.Lexeme.{kind_of}
+use Rattle.proof_text.specs.Kinds.{is_semicolon}
+use Rattle.proof_text.specs.Words.{is_first, is_empty, are_words, unclosed, AreSmall}
+use Rattle.proof_text.specs.NamesMet.{NamesMet, met_in}
+use Rattle.proof_text.specs.Numbering.{names_in, most_names}
+use Rattle.proof_text.specs.Frame.{count_of, output}
+use Rattle.proof_text.specs.Rules.{rule_of}
+use Rattle.proof_text.specs.Steps.{step_by, counted_by, step_of, counted, IsProper, IsStep}
+use Rattle.proof_text.specs.StepsRead.{IsStepRead, IsStepLineRead}
+use Rattle.proof_text.specs.Conclusions.{conclusion_kind_of, is_hint, hint_of, past_id, is_upper, upper_of, is_lower, lower_of, bounds_by, bounds_of, conclusion_by, conclusion_said, conclusion_of, conclusion_literals}
+use Rattle.proof_text.specs.ConclusionsRead.{IsConclusionLineRead}
+use Rattle.proof_text.specs.Spells.{line_of, IsProperLine, IsLine}
+use Rattle.proof_text.specs.PartsDenied.{Denies, IsForm, DeniesRule}
+use Rattle.proof_text.specs.Faults.{AreTooMany, NoStep, DeniesStep, NoLine, DeniesPlaced}
+use Rattle.proof_text.specs.declared.fault.ProofFault.{ProofFault}
+use Rattle.proof_text.specs.declared.fault.ProofFault.TheVariants as faults
+use Rattle.proof_text.proofs.PolItems.{first_word}
+use Rattle.proof_text.proofs.WordsByKind.{none_small}
+use Rattle.proof_text.proofs.NamesNumbered.{too_many}
+use Rattle.proof_text.proofs.ReadIsWritable.{HasNames, has_names}
+use Rattle.proof_text.proofs.StepsRead.{said_anyway, apart, table_whole}
+
+-- the names as a line begins
+abbrev pub fresh : List (List ℕ) → NamesMet
+fresh names = record { before = names; names = names; full = false }
+
+abbrev step_by_rule : List (List ℕ) → List (List ℕ) → Option Rule → Option Step
+step_by_rule names rest None = None
+step_by_rule names rest (Some rule) = step_by rule names rest
+
+abbrev counted_by_rule : List (List ℕ) → Option Rule → List (List ℕ)
+counted_by_rule rest None = []
+counted_by_rule rest (Some rule) = counted_by rule rest
+
+pub step_at : (names : List (List ℕ)) (w : List ℕ) (rest : List (List ℕ)) (o : Option Rule) → rule_of w ≡ o → step_of names (w ∷ rest) ≡ step_by_rule names rest o
+unfolding step_of
+step_at names w rest o h = ap (step_by_rule names rest) h
+
+pub counted_at : (w : List ℕ) (rest : List (List ℕ)) (o : Option Rule) → rule_of w ≡ o → counted (w ∷ rest) ≡ counted_by_rule rest o
+unfolding counted
+counted_at w rest o h = ap (counted_by_rule rest) h
+
+pub ruled_read : (k new : NamesMet) (w : List ℕ) (ws rest : List (List ℕ)) (rule : Rule) (step : Step) → ws ≡ w ∷ rest → rule_of w ≡ Some rule → IsStepRead rule k rest step new → IsStepLineRead k ws step new
+ruled_read k new w ws rest rule step at h r =
+    let c : counted (w ∷ rest) ≡ counted_by rule rest = counted_at w rest (Some rule) h in
+    subst (λ x. IsStepLineRead k x step new) (sym at) (record {
+      says = step_at new.names w rest (Some rule) h ∙ r.says;
+      proper = r.proper;
+      known = r.known ∙ ap (met_in k) (sym c);
+      small = subst AreSmall (sym c) r.small;
+    })
+
+-- both say the same of a fault where the words are the same
+step_denied : (f : ProofFault) (rule : Rule) (names : List (List ℕ)) (w : List ℕ) (rest : List (List ℕ)) → rule_of w ≡ Some rule → DeniesRule f rule names rest → DeniesStep f names (w ∷ rest)
+step_denied faults.BadHeader rule names w rest h d = d
+step_denied faults.BadCount rule names w rest h d = d
+step_denied faults.UnknownRule rule names w rest h d = λ s e p.
+    d s (ap (λ c. step_by rule (names_in names c) rest) (sym (counted_at w rest (Some rule) h)) ∙ sym (step_at (names_in names (counted (w ∷ rest))) w rest (Some rule) h) ∙ e) p
+step_denied faults.RuleLeftOut rule names w rest h d = λ s e p.
+    d s (ap (λ c. step_by rule (names_in names c) rest) (sym (counted_at w rest (Some rule) h)) ∙ sym (step_at (names_in names (counted (w ∷ rest))) w rest (Some rule) h) ∙ e) p
+step_denied faults.BadLine rule names w rest h d = λ s e p.
+    d s (ap (λ c. step_by rule (names_in names c) rest) (sym (counted_at w rest (Some rule) h)) ∙ sym (step_at (names_in names (counted (w ∷ rest))) w rest (Some rule) h) ∙ e) p
+step_denied faults.Truncated rule names w rest h d = d
+step_denied faults.TextAfterEnd rule names w rest h d = d
+step_denied faults.IntegerTooLarge rule names w rest h d = λ s. d (subst AreSmall (counted_at w rest (Some rule) h) s)
+step_denied faults.OutOfMemory rule names w rest h d = d
+step_denied faults.TooManyIds rule names w rest h d =
+    let c : counted (w ∷ rest) ≡ counted_by rule rest = counted_at w rest (Some rule) h in (
+      subst AreSmall (sym c) d.0,
+      (d.1.0, step_at (names_in names (counted (w ∷ rest))) w rest (Some rule) h ∙ ap (λ x. step_by rule (names_in names x) rest) c ∙ d.1.1, d.1.2),
+      subst (λ x. AreTooMany (names_in names x)) (sym c) d.2,
+    )
+
+pub ruled_denied : (f : ProofFault) (rule : Rule) (names : List (List ℕ)) (w : List ℕ) (ws rest : List (List ℕ)) → ws ≡ w ∷ rest → rule_of w ≡ Some rule → DeniesRule f rule names rest → DeniesStep f names ws
+ruled_denied f rule names w ws rest at h d = subst (λ x. DeniesStep f names x) (sym at) (step_denied f rule names w rest h d)
+
+form_denied : (f : ProofFault) (names ws : List (List ℕ)) → IsForm f → NoStep names ws → DeniesStep f names ws
+form_denied faults.BadHeader names ws h n = absurd h
+form_denied faults.BadCount names ws h n = absurd h
+form_denied faults.UnknownRule names ws h n = n
+form_denied faults.RuleLeftOut names ws h n = n
+form_denied faults.BadLine names ws h n = n
+form_denied faults.Truncated names ws h n = absurd h
+form_denied faults.TextAfterEnd names ws h n = absurd h
+form_denied faults.IntegerTooLarge names ws h n = absurd h
+form_denied faults.OutOfMemory names ws h n = absurd h
+form_denied faults.TooManyIds names ws h n = absurd h
+
+-- no rule
+no_rule : (names : List (List ℕ)) (w : List ℕ) (rest : List (List ℕ)) → rule_of w ≡ None → NoStep names (w ∷ rest)
+no_rule names w rest h step e p =
+    let none : ◌≡◌ {A = Option Step} None (Some step) = sym (step_at (names_in names (counted (w ∷ rest))) w rest None h) ∙ e in cc
+
+pub unruled_denied : (f : ProofFault) (names : List (List ℕ)) (w : List ℕ) (ws rest : List (List ℕ)) → ws ≡ w ∷ rest → rule_of w ≡ None → IsForm f → DeniesStep f names ws
+unruled_denied f names w ws rest at h form = subst (λ x. DeniesStep f names x) (sym at) (form_denied f names (w ∷ rest) form (no_rule names w rest h))
+
+no_words : (names : List (List ℕ)) → NoStep names []
+unfolding step_of
+no_words names step e p = cc
+
+pub empty_denied : (names ws : List (List ℕ)) → ws ≡ [] → NoStep names ws
+empty_denied names ws at = subst (NoStep names) (sym at) (no_words names)
+
+-- a step's line
+pub step_read : (names : List (List ℕ)) (k new : NamesMet) (ws : List (List ℕ)) (step : Step) → k ≡ fresh names → IsStepLineRead k ws step new → new.full ≡ false → length new.names ≤ most_names
+    → IsStep names ws step new.names
+step_read names k new ws step e r full few =
+    let q : IsStepLineRead (fresh names) ws step new = subst (λ x. IsStepLineRead x ws step new) e r in
+    record {
+      names = table_whole (fresh names) new (counted ws) refl q.known full;
+      few = few;
+      says = q.says;
+      proper = q.proper;
+      small = q.small;
+    }
+
+step_anyway : (names others ws : List (List ℕ)) (step : Step) → step_of names ws ≡ Some step → IsProper step → HasNames others (counted ws) → (q : Step) × (step_of others ws ≡ Some q) × IsProper q
+unfolding step_of counted
+step_anyway names others [] step h proper has = cc
+step_anyway names others (w ∷ rest) step h proper has = by (rule_of w) h has
+  where
+    by : (o : Option Rule) → step_by_rule names rest o ≡ Some step → HasNames others (counted_by_rule rest o) → (q : Step) × (step_by_rule others rest o ≡ Some q) × IsProper q
+    by None h has = cc
+    by (Some rule) h has = said_anyway rule names others rest step h (apart rule names rest step h proper) has
+
+pub step_full : (names : List (List ℕ)) (k new : NamesMet) (ws : List (List ℕ)) (step : Step) → k ≡ fresh names → IsStepLineRead k ws step new → new.full ≡ true → DeniesStep faults.TooManyIds names ws
+step_full names k new ws step e r full =
+    let q : IsStepLineRead (fresh names) ws step new = subst (λ x. IsStepLineRead x ws step new) e r in
+    let far : most_names < length (names_in names (counted ws)) = too_many (fresh names) (counted ws) refl (sym (ap (λ (m : NamesMet). m.full) q.known) ∙ full) in
+    (q.small, step_anyway new.names (names_in names (counted ws)) ws step q.says q.proper (has_names names (counted ws)), omega (arith, far))
+
+-- a conclusion's line
+pub conclusion_placed : (names : List (List ℕ)) (k new : NamesMet) (ws : List (List ℕ)) (c : Conclusion) → k ≡ fresh names → IsConclusionLineRead k ws c new → new.full ≡ false
+    → length new.names ≤ most_names → IsLine places.Conclusion names ws (lines.Conclusion c) new.names
+conclusion_placed names k new ws c e r full few =
+    let q : IsConclusionLineRead (fresh names) ws c new = subst (λ x. IsConclusionLineRead x ws c new) e r in
+    record {
+      names = table_whole (fresh names) new (conclusion_literals ws) refl q.known full;
+      few = few;
+      says = ap (λ o. option_map (λ x. lines.Conclusion x) o) q.says;
+      proper = tt;
+      small = q.small;
+    }
+
+picked : (t : Bool) (s r q : Conclusion) → (if t then Some s else None) ≡ Some r → (if t then Some q else None) ≡ Some q
+picked true s r q h = refl
+picked false s r q h = cc
+
+bounds_anyway : (names others ws : List (List ℕ)) (l : Lower) (c : Conclusion) → bounds_by names l ws ≡ Some c → (q : Conclusion) × (bounds_by others l ws ≡ Some q)
+bounds_anyway names others [] l c h = cc
+bounds_anyway names others (u ∷ rest) l c h =
+    let q : Conclusion = conclusions.Bounds l (upper_of u) (hint_of others rest) in
+    (q, picked (is_upper u && is_hint rest) (conclusions.Bounds l (upper_of u) (hint_of names rest)) c q h)
+
+all_bounds_anyway : (names others ws : List (List ℕ)) (c : Conclusion) → bounds_of names ws ≡ Some c → (q : Conclusion) × (bounds_of others ws ≡ Some q)
+all_bounds_anyway names others [] c h = cc
+all_bounds_anyway names others (l ∷ rest) c h = by (is_lower l) h
+  where
+    by : (t : Bool) → (if t then bounds_by names (lower_of l) (past_id rest) else None) ≡ Some c → (q : Conclusion) × ((if t then bounds_by others (lower_of l) (past_id rest) else None) ≡ Some q)
+    by true h = bounds_anyway names others (past_id rest) (lower_of l) c h
+    by false h = cc
+
+concluded_anyway : (v : ConclusionKind) (names others ws : List (List ℕ)) (c : Conclusion) → conclusion_by v names ws ≡ Some c → (q : Conclusion) × (conclusion_by v others ws ≡ Some q)
+concluded_anyway kinds.Nothing names others ws c h = (c, h)
+concluded_anyway kinds.Sat names others ws c h = (conclusions.Sat (hint_of others ws), picked (is_hint ws) (conclusions.Sat (hint_of names ws)) c (conclusions.Sat (hint_of others ws)) h)
+concluded_anyway kinds.Unsat names others ws c h = (c, h)
+concluded_anyway kinds.Bounds names others ws c h = all_bounds_anyway names others ws c h
+
+abbrev by_kind : List (List ℕ) → List (List ℕ) → Option ConclusionKind → Option Conclusion
+by_kind names rest None = None
+by_kind names rest (Some v) = conclusion_by v names rest
+
+conclusion_said_anyway : (names others ws : List (List ℕ)) (c : Conclusion) → conclusion_said names ws ≡ Some c → (q : Conclusion) × (conclusion_said others ws ≡ Some q)
+conclusion_said_anyway names others [] c h = cc
+conclusion_said_anyway names others (w ∷ rest) c h = by (conclusion_kind_of w) h
+  where
+    by : (o : Option ConclusionKind) → by_kind names rest o ≡ Some c → (q : Conclusion) × (by_kind others rest o ≡ Some q)
+    by None h = cc
+    by (Some v) h = concluded_anyway v names others rest c h
+
+conclusion_anyway : (names others ws : List (List ℕ)) (c : Conclusion) → conclusion_of names ws ≡ Some c → (q : Conclusion) × (conclusion_of others ws ≡ Some q)
+unfolding conclusion_of
+conclusion_anyway names others ws c h = by (is_first (codes "conclusion") ws) h
+  where
+    by : (t : Bool) → (if t then conclusion_said names (unclosed (drop 1 ws)) else None) ≡ Some c → (q : Conclusion) × ((if t then conclusion_said others (unclosed (drop 1 ws)) else None) ≡ Some q)
+    by true h = conclusion_said_anyway names others (unclosed (drop 1 ws)) c h
+    by false h = cc
+
+pub conclusion_full : (names : List (List ℕ)) (k new : NamesMet) (ws : List (List ℕ)) (c : Conclusion) → k ≡ fresh names → IsConclusionLineRead k ws c new → new.full ≡ true
+    → DeniesPlaced faults.TooManyIds places.Conclusion names ws
+conclusion_full names k new ws c e r full =
+    let q : IsConclusionLineRead (fresh names) ws c new = subst (λ x. IsConclusionLineRead x ws c new) e r in
+    let far : most_names < length (names_in names (conclusion_literals ws)) = too_many (fresh names) (conclusion_literals ws) refl (sym (ap (λ (m : NamesMet). m.full) q.known) ∙ full) in
+    let a = conclusion_anyway new.names (names_in names (conclusion_literals ws)) ws c q.says in
+    (q.small, (lines.Conclusion a.0, ap (λ o. option_map (λ x. lines.Conclusion x) o) a.1, tt), omega (arith, far))
+
+mapped : (o : Option Conclusion) (l : Line) → option_map (λ x. lines.Conclusion x) o ≡ Some l → (c : Conclusion) × (o ≡ Some c)
+mapped None l h = cc
+mapped (Some c) l h = (c, refl)
+
+no_conclusion_line : (names ws : List (List ℕ)) → is_some (conclusion_of [] ws) ≡ false → NoLine places.Conclusion names ws
+no_conclusion_line names ws h line e p =
+    let c = mapped (conclusion_of (names_in names (conclusion_literals ws)) ws) line e in
+    let a = conclusion_anyway (names_in names (conclusion_literals ws)) [] ws c.0 c.1 in
+    cc (sym h ∙ ap is_some a.1)
+
+pub conclusion_denied : (f : ProofFault) (names ws : List (List ℕ)) → Denies f (is_some (conclusion_of [] ws)) (drop 1 (unclosed (drop 1 ws))) → DeniesPlaced f places.Conclusion names ws
+conclusion_denied faults.BadHeader names ws d = d
+conclusion_denied faults.BadCount names ws d = d
+conclusion_denied faults.UnknownRule names ws d = no_conclusion_line names ws d
+conclusion_denied faults.RuleLeftOut names ws d = no_conclusion_line names ws d
+conclusion_denied faults.BadLine names ws d = no_conclusion_line names ws d
+conclusion_denied faults.Truncated names ws d = d
+conclusion_denied faults.TextAfterEnd names ws d = d
+conclusion_denied faults.IntegerTooLarge names ws d = d
+conclusion_denied faults.OutOfMemory names ws d = d
+conclusion_denied faults.TooManyIds names ws d = absurd d
+
+-- `output` is no rule
+output_rule : rule_of (codes "output") ≡ None
+unfolding rule_of
+output_rule = refl
+
+output_counts : (ws rest : List (List ℕ)) → ws ≡ codes "output" ∷ rest → counted ws ≡ []
+output_counts ws rest at = ap counted at ∙ counted_at (codes "output") rest None output_rule
+
+-- the output line
+pub output_placed : (names ws : List (List ℕ)) → is_first (codes "output") ws ≡ true → are_words output (unclosed ws) ≡ true
+    → length names ≤ most_names → IsLine places.Step names ws lines.Output names
+output_placed names ws h all few =
+    let none : counted ws ≡ [] = output_counts ws (drop 1 ws) (first_word (codes "output") ws h) in
+    record {
+      names = ap (names_in names) (sym none);
+      few = few;
+      says = ap (λ t. if t then Some lines.Output else option_map (λ s. lines.Step s) (step_of names ws)) all;
+      proper = tt;
+      small = subst AreSmall (sym none) none_small;
+    }
+
+mapped_step : (o : Option Step) (l : Line) → option_map (λ x. lines.Step x) o ≡ Some l → (s : Step) × (o ≡ Some s) × (l ≡ lines.Step s)
+mapped_step None l h = cc
+mapped_step (Some s) l h = (s, refl, cc)
+
+no_output_line : (names ws : List (List ℕ)) → is_first (codes "output") ws ≡ true → are_words output (unclosed ws) ≡ false → NoLine places.Step names ws
+no_output_line names ws h none line e p =
+    let there : ws ≡ codes "output" ∷ drop 1 ws = first_word (codes "output") ws h in
+    let n = names_in names (counted ws) in
+    let s = mapped_step (step_of n ws) line (sym (ap (λ t. if t then Some lines.Output else option_map (λ s. lines.Step s) (step_of n ws)) none) ∙ e) in
+    let nothing : step_of n ws ≡ None = ap (step_of n) there ∙ step_at n (codes "output") (drop 1 ws) None output_rule in
+    let x : ◌≡◌ {A = Option Step} None (Some s.0) = sym nothing ∙ s.1 in
+    cc
+
+placed_form : (f : ProofFault) (place : Place) (names ws : List (List ℕ)) → IsForm f → NoLine place names ws → DeniesPlaced f place names ws
+placed_form faults.BadHeader place names ws h n = absurd h
+placed_form faults.BadCount place names ws h n = absurd h
+placed_form faults.UnknownRule place names ws h n = n
+placed_form faults.RuleLeftOut place names ws h n = n
+placed_form faults.BadLine place names ws h n = n
+placed_form faults.Truncated place names ws h n = absurd h
+placed_form faults.TextAfterEnd place names ws h n = absurd h
+placed_form faults.IntegerTooLarge place names ws h n = absurd h
+placed_form faults.OutOfMemory place names ws h n = absurd h
+placed_form faults.TooManyIds place names ws h n = absurd h
+
+pub output_denied : (f : ProofFault) (names ws : List (List ℕ)) → is_first (codes "output") ws ≡ true → are_words output (unclosed ws) ≡ false → IsForm f
+    → DeniesPlaced f places.Step names ws
+output_denied f names ws h none form = placed_form f places.Step names ws form (no_output_line names ws h none)
+
+first_stays : (v : List ℕ) (ws : List (List ℕ)) → is_first v ws ≡ false → is_first v (unclosed ws) ≡ false
+first_stays v [] h = refl
+first_stays v (w ∷ []) h = by (is_semicolon (kind_of w))
+  where
+    by : (t : Bool) → is_first v (if t then [] else w ∷ []) ≡ false
+    by true = refl
+    by false = h
+first_stays v (w ∷ u ∷ rest) h = h
+
+not_output : (ws : List (List ℕ)) → is_first (codes "output") ws ≡ false → are_words output (unclosed ws) ≡ false
+not_output ws h = ap (λ t. t && (is_first (codes "NONE") (drop 1 (unclosed ws)) && is_empty (drop 1 (drop 1 (unclosed ws))))) (first_stays (codes "output") ws h)
+
+-- a step among the lines
+pub step_placed : (names new ws : List (List ℕ)) (step : Step) → is_first (codes "output") ws ≡ false → IsStep names ws step new → IsLine places.Step names ws (lines.Step step) new
+step_placed names new ws step h r = record {
+  names = r.names;
+  few = r.few;
+  says =
+      ap (λ t. if t then Some lines.Output else option_map (λ s. lines.Step s) (step_of new ws)) (not_output ws h)
+      ∙ ap (λ o. option_map (λ s. lines.Step s) o) r.says;
+  proper = r.proper;
+  small = r.small;
+}
+
+no_step_line : (names ws : List (List ℕ)) → is_first (codes "output") ws ≡ false → NoStep names ws → NoLine places.Step names ws
+no_step_line names ws h none line e p =
+    let n = names_in names (counted ws) in
+    let s = mapped_step (step_of n ws) line (sym (ap (λ t. if t then Some lines.Output else option_map (λ s. lines.Step s) (step_of n ws)) (not_output ws h)) ∙ e) in
+    none s.0 s.1 (subst IsProperLine s.2 p)
+
+pub step_denied_here : (f : ProofFault) (names ws : List (List ℕ)) → is_first (codes "output") ws ≡ false → DeniesStep f names ws → DeniesPlaced f places.Step names ws
+step_denied_here faults.BadHeader names ws h d = d
+step_denied_here faults.BadCount names ws h d = d
+step_denied_here faults.UnknownRule names ws h d = no_step_line names ws h d
+step_denied_here faults.RuleLeftOut names ws h d = no_step_line names ws h d
+step_denied_here faults.BadLine names ws h d = no_step_line names ws h d
+step_denied_here faults.Truncated names ws h d = d
+step_denied_here faults.TextAfterEnd names ws h d = d
+step_denied_here faults.IntegerTooLarge names ws h d = d
+step_denied_here faults.OutOfMemory names ws h d = d
+step_denied_here faults.TooManyIds names ws h d =
+    let n = names_in names (counted ws) in (
+      d.0,
+      (
+        lines.Step d.1.0,
+        ap (λ t. if t then Some lines.Output else option_map (λ s. lines.Step s) (step_of n ws)) (not_output ws h) ∙ ap (λ o. option_map (λ s. lines.Step s) o) d.1.1,
+        d.1.2,
+      ),
+      d.2,
+    )
+
+-- no count
+pub no_count_line : (names ws : List (List ℕ)) → ((n : ℤ) → count_of (unclosed ws) ≡ Some n → AreSmall (unclosed ws) → ⊥) → (line : Line) → line_of places.Count names ws ≡ Some line → AreSmall (unclosed ws) → ⊥
+no_count_line names ws h line e s = by (count_of (unclosed ws)) refl e
+  where
+    by : (o : Option ℤ) → count_of (unclosed ws) ≡ o → option_map (λ n. lines.Count n) o ≡ Some line → ⊥
+    by None f e = cc
+    by (Some n) f e = h n f s

@@ -1,0 +1,280 @@
+-- Steps, rule by rule.
+use Rattle.std.proofs.Common.{◌≡◌, ℕ, ℤ, ◌<◌, Bool, true, false, ◌&&◌, if◌then◌else◌, Option, Some, None, List, [], ◌∷◌, ◌++◌, drop, length, is_some, refl, sym, ap, subst, ◌∙◌, arith, codes}
+use Rattle.std.specs.Option.{option_map}
+use Rattle.std.proofs.lemmas.List.Elements.{All-append}
+use Rattle.linear.specs.declared.term.Lit.{Lit}
+use Rattle.linear.specs.declared.term.Var.{Var}
+use Rattle.linear.specs.declared.constraint.Signed.{Signed}
+use Rattle.linear.specs.declared.constraint.Relation.TheVariants as relations
+use Rattle.substitution.specs.declared.image.Image.{Image}
+use Rattle.substitution.specs.Images.{NamesOnce}
+use Rattle.proof_steps.specs.declared.step.Item.{Item}
+use Rattle.proof_steps.specs.declared.step.Step.{Step}
+use Rattle.proof_steps.specs.declared.step.Step.TheVariants as steps
+use Rattle.proof_text.specs.declared.keyword.Rule.{Rule}
+use Rattle.proof_text.specs.declared.keyword.Rule.TheVariants as rules
+use Rattle.proof_text.specs.Words.{halves, unclosed, IsSmall, AreSmall}
+use Rattle.proof_text.specs.NamesMet.{NamesMet, met_in}
+use Rattle.proof_text.specs.Numbering.{names_in, most_names}
+use Rattle.proof_text.specs.Forms.{are_literals, literals_of, are_integers, integers_of, terms_of, behind_terms, closing_of, are_items, items_of, are_images, images_of, lefts, repeats}
+use Rattle.proof_text.specs.PartsRead.{IsRead, IsConstraintRead}
+use Rattle.proof_text.specs.Steps.{constraint_of, rup_by, red_by, red_with, is_deletion, witness_words, step_by, counted_by, IsProper}
+use Rattle.proof_text.specs.StepsRead.{IsStepRead}
+use Rattle.proof_text.specs.PartsDenied.{Denies, NoStepBy, DeniesRule}
+use Rattle.proof_text.specs.declared.fault.ProofFault.{ProofFault}
+use Rattle.proof_text.specs.declared.fault.ProofFault.TheVariants as faults
+use Rattle.std.specs.Str.{bytes_eq}
+use Rattle.pb_text.specs.Lexeme.{kind_of}
+use Rattle.proof_text.specs.Kinds.{is_integer}
+use Rattle.proof_text.proofs.WordsByKind.{none_small, all_small, first_small, rest_small, integer_alone}
+use Rattle.std.specs.Prelude.{⊤}
+use Rattle.proof_text.proofs.NamesNumbered.{met_in-append, met_other, all_found, too_many}
+use Rattle.proof_text.proofs.ReadIsWritable.{HasNames, HasNames-back, has_names}
+use Rattle.proof_text.proofs.NamesOnLeft.{no_name_twice, no_variable_twice}
+
+pub pol_read : (k new : NamesMet) (ws : List (List ℕ)) (xs : List Item) → IsRead are_items items_of k (unclosed ws) xs new → IsStepRead rules.Pol k ws (steps.Pol xs) new
+pol_read k new ws xs r = record {
+  says =
+      ap (λ t. if t then Some (steps.Pol (items_of new.names (unclosed ws))) else None) r.same
+      ∙ ap (λ is. Some (steps.Pol is)) (sym (r.parts []));
+  proper = tt;
+  known = r.known;
+  small = r.small;
+}
+
+pub sol_read : (k new : NamesMet) (ws : List (List ℕ)) (xs : List Lit) → IsRead are_literals literals_of k (unclosed ws) xs new → IsStepRead rules.Sol k ws (steps.Sol xs) new
+sol_read k new ws xs r = record {
+  says =
+      ap (λ t. if t then Some (steps.Sol (literals_of new.names (unclosed ws))) else None) r.same
+      ∙ ap (λ is. Some (steps.Sol is)) (sym (r.parts []));
+  proper = tt;
+  known = r.known;
+  small = r.small;
+}
+
+pub soli_read : (k new : NamesMet) (ws : List (List ℕ)) (xs : List Lit) → IsRead are_literals literals_of k (unclosed ws) xs new → IsStepRead rules.Soli k ws (steps.Soli xs) new
+soli_read k new ws xs r = record {
+  says =
+      ap (λ t. if t then Some (steps.Soli (literals_of new.names (unclosed ws))) else None) r.same
+      ∙ ap (λ is. Some (steps.Soli is)) (sym (r.parts []));
+  proper = tt;
+  known = r.known;
+  small = r.small;
+}
+
+-- integers bring no names
+no_names : (k : NamesMet) (ws : List (List ℕ)) → are_integers ws ≡ true → met_in k ws ≡ k
+no_names k [] h = refl
+no_names k (w ∷ ws) h = by (is_integer (kind_of w)) refl h (no_names k ws)
+  where
+    by : (t : Bool) → is_integer (kind_of w) ≡ t → (t && are_integers ws) ≡ true → (are_integers ws ≡ true → met_in k ws ≡ k) → met_in k (w ∷ ws) ≡ k
+    by true e h g = met_other k w ws (integer_alone (kind_of w) e).0 ∙ g h
+    by false e h g = cc
+
+pub del_read : (k : NamesMet) (ws rest : List (List ℕ)) (w : List ℕ) (xs : List ℤ) → ws ≡ w ∷ rest → bytes_eq w (codes "id") ≡ true → are_integers (unclosed rest) ≡ true → xs ≡ integers_of (unclosed rest)
+    → AreSmall (unclosed rest) → IsStepRead rules.Del k ws (steps.Del xs) k
+del_read k ws rest w xs at h i v small =
+    subst (λ x. IsStepRead rules.Del k x (steps.Del xs) k) (sym at) (record {
+      says =
+          ap (λ t. if t && are_integers (unclosed rest) then Some (steps.Del (integers_of (unclosed rest))) else None) h
+          ∙ ap (λ t. if t then Some (steps.Del (integers_of (unclosed rest))) else None) i
+          ∙ ap (λ x. Some (steps.Del x)) (sym v);
+      proper = tt;
+      known = sym (no_names k (unclosed rest) i);
+      small = small;
+    })
+
+pub rup_read : (k new : NamesMet) (ws hints : List (List ℕ)) (c : Signed) → IsConstraintRead k (halves ws).front c new → (halves ws).behind ≡ Some hints → IsStepRead rules.Rup k ws (steps.Rup c) new
+rup_read k new ws hints c r b = record {
+  says = ap (rup_by new.names (halves ws).front) b ∙ ap (λ o. option_map (λ x. steps.Rup x) o) (r.says []);
+  proper = tt;
+  known = r.known;
+  small = r.small;
+}
+
+-- what a `red` line says, whether or not a name stands twice
+pub red_says : (k mid new : NamesMet) (ws witness : List (List ℕ)) (c : Signed) (images : List (Var × Image)) → IsConstraintRead k (halves ws).front c mid → (halves ws).behind ≡ Some witness
+    → IsRead are_images images_of mid (unclosed witness) images new → step_by rules.Red new.names ws ≡ Some (steps.Red c images)
+red_says k mid new ws witness c images r b i =
+    let front = (halves ws).front in
+    let u = unclosed witness in
+    let made : constraint_of new.names front ≡ Some c = ap (λ (m : NamesMet). constraint_of m.names front) i.known ∙ r.says u in
+    ap (red_by new.names front) b
+    ∙ ap (red_with new.names u) made
+    ∙ ap (λ t. if t then Some (steps.Red c (images_of new.names u)) else None) i.same
+    ∙ ap (λ x. Some (steps.Red c x)) (sym (i.parts []))
+
+pub red_known : (k mid new : NamesMet) (ws witness : List (List ℕ)) (c : Signed) (images : List (Var × Image)) → IsConstraintRead k (halves ws).front c mid → (halves ws).behind ≡ Some witness
+    → IsRead are_images images_of mid (unclosed witness) images new → new ≡ met_in k (counted_by rules.Red ws)
+red_known k mid new ws witness c images r b i =
+    i.known
+    ∙ ap (λ m. met_in m (unclosed witness)) r.known
+    ∙ sym (met_in-append k (halves ws).front (unclosed witness))
+    ∙ ap (λ o. met_in k ((halves ws).front ++ witness_words o)) (sym b)
+
+pub red_small : (ws witness : List (List ℕ)) → (halves ws).behind ≡ Some witness → AreSmall (halves ws).front → AreSmall (unclosed witness) → AreSmall (counted_by rules.Red ws)
+red_small ws witness b f w =
+    subst (λ o. AreSmall ((halves ws).front ++ witness_words o)) (sym b) (All-append IsSmall (halves ws).front (unclosed witness) f w)
+
+pub red_read : (k mid new : NamesMet) (ws witness : List (List ℕ)) (c : Signed) (images : List (Var × Image)) → IsConstraintRead k (halves ws).front c mid → (halves ws).behind ≡ Some witness
+    → IsRead are_images images_of mid (unclosed witness) images new → NamesOnce images → IsStepRead rules.Red k ws (steps.Red c images) new
+red_read k mid new ws witness c images r b i once = record {
+  says = red_says k mid new ws witness c images r b i;
+  proper = once;
+  known = red_known k mid new ws witness c images r b i;
+  small = red_small ws witness b r.small i.small;
+}
+
+-- no name stands twice on the left of a substitution
+abbrev pub IsApart : Rule → List (List ℕ) → Type 0
+IsApart rules.Red ws = repeats (lefts (witness_words (halves ws).behind)) ≡ false
+IsApart _ ws = ⊤
+
+-- what a step's line says by a table, where no variable stands twice
+abbrev pub Said : Rule → List (List ℕ) → List (List ℕ) → Type 0
+Said rule names ws = (step : Step) × (step_by rule names ws ≡ Some step) × IsProper step
+
+choose : (t : Bool) (s r q : Step) → (if t then Some s else None) ≡ Some r → (if t then Some q else None) ≡ Some q
+choose true s r q h = refl
+choose false s r q h = cc
+
+test : (t : Bool) (s r : Step) → (if t then Some s else None) ≡ Some r → (t ≡ true) × (s ≡ r)
+test true s r h = (refl, cc)
+test false s r h = cc
+
+abbrev signed : List (List ℕ) → List (List ℕ) → ℤ → Signed
+signed names front right = record { terms = terms_of names front; relation = relations.AtLeast; right = right }
+
+rup_said : (names others front : List (List ℕ)) (b : Option (List (List ℕ))) (step : Step) → rup_by names front b ≡ Some step → (q : Step) × (rup_by others front b ≡ Some q) × IsProper q
+rup_said names others front None step h = cc
+rup_said names others front (Some hints) step h = by (closing_of (behind_terms front)) h
+  where
+    by : (o : Option ℤ) → option_map (λ c. steps.Rup c) (option_map (signed names front) o) ≡ Some step → (q : Step) × (option_map (λ c. steps.Rup c) (option_map (signed others front) o) ≡ Some q) × IsProper q
+    by None h = cc
+    by (Some n) h = (steps.Rup (signed others front n), refl, tt)
+
+red_said : (names others front : List (List ℕ)) (b : Option (List (List ℕ))) (step : Step) → red_by names front b ≡ Some step → repeats (lefts (witness_words b)) ≡ false → HasNames others (front ++ witness_words b)
+    → (q : Step) × (red_by others front b ≡ Some q) × IsProper q
+red_said names others front None step h apart has = cc
+red_said names others front (Some witness) step h apart has = by (closing_of (behind_terms front)) h
+  where
+    by : (o : Option ℤ) → red_with names (unclosed witness) (option_map (signed names front) o) ≡ Some step → (q : Step) × (red_with others (unclosed witness) (option_map (signed others front) o) ≡ Some q) × IsProper q
+    by None h = cc
+    by (Some n) h =
+        let u = unclosed witness in
+        let s : Step = steps.Red (signed names front n) (images_of names u) in
+        let q : Step = steps.Red (signed others front n) (images_of others u) in
+        (q, choose (are_images u) s step q h, no_variable_twice others u apart (test (are_images u) s step h).0 (HasNames-back others front u has))
+
+-- whether a line has the form of its rule does not depend on the table
+pub said_anyway : (rule : Rule) (names others ws : List (List ℕ)) (step : Step) → step_by rule names ws ≡ Some step → IsApart rule ws → HasNames others (counted_by rule ws) → Said rule others ws
+said_anyway rules.Pol names others ws step h apart has =
+    (steps.Pol (items_of others (unclosed ws)), choose (are_items (unclosed ws)) (steps.Pol (items_of names (unclosed ws))) step (steps.Pol (items_of others (unclosed ws))) h, tt)
+said_anyway rules.Rup names others ws step h apart has = rup_said names others (halves ws).front (halves ws).behind step h
+said_anyway rules.Red names others ws step h apart has = red_said names others (halves ws).front (halves ws).behind step h apart has
+said_anyway rules.Sol names others ws step h apart has =
+    (steps.Sol (literals_of others (unclosed ws)), choose (are_literals (unclosed ws)) (steps.Sol (literals_of names (unclosed ws))) step (steps.Sol (literals_of others (unclosed ws))) h, tt)
+said_anyway rules.Soli names others ws step h apart has =
+    (steps.Soli (literals_of others (unclosed ws)), choose (are_literals (unclosed ws)) (steps.Soli (literals_of names (unclosed ws))) step (steps.Soli (literals_of others (unclosed ws))) h, tt)
+said_anyway rules.Del names others ws step h apart has =
+    (steps.Del (integers_of (unclosed (drop 1 ws))), choose (is_deletion ws) (steps.Del (integers_of (unclosed (drop 1 ws)))) step (steps.Del (integers_of (unclosed (drop 1 ws)))) h, tt)
+
+red_apart : (names front : List (List ℕ)) (b : Option (List (List ℕ))) (step : Step) → red_by names front b ≡ Some step → IsProper step → repeats (lefts (witness_words b)) ≡ false
+red_apart names front None step h proper = cc
+red_apart names front (Some witness) step h proper = by (closing_of (behind_terms front)) h
+  where
+    by : (o : Option ℤ) → red_with names (unclosed witness) (option_map (signed names front) o) ≡ Some step → repeats (lefts (unclosed witness)) ≡ false
+    by None h = cc
+    by (Some n) h =
+        let u = unclosed witness in
+        let s : Step = steps.Red (signed names front n) (images_of names u) in
+        no_name_twice names u (subst IsProper (sym (test (are_images u) s step h).1) proper)
+
+-- where no variable stands twice, no name does
+pub apart : (rule : Rule) (names ws : List (List ℕ)) (step : Step) → step_by rule names ws ≡ Some step → IsProper step → IsApart rule ws
+apart rules.Pol names ws step h proper = tt
+apart rules.Rup names ws step h proper = tt
+apart rules.Red names ws step h proper = red_apart names (halves ws).front (halves ws).behind step h proper
+apart rules.Sol names ws step h proper = tt
+apart rules.Soli names ws step h proper = tt
+apart rules.Del names ws step h proper = tt
+
+-- a fault of a form is one of the rule's words
+pub denied_rule : (f : ProofFault) (rule : Rule) (form : Bool) (part names ws : List (List ℕ)) → ((step : Step) → step_by rule (names_in names (counted_by rule ws)) ws ≡ Some step → form ≡ true)
+    → (AreSmall (counted_by rule ws) → AreSmall part) → Denies f form part → DeniesRule f rule names ws
+denied_rule faults.BadHeader rule form part names ws g s d = d
+denied_rule faults.BadCount rule form part names ws g s d = d
+denied_rule faults.UnknownRule rule form part names ws g s d = λ step h proper. cc (sym d ∙ g step h)
+denied_rule faults.RuleLeftOut rule form part names ws g s d = λ step h proper. cc (sym d ∙ g step h)
+denied_rule faults.BadLine rule form part names ws g s d = λ step h proper. cc (sym d ∙ g step h)
+denied_rule faults.Truncated rule form part names ws g s d = d
+denied_rule faults.TextAfterEnd rule form part names ws g s d = d
+denied_rule faults.IntegerTooLarge rule form part names ws g s d = λ small. d (s small)
+denied_rule faults.OutOfMemory rule form part names ws g s d = d
+denied_rule faults.TooManyIds rule form part names ws g s d = absurd d
+
+front_small : (xs ys : List (List ℕ)) → AreSmall (xs ++ ys) → AreSmall xs
+front_small [] ys s = none_small
+front_small (x ∷ xs) ys s = all_small x xs (first_small x (xs ++ ys) s) (front_small xs ys (rest_small x (xs ++ ys) s))
+
+back_small : (xs ys : List (List ℕ)) → AreSmall (xs ++ ys) → AreSmall ys
+back_small [] ys s = s
+back_small (x ∷ xs) ys s = back_small xs ys (rest_small x (xs ++ ys) s)
+
+red_form : (names front : List (List ℕ)) (b : Option (List (List ℕ))) (step : Step) → red_by names front b ≡ Some step → (is_some b && is_some (closing_of (behind_terms front))) ≡ true
+red_form names front None step h = cc
+red_form names front (Some witness) step h = by (closing_of (behind_terms front)) h
+  where
+    by : (o : Option ℤ) → red_with names (unclosed witness) (option_map (signed names front) o) ≡ Some step → is_some o ≡ true
+    by None h = cc
+    by (Some n) h = refl
+
+pub denied_red : (f : ProofFault) (names ws : List (List ℕ)) → Denies f (is_some (halves ws).behind && is_some (closing_of (behind_terms (halves ws).front))) (halves ws).front → DeniesRule f rules.Red names ws
+denied_red f names ws d =
+    denied_rule f rules.Red _ (halves ws).front names ws
+    (λ step h. red_form (names_in names (counted_by rules.Red ws)) (halves ws).front (halves ws).behind step h)
+    (λ s. front_small (halves ws).front (witness_words (halves ws).behind) s) d
+
+images_form : (names front witness : List (List ℕ)) (step : Step) → red_by names front (Some witness) ≡ Some step → are_images (unclosed witness) ≡ true
+images_form names front witness step h = by (closing_of (behind_terms front)) h
+  where
+    by : (o : Option ℤ) → red_with names (unclosed witness) (option_map (signed names front) o) ≡ Some step → are_images (unclosed witness) ≡ true
+    by None h = cc
+    by (Some n) h = (test (are_images (unclosed witness)) _ step h).0
+
+pub denied_images : (f : ProofFault) (names ws witness : List (List ℕ)) → (halves ws).behind ≡ Some witness → Denies f (are_images (unclosed witness)) (unclosed witness) → DeniesRule f rules.Red names ws
+denied_images f names ws witness b d =
+    denied_rule f rules.Red (are_images (unclosed witness)) (unclosed witness) names ws
+    (λ step h. images_form (names_in names (counted_by rules.Red ws)) (halves ws).front witness step (sym (ap (red_by (names_in names (counted_by rules.Red ws)) (halves ws).front) b) ∙ h))
+    (λ s. back_small (halves ws).front (unclosed witness) (subst (λ o. AreSmall ((halves ws).front ++ witness_words o)) b s)) d
+
+-- a name found no number
+pub denied_full : (f : ProofFault) (k new : NamesMet) (ws witness : List (List ℕ)) (step : Step) → f ≡ (if repeats (lefts (unclosed witness)) then faults.BadLine else faults.TooManyIds) → (halves ws).behind ≡ Some witness
+    → k.full ≡ false → new ≡ met_in k (counted_by rules.Red ws) → new.full ≡ true → AreSmall (counted_by rules.Red ws) → step_by rules.Red new.names ws ≡ Some step → DeniesRule f rules.Red k.names ws
+denied_full f k new ws witness step is b none known full small said = by (repeats (lefts (unclosed witness))) refl is
+  where
+    there : repeats (lefts (witness_words (halves ws).behind)) ≡ repeats (lefts (unclosed witness))
+    there = ap (λ o. repeats (lefts (witness_words o))) b
+
+    by : (t : Bool) → repeats (lefts (unclosed witness)) ≡ t → f ≡ (if t then faults.BadLine else faults.TooManyIds) → DeniesRule f rules.Red k.names ws
+    by true e is =
+        subst (λ g. DeniesRule g rules.Red k.names ws) (sym is)
+        (λ s h proper. absurd (cc (sym e ∙ sym there ∙ apart rules.Red (names_in k.names (counted_by rules.Red ws)) ws s h proper)))
+    by false e is =
+        let all = names_in k.names (counted_by rules.Red ws) in
+        let far : most_names < length all = too_many k (counted_by rules.Red ws) none (sym (ap (λ (m : NamesMet). m.full) known) ∙ full) in
+        subst (λ g. DeniesRule g rules.Red k.names ws) (sym is)
+        (small, said_anyway rules.Red new.names all ws step said (there ∙ e) (has_names k.names (counted_by rules.Red ws)), omega (arith, far))
+
+-- where every name found one, the table is the one that has them all
+pub table_whole : (k new : NamesMet) (ws : List (List ℕ)) → k.full ≡ false → new ≡ met_in k ws → new.full ≡ false → new.names ≡ names_in k.names ws
+table_whole k new ws none known full = ap (λ (m : NamesMet). m.names) known ∙ all_found k ws none (sym (ap (λ (m : NamesMet). m.full) known) ∙ full)
+
+-- a name stands twice
+pub denied_twice : (k mid new : NamesMet) (ws witness : List (List ℕ)) (c : Signed) (images : List (Var × Image)) → k.full ≡ false → IsConstraintRead k (halves ws).front c mid → (halves ws).behind ≡ Some witness
+    → IsRead are_images images_of mid (unclosed witness) images new → new.full ≡ false → (NamesOnce images → ⊥) → NoStepBy rules.Red k.names ws
+denied_twice k mid new ws witness c images none r b i full twice step says proper =
+    let names : new.names ≡ names_in k.names (counted_by rules.Red ws) = table_whole k new (counted_by rules.Red ws) none (red_known k mid new ws witness c images r b i) full in
+    let same : Some step ≡ Some (steps.Red c images) = sym says ∙ ap (λ n. step_by rules.Red n ws) (sym names) ∙ red_says k mid new ws witness c images r b i in
+    let one : step ≡ steps.Red c images = cc in
+    twice (subst IsProper one proper)

@@ -1,7 +1,0 @@
-use Rattle.std.proofs.Common.{◌≡◌, ◌++◌, take}
-use Rattle.std.specs.List.{flat_map}
-use Rattle.proof_text.specs.Writing.{spaced, pair_words}
-use Rattle.proof_text.proofs.writer.pairs.Given as goal
-
-abbrev pub invariant-loop-next : goal.invariant-loop-next
-invariant-loop-next l = l.out.items ≡ l.fn.out.items ++ spaced (flat_map (pair_words l.names) (take l.next-index l.pairs))

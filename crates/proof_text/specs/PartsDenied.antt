@@ -1,0 +1,44 @@
+-- Of the code, not of the format: what the fault of a function that reads a part of a line says of the words of that part.
+use Rattle.std.specs.Prelude.{◌≡◌, ℕ, Bool, false, Some, List, ⊤}
+use Rattle.proof_steps.specs.declared.step.Step.{Step}
+use Rattle.proof_text.specs.declared.keyword.Rule.{Rule}
+use Rattle.proof_text.specs.Numbering.{names_in}
+use Rattle.proof_text.specs.Steps.{step_by, counted_by, IsProper}
+use Rattle.proof_text.specs.Faults.{AreTooMany}
+use Rattle.proof_text.specs.Words.{AreSmall}
+use Rattle.proof_text.specs.declared.fault.ProofFault.{ProofFault}
+use Rattle.proof_text.specs.declared.fault.ProofFault.TheVariants as faults
+
+-- one of the faults of form
+abbrev pub IsForm : ProofFault → Type 0
+IsForm faults.UnknownRule = ⊤
+IsForm faults.RuleLeftOut = ⊤
+IsForm faults.BadLine = ⊤
+IsForm _ = ⊥
+
+-- A fault of form: the words do not have the form. An integer that is too large: one of them is. Want of memory says
+-- nothing, and no other fault comes.
+abbrev pub Denies : ProofFault → Bool → List (List ℕ) → Type 0
+Denies faults.UnknownRule form ws = form ≡ false
+Denies faults.RuleLeftOut form ws = form ≡ false
+Denies faults.BadLine form ws = form ≡ false
+Denies faults.IntegerTooLarge form ws = AreSmall ws → ⊥
+Denies faults.OutOfMemory form ws = ⊤
+Denies _ form ws = ⊥
+
+-- the words behind a rule's own word are no step
+abbrev pub NoStepBy : Rule → List (List ℕ) → List (List ℕ) → Type 0
+NoStepBy rule names ws = (step : Step) → step_by rule (names_in names (counted_by rule ws)) ws ≡ Some step → IsProper step → ⊥
+
+-- what a fault says of the words behind a rule's own word
+abbrev pub DeniesRule : ProofFault → Rule → List (List ℕ) → List (List ℕ) → Type 0
+DeniesRule faults.UnknownRule rule names ws = NoStepBy rule names ws
+DeniesRule faults.RuleLeftOut rule names ws = NoStepBy rule names ws
+DeniesRule faults.BadLine rule names ws = NoStepBy rule names ws
+DeniesRule faults.IntegerTooLarge rule names ws = AreSmall (counted_by rule ws) → ⊥
+DeniesRule faults.TooManyIds rule names ws =
+    AreSmall (counted_by rule ws)
+    × ((step : Step) × (step_by rule (names_in names (counted_by rule ws)) ws ≡ Some step) × IsProper step)
+    × AreTooMany (names_in names (counted_by rule ws))
+DeniesRule faults.OutOfMemory rule names ws = ⊤
+DeniesRule _ rule names ws = ⊥

@@ -1,0 +1,94 @@
+//! The words of a line up to its first `;`, which is due.
+//!
+//! The constraint of `rup` and `red` ends with a `;` that may not be missing, since more stands behind it: hints, which
+//! are never judged, or a substitution. So the words before it and those behind it are read by different readers.
+
+use crate::lookahead::Lookahead;
+use pb_text::{Kind, Symbol, Token};
+use std::marker::Model;
+
+/// The words that are left, up to the first `;`.
+#[derive(Drop)]
+pub(crate) struct BeforeSemicolon<'a> {
+    left: Lookahead<'a>,
+}
+
+impl<'a> Model for BeforeSemicolon<'a> {
+    ghost use Rattle.proof_text.specs.Words.{Halves, halves};
+
+    ghost Value = { Halves };
+
+    ghost view = { λ f. halves f.left };
+}
+
+impl<'a> BeforeSemicolon<'a> {
+    ghost use Rattle.std.specs.Prelude.{◌≡◌, [], ◌∷◌, None, Some, false, drop, MatchOption};
+    ghost use Rattle.proof_text.specs.Words as words;
+
+    /// The words that are left of a line.
+    pub(crate) fn new(left: Lookahead<'a>) -> Self
+        ensures { result ≡ words.halves left.entry }
+    {
+        BeforeSemicolon { left }
+    }
+
+    /// The next word before the `;`, if there is one.
+    #[tactic(auto, using(crate::proofs::FirstSemicolon::no_front, crate::proofs::FirstSemicolon::front_word))]
+    pub(crate) fn next(&self) -> Option<Token<'a>>
+        ensures { MatchOption
+            result
+            (self.now.front ≡ [])
+            (λ t. self.now.front ≡ t.text.now ∷ drop 1 self.now.front) }
+    {
+        let token = self.left.next()?;
+        if let Kind::Symbol(Symbol::Semicolon) = token.kind {
+            return None;
+        }
+        Some(token)
+    }
+
+    /// Passes the next word before the `;`, and gives it.
+    #[tactic(auto, using(crate::proofs::FirstSemicolon::no_front, crate::proofs::FirstSemicolon::front_word))]
+    pub(crate) fn take(&mut self) -> Option<Token<'a>>
+        ensures word { MatchOption result ((self.old.front ≡ []) × (self.new.front ≡ [])) (λ t. self.old.front ≡ t.text.now ∷ self.new.front) }
+        ensures behind { self.new.behind ≡ self.old.behind }
+    {
+        let token = self.left.next()?;
+        if let Kind::Symbol(Symbol::Semicolon) = token.kind {
+            return None;
+        }
+        self.left.take()
+    }
+
+    /// Passes the next word before the `;` where it is an integer, and gives it.
+    pub(crate) fn take_integer(&mut self) -> Option<Token<'a>>
+        ensures word { MatchOption
+            result
+            ((words.begins_integer self.old.front ≡ false) × (self.new.front ≡ self.old.front))
+            (λ t. (t.kind ≡ Kind.Integer) × (self.old.front ≡ t.text.now ∷ self.new.front)) }
+        ensures behind { self.new.behind ≡ self.old.behind }
+    {
+        let token = self.next()?;
+        let Kind::Integer = token.kind else {
+            return None;
+        };
+        self.take()
+    }
+
+    /// Whether no word is left before the `;`.
+    pub(crate) fn is_empty(&self) -> bool
+        ensures { result ≡ words.is_empty self.now.front }
+    {
+        self.next().is_none()
+    }
+
+    /// The words behind the `;`, which stands next; `None` where it is missing.
+    pub(crate) fn into_behind(self) -> Option<Lookahead<'a>>
+        requires { self.front ≡ [] }
+        ensures { MatchOption result (self.entry.behind ≡ None) (λ l. self.entry.behind ≡ Some l) }
+    {
+        let mut left = self.left;
+        left.take()?;
+        Some(left)
+    }
+}

@@ -1,0 +1,34 @@
+//! Laws of the definitions of lines and of proofs, each the contract of a function that does nothing.
+//!
+//! What is accepted is claimed of the proof that a text spells, so "the proof" must be one: were a line to say two things, a
+//! checker could judge one of them while a reader of its verdict believes the other. In the format each line has one reading
+//! by construction (an integer before `*` belongs to it, names and images alternate, no space or closing `;` changes
+//! a line), and here that is a theorem about the definitions alone, whatever the code does.
+
+ghost use Rattle.std.specs.Prelude.{◌≡◌, ℕ, ℤ, List};
+ghost use Rattle.proof_steps.specs.declared.step.Step.{Step};
+ghost use Rattle.proof_steps.specs.declared.conclusion.Conclusion.{Conclusion};
+ghost use Rattle.proof_text.specs.declared.line.Line.{Line};
+ghost use Rattle.proof_text.specs.declared.line.Place.{Place};
+ghost use Rattle.proof_text.specs.Lines.{Numbered};
+ghost use Rattle.proof_text.specs.Spells.{IsLine};
+ghost use Rattle.proof_text.specs.ProofSpells.{AreSteps, SpellsProof};
+
+/// A line says one thing at its place, and leaves one table of names.
+pub fn one_line()
+    ensures { (place : Place) → (old ws : List (List ℕ)) → (line other : Line) → (new later : List (List ℕ))
+        → IsLine place old ws line new → IsLine place old ws other later → (line ≡ other) × (new ≡ later) }
+{}
+
+/// Lines spell one list of steps, and leave one table of names.
+pub fn one_list_of_steps()
+    ensures { (old : List (List ℕ)) → (lines : List Numbered) → (steps others : List Step) → (new later : List (List ℕ))
+        → AreSteps old lines steps new → AreSteps old lines others later → (steps ≡ others) × (new ≡ later) }
+{}
+
+/// A text spells one proof at most: one count, one list of steps and one conclusion.
+pub fn one_proof()
+    ensures { (text : List ℕ) → (file : List (List ℕ)) → (count other : ℤ) → (steps others : List Step) → (c d : Conclusion)
+        → SpellsProof text file count steps c → SpellsProof text file other others d
+        → (count ≡ other) × (steps ≡ others) × (c ≡ d) }
+{}

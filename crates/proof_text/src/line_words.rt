@@ -1,0 +1,89 @@
+//! The words of a line up to its end, without the `;` that may close it.
+//!
+//! The format lets nearly every line end with a `;` or without one. That is settled here once, so that the readers of the forms see words
+//! alone, and a second `;`, or one with words behind it, is a word like any other and stands in no form.
+
+use crate::lookahead::Lookahead;
+use pb_text::{Kind, Symbol, Token};
+use std::marker::Model;
+
+/// The words that are left, a closing `;` taken away.
+#[derive(Drop)]
+pub(crate) struct LineWords<'a> {
+    left: Lookahead<'a>,
+}
+
+impl<'a> Model for LineWords<'a> {
+    ghost use Rattle.std.specs.Prelude.{ℕ, List};
+    ghost use Rattle.proof_text.specs.Words.{unclosed};
+
+    ghost Value = { List (List ℕ) };
+
+    ghost view = { λ b. unclosed b.left };
+}
+
+impl<'a> LineWords<'a> {
+    ghost use Rattle.std.specs.Prelude.{◌≡◌, [], ◌∷◌, drop, MatchOption, if◌then◌else◌};
+    ghost use Rattle.proof_text.specs.Words as words;
+
+    /// The words that are left of a line.
+    pub(crate) fn new(left: Lookahead<'a>) -> Self
+        ensures { result ≡ words.unclosed left.entry }
+    {
+        LineWords { left }
+    }
+
+    /// The next word; `None` at the end.
+    #[tactic(auto, using(crate::proofs::ClosingSemicolon::closed, crate::proofs::ClosingSemicolon::opened))]
+    pub(crate) fn next(&self) -> Option<Token<'a>>
+        ensures { MatchOption result (self.now ≡ []) (λ t. self.now ≡ t.text.now ∷ drop 1 self.now) }
+    {
+        if self.left.closes() {
+            return None;
+        }
+        self.left.next()
+    }
+
+    /// Passes the next word, and gives it.
+    #[tactic(auto, using(crate::proofs::ClosingSemicolon::closed, crate::proofs::ClosingSemicolon::opened))]
+    pub(crate) fn take(&mut self) -> Option<Token<'a>>
+        ensures { MatchOption result ((self.old ≡ []) × (self.new ≡ [])) (λ t. self.old ≡ t.text.now ∷ self.new) }
+    {
+        if self.left.closes() {
+            return None;
+        }
+        self.left.take()
+    }
+
+    /// Passes the next word where it is this one, and says whether it is.
+    pub(crate) fn takes(&mut self, word: &[u8]) -> bool
+        ensures first { result ≡ words.is_first word.now self.old }
+        ensures left { self.new ≡ (if words.is_first word.now self.old then drop 1 self.old else self.old) }
+    {
+        match self.next() {
+            Some(token) if token.text == word => {
+                self.take();
+                true
+            }
+            _ => false,
+        }
+    }
+
+    /// Passes an arrow, if one stands next.
+    pub(crate) fn pass_arrow(&mut self)
+        ensures { self.new ≡ words.past_arrow self.old }
+    {
+        if let Some(token) = self.next() {
+            if let Kind::Symbol(Symbol::Arrow) = token.kind {
+                self.take();
+            }
+        }
+    }
+
+    /// Whether no word is left.
+    pub(crate) fn is_empty(&self) -> bool
+        ensures { result ≡ words.is_empty self.now }
+    {
+        self.next().is_none()
+    }
+}

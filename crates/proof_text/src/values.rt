@@ -1,0 +1,93 @@
+//! The values that words write: integers and literals, one of them or all up to the end of a line.
+//!
+//! An integer in an integer's place that is too large has a fault of its own; everywhere else it is a word that cannot stand. So the
+//! size is asked only where an integer may stand.
+
+ghost use Rattle.std.specs.Prelude.{◌≡◌, [], ◌∷◌, true, IfOk, IfErr, OnOk};
+ghost use Rattle.pb_text.specs.Lexeme.{kind_of};
+ghost use Rattle.pb_text.specs.Number.{integer_value};
+ghost use Rattle.pb_text.specs.Word.{name_of};
+ghost use Rattle.proof_text.specs.Kinds.{is_integer, is_literal};
+ghost use Rattle.proof_text.specs.Words.{IsSmall, AreSmall};
+ghost use Rattle.proof_text.specs.Numbering.{lit_of};
+ghost use Rattle.proof_text.specs.NamesMet.{met, met_in};
+ghost use Rattle.proof_text.specs.Forms.{are_literals, literals_of, are_integers, integers_of};
+ghost use Rattle.proof_text.specs.PartsRead.{IsRead};
+ghost use Rattle.proof_text.specs.PartsDenied.{Denies};
+ghost use Rattle.proof_text.specs.Faults.{IsPlain};
+
+use crate::fault::ProofFault;
+use crate::line_names::LineNames;
+use crate::line_words::LineWords;
+use linear::{Lit, Names, Seq};
+use pb_text::{NumFault, Token, as_literal, integer};
+use std::alloc::Global;
+
+/// The number of an integer.
+#[tactic(auto, using(crate::proofs::WordsByKind::one_large, crate::proofs::WordsByKind::small_value))]
+pub(crate) fn number(token: Token<'_>) -> Result<i128, ProofFault>
+    ensures integer { OnOk result (is_integer (kind_of token.entry.text.now) ≡ true) }
+    ensures value { IfOk result (λ n. n ≡ integer_value token.entry.text.now) }
+    ensures small { OnOk result (IsSmall token.entry.text.now) }
+    ensures denies { IfErr result (λ f. Denies f (is_integer (kind_of token.entry.text.now)) (token.entry.text.now ∷ [])) }
+    ensures plain { IfErr result IsPlain }
+    ensures memory { IfErr result (λ f. f ≡ ProofFault.OutOfMemory → ⊥) }
+{
+    match integer(token) {
+        Ok(number) => Ok(number),
+        Err(NumFault::NotNumber) => Err(ProofFault::BadLine),
+        Err(NumFault::NumberTooLarge) => Err(ProofFault::IntegerTooLarge),
+    }
+}
+
+/// The literal of a word, its name met.
+pub(crate) fn lit(token: Token<'_>, table: &mut LineNames) -> Result<Lit, ProofFault>
+    ensures literal { OnOk result (is_literal (kind_of token.entry.text.now) ≡ true) }
+    ensures value { IfOk result (λ l. l ≡ lit_of table.new.names token.entry.text.now) }
+    ensures met { OnOk result (table.new ≡ met table.old (name_of token.entry.text.now)) }
+    ensures kept { table.new.before ≡ table.old.before }
+    ensures denies { IfErr result (λ f. Denies f (is_literal (kind_of token.entry.text.now)) (token.entry.text.now ∷ [])) }
+    ensures plain { IfErr result IsPlain }
+{
+    let Some(literal) = as_literal(token) else {
+        return Err(ProofFault::BadLine);
+    };
+    match table.lit(literal) {
+        Ok(lit) => Ok(lit),
+        Err(_) => Err(ProofFault::OutOfMemory),
+    }
+}
+
+/// Literals up to the end of a line.
+pub(crate) fn lits(
+    alloc: Global,
+    mut words: LineWords<'_>,
+    table: &mut LineNames,
+) -> Result<Seq<Lit>, ProofFault>
+    ensures read { IfOk result (λ v. IsRead are_literals literals_of table.old words.entry v table.new) }
+    ensures kept { table.new.before ≡ table.old.before }
+    ensures denies { IfErr result (λ f. Denies f (are_literals words.entry) words.entry) }
+    ensures plain { IfErr result IsPlain }
+{
+    let mut lits = Vec::new(alloc);
+    while let Some(token) = words.take() {
+        let lit = lit(token, table)?;
+        lits.push(lit)?;
+    }
+    Ok(Seq::from_vec(lits))
+}
+
+/// Integers up to the end of a line.
+pub(crate) fn numbers(alloc: Global, mut words: LineWords<'_>) -> Result<Seq<i128>, ProofFault>
+    ensures integers { OnOk result (are_integers words.entry ≡ true) }
+    ensures values { IfOk result (λ v. v ≡ integers_of words.entry) }
+    ensures small { OnOk result (AreSmall words.entry) }
+    ensures denies { IfErr result (λ f. Denies f (are_integers words.entry) words.entry) }
+{
+    let mut numbers = Vec::new(alloc);
+    while let Some(token) = words.take() {
+        let number = number(token)?;
+        numbers.push(number)?;
+    }
+    Ok(Seq::from_vec(numbers))
+}
