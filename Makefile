@@ -1,11 +1,21 @@
-# The door for people. `make` builds the programs into bin/, from nothing too; `make test` runs the gate: every proof from
-# nothing, the edits that must fail, and the tests; `make demo` runs the checker on three pigeons in two holes.
-.PHONY: all test demo check layout refused-growths statuses figures
+# The door for people. `make` proves every crate and builds the program into bin/, from nothing too; `make test` runs the
+# gate: every proof from nothing, the edits that must fail, and the tests; `make demo` runs the checker on three pigeons in
+# two holes.
+.PHONY: all test demo check layout refused-growths statuses figures wrong-definitions wrong-bodies
+
+# How many crates are proved side by side.
+JOBS ?= $(shell nproc)
+
+SOURCES := crates.txt $(shell find crates \( -name out -o -name must-fail -o -name wrong-definitions \) -prune -o -type f -print)
 
 all: bin/pbcheck
 
-# rt proves, builds and runs a program, and leaves it in its crate's out/.
-bin/pbcheck: $(wildcard crates/*/src/*.rt) $(wildcard crates/*/specs/*.antt)
+# Crates are proved side by side, each as soon as those that it stands on are; what an earlier run kept in out/ is not proved again.
+bin/pbcheck: $(SOURCES)
+	@echo "make: proving the crates, $(JOBS) side by side; from nothing this takes some minutes, and each proved crate is named"
+	rt all check --jobs $(JOBS) > make.log 2>&1 || (tail -n 40 make.log; exit 1)
+	@grep -E '^rt: [a-z_]+ proved' make.log || true
+	@echo "make: building pbcheck"
 	cd crates/pbcheck && rt run -- data/pigeons.opb data/pigeons.pbp > /dev/null
 	mkdir -p bin
 	cp crates/pbcheck/out/pbcheck bin/pbcheck
@@ -24,7 +34,7 @@ check: layout
 layout:
 	for crate in crates/*/; do (cd $$crate && rt fmt) || exit 1; done
 
-# Refuses each growth of a run in turn: the answer stays the ample one, or is `no memory`. Beside the gate: it wants a C compiler.
+# Makes each allocation of a run fail in turn: the answer stays the usual one, or is `no memory`. Beside the gate: it wants a C compiler.
 refused-growths: bin/pbcheck
 	scripts/refused-growths examples/pigeons.opb examples/pigeons.pbp "accepted UNSAT"
 	scripts/refused-growths examples/pigeons.opb examples/pigeons-too-short.pbp "refused line 5 code 24 LowerNotShown"
@@ -36,3 +46,11 @@ statuses: bin/pbcheck
 # Times the checker on large problems and proofs.
 figures: bin/pbcheck
 	scripts/figures
+
+# Tries each edit of crates/NAME/wrong-definitions: a definition that is turned must break a law or a worked case.
+wrong-definitions:
+	scripts/wrong-definitions
+
+# Writes the lists of docs/wrong-bodies.md anew from the edits.
+wrong-bodies:
+	scripts/wrong-bodies > docs/wrong-bodies.md

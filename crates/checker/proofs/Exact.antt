@@ -6,14 +6,15 @@ use Rattle.linear.specs.Opb.{Opb}
 use Rattle.kernel.specs.Accepted.{Judgement}
 use Rattle.proof_rules.specs.Fault.{OrMemory}
 use Rattle.proof_rules.specs.Forms.{problem_ids}
-use Rattle.kernel.specs.Held.{IsJudgedStep}
+use Rattle.kernel.specs.Held.{IsJudgedStep, IsJudged}
+use Rattle.proof_rules.specs.Justified.{IsJustified}
 use Rattle.proof_rules.specs.Legal.{Legal, Leads}
 use Rattle.proof_rules.specs.State.{State}
 use Rattle.proof_steps.specs.declared.conclusion.Conclusion.{Conclusion}
 use Rattle.proof_rules.specs.declared.fault.StepFault.{StepFault}
 use Rattle.proof_rules.specs.declared.fault.StepFault.TheVariants as judgings
 use Rattle.proof_steps.specs.declared.step.Step.{Step}
-use Rattle.proof_rules.proofs.NotLegal.{step_never}
+use Rattle.proof_rules.proofs.NotLegal.{step_never, conclusion_never}
 use Rattle.proof_rules.proofs.OneStart.{one_start}
 use Rattle.proof_rules.proofs.OneState.{one_state}
 use Rattle.proof_text.specs.Faults.{DeniesLine, DeniesPlaced}
@@ -73,6 +74,7 @@ placed_never f place old ws line new denies sure is = by f denies sure
     by readings.TextAfterEnd d n = absurd d
 
 denied_never : (f : ProofFault) (place : Place) (old ws : List (List ℕ)) (line : Line) (new : List (List ℕ)) → DeniesLine f place old ws → f ≢ readings.OutOfMemory → IsLine place old ws line new → ⊥
+unfolding DeniesLine
 denied_never f places.Header old ws line new d sure is = d.1 line (ap (λ t. line_of places.Header t ws) (sym is.names) ∙ is.says) is.proper
 denied_never f places.Count old ws line new d sure is = d.1 line (ap (λ t. line_of places.Count t ws) (sym is.names) ∙ is.says) is.small
 denied_never f places.Step old ws line new d sure is = placed_never f places.Step old ws line new d sure is
@@ -121,14 +123,14 @@ record Rest (p : Opb) (a : Judgement) (s : State) (names : List (List ℕ)) (lef
   conclusion_is : IsLine places.Conclusion after (words concluded.text) (lines.Conclusion a.conclusion) all
   end_is : IsLine places.End all (words ended.text) lines.End all
   legal : Leads p s steps end
-  kinds : IsOfJudgedKinds steps end a.conclusion
+  justified : IsJustified p end a.conclusion a.best
+  kinds : IsOfJudgedKinds steps a.conclusion
 
 -- the kinds of the steps behind the first
-later_kinds : (step : Step) (steps : List Step) (end : State) (a : Judgement) → IsOfJudgedKinds (step ∷ steps) end a.conclusion → IsOfJudgedKinds steps end a.conclusion
-later_kinds step steps end a kinds = record {
+later_kinds : (step : Step) (steps : List Step) (a : Judgement) → IsOfJudgedKinds (step ∷ steps) a.conclusion → IsOfJudgedKinds steps a.conclusion
+later_kinds step steps a kinds = record {
   steps_are = All-tail IsJudgedStep step steps kinds.steps_are;
   conclusion_is = kinds.conclusion_is;
-  contradicted = kinds.contradicted;
 }
 
 -- one line further: a legal step that stands next is the first of the proof's
@@ -136,7 +138,7 @@ one_on : (p : Opb) (a : Judgement) (s t : State) (names new : List (List ℕ)) (
     → Rest p a s names left → Rest p a t new behind
 one_on p a s t names new left behind step takes legal r = by r.between r.steps r.in_order r.says r.legal r.kinds
   where
-    by : (bs : List Numbered) (ss : List Step) → left ≡ bs ++ r.output ∷ r.concluded ∷ r.ended ∷ [] → AreSteps names bs ss r.named → Leads p s ss r.end → IsOfJudgedKinds ss r.end a.conclusion → Rest p a t new behind
+    by : (bs : List Numbered) (ss : List Step) → left ≡ bs ++ r.output ∷ r.concluded ∷ r.ended ∷ [] → AreSteps names bs ss r.named → Leads p s ss r.end → IsOfJudgedKinds ss a.conclusion → Rest p a t new behind
     by [] [] order says leads kinds =
         let here = subst (λ n. IsLine places.Step n (words r.output.text) lines.Output r.after) says r.output_is in
         let both = both_taken places.Step names left (lines.Step step) lines.Output new r.after behind (r.concluded ∷ r.ended ∷ []) r.output takes order here in
@@ -163,7 +165,8 @@ one_on p a s t names new left behind step takes legal r = by r.between r.steps r
           conclusion_is = r.conclusion_is;
           end_is = r.end_is;
           legal = subst (λ u. Leads p u ss r.end) state leads.2;
-          kinds = later_kinds x ss r.end a kinds;
+          justified = r.justified;
+          kinds = later_kinds x ss a kinds;
         }
       where
         same_step : (x y : Step) → lines.Step x ≡ lines.Step y → x ≡ y
@@ -192,7 +195,7 @@ step_never_stops p a s names left last line code refusal r stop = by r.between r
     refused x t legal judged (inl why) = why.1 judged
     refused x t legal judged (inr why) = step_never p s x why.0 t (from_memory why.0 _ (subst IsRefusalCode why.1 refusal) why.2) legal
 
-    by : (bs : List Numbered) (ss : List Step) → left ≡ bs ++ r.output ∷ r.concluded ∷ r.ended ∷ [] → AreSteps names bs ss r.named → Leads p s ss r.end → IsOfJudgedKinds ss r.end a.conclusion
+    by : (bs : List Numbered) (ss : List Step) → left ≡ bs ++ r.output ∷ r.concluded ∷ r.ended ∷ [] → AreSteps names bs ss r.named → Leads p s ss r.end → IsOfJudgedKinds ss a.conclusion
         → StopsAtStep p s names left last line code → ⊥
     by [] [] order says leads kinds (inl unread) =
         let here = subst (λ n. IsLine places.Step n (words r.output.text) lines.Output r.after) says r.output_is in
@@ -212,19 +215,20 @@ step_never_stops p a s names left last line code refusal r stop = by r.between r
         same_step x y e = cc
 
 -- What is left of a proof from its conclusion on.
-record RestBehind (a : Judgement) (s : State) (names : List (List ℕ)) (left : List Numbered) : Type 0 where
+record RestBehind (p : Opb) (a : Judgement) (s : State) (names : List (List ℕ)) (left : List Numbered) : Type 0 where
   concluded : Numbered
   ended : Numbered
   all : List (List ℕ)
   in_order : left ≡ concluded ∷ ended ∷ []
   conclusion_is : IsLine places.Conclusion names (words concluded.text) (lines.Conclusion a.conclusion) all
   end_is : IsLine places.End all (words ended.text) lines.End all
-  kinds : IsOfJudgedKinds [] s a.conclusion
+  justified : IsJustified p s a.conclusion a.best
+  kinds : IsJudged a.conclusion
 
-output_on : (p : Opb) (a : Judgement) (s : State) (names new : List (List ℕ)) (left behind : List Numbered) → Takes places.Step names left lines.Output new behind → Rest p a s names left → RestBehind a s new behind
+output_on : (p : Opb) (a : Judgement) (s : State) (names new : List (List ℕ)) (left behind : List Numbered) → Takes places.Step names left lines.Output new behind → Rest p a s names left → RestBehind p a s new behind
 output_on p a s names new left behind takes r = by r.between r.steps r.in_order r.says r.legal r.kinds
   where
-    by : (bs : List Numbered) (ss : List Step) → left ≡ bs ++ r.output ∷ r.concluded ∷ r.ended ∷ [] → AreSteps names bs ss r.named → Leads p s ss r.end → IsOfJudgedKinds ss r.end a.conclusion → RestBehind a s new behind
+    by : (bs : List Numbered) (ss : List Step) → left ≡ bs ++ r.output ∷ r.concluded ∷ r.ended ∷ [] → AreSteps names bs ss r.named → Leads p s ss r.end → IsOfJudgedKinds ss a.conclusion → RestBehind p a s new behind
     by [] [] order says leads kinds =
         let here = subst (λ n. IsLine places.Step n (words r.output.text) lines.Output r.after) says r.output_is in
         let both = both_taken places.Step names left lines.Output lines.Output new r.after behind (r.concluded ∷ r.ended ∷ []) r.output takes order here in
@@ -235,7 +239,8 @@ output_on p a s names new left behind takes r = by r.between r.steps r.in_order 
           in_order = both.2;
           conclusion_is = subst (λ n. IsLine places.Conclusion n (words r.concluded.text) (lines.Conclusion a.conclusion) r.all) (sym both.0) r.conclusion_is;
           end_is = r.end_is;
-          kinds = subst (λ u. IsOfJudgedKinds [] u a.conclusion) leads kinds;
+          justified = subst (λ u. IsJustified p u a.conclusion a.best) leads r.justified;
+          kinds = kinds.conclusion_is;
         }
     by [] (x ∷ ss) order says leads kinds = absurd says
     by (b ∷ bs) [] order says leads kinds = absurd says
@@ -244,20 +249,24 @@ output_on p a s names new left behind takes r = by r.between r.steps r.in_order 
         absurd (step_is_no_output x (sym both.1))
 
 -- nothing stops at the conclusion
-conclusion_never_stops : (a : Judgement) (s : State) (names : List (List ℕ)) (left : List Numbered) (last line : ℕ) (code : Code) → IsRefusalCode code → RestBehind a s names left
-    → StopsAtConclusion s names left last line code → ⊥
-conclusion_never_stops a s names left last line code refusal r (inl unread) =
+conclusion_never_stops : (p : Opb) (a : Judgement) (s : State) (names : List (List ℕ)) (left : List Numbered) (last line : ℕ) (code : Code) → IsRefusalCode code → RestBehind p a s names left
+    → StopsAtConclusion p s names left last line code → ⊥
+conclusion_never_stops p a s names left last line code refusal r (inl unread) =
     unread_never places.Conclusion names left last line code r.concluded (r.ended ∷ []) (lines.Conclusion a.conclusion) r.all refusal r.in_order r.conclusion_is unread
-conclusion_never_stops a s names left last line code refusal r (inr read) =
+conclusion_never_stops p a s names left last line code refusal r (inr read) =
     let same = both_read places.Conclusion names left line (lines.Conclusion read.0) (lines.Conclusion a.conclusion) r.concluded (r.ended ∷ []) r.all read.1 r.in_order r.conclusion_is in
-    refused (subst (λ c. IsRefusedConclusion s c code) (same_conclusion read.0 a.conclusion same) read.2)
+    refused (subst (λ c. IsRefusedConclusion p s c code) (same_conclusion read.0 a.conclusion same) read.2)
   where
     same_conclusion : (x y : Conclusion) → lines.Conclusion x ≡ lines.Conclusion y → x ≡ y
     same_conclusion x y e = cc
 
-    refused : IsRefusedConclusion s a.conclusion code → ⊥
-    refused (inl why) = why.1 r.kinds.conclusion_is
-    refused (inr why) = why.2 (r.kinds.contradicted why.1)
+    from_memory : (f : StepFault) (P : Type 0) → f ≢ judgings.OutOfMemory → OrMemory f P → P
+    from_memory judgings.OutOfMemory P not q = absurd (not refl)
+    from_memory _ P not q = q
+
+    refused : IsRefusedConclusion p s a.conclusion code → ⊥
+    refused (inl why) = why.1 r.kinds
+    refused (inr why) = conclusion_never p s a.conclusion why.0 a.best (from_memory why.0 _ (subst IsRefusalCode why.1 refusal) why.2) r.justified
 
 -- the lines behind the header
 abbrev after_header : (p : Opb) (proof : List ℕ) (a : Judgement) (proved : IsProved p proof a) → List Numbered
@@ -297,7 +306,7 @@ count_never_stops p proof a proved names left last line code refusal at (inr why
     same_count x y e = cc
 
 -- what is left among the steps
-rest_of : (p : Opb) (proof : List ℕ) (a : Judgement) (proved : IsProved p proof a) (t : State) (names : List (List ℕ)) (left : List Numbered) → IsOfJudgedKinds proved.steps proved.legal.end a.conclusion
+rest_of : (p : Opb) (proof : List ℕ) (a : Judgement) (proved : IsProved p proof a) (t : State) (names : List (List ℕ)) (left : List Numbered) → IsOfJudgedKinds proved.steps a.conclusion
     → AtSteps p proof t names left → Rest p a t names left
 rest_of p proof a proved t names left kinds at =
     let sp = proved.spelled in
@@ -319,14 +328,15 @@ rest_of p proof a proved t names left kinds at =
       output_is = sp.output_is;
       conclusion_is = sp.conclusion_is;
       end_is = sp.end_is;
+      justified = proved.legal.justified;
       legal = subst (λ u. Leads p u proved.steps proved.legal.end) (one_start p proved.legal.start at.0 proved.legal.starts at.7) proved.legal.leads;
       kinds = kinds;
     } in
     let taken = at.8 in
     steps_on p a at.0 t at.3 names at.4 left taken.before taken.steps taken.in_order taken.says taken.legal begun
 
-rest_behind : (p : Opb) (proof : List ℕ) (a : Judgement) (proved : IsProved p proof a) (t : State) (names : List (List ℕ)) (left : List Numbered) → IsOfJudgedKinds proved.steps proved.legal.end a.conclusion
-    → AtConclusion p proof t names left → RestBehind a t names left
+rest_behind : (p : Opb) (proof : List ℕ) (a : Judgement) (proved : IsProved p proof a) (t : State) (names : List (List ℕ)) (left : List Numbered) → IsOfJudgedKinds proved.steps a.conclusion
+    → AtConclusion p proof t names left → RestBehind p a t names left
 rest_behind p proof a proved t names left kinds at = output_on p a t at.0 names at.1 left at.3 (rest_of p proof a proved t at.0 at.1 kinds at.2)
 
 -- the end line, where the conclusion was taken
@@ -335,7 +345,7 @@ record AtEndLine (names : List (List ℕ)) (left : List Numbered) : Type 0 where
   in_order : left ≡ ended ∷ []
   end_is : IsLine places.End names (words ended.text) lines.End names
 
-end_line : (p : Opb) (proof : List ℕ) (a : Judgement) (proved : IsProved p proof a) (names : List (List ℕ)) (left : List Numbered) → IsOfJudgedKinds proved.steps proved.legal.end a.conclusion → AtEnd p proof names left
+end_line : (p : Opb) (proof : List ℕ) (a : Judgement) (proved : IsProved p proof a) (names : List (List ℕ)) (left : List Numbered) → IsOfJudgedKinds proved.steps a.conclusion → AtEnd p proof names left
     → AtEndLine names left
 end_line p proof a proved names left kinds at =
     let r = rest_behind p proof a proved at.0 at.1 at.2 kinds at.5 in
@@ -347,7 +357,7 @@ end_line p proof a proved names left kinds at =
     }
 
 -- where judging stops, the proof is none of the kinds that are judged
-pub stopped_never : (p : Opb) (proof : List ℕ) (line : ℕ) (code : Code) (a : Judgement) (proved : IsProved p proof a) → IsOfJudgedKinds proved.steps proved.legal.end a.conclusion → IsRefusalCode code
+pub stopped_never : (p : Opb) (proof : List ℕ) (line : ℕ) (code : Code) (a : Judgement) (proved : IsProved p proof a) → IsOfJudgedKinds proved.steps a.conclusion → IsRefusalCode code
     → IsStopped p proof line code → ⊥
 stopped_never p proof line code a proved kinds refusal (at_header names left at unread) =
     let sp = proved.spelled in
@@ -358,7 +368,7 @@ stopped_never p proof line code a proved kinds refusal (at_count names left at w
 stopped_never p proof line code a proved kinds refusal (at_step s names left at why) =
     step_never_stops p a s names left (lines_of proof).last line code refusal (rest_of p proof a proved s names left kinds at) why
 stopped_never p proof line code a proved kinds refusal (at_conclusion s names left at why) =
-    conclusion_never_stops a s names left (lines_of proof).last line code refusal (rest_behind p proof a proved s names left kinds at) why
+    conclusion_never_stops p a s names left (lines_of proof).last line code refusal (rest_behind p proof a proved s names left kinds at) why
 stopped_never p proof line code a proved kinds refusal (at_end names left at unread) =
     let r = end_line p proof a proved names left kinds at in
     unread_never places.End names left (lines_of proof).last line code r.ended [] lines.End names refusal r.in_order r.end_is unread

@@ -54,11 +54,11 @@ stops_steps p q proof s names counted left behind last stop same at start takes 
     (λ line code why. let w = subst (λ n. StopsAmongSteps p s counted behind n line code) ends (subst (λ x. StopsAmongSteps x s counted behind last line code) same why) in
     at_step w.0 w.1 w.2 (s, names, left, counted, behind, at, takes, start, w.3) w.4) reason
 
-pub stops_conclusion : (p : Opb) (proof : List ℕ) (t : State) (names : List (List ℕ)) (left : List Numbered) (last : ℕ) (stop : Stop) → AtConclusion p proof t names left → last ≡ (lines_of proof).last
-    → StopsBy (StopsAtConclusion t names left last) stop → StopsBy (IsStopped p proof) stop
-stops_conclusion p proof t names left last stop at ends reason =
-    stops_weaker (StopsAtConclusion t names left last) (IsStopped p proof) stop
-    (λ line code why. at_conclusion t names left at (subst (λ n. StopsAtConclusion t names left n line code) ends why)) reason
+pub stops_conclusion : (p q : Opb) (proof : List ℕ) (t : State) (names : List (List ℕ)) (left : List Numbered) (last : ℕ) (stop : Stop) → q ≡ p → AtConclusion p proof t names left → last ≡ (lines_of proof).last
+    → StopsBy (StopsAtConclusion q t names left last) stop → StopsBy (IsStopped p proof) stop
+stops_conclusion p q proof t names left last stop same at ends reason =
+    stops_weaker (StopsAtConclusion q t names left last) (IsStopped p proof) stop
+    (λ line code why. at_conclusion t names left at (subst (λ n. StopsAtConclusion p t names left n line code) ends (subst (λ x. StopsAtConclusion x t names left last line code) same why))) reason
 
 pub stops_end : (p : Opb) (proof : List ℕ) (names : List (List ℕ)) (left : List Numbered) (last : ℕ) (stop : Stop) → AtEnd p proof names left → last ≡ (lines_of proof).last
     → StopsBy (IsUnread places.End names left last) stop → StopsBy (IsStopped p proof) stop

@@ -45,7 +45,7 @@ pub record IsBadProblem (text : List ℕ) (fault : OpbFault) : Type 0 where
 
 -- the text is no legal proof, of any conclusion, of the kinds that are judged so far
 abbrev pub IsUnproved : Opb → List ℕ → Type 0
-IsUnproved p proof = (a : Judgement) (proved : IsProved p proof a) → IsOfJudgedKinds proved.steps proved.legal.end a.conclusion → ⊥
+IsUnproved p proof = (a : Judgement) (proved : IsProved p proof a) → IsOfJudgedKinds proved.steps a.conclusion → ⊥
 
 -- The text spells a problem, and judging the proof stops at this line with this code; so it is no legal proof of the kinds
 -- that are judged so far.

@@ -124,7 +124,7 @@ pub(crate) fn judge(alloc: Global, problem: &Problem, proof: &[u8]) -> Result<Ac
         names: problem.names().copy(alloc)?,
     };
     lines.next(Place::Header)?;
-    judge_count(&mut lines, kernel.next_id() - 1)?;
+    judge_count(&mut lines, kernel.last_id())?;
     judge_steps(&mut lines, &mut kernel)?;
     let accepted = judge_conclusion(&mut lines, &mut kernel)?;
     lines.next(Place::End)?;

@@ -14,5 +14,5 @@ use super::verdict::Code;
 /// `check` refuses only what it must.
 pub fn refused_is_not_proved()
     ensures { (p : Opb) → (proof : List ℕ) → (line : ℕ) → (code : Code) → IsRefusalCode code → IsStopped p proof line code
-        → (a : Judgement) → (proved : IsProved p proof a) → IsOfJudgedKinds proved.steps proved.legal.end a.conclusion → ⊥ }
+        → (a : Judgement) → (proved : IsProved p proof a) → IsOfJudgedKinds proved.steps a.conclusion → ⊥ }
 {}

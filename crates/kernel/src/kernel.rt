@@ -44,7 +44,7 @@ impl<'a, P: Propagator> Model for Kernel<'a, P> {
 }
 
 impl<'a, P: Propagator> Kernel<'a, P> {
-    ghost use Rattle.std.specs.Prelude.{◌≡◌, ◌↔◌, Some, IfOk, IfErr, OnOk, OnErr, IsErrOf, IsTrue};
+    ghost use Rattle.std.specs.Prelude.{◌≡◌, ◌↔◌, ◌+◌, Some, IfOk, IfErr, OnOk, OnErr, IsErrOf, IsTrue};
     ghost use Rattle.proof_rules.specs.Fault.{OrMemory, IsStepFault};
     ghost use Rattle.proof_rules.specs.Legal.{Legal};
     ghost use Rattle.proof_rules.specs.Shown.{IsShown};
@@ -65,12 +65,12 @@ impl<'a, P: Propagator> Kernel<'a, P> {
         })
     }
 
-    /// The id that the next constraint takes; 2^32 where none is left.
-    pub fn next_id(&self) -> u64
-        ensures next { result ≡ self.now.state.next }
+    /// The id that was given last; 0 where none was.
+    pub fn last_id(&self) -> u64
+        ensures last { result + 1 ≡ self.now.state.next }
         ensures kept { IsKept self.now }
     {
-        self.database.next_id()
+        self.database.next_id() - 1
     }
 
     /// Applies a step, whole or not at all: `pol`, which adds the value of an expression, or `rup`, which adds a constraint

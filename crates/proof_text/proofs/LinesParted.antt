@@ -4,7 +4,7 @@ use Rattle.std.proofs.lemmas.List.Sums.{sum_by-cons}
 use Rattle.std.proofs.lemmas.List.{take_all}
 use Rattle.memchr.specs.Find.{Nowhere, NoneBefore, Passes, is_byte}
 use Rattle.std.specs.List.{list_all}
-use Rattle.pb_text.specs.Lexeme.{Place, Lexeme, Cut, begins_comment, is_white, symbol_length, all_tokens, lexemes, lexemes_from}
+use Rattle.pb_text.specs.Lexeme.{Position, Lexeme, Cut, begins_comment, is_white, symbol_length, all_tokens, lexemes, lexemes_from}
 use Rattle.pb_text.specs.Cutting.{behind}
 use Rattle.pb_text.proofs.Cutting.{white_passed, past_plain, end_empty}
 use Rattle.proof_text.specs.Lines.{Parted, parted, onto, counting, counting_from, breaks, counts, has_no_break}
@@ -110,23 +110,23 @@ unbroken_parts b rest h = by (b == 10) h
     by true h = absurd cc
     by false h = (refl, h)
 
-comment_empty : (p : Place) (line : List ℕ) → p.comment ≡ true → has_no_break line ≡ true → lexemes_from p line ≡ []
+comment_empty : (p : Position) (line : List ℕ) → p.comment ≡ true → has_no_break line ≡ true → lexemes_from p line ≡ []
 comment_empty p [] c h = end_empty p [] refl
 comment_empty p (b ∷ rest) c h =
     let parts = unbroken_parts b rest h in
     white_passed p b rest (ap (λ t. t || is_white b) c) ∙ ap (λ q. lexemes_from q rest) (past_plain p b rest parts.0) ∙ comment_empty (behind 1 p) rest c parts.1
 
-has_first : (t s : Bool) (p : Place) (x y z : Cut) → t ≡ false → some_token (all_tokens p y) ≡ true → some_token (all_tokens p z) ≡ true
+has_first : (t s : Bool) (p : Position) (x y z : Cut) → t ≡ false → some_token (all_tokens p y) ≡ true → some_token (all_tokens p z) ≡ true
     → some_token (all_tokens p (if t then x else if s then y else z)) ≡ true
 has_first true s p x y z h f g = absurd cc
 has_first false true p x y z h f g = f
 has_first false false p x y z h f g = g
 
-token_first : (p : Place) (b : ℕ) (rest : List ℕ) → p.comment ≡ false → is_white b ≡ false → some_token (lexemes_from p (b ∷ rest)) ≡ true
+token_first : (p : Position) (b : ℕ) (rest : List ℕ) → p.comment ≡ false → is_white b ≡ false → some_token (lexemes_from p (b ∷ rest)) ≡ true
 unfolding lexemes_from
 token_first p b rest c h = has_first (p.comment || is_white b) (symbol_length (b ∷ rest) == 0) p _ _ _ (ap (λ t. t || is_white b) c ∙ h) refl refl
 
-outside_comment : (p : Place) (line : List ℕ) → p.comment ≡ false → has_no_break line ≡ true → some_token (lexemes_from p line) ≡ not (list_all is_white line)
+outside_comment : (p : Position) (line : List ℕ) → p.comment ≡ false → has_no_break line ≡ true → some_token (lexemes_from p line) ≡ not (list_all is_white line)
 outside_comment p [] c h = ap some_token (end_empty p [] refl)
 outside_comment p (b ∷ rest) c h =
     let parts = unbroken_parts b rest h in
@@ -141,7 +141,7 @@ pub counts_where : (line : List ℕ) → has_no_break line ≡ true → counts l
 unfolding lexemes
 counts_where line h = by (begins_comment line)
   where
-    start : Bool → Place
+    start : Bool → Position
     start c = record { start = 0; line = 1; comment = c }
 
     last : (t : Bool) → t ≡ (t && not false)

@@ -3,7 +3,7 @@ use Rattle.std.proofs.Common.{◌≡◌, ℕ, suc, ◌+◌, ◌<◌, ◌==◌, B
 use Rattle.std.specs.Prelude.{⊤}
 use Rattle.std.specs.List.{list_all}
 use Rattle.std.proofs.lemmas.Bool.Decides.{Decides-eqb}
-use Rattle.pb_text.specs.Lexeme.{Place, Cut, cut, past, begins, begins_arrow_head, begins_comment, is_white, symbol_length, lexemes, lexemes_from, lexeme_at}
+use Rattle.pb_text.specs.Lexeme.{Position, Cut, cut, past, begins, begins_arrow_head, begins_comment, is_white, symbol_length, lexemes, lexemes_from, lexeme_at}
 use Rattle.pb_text.specs.Cutting.{begins_word, behind}
 use Rattle.pb_text.proofs.Cutting.{cut_word, cut_no_word, word_first, symbol_first, white_passed, end_empty}
 use Rattle.proof_text.specs.Words.{texts, words}
@@ -59,13 +59,13 @@ ends_no_word : (rest : List ℕ) → ends rest ≡ true → begins_word rest ≡
 ends_no_word [] h = refl
 ends_no_word (b ∷ rest) h = subst (λ x. begins_word (x ∷ rest) ≡ false) (sym ((Decides-eqb b 32).0 h)) refl
 
-behind_none : (p : Place) → behind 0 p ≡ p
-behind_none p = let e : p.start + 0 ≡ p.start = omega arith in ap (λ n. let q : Place = record { start = n; line = p.line; comment = p.comment } in q) e
+behind_none : (p : Position) → behind 0 p ≡ p
+behind_none p = let e : p.start + 0 ≡ p.start = omega arith in ap (λ n. let q : Position = record { start = n; line = p.line; comment = p.comment } in q) e
 
-behind_both : (n : ℕ) (p : Place) → behind n (behind 1 p) ≡ behind (suc n) p
-behind_both n p = let e : p.start + 1 + n ≡ p.start + suc n = omega arith in ap (λ k. let q : Place = record { start = k; line = p.line; comment = p.comment } in q) e
+behind_both : (n : ℕ) (p : Position) → behind n (behind 1 p) ≡ behind (suc n) p
+behind_both n p = let e : p.start + 1 + n ≡ p.start + suc n = omega arith in ap (λ k. let q : Position = record { start = k; line = p.line; comment = p.comment } in q) e
 
-plain_cut : (w : List ℕ) (p : Place) (rest : List ℕ) → list_all plain w ≡ true → p.comment ≡ false → ends rest ≡ true
+plain_cut : (w : List ℕ) (p : Position) (rest : List ℕ) → list_all plain w ≡ true → p.comment ≡ false → ends rest ≡ true
     → cut p (w ++ rest) ≡ record { word = w; tokens = lexemes_from (behind (length w) p) rest }
 plain_cut [] p rest h c e =
     cut_no_word p rest c (ends_no_word rest e) ∙ ap (λ q. let x : Cut = record { word = []; tokens = lexemes_from q rest } in x) (sym (behind_none p))
@@ -76,14 +76,14 @@ plain_cut (b ∷ w) p rest h c e =
     ∙ ap (λ q. let x : Cut = record { word = b ∷ w; tokens = lexemes_from q rest } in x) (behind_both (length w) p)
 
 -- what follows a word is cut by itself
-pub record Goes (w : List ℕ) (p : Place) (rest : List ℕ) : Type 0 where
-  pub place : Place
+pub record Goes (w : List ℕ) (p : Position) (rest : List ℕ) : Type 0 where
+  pub place : Position
   pub open_line : place.comment ≡ false
   pub cuts : texts (lexemes_from p (w ++ rest)) ≡ w ∷ texts (lexemes_from place rest)
 
 -- a token of a written line: a space behind it, it is cut as it was written, and it has no LF
 pub record IsToken (w : List ℕ) : Type 0 where
-  pub goes : (p : Place) (rest : List ℕ) → p.comment ≡ false → ends rest ≡ true → Goes w p rest
+  pub goes : (p : Position) (rest : List ℕ) → p.comment ≡ false → ends rest ≡ true → Goes w p rest
   pub clean : list_all no_break w ≡ true
 
 no_white_break : (w : List ℕ) → list_all plain w ≡ true → list_all no_break w ≡ true
@@ -132,7 +132,7 @@ no_equals (b ∷ rest) h = ap (λ x. x == 61) ((Decides-eqb b 32).0 h)
 arrow_length : (rest : List ℕ) → ends rest ≡ true → symbol_length (45 ∷ 62 ∷ rest) ≡ 2
 arrow_length rest e = ap (λ t. if not t then 2 else 0) (no_equals rest e)
 
-arrow_first : (p : Place) (rest : List ℕ) (n : ℕ) → n ≡ 2
+arrow_first : (p : Position) (rest : List ℕ) (n : ℕ) → n ≡ 2
     → lexemes_from p (45 ∷ 62 ∷ rest) ≡ lexeme_at p (take n (45 ∷ 62 ∷ rest)) ∷ lexemes_from (behind n p) (drop n (45 ∷ 62 ∷ rest))
     → lexemes_from p (45 ∷ 62 ∷ rest) ≡ lexeme_at p (45 ∷ 62 ∷ []) ∷ lexemes_from (behind 2 p) rest
 arrow_first p rest n e h = subst (λ k. lexemes_from p (45 ∷ 62 ∷ rest) ≡ lexeme_at p (take k (45 ∷ 62 ∷ rest)) ∷ lexemes_from (behind k p) (drop k (45 ∷ 62 ∷ rest))) e h
@@ -163,7 +163,7 @@ or_last : (a : Bool) → (a || true) ≡ true
 or_last true = refl
 or_last false = refl
 
-all_cut : (ws : List (List ℕ)) (p : Place) → AreTokens ws → p.comment ≡ false → texts (lexemes_from p (spaced ws)) ≡ ws
+all_cut : (ws : List (List ℕ)) (p : Position) → AreTokens ws → p.comment ≡ false → texts (lexemes_from p (spaced ws)) ≡ ws
 all_cut [] p h c = ap texts (end_empty p [] refl)
 all_cut (w ∷ ws) p h c =
     let rest = w ++ spaced ws in
@@ -174,7 +174,7 @@ all_cut (w ∷ ws) p h c =
 pub line_words : (w : List ℕ) (ws : List (List ℕ)) → IsToken w → AreTokens ws → begins_comment (w ++ spaced ws) ≡ false → words (line_text (w ∷ ws)) ≡ w ∷ ws
 unfolding words lexemes
 line_words w ws h k c =
-    let p : Place = record { start = 0; line = 1; comment = begins_comment (w ++ spaced ws) } in
+    let p : Position = record { start = 0; line = 1; comment = begins_comment (w ++ spaced ws) } in
     let g = h.goes p (spaced ws) c (spaced_ends ws) in
     g.cuts ∙ ap (λ x. w ∷ x) (all_cut ws g.place k g.open_line)
 

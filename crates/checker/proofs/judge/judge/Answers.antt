@@ -18,7 +18,7 @@ returns-clause-proved c =
     (ap (λ (x : Pending). x.lines) c.new-2.ensures)
     c.in-Ok.ensures.start
     c.in_ok-next.ensures.line
-    (takes_count c.args.problem.now _ _ _ _ _ _ c.in-Ok.ensures.start c.given.ensures.given c.in_ok-judge_count.ensures.count)
+    (takes_count c.args.problem.now _ _ _ _ _ _ c.in-Ok.ensures.start c.last_id.ensures.last c.in_ok-judge_count.ensures.count)
     c.in_ok-judge_steps.ensures.steps
     c.in_ok-accepted.ensures.line
     c.in_ok-next-2.ensures.line
@@ -41,7 +41,7 @@ returns-in_err-judge_count-clause-stop c =
     let ends = ap (λ (x : Pending). x.last) c.new-2.ensures in
     let counting : AtCount c.args.problem.now c.args.proof.now c.next.new.self.names c.next.new.self.reader.lines =
     (c.in_ok-copy.field-0, c.new-2.result.lines, at, takes_header _ _ _ _ _ c.in_ok-next.ensures.line) in
-    rw (p.1, p.2) (stops_count _ _ _ _ _ _ _ counting (counts_file c.args.problem.now _ _ c.in-Ok.ensures.start c.given.ensures.given) (c.in_ok-next.ensures.last ∙ ends) c.in_err-judge_count.ensures.stop)
+    rw (p.1, p.2) (stops_count _ _ _ _ _ _ _ counting (counts_file c.args.problem.now _ _ c.in-Ok.ensures.start c.last_id.ensures.last) (c.in_ok-next.ensures.last ∙ ends) c.in_err-judge_count.ensures.stop)
 
 pub returns-in_err-judge_steps-clause-stop : goal.returns-in_err-judge_steps-clause-stop
 returns-in_err-judge_steps-clause-stop c =
@@ -51,7 +51,7 @@ returns-in_err-judge_steps-clause-stop c =
     let ends = ap (λ (x : Pending). x.last) c.new-2.ensures in
     let counting : AtCount c.args.problem.now c.args.proof.now c.next.new.self.names c.next.new.self.reader.lines =
     (c.in_ok-copy.field-0, c.new-2.result.lines, at, takes_header _ _ _ _ _ c.in_ok-next.ensures.line) in
-    rw (p.1, p.2) (stops_steps _ _ _ _ _ _ _ _ _ _ c.in-Ok.ensures.problem counting c.in-Ok.ensures.start (takes_count c.args.problem.now _ _ _ _ _ _ c.in-Ok.ensures.start c.given.ensures.given c.in_ok-judge_count.ensures.count) (c.in_ok-judge_count.ensures.last ∙ c.in_ok-next.ensures.last ∙ ends)
+    rw (p.1, p.2) (stops_steps _ _ _ _ _ _ _ _ _ _ c.in-Ok.ensures.problem counting c.in-Ok.ensures.start (takes_count c.args.problem.now _ _ _ _ _ _ c.in-Ok.ensures.start c.last_id.ensures.last c.in_ok-judge_count.ensures.count) (c.in_ok-judge_count.ensures.last ∙ c.in_ok-next.ensures.last ∙ ends)
     c.in_err-judge_steps.ensures.stop)
 
 pub returns-in_err-accepted-clause-stop : goal.returns-in_err-accepted-clause-stop
@@ -63,8 +63,8 @@ returns-in_err-accepted-clause-stop c =
     let counting : AtCount c.args.problem.now c.args.proof.now c.next.new.self.names c.next.new.self.reader.lines =
     (c.in_ok-copy.field-0, c.new-2.result.lines, at, takes_header _ _ _ _ _ c.in_ok-next.ensures.line) in
     let concluding : AtConclusion c.args.problem.now c.args.proof.now c.judge_steps.new.kernel.state c.judge_steps.new.lines.names c.judge_steps.new.lines.reader.lines =
-    at_conclusion_from _ _ _ _ _ _ _ _ _ _ _ c.in-Ok.ensures.problem counting c.in-Ok.ensures.start (takes_count c.args.problem.now _ _ _ _ _ _ c.in-Ok.ensures.start c.given.ensures.given c.in_ok-judge_count.ensures.count) c.in_ok-judge_steps.ensures.steps in
-    rw (p.1, p.2) (stops_conclusion _ _ _ _ _ _ _ concluding (c.in_ok-judge_steps.ensures.last ∙ c.in_ok-judge_count.ensures.last ∙ c.in_ok-next.ensures.last ∙ ends) c.in_err-accepted.ensures.stop)
+    at_conclusion_from _ _ _ _ _ _ _ _ _ _ _ c.in-Ok.ensures.problem counting c.in-Ok.ensures.start (takes_count c.args.problem.now _ _ _ _ _ _ c.in-Ok.ensures.start c.last_id.ensures.last c.in_ok-judge_count.ensures.count) c.in_ok-judge_steps.ensures.steps in
+    rw (p.1, p.2) (stops_conclusion _ _ _ _ _ _ _ _ (c.in_ok-judge_steps.ensures.problem ∙ c.in-Ok.ensures.problem) concluding (c.in_ok-judge_steps.ensures.last ∙ c.in_ok-judge_count.ensures.last ∙ c.in_ok-next.ensures.last ∙ ends) c.in_err-accepted.ensures.stop)
 
 pub returns-in_err-next-2-clause-stop : goal.returns-in_err-next-2-clause-stop
 returns-in_err-next-2-clause-stop c =
@@ -75,7 +75,7 @@ returns-in_err-next-2-clause-stop c =
     let counting : AtCount c.args.problem.now c.args.proof.now c.next.new.self.names c.next.new.self.reader.lines =
     (c.in_ok-copy.field-0, c.new-2.result.lines, at, takes_header _ _ _ _ _ c.in_ok-next.ensures.line) in
     let concluding : AtConclusion c.args.problem.now c.args.proof.now c.judge_steps.new.kernel.state c.judge_steps.new.lines.names c.judge_steps.new.lines.reader.lines =
-    at_conclusion_from _ _ _ _ _ _ _ _ _ _ _ c.in-Ok.ensures.problem counting c.in-Ok.ensures.start (takes_count c.args.problem.now _ _ _ _ _ _ c.in-Ok.ensures.start c.given.ensures.given c.in_ok-judge_count.ensures.count) c.in_ok-judge_steps.ensures.steps in
+    at_conclusion_from _ _ _ _ _ _ _ _ _ _ _ c.in-Ok.ensures.problem counting c.in-Ok.ensures.start (takes_count c.args.problem.now _ _ _ _ _ _ c.in-Ok.ensures.start c.last_id.ensures.last c.in_ok-judge_count.ensures.count) c.in_ok-judge_steps.ensures.steps in
     let justified = subst (λ (p : Opb). IsJustified p c.judge_steps.new.kernel.state c.in_ok-accepted.accepted.conclusion c.in_ok-accepted.accepted.best)
     (c.in_ok-judge_steps.ensures.problem ∙ c.in-Ok.ensures.problem) c.in_ok-accepted.ensures.justified in
     let ending : AtEnd c.args.problem.now c.args.proof.now c.judge_conclusion.new.lines.names c.judge_conclusion.new.lines.reader.lines = (
@@ -99,7 +99,7 @@ returns-in_err-end-clause-stop c =
     let counting : AtCount c.args.problem.now c.args.proof.now c.next.new.self.names c.next.new.self.reader.lines =
     (c.in_ok-copy.field-0, c.new-2.result.lines, at, takes_header _ _ _ _ _ c.in_ok-next.ensures.line) in
     let concluding : AtConclusion c.args.problem.now c.args.proof.now c.judge_steps.new.kernel.state c.judge_steps.new.lines.names c.judge_steps.new.lines.reader.lines =
-    at_conclusion_from _ _ _ _ _ _ _ _ _ _ _ c.in-Ok.ensures.problem counting c.in-Ok.ensures.start (takes_count c.args.problem.now _ _ _ _ _ _ c.in-Ok.ensures.start c.given.ensures.given c.in_ok-judge_count.ensures.count) c.in_ok-judge_steps.ensures.steps in
+    at_conclusion_from _ _ _ _ _ _ _ _ _ _ _ c.in-Ok.ensures.problem counting c.in-Ok.ensures.start (takes_count c.args.problem.now _ _ _ _ _ _ c.in-Ok.ensures.start c.last_id.ensures.last c.in_ok-judge_count.ensures.count) c.in_ok-judge_steps.ensures.steps in
     let justified = subst (λ (p : Opb). IsJustified p c.judge_steps.new.kernel.state c.in_ok-accepted.accepted.conclusion c.in_ok-accepted.accepted.best)
     (c.in_ok-judge_steps.ensures.problem ∙ c.in-Ok.ensures.problem) c.in_ok-accepted.ensures.justified in
     let ending : AtEnd c.args.problem.now c.args.proof.now c.judge_conclusion.new.lines.names c.judge_conclusion.new.lines.reader.lines = (
