@@ -11,9 +11,164 @@ struct Refused {
     code: OpbCode,
 }
 
-fn file(text: &'static [u8], line: u64, code: OpbCode) -> Refused {
-    Refused { text, line, code }
-}
+/// Files that are refused, each at the first token that cannot stand in its place.
+const REFUSED: [Refused; 31] = [
+    Refused {
+        text: b"1 x >= 1 ;",
+        line: 1,
+        code: OpbCode::BadName,
+    },
+    Refused {
+        text: b"x1 >= 1 ;",
+        line: 1,
+        code: OpbCode::BadToken,
+    },
+    Refused {
+        text: b"1 x1 ;",
+        line: 1,
+        code: OpbCode::NoRelation,
+    },
+    Refused {
+        text: b"1 x1 >= 1 1 x2 >= 1 ;",
+        line: 1,
+        code: OpbCode::NoSemicolon,
+    },
+    Refused {
+        text: b"1 x1 >= 1 ;\nmin: 1 x1 ;",
+        line: 2,
+        code: OpbCode::ObjectiveLate,
+    },
+    Refused {
+        text: b"min: 1 x1 3 ;",
+        line: 1,
+        code: OpbCode::UnsupportedForm,
+    },
+    Refused {
+        text: b"max: 1 x1 ;",
+        line: 1,
+        code: OpbCode::UnsupportedForm,
+    },
+    Refused {
+        text: b"soft: 6 ;",
+        line: 1,
+        code: OpbCode::UnsupportedForm,
+    },
+    Refused {
+        text: b"mix: 1 x1 ;",
+        line: 1,
+        code: OpbCode::BadToken,
+    },
+    Refused {
+        text: b"max 1 x1 ;",
+        line: 1,
+        code: OpbCode::BadToken,
+    },
+    Refused {
+        text: b"soft 6 ;",
+        line: 1,
+        code: OpbCode::BadToken,
+    },
+    Refused {
+        text: b"+ 3 x1 >= 1 ;",
+        line: 1,
+        code: OpbCode::BadToken,
+    },
+    Refused {
+        text: b"1 x1 x2 >= 1 ;",
+        line: 1,
+        code: OpbCode::UnsupportedForm,
+    },
+    Refused {
+        text: b"min\n: 1 x1 ;\nmin\n: 1 x1 ;",
+        line: 3,
+        code: OpbCode::ObjectiveLate,
+    },
+    Refused {
+        text: b"min: ;\nmin: ;",
+        line: 2,
+        code: OpbCode::ObjectiveLate,
+    },
+    Refused {
+        text: b"1 1 x1 >= 1 ;",
+        line: 1,
+        code: OpbCode::BadToken,
+    },
+    Refused {
+        text: b"min: 3 ;",
+        line: 1,
+        code: OpbCode::UnsupportedForm,
+    },
+    Refused {
+        text: b"1 ~ x1 >= 1 ;",
+        line: 1,
+        code: OpbCode::BadName,
+    },
+    Refused {
+        text: b"1\nx1\n>=\n1\nx2 ;",
+        line: 5,
+        code: OpbCode::NoSemicolon,
+    },
+    Refused {
+        text: b"\n\xff 1 ;",
+        line: 2,
+        code: OpbCode::BadToken,
+    },
+    Refused {
+        text: b"1 \0x1 >= 1 ;",
+        line: 1,
+        code: OpbCode::BadToken,
+    },
+    Refused {
+        text: b"1 x1\x80 >= 1 ;",
+        line: 1,
+        code: OpbCode::BadName,
+    },
+    Refused {
+        text: b"1 x1 >= 1\0 ;",
+        line: 1,
+        code: OpbCode::BadToken,
+    },
+    Refused {
+        text: b"1 x1 >= 1 \xff;",
+        line: 1,
+        code: OpbCode::NoSemicolon,
+    },
+    Refused {
+        text: b"\r* no comment",
+        line: 1,
+        code: OpbCode::BadToken,
+    },
+    Refused {
+        text: b"\r\n\r\n1 x1 >= 1 \r\n",
+        line: 4,
+        code: OpbCode::NoSemicolon,
+    },
+    Refused {
+        text: b"4611686018427387905 x1 >= 0 ;",
+        line: 1,
+        code: OpbCode::IntegerTooLarge,
+    },
+    Refused {
+        text: b"-4611686018427387905 x1 >= 0 ;",
+        line: 1,
+        code: OpbCode::IntegerTooLarge,
+    },
+    Refused {
+        text: b"1 x1 >=\n4611686018427387905 ;",
+        line: 2,
+        code: OpbCode::IntegerTooLarge,
+    },
+    Refused {
+        text: b"4611686018427387905 ;",
+        line: 1,
+        code: OpbCode::IntegerTooLarge,
+    },
+    Refused {
+        text: b"min: 1329227995784915872903807060280344577 x1 ;",
+        line: 1,
+        code: OpbCode::IntegerTooLarge,
+    },
+];
 
 fn is_refused(alloc: Global, case: &Refused) -> bool {
     match read(alloc, case.text) {
@@ -67,58 +222,7 @@ fn files_are_read(rt: HostRuntime) {
 
 #[test]
 fn files_are_refused_at_the_first_token_that_cannot_stand(rt: HostRuntime) {
-    let cases = [
-        file(b"1 x >= 1 ;", 1, OpbCode::BadName),
-        file(b"x1 >= 1 ;", 1, OpbCode::BadToken),
-        file(b"1 x1 ;", 1, OpbCode::NoRelation),
-        file(b"1 x1 >= 1 1 x2 >= 1 ;", 1, OpbCode::NoSemicolon),
-        file(b"1 x1 >= 1 ;\nmin: 1 x1 ;", 2, OpbCode::ObjectiveLate),
-        file(b"min: 1 x1 3 ;", 1, OpbCode::UnsupportedForm),
-        file(b"max: 1 x1 ;", 1, OpbCode::UnsupportedForm),
-        file(b"soft: 6 ;", 1, OpbCode::UnsupportedForm),
-        file(b"mix: 1 x1 ;", 1, OpbCode::BadToken),
-        file(b"max 1 x1 ;", 1, OpbCode::BadToken),
-        file(b"soft 6 ;", 1, OpbCode::BadToken),
-        file(b"+ 3 x1 >= 1 ;", 1, OpbCode::BadToken),
-        file(b"1 x1 x2 >= 1 ;", 1, OpbCode::UnsupportedForm),
-        file(b"min\n: 1 x1 ;\nmin\n: 1 x1 ;", 3, OpbCode::ObjectiveLate),
-        file(b"min: ;\nmin: ;", 2, OpbCode::ObjectiveLate),
-        file(b"1 1 x1 >= 1 ;", 1, OpbCode::BadToken),
-        file(b"min: 3 ;", 1, OpbCode::UnsupportedForm),
-        file(b"1 ~ x1 >= 1 ;", 1, OpbCode::BadName),
-        file(b"1\nx1\n>=\n1\nx2 ;", 5, OpbCode::NoSemicolon),
-        // bytes that belong to no word
-        file(b"\n\xff 1 ;", 2, OpbCode::BadToken),
-        file(b"1 \0x1 >= 1 ;", 1, OpbCode::BadToken),
-        file(b"1 x1\x80 >= 1 ;", 1, OpbCode::BadName),
-        file(b"1 x1 >= 1\0 ;", 1, OpbCode::BadToken),
-        file(b"1 x1 >= 1 \xff;", 1, OpbCode::NoSemicolon),
-        file(b"\r* no comment", 1, OpbCode::BadToken),
-        file(b"\r\n\r\n1 x1 >= 1 \r\n", 4, OpbCode::NoSemicolon),
-        // integers beyond the limit
-        file(
-            b"4611686018427387905 x1 >= 0 ;",
-            1,
-            OpbCode::IntegerTooLarge,
-        ),
-        file(
-            b"-4611686018427387905 x1 >= 0 ;",
-            1,
-            OpbCode::IntegerTooLarge,
-        ),
-        file(
-            b"1 x1 >=\n4611686018427387905 ;",
-            2,
-            OpbCode::IntegerTooLarge,
-        ),
-        file(b"4611686018427387905 ;", 1, OpbCode::IntegerTooLarge),
-        file(
-            b"min: 1329227995784915872903807060280344577 x1 ;",
-            1,
-            OpbCode::IntegerTooLarge,
-        ),
-    ];
-    for case in &cases {
+    for case in &REFUSED {
         assert!(&rt; is_refused(rt.alloc(), case));
     }
 }
