@@ -7,7 +7,7 @@ use Rattle.std.proofs.lemmas.Cmp.{nat_cmp_total}
 use Rattle.std.proofs.lemmas.List.{length-map}
 use Rattle.linear.specs.declared.term.Lit.{Lit}
 use Rattle.normal_form.specs.Normal.{NormalConstraint}
-use Rattle.propagate.specs.declared.scan.Forced.{Forced}
+use Rattle.propagate.specs.declared.forced.Forced.{Forced}
 use Rattle.propagate.specs.declared.trace.Trace.{Trace}
 use Rattle.propagate.specs.Chain.{LeadsToConflict, IsSettled, IsClosure}
 use Rattle.propagate.specs.Content.{Content, IsForcedIn, IsBrokenIn, AreForcedIn, traced, IsEnd, IsTrace}

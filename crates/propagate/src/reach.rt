@@ -52,7 +52,11 @@ impl Reach {
 
     /// What a listing extends to: `Conflict` exactly where it has a literal and its opposite or a chain from it
     /// leads to negative slack, else `Closed` with exactly the given and forced literals.
-    pub fn of(alloc: Global, constraints: &[&Normal], given: &[Lit]) -> Result<Reach, AllocError>
+    pub(crate) fn of(
+        alloc: Global,
+        constraints: &[&Normal],
+        given: &[Lit],
+    ) -> Result<Reach, AllocError>
         ensures { IfOk result (IsReach (map (λ n. n.now) constraints.now) given.now) }
     {
         let count = variable_count(constraints).max(literal_count(given));

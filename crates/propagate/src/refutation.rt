@@ -33,7 +33,7 @@ pub(crate) fn variable_count(constraints: &[&Normal]) -> usize
 
 /// Whether constraints are refuted: whether some chain of literals, each forced in one of them, leads from nothing
 /// to one with negative slack.
-pub fn refuted(alloc: Global, constraints: &[&Normal]) -> Result<bool, AllocError>
+pub(crate) fn refuted(alloc: Global, constraints: &[&Normal]) -> Result<bool, AllocError>
     ensures { IfOk result (λ yes. IsTrue yes ↔ IsRefuted (map (λ n. n.now) constraints.now)) }
 {
     let nothing = Trail::new(alloc, variable_count(constraints))?;
