@@ -1,12 +1,12 @@
 -- How a walk goes on: from one constraint to the next, and from one pass to the next.
-use Rattle.std.proofs.Common.{◌≡◌, ℕ, zero, suc, ◌+◌, ◌<◌, ◌≤◌, Bool, true, false, List, [], ◌∷◌, ◌++◌, map, length, get_or, Option, Some, None, is_some, MatchOption, refl, sym, ap, subst, ◌∙◌, append_assoc, append-nil, arith}
+use Rattle.std.proofs.Common.{◌≡◌, ℕ, zero, suc, ◌+◌, ◌<◌, ◌≤◌, true, false, List, [], ◌∷◌, ◌++◌, map, length, get_or, Option, Some, None, is_some, MatchOption, refl, sym, ap, subst, ◌∙◌, append_assoc, append-nil, arith}
 use Rattle.std.specs.List.{AllWithin}
 use Rattle.std.proofs.lemmas.Bool.{false≢true}
 use Rattle.std.proofs.lemmas.List.{length-append, length-map}
 use Rattle.linear.specs.declared.term.Lit.{Lit}
 use Rattle.normal_form.specs.Normal.{NormalConstraint}
 use Rattle.propagate.specs.declared.forced.Forced.{Forced}
-use Rattle.propagate.specs.Walk.{StandsAt, IsForcedStep, IsReasonedChain, literals_of, IsQuiet, GoesOn, AreForcedBy, GoesOnBy}
+use Rattle.propagate.specs.Walk.{StandsAt, IsReasonedChain, literals_of, IsQuiet, GoesOn, AreForcedBy, GoesOnBy}
 use Rattle.propagate.proofs.ReasonedChains.{fewer_left}
 use Rattle.propagate.proofs.SearchEnds.{unset_below, bound_of}
 use Rattle.propagate.proofs.SeenLists.{more_seen}

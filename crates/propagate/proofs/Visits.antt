@@ -1,8 +1,6 @@
 -- What one constraint forces, listed at once, and passes over all constraints.
 use Rattle.std.proofs.Common.{◌≡◌, ℕ, zero, suc, ◌+◌, ◌<◌, ◌≤◌, Bool, true, false, cond, not, ◌||◌, List, [], ◌∷◌, ◌++◌, length, get_or, refl, sym, ap, subst, ◌∙◌, inl, inr, ◌⊎◌, append_assoc, append-nil, arith}
-use Rattle.std.specs.List.{AllWithin}
 use Rattle.std.proofs.lemmas.Bool.{false≢true, cases_lt, cases_eq}
-use Rattle.std.proofs.lemmas.Int.{ints}
 use Rattle.linear.specs.declared.term.Lit.{Lit}
 use Rattle.normal_form.specs.declared.term.NormalTerm.{NormalTerm}
 use Rattle.normal_form.specs.Normal.{Literals, NormalConstraint, sum_over, only, Rises}
@@ -12,9 +10,9 @@ use Rattle.propagate.specs.declared.forced.Forced.{Forced}
 use Rattle.propagate.specs.Literals.{opposite, coefficient_of, among, lists}
 use Rattle.propagate.specs.Passes.{literal_of}
 use Rattle.propagate.specs.Slack.{not_false, IsForced}
-use Rattle.propagate.specs.Walk.{StandsAt, IsReasonedChain, literals_of, IsQuiet, CanForce, GoesOn, AreForcedBy, GoesOnBy}
+use Rattle.propagate.specs.Walk.{literals_of, CanForce, AreForcedBy, GoesOnBy}
 use Rattle.propagate.proofs.Consistency.{only_here}
-use Rattle.propagate.proofs.Listings.{among_append, among_left, among_right, among_head, or_cases, fewer_not_false}
+use Rattle.propagate.proofs.Listings.{among_append, among_left, among_right, among_head, fewer_not_false}
 use Rattle.propagate.proofs.Occurrences.{TermForces, forced_at}
 use Rattle.propagate.proofs.ReasonedChains.{listing_more}
 

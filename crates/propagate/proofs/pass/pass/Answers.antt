@@ -1,5 +1,5 @@
 -- What is visited is a constraint at its place; as long as nothing is listed, those so far are quiet under one listing.
-use Rattle.std.proofs.Common.{List, map, length, ◌∙◌, arith}
+use Rattle.std.proofs.Common.{List, map, ◌∙◌, arith}
 use Rattle.normal_form.specs.Normal.{NormalConstraint}
 use Rattle.propagate.proofs.PassSteps.{goes_by, goes_both, quiet_more}
 use Rattle.propagate.proofs.SeenLists.{stands_seen}
