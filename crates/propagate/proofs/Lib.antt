@@ -20,3 +20,4 @@ pub mod TracesById
 pub mod KeptChains
 pub mod Visits
 pub mod PassSteps
+pub mod TraceMeaning

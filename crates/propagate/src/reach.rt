@@ -1,4 +1,5 @@
-//! What a listing of literals extends to by propagation.
+//! What a listing of literals extends to by propagation. A solution that a VeriPB proof logs may name some of the
+//! variables only: the others must follow by propagation, and then the listing's extension is the solution.
 
 ghost use Rattle.std.specs.Prelude.{◌≡◌, ◌<◌, ◌≤◌, All, IfOk, map};
 ghost use Rattle.normal_form.specs.Normal.{variable_bound};

@@ -1,4 +1,5 @@
-//! Whether constraints are refuted by propagation alone.
+//! Whether constraints are refuted by propagation alone: the test behind a `rup` step of the VeriPB format, with the
+//! negation of the step's constraint among them.
 
 ghost use Rattle.std.specs.Prelude.{◌≡◌, ◌≤◌, ◌↔◌, All, IfOk, IsTrue, map};
 ghost use Rattle.normal_form.specs.Normal.{variable_bound};

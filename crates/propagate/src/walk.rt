@@ -1,4 +1,8 @@
-//! Chains of forced literals, as long as they go.
+//! Chains of forced literals, as long as they go: pass after pass, until a constraint is broken or a pass lists nothing.
+//!
+//! A constraint that was quiet may force a literal after a later one has, so one pass is not enough. Each pass but the
+//! last lists a variable more, so there are at most as many as variables. In which order literals are listed does not
+//! matter for what is reached (`laws::one_end`), so passes in the order of the list are as good as a queue, but for time.
 
 ghost use Rattle.std.specs.Prelude.{◌≡◌, ◌≤◌, ◌++◌, All, IfOk, MatchOption, map};
 ghost use Rattle.normal_form.specs.Normal.{variable_bound};
