@@ -1,5 +1,5 @@
 -- What chains lead to, with a chain kept, with other constraints, and from a listing that others reach.
-use Rattle.std.proofs.Common.{◌≡◌, ◌↔◌, ◌<◌, ℕ, true, false, List, [], ◌∷◌, ◌++◌, Contains, refl, sym, ap, subst, ◌∙◌, inl, inr, append_assoc, arith}
+use Rattle.std.proofs.Common.{◌≡◌, ◌↔◌, ◌<◌, true, List, [], ◌∷◌, ◌++◌, Contains, refl, sym, subst, inl, inr, append_assoc, arith}
 use Rattle.std.proofs.lemmas.Int.{ints}
 use Rattle.std.proofs.lemmas.List.{append-nil}
 use Rattle.std.proofs.lemmas.List.Elements.{Contains-append_left, Contains-push}
@@ -7,7 +7,7 @@ use Rattle.linear.specs.declared.term.Lit.{Lit}
 use Rattle.normal_form.specs.Normal.{NormalConstraint, sum_over, total}
 use Rattle.propagate.specs.Literals.{coefficient_of, among, lists}
 use Rattle.propagate.specs.Slack.{not_false, IsForced}
-use Rattle.propagate.specs.Chain.{IsForcedByOne, IsConflict, IsChain, LeadsToConflict, IsRefuted, IsReached}
+use Rattle.propagate.specs.Chain.{IsConflict, IsChain, LeadsToConflict, IsRefuted, IsReached}
 use Rattle.normal_form.proofs.SetSums.{Within}
 use Rattle.propagate.proofs.Listings.{among_left, among_right, among_cases, among_head}
 use Rattle.propagate.proofs.Chains.{chain_stays, no_conflict_from, chain_of_more, conflict_of_more}

@@ -18,3 +18,6 @@ pub mod WalkEnds
 pub mod SameListings
 pub mod TracesById
 pub mod KeptChains
+pub mod Visits
+pub mod PassSteps
+pub mod TraceMeaning

@@ -7,6 +7,7 @@ use Rattle.normal_form.specs.declared.term.NormalTerm.{NormalTerm}
 use Rattle.normal_form.specs.Normal.{NormalConstraint, sum_over, only, same_sign, Rises}
 use Rattle.normal_form.proofs.OneList.{absent, counted_own}
 use Rattle.propagate.specs.Literals.{opposite, coefficient_of, lists}
+use Rattle.propagate.specs.Walk.{CanForce}
 use Rattle.propagate.specs.Slack.{not_false, IsForced}
 use Rattle.propagate.specs.Passes.{literal_of}
 use Rattle.normal_form.proofs.SetSums.{only_is}
@@ -43,9 +44,9 @@ stands (t ∷ ts) v s h = elim (tested (only v s (t.var.0) t.negated) t.coef (su
   | inr later ↦ let r = stands ts v s later in (suc r.0, (omega (arith, r.1.0), r.1.1))
 ]
 
--- a term that may be forced where the slack is this: its literal is free and its coefficient above the slack
-abbrev pub CanForce : List Lit → ℕ → NormalTerm → Type 0
-CanForce listing slack t = (slack < t.coef) × (lists listing (literal_of t) ≡ false) × (lists listing (opposite (literal_of t)) ≡ false)
+-- a term whose literal is forced where the slack is this
+abbrev pub TermForces : List Lit → ℕ → NormalTerm → Type 0
+TermForces listing slack t = CanForce listing slack t.coef (literal_of t)
 
 literal : ℕ → Bool → Lit
 literal v s = record { var = record { 0 = v }; negated = s }
@@ -58,7 +59,7 @@ same_literal l m v s =
     one ∙ two
 
 -- what a term that can force forces, and that nothing else is forced
-pub forced_at : (listing : List Lit) (n : NormalConstraint) (slack : ℕ) (i : ℕ) (t : NormalTerm) → Rises 0 n.terms → i < length n.terms → t ≡ get_or n.terms i t → sum_over (not_false listing) n.terms ≡ n.degree + slack → CanForce listing slack t → IsForced listing (literal_of t) n
+pub forced_at : (listing : List Lit) (n : NormalConstraint) (slack : ℕ) (i : ℕ) (t : NormalTerm) → Rises 0 n.terms → i < length n.terms → t ≡ get_or n.terms i t → sum_over (not_false listing) n.terms ≡ n.degree + slack → TermForces listing slack t → IsForced listing (literal_of t) n
 forced_at listing n slack i t r h is e can =
     let own : coefficient_of n (literal_of t) ≡ t.coef =
     ap (λ (u : NormalTerm). coefficient_of n (literal_of u)) is ∙ own_coefficient 0 n.terms i t r h ∙ sym (ap (λ (u : NormalTerm). u.coef) is) in
@@ -69,7 +70,7 @@ forced_at listing n slack i t r h is e can =
       above = omega (arith, ints, own, can.0, e);
     }
 
-pub nothing_forced : (listing : List Lit) (n : NormalConstraint) (slack : ℕ) → Rises 0 n.terms → sum_over (not_false listing) n.terms ≡ n.degree + slack → ((k : ℕ) (d : NormalTerm) → k < length n.terms → CanForce listing slack (get_or n.terms k d) → ⊥) → (l : Lit) → IsForced listing l n → ⊥
+pub nothing_forced : (listing : List Lit) (n : NormalConstraint) (slack : ℕ) → Rises 0 n.terms → sum_over (not_false listing) n.terms ≡ n.degree + slack → ((k : ℕ) (d : NormalTerm) → k < length n.terms → TermForces listing slack (get_or n.terms k d) → ⊥) → (l : Lit) → IsForced listing l n → ⊥
 nothing_forced listing n slack r e none l f =
     let at = stands n.terms (l.var.0) l.negated f.occurs in
     let d : NormalTerm = record { coef = 0; var = l.var; negated = l.negated } in

@@ -3,7 +3,7 @@ use Rattle.std.proofs.Common.{◌≡◌, ◌↔◌, ℕ, ◌<◌, ◌≤◌, Lis
 use Rattle.std.proofs.lemmas.List.Elements.{All-nil, All-cons, All-map, All-contains}
 use Rattle.linear.specs.declared.term.Lit.{Lit}
 use Rattle.normal_form.specs.Normal.{NormalConstraint, variable_bound}
-use Rattle.propagate.specs.declared.scan.Forced.{Forced}
+use Rattle.propagate.specs.declared.forced.Forced.{Forced}
 use Rattle.std.proofs.lemmas.Bool.{false≢true}
 use Rattle.propagate.specs.Chain.{IsForcedByOne, IsConflict, IsChain, IsRefuted, IsSettled}
 use Rattle.propagate.proofs.Chains.{no_conflict_from}

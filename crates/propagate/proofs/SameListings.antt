@@ -1,12 +1,12 @@
 -- Listings with the same literals: a constraint says the same under both.
-use Rattle.std.proofs.Common.{◌≡◌, ℕ, Bool, true, false, not, ◌||◌, List, [], ◌∷◌, ◌++◌, sym, ap, ◌∙◌, arith, append_assoc}
+use Rattle.std.proofs.Common.{◌≡◌, Bool, not, ◌||◌, List, [], ◌∷◌, ◌++◌, sym, ap, ◌∙◌, arith}
 use Rattle.std.proofs.lemmas.Int.{ints}
 use Rattle.linear.specs.declared.term.Lit.{Lit}
 use Rattle.normal_form.specs.Normal.{NormalConstraint, sum_over}
-use Rattle.propagate.specs.Literals.{opposite, among, lists, SameLiterals}
+use Rattle.propagate.specs.Literals.{among, SameLiterals}
 use Rattle.propagate.specs.Slack.{not_false, IsBroken, IsForced}
-use Rattle.propagate.specs.declared.scan.Forced.{Forced}
-use Rattle.propagate.specs.Walk.{IsBrokenAt, IsForcedStep, IsReasonedChain, literals_of}
+use Rattle.propagate.specs.declared.forced.Forced.{Forced}
+use Rattle.propagate.specs.Walk.{IsReasonedChain}
 use Rattle.normal_form.proofs.SetSums.{Within, sum_within}
 use Rattle.propagate.proofs.Listings.{among_append, fewer_not_false}
 

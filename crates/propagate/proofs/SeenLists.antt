@@ -1,5 +1,5 @@
 -- What holds at a place of a list that is seen through a function.
-use Rattle.std.proofs.Common.{◌≡◌, ℕ, ◌+◌, ◌<◌, List, map, length, get_or, ap, sym, subst, ◌∙◌, arith}
+use Rattle.std.proofs.Common.{◌≡◌, ℕ, ◌+◌, ◌<◌, ◌≤◌, All, List, map, length, get_or, ap, sym, subst, ◌∙◌, arith}
 use Rattle.std.specs.List.{AllWithin, HoldsAt}
 use Rattle.normal_form.specs.Normal.{NormalConstraint}
 use Rattle.std.proofs.lemmas.List.{get_or-map, length-map}
@@ -21,3 +21,11 @@ stands_seen f xs i x h is = (omega (arith, h, length-map xs f), sym (seen_at f x
 -- the same list, seen through the function
 pub seen_same : {X : Type 0} (f : X → NormalConstraint) (xs ys : List X) (ns : List NormalConstraint) → xs ≡ ys → map f ys ≡ ns → map f xs ≡ ns
 seen_same f xs ys ns e h = ap (map f) e ∙ h
+
+-- what holds of all holds of the element at a place
+pub holds_item : {X : Type 0} (P : X → Type 0) (xs : List X) (i : ℕ) (x : X) → All P xs → i < length xs → x ≡ get_or xs i x → P x
+holds_item P xs i x all h is = subst P (sym is) (all i x h)
+
+-- what holds from the first place to the last holds of all
+pub all_within : {X : Type 0} (P : X → Type 0) (xs : List X) (high : ℕ) → length xs ≤ high → AllWithin P xs 0 high → All P xs
+all_within P xs high h all k d low = all k d (omega arith) (omega (arith, low, h))

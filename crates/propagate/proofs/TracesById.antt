@@ -1,19 +1,18 @@
 -- A trace told by places is one told by ids, where the ids stand beside the constraints.
-use Rattle.std.proofs.Common.{◌≡◌, ℕ, ◌<◌, T, List, [], ◌∷◌, ◌++◌, All, map, length, get_or, Option, Some, None, MatchOption, IfSome, refl, sym, ap, subst, ◌∙◌, arith}
+use Rattle.std.proofs.Common.{◌≡◌, ℕ, T, List, [], ◌∷◌, ◌++◌, map, get_or, Option, Some, None, MatchOption, refl, sym, ap, subst, ◌∙◌}
 use Rattle.std.specs.Ordering.{nat_cmp}
 use Rattle.std.specs.Option.{option_map}
 use Rattle.std.specs.FinMap as fin
 use Rattle.std.proofs.lemmas.Cmp.{nat_cmp_total}
-use Rattle.std.proofs.lemmas.List.{length-map}
 use Rattle.linear.specs.declared.term.Lit.{Lit}
 use Rattle.normal_form.specs.Normal.{NormalConstraint}
-use Rattle.propagate.specs.declared.scan.Forced.{Forced}
+use Rattle.propagate.specs.declared.forced.Forced.{Forced}
 use Rattle.propagate.specs.declared.trace.Trace.{Trace}
 use Rattle.propagate.specs.Chain.{LeadsToConflict, IsSettled, IsClosure}
-use Rattle.propagate.specs.Content.{Content, IsForcedIn, IsBrokenIn, AreForcedIn, traced, IsEnd, IsTrace}
+use Rattle.propagate.specs.Content.{Content, IsBrokenIn, AreForcedIn, traced, IsEnd, IsTrace}
 use Rattle.propagate.specs.Literals.{SameLiterals}
 use Rattle.propagate.specs.TraceByPlaces.{named, IsTraceByPlaces}
-use Rattle.propagate.specs.Walk.{StandsAt, IsBrokenAt, IsForcedStep, IsReasonedChain, literals_of}
+use Rattle.propagate.specs.Walk.{StandsAt, IsBrokenAt, IsReasonedChain, literals_of}
 use Rattle.propagate.proofs.ChainEnds.{given_within}
 use Rattle.propagate.proofs.Chains.{no_conflict_from}
 use Rattle.propagate.proofs.Closure.{same_settled}

@@ -5,7 +5,6 @@ pub mod Biting
 pub mod Passes
 pub mod Cases
 pub mod Values
-pub mod Effect
 pub mod Walk
 pub mod Reach
 pub mod Content

@@ -3,7 +3,7 @@ use Rattle.std.specs.Prelude.{◌≡◌, ℕ, List, ◌++◌, map, Option, Match
 use Rattle.std.specs.Option.{option_map}
 use Rattle.linear.specs.declared.term.Lit.{Lit}
 use Rattle.normal_form.specs.Normal.{NormalConstraint}
-use Rattle.propagate.specs.declared.scan.Forced.{Forced}
+use Rattle.propagate.specs.declared.forced.Forced.{Forced}
 use Rattle.propagate.specs.declared.trace.Trace.{Trace}
 use Rattle.propagate.specs.Chain.{IsSettled}
 use Rattle.propagate.specs.Literals.{SameLiterals}

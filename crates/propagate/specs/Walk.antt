@@ -1,11 +1,9 @@
 -- Chains with their reasons. The constraints are numbered by their places in a list.
-use Rattle.std.specs.Prelude.{◌≡◌, ℕ, ◌<◌, List, [], ◌∷◌, ◌++◌, All, length, map, slice_index_or}
-use Rattle.std.specs.List.{AllWithin}
+use Rattle.std.specs.Prelude.{◌≡◌, ℕ, ◌<◌, false, List, [], ◌∷◌, ◌++◌, length, map, slice_index_or}
 use Rattle.linear.specs.declared.term.Lit.{Lit}
 use Rattle.normal_form.specs.Normal.{NormalConstraint}
-use Rattle.propagate.specs.declared.scan.Forced.{Forced}
-use Rattle.propagate.specs.declared.scan.Scan.{Scan}
-use Rattle.propagate.specs.declared.scan.Scan.TheVariants as scans
+use Rattle.propagate.specs.declared.forced.Forced.{Forced}
+use Rattle.propagate.specs.Literals.{lists, opposite}
 use Rattle.propagate.specs.Slack.{IsBroken, IsForced}
 
 -- the constraint at a place is this one
@@ -33,20 +31,21 @@ literals_of = map (λ s. s.literal)
 abbrev pub IsQuiet : List Lit → NormalConstraint → Type 0
 IsQuiet listing n = (IsBroken listing n → ⊥) × ((l : Lit) → IsForced listing l n → ⊥)
 
--- what one constraint, which stands at this place, says
-abbrev pub IsScanAt : ℕ → NormalConstraint → List Lit → Scan → Type 0
-IsScanAt place n listing scans.Quiet = IsQuiet listing n
-IsScanAt place n listing (scans.Broken at) = (at ≡ place) × IsBroken listing n
-IsScanAt place n listing (scans.Step step) = (step.reason ≡ place) × IsForced listing step.literal n
+-- a literal with this coefficient is forced where the slack is this: it is unset, and the coefficient is above the slack
+abbrev pub CanForce : List Lit → ℕ → ℕ → Lit → Type 0
+CanForce listing slack coef l = (slack < coef) × (lists listing l ≡ false) × (lists listing (opposite l) ≡ false)
 
--- what comes next of the constraints from one place up to another
-abbrev pub IsScanBetween : List NormalConstraint → ℕ → ℕ → List Lit → Scan → Type 0
-IsScanBetween constraints low high listing scans.Quiet = AllWithin (IsQuiet listing) constraints low high
-IsScanBetween constraints low high listing (scans.Broken place) = IsBrokenAt constraints listing place
-IsScanBetween constraints low high listing (scans.Step step) = IsForcedStep constraints listing step
+-- a walk has gone on: by steps with their reasons, which stand at the end of listing and steps
+abbrev pub GoesOn : List NormalConstraint → List Lit → List Forced → List Lit → List Forced → Type 0
+GoesOn constraints listing steps later more =
+    (added : List Forced) × IsReasonedChain constraints listing added × (later ≡ listing ++ literals_of added) × (more ≡ steps ++ added)
 
--- what comes next under a listing: nothing, as all constraints are quiet, or a broken constraint, or a forced literal
-abbrev pub IsScan : List NormalConstraint → List Lit → Scan → Type 0
-IsScan constraints listing scans.Quiet = All (IsQuiet listing) constraints
-IsScan constraints listing (scans.Broken place) = IsBrokenAt constraints listing place
-IsScan constraints listing (scans.Step step) = IsForcedStep constraints listing step
+-- one constraint, which stands at this place, forces each literal under the listing and those before it
+abbrev pub AreForcedBy : NormalConstraint → ℕ → List Lit → List Forced → Type 0
+AreForcedBy n place listing [] = Unit {0}
+AreForcedBy n place listing (s ∷ ss) = (s.reason ≡ place) × IsForced listing s.literal n × AreForcedBy n place (listing ++ s.literal ∷ []) ss
+
+-- a walk has gone on by what one constraint forces
+abbrev pub GoesOnBy : NormalConstraint → ℕ → List Lit → List Forced → List Lit → List Forced → Type 0
+GoesOnBy n place listing steps later more =
+    (added : List Forced) × AreForcedBy n place listing added × (later ≡ listing ++ literals_of added) × (more ≡ steps ++ added)

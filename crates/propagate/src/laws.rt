@@ -1,12 +1,15 @@
 //! Laws of the definitions, each the contract of a function that does nothing.
 
-ghost use Rattle.std.specs.Prelude.{◌≡◌, ◌<◌, ◌↔◌, ◌⊎◌, ℕ, true, All, Contains, List, [], ◌∷◌, ◌++◌};
+ghost use Rattle.std.specs.Prelude.{◌≡◌, ◌<◌, ◌↔◌, ◌⊎◌, ℕ, true, All, Contains, Some, None, List, [], ◌∷◌, ◌++◌};
+ghost use Rattle.std.specs.FinMap as fin;
 ghost use Rattle.linear.specs.declared.term.Lit.{Lit};
 ghost use Rattle.linear.specs.Valuation.{Valuation};
 ghost use Rattle.normal_form.specs.Negation.{IsNegation};
 ghost use Rattle.normal_form.specs.Normal.{NormalConstraint, Holds, Rises, total};
 ghost use Rattle.propagate.specs.Biting.{Bites};
 ghost use Rattle.propagate.specs.Chain.{IsConflict, IsChain, LeadsToConflict, IsRefuted, IsWholeChain, IsSettled, IsReached, IsClosure};
+ghost use Rattle.propagate.specs.Content.{Content, IsTrace, traced};
+ghost use Rattle.propagate.specs.declared.trace.Trace.{Trace};
 ghost use Rattle.propagate.specs.Literals.{coefficient_of, IsConsistent, MakesTrue, lists};
 ghost use Rattle.propagate.specs.Passes.{outcome, Conflict, Settled};
 ghost use Rattle.propagate.specs.Slack.{IsBroken};
@@ -64,6 +67,19 @@ pub fn conflict_refutes()
     ensures asked { (constraints : List NormalConstraint) → (listing : List Lit) → (all : NormalConstraint)
         → all.degree ≡ total all.terms → ((l : Lit) → lists listing l ≡ true → 0 < coefficient_of all l)
         → LeadsToConflict constraints listing → IsRefuted (constraints ++ all ∷ []) }
+{}
+
+/// A trace is a chain; it names a conflict where a chain leads to one and nowhere else, and without a conflict what is
+/// given and traced are the literals that are given or forced.
+pub fn trace_meaning()
+    ensures chain { (content : Content) → (given : List Lit) → (t : Trace) → IsTrace content given t
+        → IsChain (fin.values content) given (traced t.forced) }
+    ensures conflict { (content : Content) → (given : List Lit) → (t : Trace) → (id : ℕ) → IsTrace content given t
+        → t.conflict ≡ Some id → LeadsToConflict (fin.values content) given }
+    ensures no_conflict { (content : Content) → (given : List Lit) → (t : Trace) → IsTrace content given t
+        → t.conflict ≡ None → LeadsToConflict (fin.values content) given → ⊥ }
+    ensures closure { (content : Content) → (given : List Lit) → (t : Trace) → IsTrace content given t
+        → t.conflict ≡ None → IsClosure (fin.values content) given (given ++ traced t.forced) }
 {}
 
 /// Two chains that cannot go on lead to a conflict both, or have the same literals with what is given: in which

@@ -3,19 +3,19 @@
 #![tactic(auto)]
 
 pub mod cases;
-mod effect;
+mod forced;
 pub mod laws;
+mod pass;
 mod propagator;
 mod reach;
 mod refutation;
-mod scan;
 mod scan_propagator;
+mod slack;
 mod trace;
 mod trail;
 mod walk;
 
 pub use propagator::{Id, Propagator};
 pub use reach::Reach;
-pub use refutation::refuted;
 pub use scan_propagator::ScanPropagator;
 pub use trace::Trace;

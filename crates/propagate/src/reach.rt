@@ -1,4 +1,5 @@
-//! What a listing of literals extends to by propagation.
+//! What a listing of literals extends to by propagation. A solution that a VeriPB proof logs may name some of the
+//! variables only: the others must follow by propagation, and then the listing's extension is the solution.
 
 ghost use Rattle.std.specs.Prelude.{◌≡◌, ◌<◌, ◌≤◌, All, IfOk, map};
 ghost use Rattle.normal_form.specs.Normal.{variable_bound};
@@ -52,7 +53,11 @@ impl Reach {
 
     /// What a listing extends to: `Conflict` exactly where it has a literal and its opposite or a chain from it
     /// leads to negative slack, else `Closed` with exactly the given and forced literals.
-    pub fn of(alloc: Global, constraints: &[&Normal], given: &[Lit]) -> Result<Reach, AllocError>
+    pub(crate) fn of(
+        alloc: Global,
+        constraints: &[&Normal],
+        given: &[Lit],
+    ) -> Result<Reach, AllocError>
         ensures { IfOk result (IsReach (map (λ n. n.now) constraints.now) given.now) }
     {
         let count = variable_count(constraints).max(literal_count(given));

@@ -1,4 +1,5 @@
-//! Whether constraints are refuted by propagation alone.
+//! Whether constraints are refuted by propagation alone: the test behind a `rup` step of the VeriPB format, with the
+//! negation of the step's constraint among them.
 
 ghost use Rattle.std.specs.Prelude.{◌≡◌, ◌≤◌, ◌↔◌, All, IfOk, IsTrue, map};
 ghost use Rattle.normal_form.specs.Normal.{variable_bound};
@@ -33,7 +34,7 @@ pub(crate) fn variable_count(constraints: &[&Normal]) -> usize
 
 /// Whether constraints are refuted: whether some chain of literals, each forced in one of them, leads from nothing
 /// to one with negative slack.
-pub fn refuted(alloc: Global, constraints: &[&Normal]) -> Result<bool, AllocError>
+pub(crate) fn refuted(alloc: Global, constraints: &[&Normal]) -> Result<bool, AllocError>
     ensures { IfOk result (λ yes. IsTrue yes ↔ IsRefuted (map (λ n. n.now) constraints.now)) }
 {
     let nothing = Trail::new(alloc, variable_count(constraints))?;

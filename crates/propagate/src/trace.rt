@@ -5,10 +5,10 @@ ghost use Rattle.std.specs.Option.{option_map};
 ghost use Rattle.propagate.specs.Literals.{IsConsistent};
 ghost use Rattle.propagate.specs.TraceByPlaces.{named};
 
+use super::forced::Forced;
 use super::propagator::Id;
 use super::reach::literal_count;
 use super::refutation::variable_count;
-use super::scan::Forced;
 use super::trail::Trail;
 use super::walk::{Walk, complete};
 use linear::{Lit, Seq};

@@ -4,7 +4,7 @@
 //! variable; the order is what a chain is made of. That the two say the same, and that no literal stands twice, are
 //! facts of the type.
 
-ghost use Rattle.std.specs.Prelude.{◌≡◌, ◌<◌, ◌++◌, ◌∷◌, [], false, IfOk, IsTrue, OnOk, OnErr, ◌↔◌, None, All, IfSome, true};
+ghost use Rattle.std.specs.Prelude.{◌≡◌, ◌<◌, ◌++◌, ◌∷◌, [], false, IfOk, IsTrue, OnOk, OnErr, ◌↔◌, None, All, IfSome, length, true};
 ghost use Rattle.propagate.specs.Literals.{Contradicts, IsConsistent, IsOnce, SameLiterals, lists, opposite};
 
 use linear::{Lit, Seq};
@@ -42,11 +42,11 @@ impl Trail {
         })
     }
 
-    /// The literals, in the order in which they were listed.
-    pub(crate) fn listing(&self) -> &[Lit]
-        ensures { result.now ≡ self.now.0 }
+    /// How many literals are listed.
+    pub(crate) fn len(&self) -> usize
+        ensures { result ≡ length self.now.0 }
     {
-        self.listing.as_slice()
+        self.listing.len()
     }
 
     /// Whether a literal is listed.

@@ -1,11 +1,16 @@
-//! Chains of forced literals, as long as they go.
+//! Chains of forced literals, as long as they go: pass after pass, until a constraint is broken or a pass lists nothing.
+//!
+//! A constraint that was quiet may force a literal after a later one has, so one pass is not enough. Each pass but the
+//! last lists a variable more, so there are at most as many as variables. In which order literals are listed does not
+//! matter for what is reached (`laws::one_end`), so passes in the order of the list are as good as a queue, but for time.
 
 ghost use Rattle.std.specs.Prelude.{◌≡◌, ◌≤◌, ◌++◌, All, IfOk, MatchOption, map};
 ghost use Rattle.normal_form.specs.Normal.{variable_bound};
 ghost use Rattle.propagate.specs.Chain.{IsSettled};
 ghost use Rattle.propagate.specs.Walk.{IsBrokenAt, IsReasonedChain, literals_of};
 
-use super::scan::{Forced, Scan};
+use super::forced::Forced;
+use super::pass::pass;
 use super::trail::Trail;
 use normal_form::Normal;
 use std::alloc::{AllocError, Global};
@@ -19,7 +24,7 @@ pub(crate) struct Walk {
     pub(crate) broken: Option<usize>,
 }
 
-/// Adds forced literals to a trail, one after another, until a constraint is broken or nothing more is forced.
+/// Adds forced literals to a trail, pass by pass, until a constraint is broken or nothing more is forced.
 pub(crate) fn complete(
     alloc: Global,
     constraints: &[&Normal],
@@ -34,28 +39,22 @@ pub(crate) fn complete(
 {
     let mut trail = start;
     let mut steps = Vec::new(alloc);
-    let mut place = 0;
     loop {
-        match Scan::from(constraints, &trail, place) {
-            Scan::Quiet => {
-                return Ok(Walk {
-                    trail,
-                    steps,
-                    broken: None,
-                });
-            }
-            Scan::Broken(place) => {
-                return Ok(Walk {
-                    trail,
-                    steps,
-                    broken: Some(place),
-                });
-            }
-            Scan::Step(step) => {
-                trail.push(step.literal)?;
-                steps.push(step)?;
-                place = step.reason;
-            }
+        let before = trail.len();
+        let broken = pass(constraints, &mut trail, &mut steps)?;
+        if broken.is_some() {
+            return Ok(Walk {
+                trail,
+                steps,
+                broken,
+            });
+        }
+        if trail.len() == before {
+            return Ok(Walk {
+                trail,
+                steps,
+                broken: None,
+            });
         }
     }
 }

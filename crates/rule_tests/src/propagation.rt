@@ -1,38 +1,129 @@
-//! Refutation, and what listings extend to.
+//! What a propagator answers, and that its content is what was put in and not taken out.
 
 use super::support::{at_least, negated, not_x, plain, x};
-use propagate::{Reach, refuted};
+use linear::{Lit, Term};
+use normal_form::CutFault;
+use propagate::{Id, Propagator, Reach, ScanPropagator, Trace};
+use std::alloc::Global;
+
+// Puts in a constraint, where none is.
+fn put(
+    alloc: Global,
+    live: &mut ScanPropagator,
+    id: Id,
+    terms: &[Term],
+    right: i128,
+) -> Result<(), CutFault> {
+    let constraint = at_least(alloc, terms, right)?;
+    if live.get(id).is_none() {
+        live.insert(id, constraint)?;
+    }
+    Ok(())
+}
+
+// 1 ~x2 1 x3 >= 1 ; 1 ~x1 1 x2 >= 1 ; 1 x1 >= 1, under 1, 3 and 8: the first two force something only after the third,
+// so one pass over them in order does not do.
+fn three_clauses(alloc: Global) -> Result<ScanPropagator, CutFault> {
+    let mut live = ScanPropagator::empty(alloc);
+    put(alloc, &mut live, 3, &[negated(1, 1), plain(1, 2)], 1)?;
+    put(alloc, &mut live, 1, &[negated(1, 2), plain(1, 3)], 1)?;
+    put(alloc, &mut live, 8, &[plain(1, 1)], 1)?;
+    Ok(live)
+}
+
+// Whether the trace is of these steps and this conflict.
+fn is_trace(trace: &Trace, forced: &[(Lit, Id)], conflict: Option<Id>) -> bool {
+    trace.forced.as_slice() == forced && trace.conflict == conflict
+}
+
+#[test]
+fn content(rt: HostRuntime) {
+    let mut live = three_clauses(rt.alloc()).expect(&rt, "a propagator");
+    let steps = [
+        (0, Some(1)),
+        (1, Some(3)),
+        (2, Some(3)),
+        (3, Some(8)),
+        (8, None),
+    ];
+    for (id, next) in &steps {
+        assert!(&rt; live.after(*id) == *next);
+    }
+    assert!(&rt; live.after(Id::MAX).is_none());
+    assert!(&rt; live.get(3).is_some() && live.get(2).is_none());
+    assert!(&rt; live.remove(3).is_some());
+    assert!(&rt; live.remove(3).is_none() && live.get(3).is_none());
+    assert!(&rt; live.after(1) == Some(8));
+}
 
 #[test]
 fn refutations(rt: HostRuntime) {
     let alloc = rt.alloc();
-    // the first two force something only after the third, so one pass over them in order does not do
-    let third = at_least(alloc, &[negated(1, 2), plain(1, 3)], 1).expect(&rt, "a constraint");
-    let second = at_least(alloc, &[negated(1, 1), plain(1, 2)], 1).expect(&rt, "a constraint");
-    let first = at_least(alloc, &[plain(1, 1)], 1).expect(&rt, "a constraint");
+    let mut live = three_clauses(alloc).expect(&rt, "a propagator");
     let last = at_least(alloc, &[negated(1, 3)], 1).expect(&rt, "a constraint");
-    assert!(&rt; refuted(alloc, &[&third, &second, &first, &last]).expect(&rt, "memory"));
-    assert!(&rt; !refuted(alloc, &[&third, &second, &first]).expect(&rt, "memory"));
-    // 3 x1 2 x2 1 x3 >= 4 needs x1, and not x2
-    let terms = [plain(3, 1), plain(2, 2), plain(1, 3)];
-    let weighted = at_least(alloc, &terms, 4).expect(&rt, "a constraint");
-    let without_first = at_least(alloc, &[negated(1, 1)], 1).expect(&rt, "a constraint");
-    let without_second = at_least(alloc, &[negated(1, 2)], 1).expect(&rt, "a constraint");
-    assert!(&rt; refuted(alloc, &[&weighted, &without_first]).expect(&rt, "memory"));
-    assert!(&rt; !refuted(alloc, &[&weighted, &without_second]).expect(&rt, "memory"));
+    let extras = [last];
+    assert!(&rt; !live.refute(&[]).expect(&rt, "memory"));
+    assert!(&rt; live.refute(extras.as_slice()).expect(&rt, "memory"));
+    // the extra constraint is not kept, and what is removed counts no more
+    assert!(&rt; !live.refute(&[]).expect(&rt, "memory"));
+    assert!(&rt; live.remove(3).is_some());
+    assert!(&rt; !live.refute(extras.as_slice()).expect(&rt, "memory"));
+}
+
+// 3 x1 2 x2 1 x3 >= 4 needs x1, and not x2.
+#[test]
+fn weights(rt: HostRuntime) {
+    let alloc = rt.alloc();
+    let rows = [(1, true), (2, false), (3, false)];
+    for (var, refuted) in &rows {
+        let mut live = ScanPropagator::empty(alloc);
+        let terms = [plain(3, 1), plain(2, 2), plain(1, 3)];
+        put(alloc, &mut live, 1, &terms, 4).expect(&rt, "a constraint");
+        put(alloc, &mut live, 2, &[negated(1, *var)], 1).expect(&rt, "a constraint");
+        assert_eq!(&rt; live.refute(&[]).expect(&rt, "memory"), *refuted);
+    }
 }
 
 #[test]
 fn listings(rt: HostRuntime) {
     let alloc = rt.alloc();
-    let either = at_least(alloc, &[plain(1, 1), plain(1, 2)], 1).expect(&rt, "a constraint");
-    let reach = Reach::of(alloc, &[&either], &[not_x(1), not_x(1)]).expect(&rt, "memory");
+    let mut live = ScanPropagator::empty(alloc);
+    put(alloc, &mut live, 1, &[plain(1, 1), plain(1, 2)], 1).expect(&rt, "a constraint");
+    let reach = live.extend(&[not_x(1), not_x(1)]).expect(&rt, "memory");
     let mut count = 0;
     if let Reach::Closed(closed) = &reach {
         count = closed.len();
         assert!(&rt; closed.as_slice().contains(&x(2)));
     }
     assert_eq!(&rt; count, 2);
-    let refused = Reach::of(alloc, &[&either], &[not_x(1), x(1)]).expect(&rt, "memory");
-    assert!(&rt; matches!(&refused, Reach::Conflict));
+    let rows = [
+        ([not_x(1), x(1)], true),
+        ([not_x(1), not_x(2)], true),
+        ([x(1), not_x(2)], false),
+    ];
+    for (given, conflict) in &rows {
+        let reach = live.extend(given.as_slice()).expect(&rt, "memory");
+        assert_eq!(&rt; matches!(&reach, Reach::Conflict), *conflict);
+    }
+}
+
+#[test]
+fn traces(rt: HostRuntime) {
+    let alloc = rt.alloc();
+    let mut live = three_clauses(alloc).expect(&rt, "a propagator");
+    let chain = [(x(1), 8), (x(2), 3), (x(3), 1)];
+    let trace = live.trace(&[]).expect(&rt, "memory");
+    assert!(&rt; is_trace(&trace, chain.as_slice(), None));
+    // 1 ~x1 1 ~x4 >= 2 is broken as soon as x1 is listed
+    put(alloc, &mut live, 9, &[negated(1, 1), negated(1, 4)], 2).expect(&rt, "a constraint");
+    let trace = live.trace(&[]).expect(&rt, "memory");
+    assert!(&rt; is_trace(&trace, &[(x(1), 8)], Some(9)));
+    // all that a constraint forces is listed at once
+    let mut weighted = ScanPropagator::empty(alloc);
+    let terms = [plain(3, 1), plain(2, 2), plain(1, 3)];
+    put(alloc, &mut weighted, 1, &[negated(1, 4), negated(1, 3)], 1).expect(&rt, "a constraint");
+    put(alloc, &mut weighted, 2, &terms, 6).expect(&rt, "a constraint");
+    let at_once = [(x(1), 2), (x(2), 2), (x(3), 2), (not_x(4), 1)];
+    let trace = weighted.trace(&[]).expect(&rt, "memory");
+    assert!(&rt; is_trace(&trace, at_once.as_slice(), None));
 }

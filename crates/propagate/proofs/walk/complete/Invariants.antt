@@ -1,14 +1,13 @@
 -- The listing is what was given and the literals of the steps so far.
-use Rattle.std.proofs.Common.{◌≡◌, ◌≤◌, ◌++◌, length, map}
+use Rattle.std.proofs.Common.{◌≡◌, ◌++◌, map}
 use Rattle.propagate.specs.Walk.{IsReasonedChain, literals_of}
 use Rattle.propagate.proofs.SearchEnds.{unset_below, bound_of}
 use Rattle.propagate.proofs.walk.complete.Given as goal
 
-abbrev pub invariant-loop-trail : goal.invariant-loop-trail
-invariant-loop-trail l =
-    (l.place ≤ length l.constraints) × (l.trail.1 ≡ l.fn.start.1)
-    × IsReasonedChain (map (λ n. n.now) l.constraints) l.fn.start.0 l.steps.items
+abbrev pub invariant-loop-steps : goal.invariant-loop-steps
+invariant-loop-steps l =
+    (l.trail.1 ≡ l.fn.start.1) × IsReasonedChain (map (λ n. n.now) l.constraints) l.fn.start.0 l.steps.items
     × (l.trail.0 ≡ l.fn.start.0 ++ literals_of l.steps.items)
 
-abbrev pub decreases-loop-trail : goal.decreases-loop-trail
-decreases-loop-trail l = unset_below (bound_of (map (λ n. n.now) l.constraints)) l.trail.0
+abbrev pub decreases-loop-steps : goal.decreases-loop-steps
+decreases-loop-steps l = unset_below (bound_of (map (λ n. n.now) l.constraints)) l.trail.0

@@ -1,12 +1,11 @@
 -- The constraints and ids that are lent stand beside one another, as the entries of the content.
-use Rattle.std.proofs.Common.{◌≡◌, List, ℕ, map, length, sym, ap, subst, ◌∙◌}
-use Rattle.std.proofs.lemmas.List.{length-map}
+use Rattle.std.proofs.Common.{List, map, ◌∙◌}
 use Rattle.std.proofs.lemmas.Result.{IfOk-weaker}
 use Rattle.std.specs.FinMap as fin
 use Rattle.normal_form.specs.Normal.{NormalConstraint}
 use Rattle.propagate.specs.Content.{IsTrace}
 use Rattle.propagate.specs.TraceByPlaces.{IsTraceByPlaces}
-use Rattle.propagate.proofs.Entries.{ids_of, values_of, content_of, rise, values_are, lengths}
+use Rattle.propagate.proofs.Entries.{content_of, rise, lengths}
 use Rattle.propagate.proofs.SeenLists.{seen_same}
 use Rattle.propagate.proofs.TracesById.{trace_from}
 use Rattle.propagate.proofs.scan_propagator.ScanPropagatorPropagator.trace.Goals as goal

@@ -1,7 +1,6 @@
 -- The walk begins with the literals of the listing, and its reasons are places of the constraints.
-use Rattle.std.proofs.Common.{◌≡◌, List, map, length, sym, ap, subst, ◌∙◌}
+use Rattle.std.proofs.Common.{List, map, length, sym, ◌∙◌}
 use Rattle.std.proofs.lemmas.List.{length-map}
-use Rattle.linear.specs.declared.term.Lit.{Lit}
 use Rattle.normal_form.specs.Normal.{NormalConstraint}
 use Rattle.propagate.proofs.ReasonedChains.{reasons_below}
 use Rattle.propagate.proofs.WalkEnds.{start_same, trace_made}

@@ -2,7 +2,7 @@
 use Rattle.std.proofs.Common.{arith}
 use Rattle.normal_form.proofs.Sums.{bound_at, sum_over_more}
 use Rattle.propagate.specs.Slack.{not_false}
-use Rattle.propagate.proofs.effect.counted.Goals as goal
+use Rattle.propagate.proofs.slack.counted.Goals as goal
 
 pub has-requires : goal.has-requires
 has-requires c = grind (arith, bound_at c.args.constraint.now.terms c.args.place c.term-term.result c.requires.place, c.term-term.ensures.value, c.requires.variables)

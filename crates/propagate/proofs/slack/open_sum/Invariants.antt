@@ -2,7 +2,7 @@
 use Rattle.std.proofs.Common.{◌≡◌, take}
 use Rattle.normal_form.specs.Normal.{sum_over}
 use Rattle.propagate.specs.Slack.{not_false}
-use Rattle.propagate.proofs.effect.open_sum.Given as goal
+use Rattle.propagate.proofs.slack.open_sum.Given as goal
 
 abbrev pub invariant-loop-place : goal.invariant-loop-place
 invariant-loop-place l = l.sum ≡ sum_over (not_false l.trail.0) (take l.place l.constraint.terms)
