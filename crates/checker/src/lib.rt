@@ -2,12 +2,8 @@
 #![tactic(auto)]
 
 mod checking;
-#[cfg(test)]
-mod damaged_tests;
 mod judge;
 pub mod laws;
-#[cfg(test)]
-mod tests;
 mod text;
 mod verdict;
 

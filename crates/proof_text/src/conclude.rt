@@ -178,7 +178,7 @@ fn conclusion_words(
     of_kind(alloc, kind, words, table)
 }
 
-/// What stands behind the word of a kind.
+/// What stands behind the word of a conclusion of this kind.
 fn of_kind(
     alloc: Global,
     kind: ConclusionKind,

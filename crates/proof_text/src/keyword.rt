@@ -41,7 +41,7 @@ pub(crate) fn rule_of(word: &[u8]) -> Option<Rule>
     }
 }
 
-/// The kind of a word.
+/// The kind of conclusion that a word begins.
 #[tactic(auto, unfolding(crate::specs::Conclusions::conclusion_kind_of))]
 pub(crate) fn conclusion_kind_of(word: &[u8]) -> Option<ConclusionKind>
     ensures { result ≡ conclusions.conclusion_kind_of word.now }

@@ -1,6 +1,6 @@
 //! Worked cases from bytes to the printed verdict and the exit status. The expected texts are those of the formats.
 
-use super::{check, verdict_status, verdict_text};
+use checker::{check, verdict_status, verdict_text};
 use std::process::Abort;
 use std::test::Fail;
 

@@ -1,7 +1,7 @@
 //! Damaged and strange texts: each gets a clear refusal with its line. The pigeons' problem and proof are cut behind each
 //! byte; what is then answered follows from the formats.
 
-use super::{check, verdict_text};
+use checker::{check, verdict_text};
 use std::process::Abort;
 use std::test::Fail;
 

@@ -1,0 +1,380 @@
+//! The lines around the steps, conclusions, and which lines count.
+
+use crate::asking::{fault_at, lit};
+use linear::Names;
+use proof_steps::{Conclusion, Lower, Upper};
+use proof_text::{Line, Place, ProofFault, ProofReader, read_line};
+
+/// A line at its place, and the number of its fault, 0 where it has none.
+#[derive(Clone, Copy, Debug)]
+struct Placed {
+    place: Place,
+    line: &'static [u8],
+    fault: u8,
+}
+
+const LINES: [Placed; 58] = [
+    Placed {
+        place: Place::Header,
+        line: b"pseudo-Boolean proof version 2.0",
+        fault: 0,
+    },
+    Placed {
+        place: Place::Header,
+        line: b"  pseudo-Boolean\tproof version 2.0;\r",
+        fault: 0,
+    },
+    Placed {
+        place: Place::Header,
+        line: b"pseudo-Boolean proof version 2.1",
+        fault: 1,
+    },
+    Placed {
+        place: Place::Header,
+        line: b"pseudo-Boolean proof version 2.0 3",
+        fault: 1,
+    },
+    Placed {
+        place: Place::Header,
+        line: b"pseudo-Boolean proof version 2.0;;",
+        fault: 1,
+    },
+    Placed {
+        place: Place::Header,
+        line: b"f 1",
+        fault: 1,
+    },
+    Placed {
+        place: Place::Count,
+        line: b"f 3",
+        fault: 0,
+    },
+    Placed {
+        place: Place::Count,
+        line: b"f -3 ;",
+        fault: 0,
+    },
+    Placed {
+        place: Place::Count,
+        line: b"f",
+        fault: 2,
+    },
+    Placed {
+        place: Place::Count,
+        line: b"f 3 3",
+        fault: 2,
+    },
+    Placed {
+        place: Place::Count,
+        line: b"f - 3",
+        fault: 2,
+    },
+    Placed {
+        place: Place::Count,
+        line: b"g 3",
+        fault: 2,
+    },
+    Placed {
+        place: Place::Count,
+        line: b"f 1329227995784915872903807060280344577",
+        fault: 2,
+    },
+    Placed {
+        place: Place::Step,
+        line: b"output NONE",
+        fault: 0,
+    },
+    Placed {
+        place: Place::Step,
+        line: b"output NONE ;",
+        fault: 0,
+    },
+    Placed {
+        place: Place::Step,
+        line: b"pol 1",
+        fault: 0,
+    },
+    Placed {
+        place: Place::Step,
+        line: b"output DERIVABLE",
+        fault: 4,
+    },
+    Placed {
+        place: Place::Step,
+        line: b"output 1",
+        fault: 4,
+    },
+    Placed {
+        place: Place::Step,
+        line: b"output",
+        fault: 5,
+    },
+    Placed {
+        place: Place::Step,
+        line: b"output ;",
+        fault: 5,
+    },
+    Placed {
+        place: Place::Step,
+        line: b"output NONE NONE",
+        fault: 5,
+    },
+    Placed {
+        place: Place::Step,
+        line: b"f 1",
+        fault: 5,
+    },
+    Placed {
+        place: Place::Step,
+        line: b"solx x1",
+        fault: 4,
+    },
+    Placed {
+        place: Place::Conclusion,
+        line: b"conclusion NONE",
+        fault: 0,
+    },
+    Placed {
+        place: Place::Conclusion,
+        line: b"conclusion SAT",
+        fault: 0,
+    },
+    Placed {
+        place: Place::Conclusion,
+        line: b"conclusion SAT :",
+        fault: 0,
+    },
+    Placed {
+        place: Place::Conclusion,
+        line: b"conclusion SAT : x1 ~x2 ;",
+        fault: 0,
+    },
+    Placed {
+        place: Place::Conclusion,
+        line: b"conclusion UNSAT",
+        fault: 0,
+    },
+    Placed {
+        place: Place::Conclusion,
+        line: b"conclusion UNSAT : 3",
+        fault: 0,
+    },
+    Placed {
+        place: Place::Conclusion,
+        line: b"conclusion UNSAT : -1 ;",
+        fault: 0,
+    },
+    Placed {
+        place: Place::Conclusion,
+        line: b"conclusion BOUNDS 1 2",
+        fault: 0,
+    },
+    Placed {
+        place: Place::Conclusion,
+        line: b"conclusion BOUNDS 1 : 3 1",
+        fault: 0,
+    },
+    Placed {
+        place: Place::Conclusion,
+        line: b"conclusion BOUNDS -INF INF",
+        fault: 0,
+    },
+    Placed {
+        place: Place::Conclusion,
+        line: b"conclusion BOUNDS INF INF ;",
+        fault: 0,
+    },
+    Placed {
+        place: Place::Conclusion,
+        line: b"conclusion BOUNDS -0 : 1 +002 : x1",
+        fault: 0,
+    },
+    Placed {
+        place: Place::Conclusion,
+        line: b"conclusion BOUNDS 1 2 :",
+        fault: 0,
+    },
+    Placed {
+        place: Place::Conclusion,
+        line: b"conclusion",
+        fault: 5,
+    },
+    Placed {
+        place: Place::Conclusion,
+        line: b"conclusion NONE NONE",
+        fault: 5,
+    },
+    Placed {
+        place: Place::Conclusion,
+        line: b"conclusion SAT x1",
+        fault: 5,
+    },
+    Placed {
+        place: Place::Conclusion,
+        line: b"conclusion SAT : 1",
+        fault: 5,
+    },
+    Placed {
+        place: Place::Conclusion,
+        line: b"conclusion UNSAT :",
+        fault: 5,
+    },
+    Placed {
+        place: Place::Conclusion,
+        line: b"conclusion UNSAT : x1",
+        fault: 5,
+    },
+    Placed {
+        place: Place::Conclusion,
+        line: b"conclusion UNSAT : 1 1",
+        fault: 5,
+    },
+    Placed {
+        place: Place::Conclusion,
+        line: b"conclusion BOUNDS",
+        fault: 5,
+    },
+    Placed {
+        place: Place::Conclusion,
+        line: b"conclusion BOUNDS 1",
+        fault: 5,
+    },
+    Placed {
+        place: Place::Conclusion,
+        line: b"conclusion BOUNDS 1 : 3",
+        fault: 5,
+    },
+    Placed {
+        place: Place::Conclusion,
+        line: b"conclusion BOUNDS 1 : x1 1",
+        fault: 5,
+    },
+    Placed {
+        place: Place::Conclusion,
+        line: b"conclusion BOUNDS INF -INF",
+        fault: 5,
+    },
+    Placed {
+        place: Place::Conclusion,
+        line: b"conclusion BOUNDS 1 2 3",
+        fault: 5,
+    },
+    Placed {
+        place: Place::Conclusion,
+        line: b"conclusion OPTIMAL",
+        fault: 5,
+    },
+    Placed {
+        place: Place::Conclusion,
+        line: b"pol 1",
+        fault: 5,
+    },
+    Placed {
+        place: Place::Conclusion,
+        line: b"end pseudo-Boolean proof",
+        fault: 5,
+    },
+    Placed {
+        place: Place::Conclusion,
+        line: b"conclusion UNSAT : 1329227995784915872903807060280344577",
+        fault: 8,
+    },
+    Placed {
+        place: Place::Conclusion,
+        line: b"conclusion BOUNDS 1329227995784915872903807060280344577 1",
+        fault: 8,
+    },
+    Placed {
+        place: Place::Conclusion,
+        line: b"conclusion BOUNDS 1 : 1329227995784915872903807060280344577 1",
+        fault: 8,
+    },
+    Placed {
+        place: Place::End,
+        line: b"end pseudo-Boolean proof ;",
+        fault: 0,
+    },
+    Placed {
+        place: Place::End,
+        line: b"end pseudo-Boolean",
+        fault: 5,
+    },
+    Placed {
+        place: Place::After,
+        line: b"end pseudo-Boolean proof",
+        fault: 7,
+    },
+];
+
+#[test]
+fn faults_by_place(rt: HostRuntime) {
+    for case in &LINES {
+        assert_eq!(&rt;
+            fault_at(rt.alloc(), case.place, case.line),
+            case.fault,
+            "{case:?}"
+        );
+    }
+}
+
+/// Whether a line is `BOUNDS -3 INF` with the hint `x1 ~x2`.
+fn is_hinted_bounds(line: &Line) -> bool {
+    match line {
+        Line::Conclusion(Conclusion::Bounds(Lower::At(-3), Upper::Inf, Some(hint))) => {
+            hint.as_slice() == [lit(0, false), lit(1, true)].as_slice()
+        }
+        _ => false,
+    }
+}
+
+/// How many literals the hint of a line `SAT` has, if it has a hint.
+fn hint_length(line: &Line) -> Option<usize> {
+    match line {
+        Line::Conclusion(Conclusion::Sat(Some(hint))) => Some(hint.len()),
+        _ => None,
+    }
+}
+
+#[test]
+fn bounds_and_hints(rt: HostRuntime) -> Result<(), ProofFault> {
+    let alloc = rt.alloc();
+    let mut names = Names::new(alloc);
+    let place = Place::Conclusion;
+    let bounds = b"conclusion BOUNDS -3 : 7 INF : x1 ~x2";
+    assert!(&rt; is_hinted_bounds(&read_line(alloc, place, bounds, &mut names)?));
+    let empty = b"conclusion SAT :";
+    assert_eq!(&rt;
+        hint_length(&read_line(alloc, place, empty, &mut names)?),
+        Some(0)
+    );
+    let none = b"conclusion SAT";
+    assert_eq!(&rt;
+        hint_length(&read_line(alloc, place, none, &mut names)?),
+        None
+    );
+    Ok(())
+}
+
+#[test]
+fn lines_that_count(rt: HostRuntime) {
+    let mut reader = ProofReader::new(b"* a comment\n\r\n pol 1\n\t\n \t* x\n\r*\n;\nend");
+    let wanted = [
+        (3, b" pol 1".as_slice()),
+        (6, b"\r*".as_slice()),
+        (7, b";".as_slice()),
+        (8, b"end".as_slice()),
+    ];
+    for (number, text) in &wanted {
+        if let Some(line) = reader.next() {
+            assert_eq!(&rt; line.number, *number);
+            assert_eq!(&rt; line.text, *text);
+        } else {
+            assert!(&rt; false);
+        }
+    }
+    assert!(&rt; reader.next().is_none());
+    assert!(&rt; reader.next().is_none());
+    assert_eq!(&rt; reader.end_number(), 8);
+    assert_eq!(&rt; ProofReader::new(b"").end_number(), 1);
+    assert_eq!(&rt; ProofReader::new(b"f 1\n").end_number(), 2);
+}

@@ -1,0 +1,217 @@
+//! What is written: the very bytes, which read back and are written the same again.
+
+use crate::asking::fault_at;
+use linear::Names;
+use proof_text::{Line, Place, ProofFault, ProofReader, read_line, read_step};
+use proof_write::{write_end, write_step};
+use std::alloc::Global;
+
+/// A line, and how what it says is written.
+#[derive(Clone, Copy, Debug)]
+struct Rewriting {
+    line: &'static [u8],
+    written: &'static [u8],
+}
+
+/// Reads a step and writes it.
+fn rewrite_step(
+    alloc: Global,
+    line: &[u8],
+    names: &mut Names,
+    out: &mut Vec<u8>,
+) -> Result<(), ProofFault> {
+    let step = read_step(alloc, line, names)?;
+    write_step(&step, names, out)?;
+    Ok(())
+}
+
+/// Reads a conclusion and writes the lines behind the steps.
+fn rewrite_end(
+    alloc: Global,
+    line: &[u8],
+    names: &mut Names,
+    out: &mut Vec<u8>,
+) -> Result<(), ProofFault> {
+    match read_line(alloc, Place::Conclusion, line, names)? {
+        Line::Conclusion(conclusion) => Ok(write_end(&conclusion, names, out)?),
+        _ => Err(ProofFault::BadLine),
+    }
+}
+
+const STEPS: [Rewriting; 12] = [
+    Rewriting {
+        line: b"p 1 -2 + x1 +3 * 007 d s x2 w ~x1 -0 s;",
+        written: b"pol 1 -2 + x1 3 * 7 d s x2 w ~x1 0 s\n",
+    },
+    Rewriting {
+        line: b"pol 1329227995784915872903807060280344576 -1329227995784915872903807060280344576 + 1329227995784915872903807060280344576 * -1329227995784915872903807060280344576 d",
+        written: b"pol 1329227995784915872903807060280344576 -1329227995784915872903807060280344576 + 1329227995784915872903807060280344576 * -1329227995784915872903807060280344576 d\n",
+    },
+    Rewriting {
+        line: b"pol ;",
+        written: b"pol\n",
+    },
+    Rewriting {
+        line: b"u +1 x1 -0 ~x2 -1329227995784915872903807060280344576 x1>=+1329227995784915872903807060280344576; 7 ~ 99",
+        written: b"rup 1 x1 0 ~x2 -1329227995784915872903807060280344576 x1 >= 1329227995784915872903807060280344576 ;\n",
+    },
+    Rewriting {
+        line: b"rup\t>=-1329227995784915872903807060280344576;",
+        written: b"rup >= -1329227995784915872903807060280344576 ;\n",
+    },
+    Rewriting {
+        line: b"red 2 x1 >= 01 ; x1 -> x2 x2 ~x1 x3 0 x4 -> 1 x5->~x5;",
+        written: b"red 2 x1 >= 1 ; x1 -> x2 x2 -> ~x1 x3 -> 0 x4 -> 1 x5 -> ~x5\n",
+    },
+    Rewriting {
+        line: b"red 1329227995784915872903807060280344576 ~x1 -1329227995784915872903807060280344576 x2 >= -1329227995784915872903807060280344576 ;",
+        written: b"red 1329227995784915872903807060280344576 ~x1 -1329227995784915872903807060280344576 x2 >= -1329227995784915872903807060280344576 ;\n",
+    },
+    Rewriting {
+        line: b"sol x1 ~x2 ;",
+        written: b"sol x1 ~x2\n",
+    },
+    Rewriting {
+        line: b"sol",
+        written: b"sol\n",
+    },
+    Rewriting {
+        line: b"soli ~x[1]  _{a}^2-b",
+        written: b"soli ~x[1] _{a}^2-b\n",
+    },
+    Rewriting {
+        line: b"del id -1 0007 1329227995784915872903807060280344576 -1329227995784915872903807060280344576 ;",
+        written: b"del id -1 7 1329227995784915872903807060280344576 -1329227995784915872903807060280344576\n",
+    },
+    Rewriting {
+        line: b"del id",
+        written: b"del id\n",
+    },
+];
+
+#[test]
+fn written_steps(rt: HostRuntime) -> Result<(), ProofFault> {
+    for case in &STEPS {
+        let alloc = rt.alloc();
+        let mut names = Names::new(alloc);
+        let mut out = Vec::new(alloc);
+        rewrite_step(alloc, case.line, &mut names, &mut out)?;
+        assert_eq!(&rt; out.as_slice(), case.written);
+        let mut reader = ProofReader::new(case.written);
+        let mut again = Vec::new(alloc);
+        if let Some(line) = reader.next() {
+            rewrite_step(alloc, line.text, &mut names, &mut again)?;
+        }
+        assert_eq!(&rt; again.as_slice(), case.written);
+        assert!(&rt; reader.next().is_none());
+    }
+    Ok(())
+}
+
+const ENDS: [Rewriting; 13] = [
+    Rewriting {
+        line: b"conclusion NONE ;",
+        written: b"conclusion NONE",
+    },
+    Rewriting {
+        line: b"conclusion SAT",
+        written: b"conclusion SAT",
+    },
+    Rewriting {
+        line: b"conclusion SAT :",
+        written: b"conclusion SAT :",
+    },
+    Rewriting {
+        line: b"conclusion SAT:~x1 x2;",
+        written: b"conclusion SAT : ~x1 x2",
+    },
+    Rewriting {
+        line: b"conclusion UNSAT",
+        written: b"conclusion UNSAT",
+    },
+    Rewriting {
+        line: b"conclusion UNSAT : -3",
+        written: b"conclusion UNSAT",
+    },
+    Rewriting {
+        line: b"conclusion BOUNDS -INF INF",
+        written: b"conclusion BOUNDS -INF INF",
+    },
+    Rewriting {
+        line: b"conclusion BOUNDS INF INF : x1 ~x2 ;",
+        written: b"conclusion BOUNDS INF INF : x1 ~x2",
+    },
+    Rewriting {
+        line: b"conclusion BOUNDS +1329227995784915872903807060280344576 : 1 -1329227995784915872903807060280344576 : ~x1",
+        written: b"conclusion BOUNDS 1329227995784915872903807060280344576 -1329227995784915872903807060280344576 : ~x1",
+    },
+    Rewriting {
+        line: b"conclusion BOUNDS -1329227995784915872903807060280344576 1329227995784915872903807060280344576",
+        written: b"conclusion BOUNDS -1329227995784915872903807060280344576 1329227995784915872903807060280344576",
+    },
+    Rewriting {
+        line: b"conclusion BOUNDS -INF -07",
+        written: b"conclusion BOUNDS -INF -7",
+    },
+    Rewriting {
+        line: b"conclusion BOUNDS INF 7 :",
+        written: b"conclusion BOUNDS INF 7 :",
+    },
+    Rewriting {
+        line: b"conclusion BOUNDS -0 INF",
+        written: b"conclusion BOUNDS 0 INF",
+    },
+];
+
+#[test]
+fn written_ends(rt: HostRuntime) -> Result<(), ProofFault> {
+    for case in &ENDS {
+        let alloc = rt.alloc();
+        let mut names = Names::new(alloc);
+        let mut out = Vec::new(alloc);
+        rewrite_end(alloc, case.line, &mut names, &mut out)?;
+        let mut wanted = Vec::new(alloc);
+        wanted.extend_from_slice(b"output NONE\n")?;
+        wanted.extend_from_slice(case.written)?;
+        wanted.extend_from_slice(b"\nend pseudo-Boolean proof\n")?;
+        assert_eq!(&rt; out.as_slice(), wanted.as_slice());
+        let mut again = Vec::new(alloc);
+        rewrite_end(alloc, case.written, &mut names, &mut again)?;
+        assert_eq!(&rt; again.as_slice(), wanted.as_slice());
+    }
+    assert_eq!(&rt; fault_at(rt.alloc(), Place::Step, b"output NONE"), 0);
+    Ok(())
+}
+
+#[test]
+fn a_written_proof(rt: HostRuntime) -> Result<(), ProofFault> {
+    let alloc = rt.alloc();
+    let mut names = Names::new(alloc);
+    let mut out = Vec::new(alloc);
+    out.extend_from_slice(b"pseudo-Boolean proof version 2.0\nf 1\n")?;
+    rewrite_step(alloc, b"soli x1 ~x2 ;", &mut names, &mut out)?;
+    rewrite_step(alloc, b"p +1 2 + ;", &mut names, &mut out)?;
+    rewrite_end(alloc, b"conclusion BOUNDS 1 1", &mut names, &mut out)?;
+    let wanted =
+        b"pseudo-Boolean proof version 2.0\nf 1\nsoli x1 ~x2\npol 1 2 +\noutput NONE\nconclusion BOUNDS 1 1\nend pseudo-Boolean proof\n";
+    assert_eq!(&rt; out.as_slice(), wanted.as_slice());
+    let mut reader = ProofReader::new(wanted);
+    let places = [
+        Place::Header,
+        Place::Count,
+        Place::Step,
+        Place::Step,
+        Place::Step,
+        Place::Conclusion,
+        Place::End,
+    ];
+    for place in &places {
+        if let Some(line) = reader.next() {
+            assert_eq!(&rt; fault_at(alloc, *place, line.text), 0);
+        } else {
+            assert!(&rt; false);
+        }
+    }
+    assert!(&rt; reader.next().is_none());
+    Ok(())
+}
