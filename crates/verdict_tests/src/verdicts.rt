@@ -153,7 +153,7 @@ fn the_first_fault_decides(rt: HostRuntime) -> Result<(), Fail> {
 /// An equality takes two ids, the `>=` direction first, and is counted twice.
 #[test]
 fn an_equality_takes_two_ids(rt: HostRuntime) -> Result<(), Fail> {
-    let opb = "1 x1 1 x2 = 1 ; 1 x1 1 x2 >= 2 ;";
+    let opb = "1 x1 1 x2 1 x3 = 1 ; 1 x1 1 x2 1 x3 >= 2 ;";
     let proof =
         "pseudo-Boolean proof version 2.0\nf 3\npol 2 3 +\noutput NONE\nconclusion UNSAT\nend pseudo-Boolean proof\n";
     let with_the_first =
@@ -250,7 +250,6 @@ fn lines_that_are_not_read(rt: HostRuntime) -> Result<(), Fail> {
 #[test]
 fn lines_that_are_left_out(rt: HostRuntime) -> Result<(), Fail> {
     let left_out = "refused line 3 code 4 RuleLeftOut\n";
-    third_line(&rt, "rup 1 x1 1 x2 >= 1 ; 7 ~ 99", left_out, 1)?;
     third_line(&rt, "red 1 x1 >= 1 ; x1 1", left_out, 1)?;
     third_line(&rt, "sol x1 ~x2", left_out, 1)?;
     third_line(&rt, "soli x1 x2", left_out, 1)?;
@@ -258,6 +257,63 @@ fn lines_that_are_left_out(rt: HostRuntime) -> Result<(), Fail> {
     third_line(&rt, "rup 1 x1 = 1 ;", left_out, 1)?;
     third_line(&rt, "del range 1 2", left_out, 1)?;
     third_line(&rt, "output ALL", left_out, 1)
+}
+
+/// Checks what is printed for a proof of one line and a conclusion, on a problem whose constraints take `count` ids.
+fn one_line<R: Abort + AllocGlobal>(
+    rt: &R,
+    opb: &str,
+    count: u64,
+    line: &str,
+    conclusion: &str,
+    text: &str,
+) -> Result<(), Fail> {
+    let proof = format!(in rt.alloc();
+        "pseudo-Boolean proof version 2.0\nf {count}\n{line}\noutput NONE\nconclusion {conclusion}\nend pseudo-Boolean proof\n"
+    )?;
+    let verdict = check(rt.alloc(), opb.as_bytes(), proof.as_bytes());
+    let printed = verdict_text(rt.alloc(), opb.as_bytes(), &verdict)?;
+    assert_eq!(rt; printed.as_slice(), text.as_bytes(), "for {}", line);
+    Ok(())
+}
+
+/// What a live constraint covers is shown, and what propagation refutes the negation of; hints count for nothing.
+#[test]
+fn constraints_that_are_shown(rt: HostRuntime) -> Result<(), Fail> {
+    let one = "1 x1 1 x2 >= 1 ;";
+    let two = "1 x1 1 x2 >= 1 ; 1 ~x1 1 x2 >= 1 ;";
+    let weighted = "3 x1 2 x2 1 x3 >= 4 ;";
+    let at_least_two = "1 x1 1 x2 1 x3 >= 2 ;";
+    let none = "accepted NONE\n";
+    let hinted = "rup 1 x1 1 x2 >= 1 ; 7 ~ 99";
+    let degree_zero = "rup 1329227995784915872903807060280344576 ~x1 >= 0 ;";
+    let copied = "u 1 x1 1 x2 1 x3 >= 2 ;";
+    one_line(&rt, one, 1, hinted, "NONE", none)?;
+    one_line(&rt, one, 1, degree_zero, "NONE", none)?;
+    one_line(&rt, two, 2, "rup 1 x2 >= 1 ;", "NONE", none)?;
+    one_line(&rt, weighted, 1, "rup 1 x1 >= 1 ;", "NONE", none)?;
+    one_line(&rt, at_least_two, 1, copied, "NONE", none)
+}
+
+/// Nothing is forced by the negation, or what is forced meets all constraints.
+#[test]
+fn constraints_that_are_not_shown(rt: HostRuntime) -> Result<(), Fail> {
+    let not_shown = "refused line 3 code 14 NotShown\n";
+    let too_large = "refused line 3 code 13 TooLarge\n";
+    let weighted = "3 x1 2 x2 1 x3 >= 4 ;";
+    let sizes = "rup 1329227995784915872903807060280344576 x1 1 x2 >= 0 ;";
+    one_line(&rt, weighted, 1, "rup 1 x2 >= 1 ;", "NONE", not_shown)?;
+    one_line(&rt, PIGEONS, 5, "rup >= 1 ;", "NONE", not_shown)?;
+    one_line(&rt, weighted, 1, sizes, "NONE", too_large)
+}
+
+/// `UNSAT` by propagation alone: the literals are forced against the order of the constraints.
+#[test]
+fn unsatisfiable_by_propagation(rt: HostRuntime) -> Result<(), Fail> {
+    let chain = "1 ~x2 1 x3 >= 1 ; 1 ~x1 1 x2 >= 1 ; 1 x1 >= 1 ; 1 ~x3 >= 1 ;";
+    one_line(&rt, chain, 4, "", "UNSAT", "accepted UNSAT\n")?;
+    let open = "refused line 5 code 24 LowerNotShown\n";
+    one_line(&rt, PIGEONS, 5, "", "UNSAT", open)
 }
 
 /// Checks what is printed for a conclusion on a problem with an objective, behind no step.
