@@ -1,7 +1,7 @@
 # The door for people. `make` proves every crate and builds the program into bin/, from nothing too; `make test` runs the
 # gate: every proof from nothing, the edits that must fail, and the tests; `make demo` runs the checker on three pigeons in
 # two holes.
-.PHONY: all test demo check layout refused-growths statuses figures wrong-definitions wrong-bodies
+.PHONY: all test demo check layout refused-growths statuses figures wrong-definitions wrong-bodies gate-minutes
 
 # How many crates are proved side by side.
 JOBS ?= $(shell nproc)
@@ -54,3 +54,7 @@ wrong-definitions:
 # Writes the lists of docs/wrong-bodies.md anew from the edits.
 wrong-bodies:
 	scripts/wrong-bodies > docs/wrong-bodies.md
+
+# Runs the gate in a fresh clone, and prints its processor minutes crate by crate.
+gate-minutes:
+	scripts/gate-minutes
