@@ -18,6 +18,7 @@ use Rattle.proof_rules.specs.Legal.{IsShownUnder, Logs, LegalDel, worth_of, with
 use Rattle.proof_rules.specs.Shown.{IsAdmitted}
 use Rattle.proof_rules.specs.Solution.{Completes}
 use Rattle.proof_rules.specs.State.{State, constraints, id_of, HasRoom}
+use Rattle.proof_rules.proofs.Completing.{gap_never}
 use Rattle.proof_rules.proofs.LiveConstraints.{All-get}
 use Rattle.proof_rules.proofs.NotLegal.{admitted_never, one_admitted, sol_never, less_never, undeletable_never}
 use Rattle.proof_rules.proofs.OneItemFault.{Case, one_of_two, one_of_three, one_pol_fault}
@@ -144,10 +145,13 @@ conflict_completed : (p : Opb) (s : State) (listing : List Lit) → Conflicts p 
 conflict_completed p s listing (inl not) (g, c) = not c.consistent
 conflict_completed p s listing (inr (consistent, not_all, leads)) (g, c) = elim (c.completed) as (λ _. ⊥) [ inl h ↦ not_all h.0 | inr h ↦ h.1 leads ]
 
+partial_completed : (p : Opb) (s : State) (listing : List Lit) → IsPartial p s listing → Completed p s listing → ⊥
+partial_completed p s listing (consistent, free, (v, below, none)) (g, c) = gap_never (constraints s) (length p.names) listing v below none g c
+
 pub one_sol_fault : (p : Opb) (s : State) (listing : List Lit) (f g : StepFault) → IsSolFault p s listing f → IsSolFault p s listing g → f ≡ g
 one_sol_fault p s listing f g h k =
     one_of_three f g faults.SolutionConflict faults.SolutionPartial faults.SolutionFalse (Conflicts p s listing) (IsPartial p s listing) (Completed p s listing)
-    (conflict_partial p s listing) (conflict_completed p s listing) (λ partial done. partial.2 done.0 done.1) (sol_is p s listing f h) (sol_is p s listing g k)
+    (conflict_partial p s listing) (conflict_completed p s listing) (partial_completed p s listing) (sol_is p s listing f h) (sol_is p s listing g k)
 
 -- soli
 
