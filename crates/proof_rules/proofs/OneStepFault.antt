@@ -193,7 +193,7 @@ one_behind_objective p s listing f g (inl h) (inr k) = absurd (k.0 h.1)
 one_behind_objective p s listing f g (inr h) (inl k) = absurd (h.0 k.1)
 one_behind_objective p s listing f g (inr h) (inr k) = one_soli_case p s listing f g h.1 k.1
 
-one_soli_fault : (p : Opb) (s : State) (listing : List Lit) (f g : StepFault) → IsSoliFault p s listing f → IsSoliFault p s listing g → f ≡ g
+pub one_soli_fault : (p : Opb) (s : State) (listing : List Lit) (f g : StepFault) → IsSoliFault p s listing f → IsSoliFault p s listing g → f ≡ g
 one_soli_fault p s listing f g h k = one_behind_objective p s listing f g (soli_is p s listing f h) (soli_is p s listing g k)
 
 -- del
@@ -229,7 +229,7 @@ one_refusal p s t u (x ∷ xs) (y ∷ ys) bs cs i j f g same (d, legal) (e, lega
     let old = without (id_of s.next x) s in
     one_refusal p old t u xs ys bs cs i j f g rest legal (subst (λ z. LegalDel p (without (id_of s.next z) s) ys u) ids legal') h k
 
-one_del_fault : (p : Opb) (s : State) (ids : List ℤ) (f g : StepFault) → IsDelFault p s ids f → IsDelFault p s ids g → f ≡ g
+pub one_del_fault : (p : Opb) (s : State) (ids : List ℤ) (f g : StepFault) → IsDelFault p s ids f → IsDelFault p s ids g → f ≡ g
 one_del_fault p s ids f g (before, i, behind, t, is, legal, h) (before', j, behind', u, is', legal', k) =
     one_refusal p s t u before before' behind behind' i j f g (sym is ∙ is') legal legal' h k
 

@@ -1,6 +1,7 @@
 -- Deciding on small states what a listing is completed to, and that it is at fault.
-use Rattle.std.proofs.Common.{◌≡◌, ℕ, zero, suc, ◌<◌, inl, inr, Bool, true, false, List, [], ◌∷◌, map, length, refl, sym, ap, subst, ◌∙◌, arith}
-use Rattle.std.specs.Ordering.{nat_cmp}
+use Rattle.std.proofs.Common.{◌≡◌, ℕ, zero, suc, ◌<◌, pos, ◌≤ℤ◌, IfSome, IsSome, None, cond, inl, inr, Bool, true, false, List, [], ◌∷◌, map, length, refl, sym, ap, subst, ◌∙◌, arith}
+use Rattle.std.specs.Ordering.{nat_cmp, eq_by_cmp}
+use Rattle.std.specs.FinSet as set
 use Rattle.std.specs.FinMap as fin
 use Rattle.std.specs.FinMap.Entries.{put}
 use Rattle.std.proofs.lemmas.Bool.{false≢true}
@@ -11,16 +12,22 @@ use Rattle.linear.specs.declared.term.Lit.{Lit}
 use Rattle.linear.specs.Opb.{Satisfies}
 use Rattle.linear.specs.Sum.{Meets}
 use Rattle.linear.specs.Valuation.{valuation_of}
+use Rattle.normal_form.specs.Cases.{plain, normal}
 use Rattle.normal_form.specs.Normal.{NormalConstraint}
+use Rattle.normal_form.proofs.NormalForm.{is_form}
+use Rattle.proof_steps.specs.declared.conclusion.Lower.TheVariants as lowers
 use Rattle.propagate.specs.Cases.{x, not_x}
 use Rattle.propagate.specs.Chain.{IsReached}
 use Rattle.propagate.specs.Literals.{opposite, lists, IsConsistent}
 use Rattle.propagate.specs.Passes.{Settled, outcome}
 use Rattle.propagate.proofs.Consistency.{push_consistent}
 use Rattle.propagate.proofs.SearchIsRight.{closure_met, no_conflict_met}
-use Rattle.proof_rules.specs.Cases.{cover, cover_written, cover_file, second_alone}
-use Rattle.proof_rules.specs.Solution.{literal_for, NamesAll, value_at, Completes}
-use Rattle.proof_rules.specs.State.{constraints, numbered, state_of}
+use Rattle.proof_rules.specs.Cases.{cover, cover_written, cover_file, min_both, second_alone, not_second_alone, derived_state}
+use Rattle.proof_rules.specs.Legal.{IsDeletable, without}
+use Rattle.proof_rules.specs.Justified.{EntitlesLower}
+use Rattle.proof_rules.specs.Solution.{literal_for, NamesAll, value_at, Completes, at_least}
+use Rattle.proof_rules.specs.State.{State, constraints, numbered, state_of}
+use Rattle.proof_rules.proofs.ShownHolds.{zero_shown}
 
 abbrev pub Entries : Type 0
 Entries = List (ℕ × NormalConstraint)
@@ -99,3 +106,33 @@ pub second_completes : Completes (constraints (state_of (cover ∷ []))) 2 (not_
 second_completes =
     subst (λ live. Completes live 2 (not_x 0 ∷ []) second_alone) (sym (live_of (cover ∷ [])))
     (both_reached 4 (cover ∷ []) (not_x 0 ∷ []) (not_x 0 ∷ x 1 ∷ []) false true (one_consistent (not_x 0)) (second_unnamed (not_x 0 ∷ []) (λ b. refl)) refl refl refl)
+
+-- that the objective `1 x0 1 x1` is at least 0 needs no constraint
+pub zero_is_bound : (s : State) → IfSome s.improve (λ least. pos 0 ≤ℤ least) → EntitlesLower s min_both (lowers.At (pos 0))
+zero_is_bound s below = (
+  normal (plain 1 0 ∷ plain 1 1 ∷ []) 0,
+  record {
+    below = below;
+    form = is_form (at_least min_both (pos 0)) (normal (plain 1 0 ∷ plain 1 1 ∷ []) 0) (omega arith, omega arith, (omega arith, omega arith, tt)) (λ set. omega (arith, ints)) refl;
+    fits = record { sum = omega arith; degree = omega arith };
+    shown = zero_shown (constraints s) (normal (plain 1 0 ∷ plain 1 1 ∷ []) 0) (omega arith, omega arith, (omega arith, omega arith, tt)) refl;
+  },
+)
+
+-- look-ups in a small state, and in one without an id
+pub found_in : (ns : List NormalConstraint) (id : ℕ) → fin.get (state_of ns).live id ≡ fin.find nat_cmp id (numbered 1 ns)
+found_in ns id = fin.get-from_entries nat_cmp_total (numbered 1 ns) id
+
+pub found_without : (s : State) (gone id : ℕ) → fin.get (without gone s).live id ≡ cond (eq_by_cmp nat_cmp id gone) None (fin.get s.live id)
+found_without s gone id = fin.get-remove nat_cmp_total s.live gone id
+
+-- the second constraint of two may be deleted, where the file has one
+pub second_deletable : IsDeletable cover_file derived_state 2
+second_deletable = record {
+  live = subst (λ o. IsSome o) (sym (found_in (cover ∷ not_second_alone ∷ []) 2)) refl;
+  derived = omega arith;
+  unasked = set.contains-empty nat_cmp 2;
+}
+
+pub derived_gone : fin.get (without 2 derived_state).live 2 ≡ None
+derived_gone = found_without derived_state 2 2

@@ -79,3 +79,7 @@ below_one = normal (negated 1 0 ∷ negated 1 1 ∷ []) 2
 -- a state in which all ids are taken
 abbrev pub full_state : Option ℤ → State
 full_state improve = record (cover_state improve []) { next = id_limit }
+
+-- 1 x0 >= 1, as a proof writes it
+abbrev pub first_written : Signed
+first_written = record { terms = signed (pos 1) 0 ∷ []; relation = AtLeast; right = pos 1 }
