@@ -17,7 +17,7 @@ use Rattle.normal_form.specs.Normal.{NormalConstraint}
 use Rattle.normal_form.proofs.NormalForm.{is_form}
 use Rattle.proof_steps.specs.declared.conclusion.Lower.TheVariants as lowers
 use Rattle.propagate.specs.Cases.{x, not_x}
-use Rattle.propagate.specs.Chain.{IsReached}
+use Rattle.propagate.specs.Chain.{LeadsToConflict, IsReached}
 use Rattle.propagate.specs.Literals.{opposite, lists, IsConsistent}
 use Rattle.propagate.specs.Passes.{Settled, outcome}
 use Rattle.propagate.proofs.Consistency.{push_consistent}
@@ -136,3 +136,16 @@ second_deletable = record {
 
 pub derived_gone : fin.get (without 2 derived_state).live 2 ≡ None
 derived_gone = found_without derived_state 2 2
+
+-- on that file the listing `x0` leaves x1 open, whatever is logged
+open_second : (value : Bool) → IsReached (cover ∷ []) (x 0 ∷ []) (literal_for 1 value) → ⊥
+open_second value reached = false≢true ((closure_met 4 (cover ∷ []) (x 0 ∷ []) (x 0 ∷ []) refl (literal_for 1 value)).1 reached)
+
+abbrev pub LeavesOpen : List NormalConstraint → List Lit → Type 0
+LeavesOpen live listing =
+    IsConsistent listing × (LeadsToConflict live listing → ⊥) × ((v : ℕ) × (v < 2) × ((value : Bool) → IsReached live listing (literal_for v value) → ⊥))
+
+pub first_leaves_open : LeavesOpen (constraints (state_of (cover ∷ []))) (x 0 ∷ [])
+first_leaves_open =
+    subst (λ live. LeavesOpen live (x 0 ∷ [])) (sym (live_of (cover ∷ [])))
+    (one_consistent (x 0), no_conflict_met 4 (cover ∷ []) (x 0 ∷ []) (x 0 ∷ []) refl, (1, omega arith, open_second))

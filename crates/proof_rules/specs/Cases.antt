@@ -1,5 +1,5 @@
 -- Small problems and substitutions, to compute the definitions on.
-use Rattle.std.specs.Prelude.{ℤ, Bool, true, false, Option, Some, None, pos, List, [], ◌∷◌}
+use Rattle.std.specs.Prelude.{ℤ, Bool, true, false, Option, Some, None, pos, ◌^◌, List, [], ◌∷◌}
 use Rattle.linear.specs.declared.constraint.Relation.TheVariants.{AtLeast}
 use Rattle.linear.specs.declared.constraint.Signed.{Signed}
 use Rattle.linear.specs.declared.term.Term.{Term}
@@ -83,3 +83,11 @@ full_state improve = record (cover_state improve []) { next = id_limit }
 -- 1 x0 >= 1, as a proof writes it
 abbrev pub first_written : Signed
 first_written = record { terms = signed (pos 1) 0 ∷ []; relation = AtLeast; right = pos 1 }
+
+-- 2^121 x0 >= 1: its coefficient is beyond the limits
+abbrev pub large_written : Signed
+large_written = record { terms = signed (pos (2 ^ 121)) 0 ∷ []; relation = AtLeast; right = pos 1 }
+
+-- a state with 1 x0 >= 1 and 1 ~x0 >= 1
+abbrev pub contradicting_state : State
+contradicting_state = state_of (normal (plain 1 0 ∷ []) 1 ∷ normal (negated 1 0 ∷ []) 1 ∷ [])

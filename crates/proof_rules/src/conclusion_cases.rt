@@ -5,12 +5,12 @@
 //! proof only where they agree on that order. Where two faults could be meant, the contract names the one that is, and
 //! says that the other one is not.
 
-ghost use Rattle.std.specs.Prelude.{◌≡◌, pos, [], ◌∷◌, Some, None};
+ghost use Rattle.std.specs.Prelude.{◌≡◌, pos, ◌^◌, [], ◌∷◌, Some, None};
 ghost use Rattle.propagate.specs.Cases.{x, not_x};
-ghost use Rattle.proof_rules.specs.Cases.{cover_file, least_cover, both, second_alone, cover_state};
+ghost use Rattle.proof_rules.specs.Cases.{cover_file, least_cover, both, second_alone, cover_state, contradicting_state};
 ghost use Rattle.proof_rules.specs.Fault.{IsConclusionFault};
 ghost use Rattle.proof_rules.specs.Justified.{IsJustified};
-ghost use Rattle.proof_rules.specs.declared.fault.StepFault.TheVariants.{NoObjective, SolutionConflict, SolutionLogged, LowerAboveBest, LowerNotShown, UpperNotLogged};
+ghost use Rattle.proof_rules.specs.declared.fault.StepFault.TheVariants.{NoObjective, SolutionConflict, SolutionPartial, TooLarge, SolutionLogged, LowerAboveBest, LowerNotShown, UpperNotLogged};
 ghost use Rattle.proof_steps.specs.declared.conclusion.Conclusion.TheVariants.{Sat, Unsat, Bounds};
 ghost use Rattle.proof_steps.specs.declared.conclusion.Lower.TheVariants as lower;
 ghost use Rattle.proof_steps.specs.declared.conclusion.Upper.TheVariants as upper;
@@ -48,4 +48,27 @@ pub fn satisfiable_or_not()
 /// most 5, and it is the best one.
 pub fn hint_is_a_solution()
     ensures { IsJustified least_cover (cover_state None []) (Bounds (lower.At (pos 0)) (upper.At (pos 5)) (Some (x 0 ∷ x 1 ∷ []))) (Some both) }
+{}
+
+/// `BOUNDS 1 1` where a solution of value 1 improves: the bound may be the best value, and the file's constraint shows it.
+pub fn bound_at_the_best()
+    ensures { IsJustified least_cover (cover_state (Some (pos 1)) (second_alone ∷ [])) (Bounds (lower.At (pos 1)) (upper.At (pos 1)) None) (Some second_alone) }
+{}
+
+/// `BOUNDS 2^121 INF` is beyond the limits, which is judged before whether it is shown.
+pub fn bound_beyond_the_limits()
+    ensures limits { IsConclusionFault least_cover (cover_state None []) (Bounds (lower.At (pos (2 ^ 121))) upper.Inf None) TooLarge }
+    ensures not_shown { IsConclusionFault least_cover (cover_state None []) (Bounds (lower.At (pos (2 ^ 121))) upper.Inf None) LowerNotShown → ⊥ }
+{}
+
+/// Where `1 x0 >= 1` and `1 ~x0 >= 1` are live and nothing is logged, nothing satisfies the problem.
+pub fn contradiction_is_unsatisfiable()
+    ensures unsatisfiable { IsJustified cover_file contradicting_state Unsat None }
+    ensures infinite_bounds { IsJustified least_cover contradicting_state (Bounds lower.Inf upper.Inf None) None }
+{}
+
+/// `SAT` is justified by a logged solution; a hint is judged all the same, and `x0` leaves x1 open.
+pub fn logged_solution_satisfies()
+    ensures logged { IsJustified cover_file (cover_state None (both ∷ [])) (Sat None) (Some both) }
+    ensures hint_judged { IsConclusionFault cover_file (cover_state None (both ∷ [])) (Sat (Some (x 0 ∷ []))) SolutionPartial }
 {}

@@ -1,30 +1,19 @@
-use Rattle.std.proofs.Common.{inl, false, List, Bool, [], ◌∷◌, refl, sym, subst, arith}
-use Rattle.std.proofs.lemmas.Bool.{false≢true}
+use Rattle.std.proofs.Common.{inl, false, List, Bool, [], ◌∷◌, refl, subst, arith}
 use Rattle.std.proofs.lemmas.Int.{ints}
 use Rattle.std.proofs.lemmas.List.Elements.{All-head}
 use Rattle.linear.specs.Opb.{Satisfies}
 use Rattle.linear.specs.Sum.{Meets}
 use Rattle.linear.specs.Valuation.{valuation_of}
 use Rattle.propagate.specs.Cases.{x, not_x}
-use Rattle.propagate.specs.Chain.{IsReached, LeadsToConflict}
-use Rattle.propagate.proofs.SearchIsRight.{closure_met, no_conflict_met}
 use Rattle.proof_rules.specs.Cases.{cover, cover_written, cover_file}
-use Rattle.proof_rules.specs.Solution.{literal_for, Completes}
+use Rattle.proof_rules.specs.Solution.{Completes}
 use Rattle.proof_rules.specs.State.{constraints, state_of}
 use Rattle.proof_rules.proofs.Completing.{one_completion}
-use Rattle.proof_rules.proofs.SmallStates.{live_of, one_consistent, two_consistent, both_named}
+use Rattle.proof_rules.proofs.SmallStates.{first_leaves_open, two_consistent, both_named}
 use Rattle.proof_rules.proofs.solution_cases.listing_at_fault.Goals as goal
 
--- x1 is reached with neither sign
-open_second : (value : Bool) → IsReached (cover ∷ []) (x 0 ∷ []) (literal_for 1 value) → ⊥
-open_second value reached = false≢true ((closure_met 4 (cover ∷ []) (x 0 ∷ []) (x 0 ∷ []) refl (literal_for 1 value)).1 reached)
-
 pub returns-clause-open : goal.returns-clause-open
-returns-clause-open c = (
-  one_consistent (x 0),
-  subst (λ live. LeadsToConflict live (x 0 ∷ []) → ⊥) (sym (live_of (cover ∷ []))) (no_conflict_met 4 (cover ∷ []) (x 0 ∷ []) (x 0 ∷ []) refl),
-  (1, omega arith, subst (λ live. (value : Bool) → IsReached live (x 0 ∷ []) (literal_for 1 value) → ⊥) (sym (live_of (cover ∷ []))) open_second),
-)
+returns-clause-open c = first_leaves_open
 
 pub returns-clause-contradictory : goal.returns-clause-contradictory
 returns-clause-contradictory c = inl (λ consistent. consistent (x 0, refl, refl))

@@ -39,3 +39,9 @@ returns-clause-not_open c (n, admitted, room, not) = full room
 
 pub returns-clause-expression : goal.returns-clause-expression
 returns-clause-expression c = (cover, (cited (pos 1), refl, found_in (cover ∷ []) 1), full)
+
+pub returns-clause-large : goal.returns-clause-large
+returns-clause-large c n admitted = omega (arith, admitted.sizes)
+
+pub returns-clause-not_large : goal.returns-clause-not_large
+returns-clause-not_large c ((n, admitted), room) = omega (arith, admitted.sizes)
