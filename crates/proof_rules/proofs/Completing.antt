@@ -139,21 +139,24 @@ closure_consistent ns given closed consistent none closure (l, there, opposite_t
 abbrev pub Completion : Opb → State → List Lit → Type 0
 Completion p s listing = ((g : List Bool) × Completes (constraints s) (length p.names) listing g) ⊎ ((f : StepFault) × IsSolFault p s listing f)
 
--- not all variables are named, and not all of them are reached
-partial : (live : List NormalConstraint) (count : ℕ) (listing closed : List Lit) → (NamesAll count listing → ⊥) → IsClosure live listing closed
-    → (v : ℕ) → v < count → ((b : Bool) → lists closed (literal_for v b) ≡ true → ⊥) → (g : List Bool) → Completes live count listing g → ⊥
-partial live count listing closed not_all closure v below none g c = by c.completed
+-- where a variable is reached with neither sign, nothing completes the listing
+pub gap_never : (live : List NormalConstraint) (count : ℕ) (listing : List Lit) (v : ℕ) → v < count → ((b : Bool) → IsReached live listing (literal_for v b) → ⊥)
+    → (g : List Bool) → Completes live count listing g → ⊥
+gap_never live count listing v below none g c = by c.completed
   where
+    inside : v < length g
+    inside = subst (λ n. v < n) (sym c.long) below
+
     by : (NamesAll count listing × SaysAll listing g) ⊎ ((NamesAll count listing → ⊥) × (LeadsToConflict live listing → ⊥) × ReachesAll live listing g) → ⊥
-    by (inl (all, says)) = not_all all
-    by (inr (fails, free, reaches)) = none (value_at g v) ((closure (literal_for v (value_at g v))).1 (reaches v (subst (λ n. v < n) (sym c.long) below)))
+    by (inl (all, says)) = none (value_at g v) (inl (says v inside))
+    by (inr (fails, free, reaches)) = none (value_at g v) (reaches v inside)
 
 reached_table : (p : Opb) (s : State) (listing closed : List Lit) → IsConsistent listing → (NamesAll (length p.names) listing → ⊥) → (LeadsToConflict (constraints s) listing → ⊥)
     → IsClosure (constraints s) listing closed → TableOrGap (λ v b. lists closed (literal_for v b) ≡ true) (length p.names) → Completion p s listing
 reached_table p s listing closed consistent not_all free closure (inl (g, long, all)) =
     inl (g, record { consistent = consistent; long = long; completed = inr (not_all, free, λ v below. (closure (literal_for v (value_at g v))).0 (all v below)) })
 reached_table p s listing closed consistent not_all free closure (inr (v, below, none)) =
-    inr (faults.SolutionPartial, (consistent, free, partial (constraints s) (length p.names) listing closed not_all closure v below none))
+    inr (faults.SolutionPartial, (consistent, free, (v, below, λ b reached. none b ((closure (literal_for v b)).1 reached))))
 
 chains_end : (p : Opb) (s : State) (listing : List Lit) → IsConsistent listing → (NamesAll (length p.names) listing → ⊥) → Ends (constraints s) listing → Completion p s listing
 chains_end p s listing consistent not_all (inl conflict) = inr (faults.SolutionConflict, inr (consistent, not_all, conflict))

@@ -22,6 +22,7 @@ pub mod RupJudged
 pub mod ShownHolds
 pub mod ShownOrNot
 pub mod SmallCases
+pub mod SmallStates
 pub mod SolJudged
 pub mod StepJudged
 pub mod Values

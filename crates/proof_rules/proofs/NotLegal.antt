@@ -1,5 +1,5 @@
 -- A step that has a fault is not legal, and a conclusion that has one is not justified.
-use Rattle.std.proofs.Common.{◌≡◌, ◌≢◌, ℕ, ℤ, ◌<ℤ◌, ◌≤ℤ◌, ◌⊎◌, inl, inr, Bool, List, [], ◌∷◌, ◌++◌, Option, Some, None, All, IfSome, IsSome, refl, sym, subst, ◌∙◌, arith}
+use Rattle.std.proofs.Common.{◌≡◌, ◌≢◌, ℕ, ℤ, ◌<ℤ◌, ◌≤ℤ◌, ◌⊎◌, inl, inr, Bool, List, [], ◌∷◌, ◌++◌, Option, Some, None, All, IfSome, IsSome, length, refl, sym, subst, ◌∙◌, arith}
 use Rattle.std.proofs.lemmas.Bool.{false≢true}
 use Rattle.std.proofs.lemmas.Int.{ints}
 use Rattle.std.specs.FinMap as fin
@@ -30,6 +30,7 @@ use Rattle.proof_rules.specs.Legal.{Legal, LegalPol, LegalRup, LegalRed, LegalSo
 use Rattle.proof_rules.specs.Shown.{IsShown, IsAdmitted}
 use Rattle.proof_rules.specs.Solution.{at_least}
 use Rattle.proof_rules.specs.State.{State, constraints, constraint_of, id_of, HasRoom}
+use Rattle.proof_rules.proofs.Completing.{gap_never}
 use Rattle.proof_rules.proofs.Determined.{writing_never}
 use Rattle.proof_rules.proofs.LiveConstraints.{All-get}
 
@@ -70,7 +71,8 @@ pub sol_never : (p : Opb) (s : State) (listing : List Lit) (g : List Bool) (f : 
 sol_never p s listing g faults.SolutionConflict (inl not) logs = not logs.completes.consistent
 sol_never p s listing g faults.SolutionConflict (inr (consistent, not_all, leads)) logs =
     elim (logs.completes.completed) as (λ _. ⊥) [ inl h ↦ not_all h.0 | inr h ↦ h.1 leads ]
-sol_never p s listing g faults.SolutionPartial (consistent, no_conflict, none) logs = none g logs.completes
+sol_never p s listing g faults.SolutionPartial (consistent, no_conflict, (v, below, none)) logs =
+    gap_never (constraints s) (length p.names) listing v below none g logs.completes
 sol_never p s listing g faults.SolutionFalse (some, breaks) logs = breaks g logs.completes logs.satisfies
 sol_never p s listing g _ h logs = h
 

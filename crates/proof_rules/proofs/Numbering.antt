@@ -1,5 +1,5 @@
 -- The ids of live constraints: those of a file are 1, 2, .., each new one is the next, and all stay above 0 and below it.
-use Rattle.std.proofs.Common.{◌≡◌, ℕ, zero, suc, ◌+◌, ◌*◌, ◌<◌, ◌≤◌, Bool, true, false, cond, ℤ, Option, Some, None, List, [], ◌∷◌, ◌++◌, length, refl, sym, ap, subst, ◌∙◌, arith}
+use Rattle.std.proofs.Common.{◌≡◌, ℕ, zero, suc, ◌+◌, ◌<◌, ◌≤◌, Bool, true, false, cond, ℤ, Option, Some, None, List, [], ◌∷◌, ◌++◌, length, refl, sym, ap, subst, ◌∙◌, arith}
 use Rattle.std.specs.declared.cmp.Ordering.TheVariants.{Less, Equal, Greater}
 use Rattle.std.specs.Ordering.{nat_cmp, eq_by_cmp, is_eq}
 use Rattle.std.specs.Cmp.{nat_cmp_is}
@@ -14,7 +14,7 @@ use Rattle.normal_form.specs.Normal.{NormalConstraint}
 use Rattle.proof_steps.specs.declared.step.Step.{Step}
 use Rattle.proof_steps.specs.declared.step.Step.TheVariants as steps
 use Rattle.proof_rules.specs.Legal.{Legal, LegalDel, Adds, without}
-use Rattle.proof_rules.specs.State.{State, Live, AreNumbered, HasRoom, id_limit, IsStart, id_of, numbered, state_of, with_constraint}
+use Rattle.proof_rules.specs.State.{State, Live, AreNumbered, id_limit, IsStart, id_of, numbered, state_of, with_constraint}
 use Rattle.proof_rules.proofs.FileForms.{all_count, few_ids}
 use Rattle.proof_rules.proofs.LiveConstraints.{key_of}
 

@@ -74,7 +74,7 @@ nothing_there : (before behind : Logged) (g : List Bool) → before ++ g ∷ beh
 nothing_there [] behind g is = absurd (cc)
 nothing_there (x ∷ xs) behind g is = absurd (cc)
 
-one_best : (p : Opb) (logged : Logged) (best other : Option (List Bool)) → IsBest p logged best → IsBest p logged other → best ≡ other
+pub one_best : (p : Opb) (logged : Logged) (best other : Option (List Bool)) → IsBest p logged best → IsBest p logged other → best ≡ other
 one_best p logged None None is also = refl
 one_best p logged None (Some h) none (before, behind, is, less, least) = absurd (nothing_there before behind h (sym is ∙ none))
 one_best p logged (Some g) None (before, behind, is, less, least) none = absurd (nothing_there before behind g (sym is ∙ none))

@@ -18,6 +18,7 @@ use Rattle.proof_rules.specs.Legal.{IsShownUnder, Logs, LegalDel, worth_of, with
 use Rattle.proof_rules.specs.Shown.{IsAdmitted}
 use Rattle.proof_rules.specs.Solution.{Completes}
 use Rattle.proof_rules.specs.State.{State, constraints, id_of, HasRoom}
+use Rattle.proof_rules.proofs.Completing.{gap_never}
 use Rattle.proof_rules.proofs.LiveConstraints.{All-get}
 use Rattle.proof_rules.proofs.NotLegal.{admitted_never, one_admitted, sol_never, less_never, undeletable_never}
 use Rattle.proof_rules.proofs.OneItemFault.{Case, one_of_two, one_of_three, one_pol_fault}
@@ -144,10 +145,13 @@ conflict_completed : (p : Opb) (s : State) (listing : List Lit) → Conflicts p 
 conflict_completed p s listing (inl not) (g, c) = not c.consistent
 conflict_completed p s listing (inr (consistent, not_all, leads)) (g, c) = elim (c.completed) as (λ _. ⊥) [ inl h ↦ not_all h.0 | inr h ↦ h.1 leads ]
 
+partial_completed : (p : Opb) (s : State) (listing : List Lit) → IsPartial p s listing → Completed p s listing → ⊥
+partial_completed p s listing (consistent, free, (v, below, none)) (g, c) = gap_never (constraints s) (length p.names) listing v below none g c
+
 pub one_sol_fault : (p : Opb) (s : State) (listing : List Lit) (f g : StepFault) → IsSolFault p s listing f → IsSolFault p s listing g → f ≡ g
 one_sol_fault p s listing f g h k =
     one_of_three f g faults.SolutionConflict faults.SolutionPartial faults.SolutionFalse (Conflicts p s listing) (IsPartial p s listing) (Completed p s listing)
-    (conflict_partial p s listing) (conflict_completed p s listing) (λ partial done. partial.2 done.0 done.1) (sol_is p s listing f h) (sol_is p s listing g k)
+    (conflict_partial p s listing) (conflict_completed p s listing) (partial_completed p s listing) (sol_is p s listing f h) (sol_is p s listing g k)
 
 -- soli
 
@@ -189,7 +193,7 @@ one_behind_objective p s listing f g (inl h) (inr k) = absurd (k.0 h.1)
 one_behind_objective p s listing f g (inr h) (inl k) = absurd (h.0 k.1)
 one_behind_objective p s listing f g (inr h) (inr k) = one_soli_case p s listing f g h.1 k.1
 
-one_soli_fault : (p : Opb) (s : State) (listing : List Lit) (f g : StepFault) → IsSoliFault p s listing f → IsSoliFault p s listing g → f ≡ g
+pub one_soli_fault : (p : Opb) (s : State) (listing : List Lit) (f g : StepFault) → IsSoliFault p s listing f → IsSoliFault p s listing g → f ≡ g
 one_soli_fault p s listing f g h k = one_behind_objective p s listing f g (soli_is p s listing f h) (soli_is p s listing g k)
 
 -- del
@@ -225,7 +229,7 @@ one_refusal p s t u (x ∷ xs) (y ∷ ys) bs cs i j f g same (d, legal) (e, lega
     let old = without (id_of s.next x) s in
     one_refusal p old t u xs ys bs cs i j f g rest legal (subst (λ z. LegalDel p (without (id_of s.next z) s) ys u) ids legal') h k
 
-one_del_fault : (p : Opb) (s : State) (ids : List ℤ) (f g : StepFault) → IsDelFault p s ids f → IsDelFault p s ids g → f ≡ g
+pub one_del_fault : (p : Opb) (s : State) (ids : List ℤ) (f g : StepFault) → IsDelFault p s ids f → IsDelFault p s ids g → f ≡ g
 one_del_fault p s ids f g (before, i, behind, t, is, legal, h) (before', j, behind', u, is', legal', k) =
     one_refusal p s t u before before' behind behind' i j f g (sym is ∙ is') legal legal' h k
 

@@ -1,5 +1,7 @@
 -- Small problems and substitutions, to compute the definitions on.
-use Rattle.std.specs.Prelude.{None, pos, List, [], ◌∷◌}
+use Rattle.std.specs.Prelude.{ℤ, Bool, true, false, Option, Some, None, pos, ◌^◌, List, [], ◌∷◌}
+use Rattle.linear.specs.declared.constraint.Relation.TheVariants.{AtLeast}
+use Rattle.linear.specs.declared.constraint.Signed.{Signed}
 use Rattle.linear.specs.declared.term.Term.{Term}
 use Rattle.linear.specs.Opb.{Opb}
 use Rattle.normal_form.specs.Cases.{signed, plain, negated, normal}
@@ -7,6 +9,7 @@ use Rattle.normal_form.specs.Normal.{NormalConstraint}
 use Rattle.substitution.specs.declared.image.Image.TheVariants.{One}
 use Rattle.substitution.specs.Cases.{to_plain}
 use Rattle.substitution.specs.Images.{Images}
+use Rattle.proof_rules.specs.State.{State, state_of, id_limit}
 
 -- no objective
 abbrev pub decision : Opb
@@ -30,3 +33,61 @@ first_or_not_second = normal (plain 1 1 ∷ negated 1 2 ∷ []) 1
 
 abbrev pub not_first_and_second : NormalConstraint
 not_first_and_second = normal (negated 1 1 ∷ plain 1 2 ∷ []) 2
+
+-- 1 x0 1 x1 >= 1, as a file writes it, and its normal form
+abbrev pub cover_written : Signed
+cover_written = record { terms = signed (pos 1) 0 ∷ signed (pos 1) 1 ∷ []; relation = AtLeast; right = pos 1 }
+
+abbrev pub cover : NormalConstraint
+cover = normal (plain 1 0 ∷ plain 1 1 ∷ []) 1
+
+-- the files of that constraint alone: with no objective, and with min: 1 x0 1 x1
+abbrev pub cover_file : Opb
+cover_file = record { names = (120 ∷ 48 ∷ []) ∷ (120 ∷ 49 ∷ []) ∷ []; objective = None; constraints = cover_written ∷ [] }
+
+abbrev pub min_both : List Term
+min_both = signed (pos 1) 0 ∷ signed (pos 1) 1 ∷ []
+
+abbrev pub least_cover : Opb
+least_cover = record cover_file { objective = Some min_both }
+
+-- values of x0 and x1
+abbrev pub both : List Bool
+both = true ∷ true ∷ []
+
+abbrev pub first_alone : List Bool
+first_alone = true ∷ false ∷ []
+
+abbrev pub second_alone : List Bool
+second_alone = false ∷ true ∷ []
+
+-- a state of such a file: the least improving value, and the solutions that are logged
+abbrev pub cover_state : Option ℤ → List (List Bool) → State
+cover_state improve logged = record (state_of (cover ∷ [])) { improve = improve; logged = logged }
+
+-- 1 x0 1 ~x1 >= 1, and a state with that as a second constraint
+abbrev pub not_second_alone : NormalConstraint
+not_second_alone = normal (plain 1 0 ∷ negated 1 1 ∷ []) 1
+
+abbrev pub derived_state : State
+derived_state = state_of (cover ∷ not_second_alone ∷ [])
+
+-- 1 ~x0 1 ~x1 >= 2: what a solution of value 1 asks for
+abbrev pub below_one : NormalConstraint
+below_one = normal (negated 1 0 ∷ negated 1 1 ∷ []) 2
+
+-- a state in which all ids are taken
+abbrev pub full_state : Option ℤ → State
+full_state improve = record (cover_state improve []) { next = id_limit }
+
+-- 1 x0 >= 1, as a proof writes it
+abbrev pub first_written : Signed
+first_written = record { terms = signed (pos 1) 0 ∷ []; relation = AtLeast; right = pos 1 }
+
+-- 2^121 x0 >= 1: its coefficient is beyond the limits
+abbrev pub large_written : Signed
+large_written = record { terms = signed (pos (2 ^ 121)) 0 ∷ []; relation = AtLeast; right = pos 1 }
+
+-- a state with 1 x0 >= 1 and 1 ~x0 >= 1
+abbrev pub contradicting_state : State
+contradicting_state = state_of (normal (plain 1 0 ∷ []) 1 ∷ normal (negated 1 0 ∷ []) 1 ∷ [])

@@ -13,7 +13,7 @@ use Rattle.normal_form.specs.NormalOf.{IsNormalOf}
 use Rattle.normal_form.specs.Negation.{IsNegation}
 use Rattle.cut_rules.specs.Rules.{IsSum, IsMultiple, IsTooLarge}
 use Rattle.propagate.specs.Literals.{IsConsistent}
-use Rattle.propagate.specs.Chain.{LeadsToConflict}
+use Rattle.propagate.specs.Chain.{LeadsToConflict, IsReached}
 use Rattle.substitution.specs.Images.{Images}
 use Rattle.proof_steps.specs.declared.conclusion.Conclusion.{Conclusion}
 use Rattle.proof_steps.specs.declared.conclusion.Lower.{Lower}
@@ -32,7 +32,7 @@ use Rattle.proof_rules.specs.Justified.{EntitlesLower, EntitlesUpper, TakesHint}
 use Rattle.proof_rules.specs.Legal.{IsShownUnder, IsShownNotRaised, Logs, LegalDel, worth_of}
 use Rattle.proof_rules.specs.Running.{Runs}
 use Rattle.proof_rules.specs.Shown.{IsShown, IsAdmitted, absurdity}
-use Rattle.proof_rules.specs.Solution.{NamesAll, Completes, at_least}
+use Rattle.proof_rules.specs.Solution.{literal_for, NamesAll, Completes, at_least}
 use Rattle.proof_rules.specs.State.{State, constraints, constraint_of, id_of, HasRoom}
 
 -- want of memory, or this
@@ -129,13 +129,14 @@ IsOpenGoal p s c images f =
 abbrev pub IsRedFault : Opb → State → Signed → Images → StepFault → Type 0
 IsRedFault p s c images f = IsAdmissionFault s c f ⊎ IsOpenGoal p s c images f
 
--- sol: the listing, its completion, and what the completion satisfies
+-- sol: the listing; then its completion, where some variable of the file may be reached with neither sign; then what
+-- the completion satisfies
 abbrev pub IsSolFault : Opb → State → List Lit → StepFault → Type 0
 IsSolFault p s listing faults.SolutionConflict =
     (IsConsistent listing → ⊥) ⊎ (IsConsistent listing × (NamesAll (length p.names) listing → ⊥) × LeadsToConflict (constraints s) listing)
 IsSolFault p s listing faults.SolutionPartial =
     IsConsistent listing × (LeadsToConflict (constraints s) listing → ⊥)
-    × ((g : List Bool) → Completes (constraints s) (length p.names) listing g → ⊥)
+    × ((v : ℕ) × (v < length p.names) × ((value : Bool) → IsReached (constraints s) listing (literal_for v value) → ⊥))
 IsSolFault p s listing faults.SolutionFalse =
     ((g : List Bool) × Completes (constraints s) (length p.names) listing g)
     × ((g : List Bool) → Completes (constraints s) (length p.names) listing g → Satisfies (valuation_of g) p → ⊥)

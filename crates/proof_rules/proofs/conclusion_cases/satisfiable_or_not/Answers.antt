@@ -1,0 +1,40 @@
+use Rattle.std.proofs.Common.{◌≡◌, inl, inr, [], ◌∷◌, None, refl, sym, subst}
+use Rattle.proof_steps.specs.declared.conclusion.Lower.TheVariants as lower
+use Rattle.proof_steps.specs.declared.conclusion.Upper.TheVariants as upper
+use Rattle.normal_form.specs.Cases.{normal}
+use Rattle.proof_rules.specs.declared.fault.StepFault.TheVariants.{SolutionLogged, UpperNotLogged}
+use Rattle.proof_rules.specs.Cases.{cover, least_cover, min_both, both, cover_state}
+use Rattle.proof_rules.specs.Fault.{IsBoundsFault, IsSatFault}
+use Rattle.proof_rules.specs.Shown.{IsShown, absurdity}
+use Rattle.proof_rules.proofs.SmallCases.{not_shown}
+use Rattle.proof_rules.proofs.SmallStates.{live_of}
+use Rattle.proof_rules.proofs.conclusion_cases.satisfiable_or_not.Goals as goal
+
+logged : both ∷ [] ≡ [] → ⊥
+logged none = absurd (cc)
+
+pub returns-clause-unsatisfiable : goal.returns-clause-unsatisfiable
+returns-clause-unsatisfiable c = logged
+
+pub returns-clause-unsatisfiable_not_shown : goal.returns-clause-unsatisfiable_not_shown
+returns-clause-unsatisfiable_not_shown c h = logged h.0
+
+pub returns-clause-infinite_bounds : goal.returns-clause-infinite_bounds
+returns-clause-infinite_bounds c = (
+  min_both,
+  refl,
+  inr (
+    (cover_state None (both ∷ []), refl),
+    λ t is. subst (λ u. IsBoundsFault least_cover u min_both lower.Inf upper.Inf SolutionLogged) (sym is) (inl logged),
+  ),
+)
+
+pub returns-clause-satisfiable : goal.returns-clause-satisfiable
+returns-clause-satisfiable c = inr ((cover_state None [], refl), λ t is. subst (λ u. IsSatFault u UpperNotLogged) (sym is) refl)
+
+pub returns-clause-nothing_shown : goal.returns-clause-nothing_shown
+returns-clause-nothing_shown c = (
+  refl,
+  subst (λ live. IsShown live absurdity → ⊥) (sym (live_of (cover ∷ [])))
+      (not_shown 2 (cover ∷ []) absurdity (normal [] 0) [] (record { rises = tt; terms = refl; degree = refl }) refl refl),
+)

@@ -1,0 +1,58 @@
+//! What solutions are and do, computed on small problems, each the contract of a function that does nothing.
+//!
+//! A law such as "every step is judged" holds of a wrong definition too, as long as legal and faulty are wrong together:
+//! of a best solution that is the last one logged, say. So each line drawn by the definitions of `sol`, `soli` and of the
+//! best solution has a case here on either side of it.
+
+ghost use Rattle.std.specs.Prelude.{◌≡◌, pos, [], ◌∷◌, Some, None};
+ghost use Rattle.std.specs.FinSet as set;
+ghost use Rattle.propagate.specs.Cases.{x, not_x};
+ghost use Rattle.proof_rules.specs.Cases.{cover_file, least_cover, both, first_alone, second_alone, cover_state, derived_state, below_one};
+ghost use Rattle.proof_rules.specs.Fault.{IsSolFault, IsSoliFault};
+ghost use Rattle.proof_rules.specs.Justified.{IsBest};
+ghost use Rattle.proof_rules.specs.Legal.{LegalSol, LegalSoli};
+ghost use Rattle.proof_rules.specs.State.{with_constraint};
+ghost use Rattle.proof_rules.specs.declared.fault.StepFault.TheVariants.{SolutionConflict, SolutionPartial, SolutionFalse, NotImproving, NoObjective};
+
+/// Of solutions of the values 2, 1 and 1 for `min: 1 x0 1 x1`, in that order, the second is the best: not the first one
+/// logged, and not the last one, which is as good. Where nothing is logged there is none.
+pub fn earliest_of_the_least_is_best()
+    ensures least { IsBest least_cover (both ∷ second_alone ∷ first_alone ∷ []) (Some second_alone) }
+    ensures not_the_later { IsBest least_cover (both ∷ second_alone ∷ first_alone ∷ []) (Some first_alone) → ⊥ }
+    ensures not_the_first { IsBest least_cover (both ∷ second_alone ∷ first_alone ∷ []) (Some both) → ⊥ }
+    ensures not_none { IsBest least_cover (both ∷ []) None → ⊥ }
+    ensures nothing { IsBest least_cover [] None }
+{}
+
+/// On the file `1 x0 1 x1 >= 1` the listing `~x0` is completed by x1 and logged. It leaves the value that an improving
+/// solution must beat as it is.
+pub fn listing_is_completed()
+    ensures logged { LegalSol cover_file (cover_state None []) (not_x 0 ∷ []) (cover_state None (second_alone ∷ [])) }
+    ensures least_stays { LegalSol least_cover (cover_state (Some (pos 2)) (both ∷ [])) (not_x 0 ∷ []) (cover_state (Some (pos 2)) (both ∷ second_alone ∷ [])) }
+{}
+
+/// There `x0` leaves x1 open, `x0 ~x0` contradicts itself, and `~x0 ~x1` names all variables, so that it is judged as it
+/// stands: it does not satisfy the file.
+pub fn listing_at_fault()
+    ensures open { IsSolFault cover_file (cover_state None []) (x 0 ∷ []) SolutionPartial }
+    ensures contradictory { IsSolFault cover_file (cover_state None []) (x 0 ∷ not_x 0 ∷ []) SolutionConflict }
+    ensures breaks { IsSolFault cover_file (cover_state None []) (not_x 0 ∷ not_x 1 ∷ []) SolutionFalse }
+    ensures not_conflict { IsSolFault cover_file (cover_state None []) (not_x 0 ∷ not_x 1 ∷ []) SolutionConflict → ⊥ }
+{}
+
+/// A solution is judged by the file and not by the live constraints: `~x0 x1` is legal where `1 x0 1 ~x1 >= 1` was derived.
+/// The listing `~x0` is not, since the chains that complete it lead to a conflict.
+pub fn solution_judged_by_the_file()
+    ensures named { LegalSol cover_file derived_state (not_x 0 ∷ x 1 ∷ []) (record derived_state { logged = second_alone ∷ [] }) }
+    ensures completed { IsSolFault cover_file derived_state (not_x 0 ∷ []) SolutionConflict }
+{}
+
+/// A solution of value 1 where 2 was the least: it is logged, 1 becomes the least, and `1 ~x0 1 ~x1 >= 2` is added, which
+/// no one may delete. Where 1 is the least already it does not improve, and without an objective nothing does.
+pub fn improving_solution()
+    ensures improves { LegalSoli least_cover (cover_state (Some (pos 2)) (both ∷ [])) (not_x 0 ∷ [])
+        (record (with_constraint below_one (cover_state (Some (pos 1)) (both ∷ second_alone ∷ []))) { improving = set.insert set.empty 2 }) }
+    ensures equal { IsSoliFault least_cover (cover_state (Some (pos 1)) (second_alone ∷ [])) (not_x 0 ∷ []) NotImproving }
+    ensures no_objective { IsSoliFault cover_file (cover_state None []) (x 0 ∷ not_x 0 ∷ []) NoObjective }
+    ensures not_conflict { IsSoliFault cover_file (cover_state None []) (x 0 ∷ not_x 0 ∷ []) SolutionConflict → ⊥ }
+{}

@@ -1,0 +1,62 @@
+//! Which fault a step has, computed on small states, each the contract of a function that does nothing.
+//!
+//! Ids are judged before it is asked whether a constraint is shown, since a kernel that is full need not search; and the
+//! ids of a deletion are judged one after another, each with the earlier ones gone. Where two faults could be meant, the
+//! contract names the one that is, and says that the other one is not.
+
+ghost use Rattle.std.specs.Prelude.{◌≡◌, pos, neg_ℤ, [], ◌∷◌, Some, None};
+ghost use Rattle.std.specs.FinSet as set;
+ghost use Rattle.propagate.specs.Cases.{not_x};
+ghost use Rattle.proof_rules.specs.Cases.{cover_file, least_cover, cover_written, first_written, large_written, cover_state, derived_state, full_state};
+ghost use Rattle.proof_rules.specs.Fault.{IsPolFault, IsRupFault, IsSoliFault, IsDelFault};
+ghost use Rattle.proof_rules.specs.Legal.{LegalDel, without};
+ghost use Rattle.proof_rules.specs.declared.fault.StepFault.TheVariants.{TooLarge, StackShape, BadFactor, TooManyIds, NotShown, NotImproving, DeadId, FileConstraint};
+ghost use Rattle.proof_steps.specs.declared.step.Item.TheVariants.{Id, Add, Divide};
+
+/// On a file of one constraint, with a second one derived: `del id 2 2` asks for an id that is gone by then, and
+/// `del id 1 9` for one of the file, which is judged before the 9 that never was. The second one is not deleted either
+/// where an improving solution added it.
+pub fn deletions_at_fault()
+    ensures twice { IsDelFault cover_file derived_state (pos 2 ∷ pos 2 ∷ []) DeadId }
+    ensures file { IsDelFault cover_file derived_state (pos 1 ∷ pos 9 ∷ []) FileConstraint }
+    ensures improving { IsDelFault cover_file (record derived_state { improving = set.insert set.empty 2 }) (pos 2 ∷ []) FileConstraint }
+    ensures not_dead { IsDelFault cover_file derived_state (pos 1 ∷ pos 9 ∷ []) DeadId → ⊥ }
+{}
+
+/// `del id 2` removes the derived constraint, `del id -1` too, and `del id` without ids nothing.
+pub fn deletions()
+    ensures derived { LegalDel cover_file derived_state (pos 2 ∷ []) (without 2 derived_state) }
+    ensures from_the_end { LegalDel cover_file derived_state (neg_ℤ (pos 1) ∷ []) (without 2 derived_state) }
+    ensures nothing { LegalDel cover_file derived_state [] derived_state }
+{}
+
+/// Where all ids are taken, `rup 1 x0 1 x1 >= 1` finds none left though it is shown, `rup 1 x0 >= 1` though it is not, and
+/// `pol 1` too. A constraint beyond the limits is refused for that first.
+pub fn no_id_left()
+    ensures shown { IsRupFault (full_state None) cover_written TooManyIds }
+    ensures open { IsRupFault (full_state None) first_written TooManyIds }
+    ensures not_open { IsRupFault (full_state None) first_written NotShown → ⊥ }
+    ensures large { IsRupFault (full_state None) large_written TooLarge }
+    ensures not_large { IsRupFault (full_state None) large_written TooManyIds → ⊥ }
+    ensures expression { IsPolFault (full_state None) (Id (pos 1) ∷ []) TooManyIds }
+{}
+
+/// There a solution of value 1 that improves finds no id left, and one that does not improve is refused for that.
+pub fn no_id_left_to_improve()
+    ensures improving { IsSoliFault least_cover (full_state (Some (pos 2))) (not_x 0 ∷ []) TooManyIds }
+    ensures not_improving { IsSoliFault least_cover (full_state (Some (pos 1))) (not_x 0 ∷ []) NotImproving }
+    ensures not_ids { IsSoliFault least_cover (full_state (Some (pos 1))) (not_x 0 ∷ []) TooManyIds → ⊥ }
+{}
+
+/// Expressions: `pol` and `pol 1 1` do not leave one constraint, `pol 9` cites none, and `pol 1 0 d` divides by 0. Items are
+/// judged from left to right, and what an item finds before its factor.
+pub fn expressions_at_fault()
+    ensures nothing { IsPolFault (cover_state None []) [] StackShape }
+    ensures two { IsPolFault (cover_state None []) (Id (pos 1) ∷ Id (pos 1) ∷ []) StackShape }
+    ensures dead { IsPolFault (cover_state None []) (Id (pos 9) ∷ []) DeadId }
+    ensures factor { IsPolFault (cover_state None []) (Id (pos 1) ∷ Divide (pos 0) ∷ []) BadFactor }
+    ensures shape_before_factor { IsPolFault (cover_state None []) (Divide (pos 0) ∷ []) StackShape }
+    ensures not_factor { IsPolFault (cover_state None []) (Divide (pos 0) ∷ []) BadFactor → ⊥ }
+    ensures first_item { IsPolFault (cover_state None []) (Id (pos 1) ∷ Add ∷ Id (pos 9) ∷ []) StackShape }
+    ensures not_dead { IsPolFault (cover_state None []) (Id (pos 1) ∷ Add ∷ Id (pos 9) ∷ []) DeadId → ⊥ }
+{}
