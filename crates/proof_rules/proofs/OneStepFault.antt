@@ -113,7 +113,7 @@ one_open_goal p s c images f g (n, m, admitted, room, negated, h) (k, j, admitte
     subst (λ z. IsGoalFault p s (constraints s ++ z ∷ []) images n g) other (subst (λ z. IsGoalFault p s (constraints s ++ j ∷ []) images z g) same i) in
     one_goal_fault p s (constraints s ++ m ∷ []) images n f g h goal
 
-pub one_red_fault : (p : Opb) (s : State) (c : Signed) (images : Images) (f g : StepFault) → IsRedFault p s c images f → IsRedFault p s c images g → f ≡ g
+one_red_fault : (p : Opb) (s : State) (c : Signed) (images : Images) (f g : StepFault) → IsRedFault p s c images f → IsRedFault p s c images g → f ≡ g
 one_red_fault p s c images f g (inl h) (inl k) = one_admission_fault s c f g h k
 one_red_fault p s c images f g (inl h) (inr (n, m, admitted, room, negated, goal)) = absurd (admitted_never s c n f h admitted room)
 one_red_fault p s c images f g (inr (n, m, admitted, room, negated, goal)) (inl k) = absurd (admitted_never s c n g k admitted room)

@@ -4,7 +4,7 @@ use Rattle.linear.specs.declared.constraint.Relation.TheVariants.{AtLeast}
 use Rattle.linear.specs.declared.constraint.Signed.{Signed}
 use Rattle.linear.specs.declared.term.Term.{Term}
 use Rattle.linear.specs.Opb.{Opb}
-use Rattle.normal_form.specs.Cases.{signed, signed_not, plain, negated, normal}
+use Rattle.normal_form.specs.Cases.{signed, plain, negated, normal}
 use Rattle.normal_form.specs.Normal.{NormalConstraint}
 use Rattle.substitution.specs.declared.image.Image.TheVariants.{One}
 use Rattle.substitution.specs.Cases.{to_plain}
@@ -91,7 +91,3 @@ large_written = record { terms = signed (pos (2 ^ 121)) 0 ∷ []; relation = AtL
 -- a state with 1 x0 >= 1 and 1 ~x0 >= 1
 abbrev pub contradicting_state : State
 contradicting_state = state_of (normal (plain 1 0 ∷ []) 1 ∷ normal (negated 1 0 ∷ []) 1 ∷ [])
-
--- 1 ~x0 >= 1, as a proof writes it
-abbrev pub not_first_written : Signed
-not_first_written = record { terms = signed_not (pos 1) 0 ∷ []; relation = AtLeast; right = pos 1 }

@@ -7,12 +7,10 @@
 ghost use Rattle.std.specs.Prelude.{◌≡◌, pos, neg_ℤ, [], ◌∷◌, Some, None};
 ghost use Rattle.std.specs.FinSet as set;
 ghost use Rattle.propagate.specs.Cases.{not_x};
-ghost use Rattle.proof_rules.specs.Cases.{cover_file, least_cover, cover_written, first_written, large_written, not_first_written, cover_state, derived_state, full_state};
-ghost use Rattle.proof_rules.specs.Fault.{IsPolFault, IsRupFault, IsRedFault, IsSoliFault, IsDelFault};
+ghost use Rattle.proof_rules.specs.Cases.{cover_file, least_cover, cover_written, first_written, large_written, cover_state, derived_state, full_state};
+ghost use Rattle.proof_rules.specs.Fault.{IsPolFault, IsRupFault, IsSoliFault, IsDelFault};
 ghost use Rattle.proof_rules.specs.Legal.{LegalDel, without};
-ghost use Rattle.proof_rules.specs.declared.fault.StepFault.TheVariants.{TooLarge, GoalOpen, GoalOpenSelf, StackShape, BadFactor, TooManyIds, NotShown, NotImproving, DeadId, FileConstraint};
-ghost use Rattle.substitution.specs.Cases.{single};
-ghost use Rattle.substitution.specs.declared.image.Image.TheVariants.{Zero};
+ghost use Rattle.proof_rules.specs.declared.fault.StepFault.TheVariants.{TooLarge, StackShape, BadFactor, TooManyIds, NotShown, NotImproving, DeadId, FileConstraint};
 ghost use Rattle.proof_steps.specs.declared.step.Item.TheVariants.{Id, Add, Divide};
 
 /// On a file of one constraint, with a second one derived: `del id 2 2` asks for an id that is gone by then, and
@@ -61,12 +59,4 @@ pub fn expressions_at_fault()
     ensures not_factor { IsPolFault (cover_state None []) (Divide (pos 0) ∷ []) BadFactor → ⊥ }
     ensures first_item { IsPolFault (cover_state None []) (Id (pos 1) ∷ Add ∷ Id (pos 9) ∷ []) StackShape }
     ensures not_dead { IsPolFault (cover_state None []) (Id (pos 1) ∷ Add ∷ Id (pos 9) ∷ []) DeadId → ⊥ }
-{}
-
-/// `red 1 ~x0 >= 1 ; x0 -> 0` beside `1 x0 1 x1 >= 1` and `1 x0 1 ~x1 >= 1`: those become `1 x1 >= 1` and `1 ~x1 >= 1`, and
-/// neither is shown. The goal of the least id is the one that is open.
-pub fn first_open_goal()
-    ensures first { IsRedFault cover_file derived_state not_first_written (single 0 Zero) (GoalOpen 1) }
-    ensures not_second { IsRedFault cover_file derived_state not_first_written (single 0 Zero) (GoalOpen 2) → ⊥ }
-    ensures not_itself { IsRedFault cover_file derived_state not_first_written (single 0 Zero) GoalOpenSelf → ⊥ }
 {}
