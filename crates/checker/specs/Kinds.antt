@@ -1,6 +1,6 @@
 -- The kinds of steps and conclusions that are judged so far.
 use Rattle.std.specs.Prelude.{List, All}
-use Rattle.kernel.specs.Held.{IsJudgedStep, IsJudged}
+use Rattle.kernel.specs.Kinds.{IsJudgedStep, IsJudged}
 use Rattle.proof_steps.specs.declared.conclusion.Conclusion.{Conclusion}
 use Rattle.proof_steps.specs.declared.step.Step.{Step}
 

@@ -4,15 +4,26 @@ ghost use Rattle.std.specs.Prelude.{◌≡◌, ℕ, List};
 ghost use Rattle.linear.specs.Opb.{Opb};
 ghost use Rattle.kernel.specs.Accepted.{Judgement};
 ghost use Rattle.checker.specs.Headline.{IsProved};
-ghost use Rattle.checker.specs.Refusal.{IsRefusalCode};
 ghost use Rattle.checker.specs.Kinds.{IsOfJudgedKinds};
-ghost use Rattle.checker.specs.Stopping.{IsStopped};
+ghost use Rattle.checker.specs.Stopped.{IsStopped};
 
 use super::verdict::Code;
 
 /// Where judging stops at a line, the text is no legal proof of the kinds that are judged so far, of any conclusion: so
 /// `check` refuses only what it must.
 pub fn refused_is_not_proved()
-    ensures { (p : Opb) → (proof : List ℕ) → (line : ℕ) → (code : Code) → IsRefusalCode code → IsStopped p proof line code
+    ensures { (p : Opb) → (proof : List ℕ) → (line : ℕ) → (code : Code) → IsStopped p proof line code
         → (a : Judgement) → (proved : IsProved p proof a) → IsOfJudgedKinds proved.steps a.conclusion → ⊥ }
+{}
+
+/// Judging a proof stops at one line at most.
+pub fn one_line_where_judging_stops()
+    ensures { (p : Opb) → (proof : List ℕ) → (line other : ℕ) → (code why : Code)
+        → IsStopped p proof line code → IsStopped p proof other why → line ≡ other }
+{}
+
+/// A text is one proof of a problem: its steps, its conclusion and its best solution are those of any reading of it.
+pub fn one_proof()
+    ensures { (p : Opb) → (proof : List ℕ) → (a b : Judgement) → (x : IsProved p proof a) → (y : IsProved p proof b)
+        → (x.steps ≡ y.steps) × (a ≡ b) }
 {}
