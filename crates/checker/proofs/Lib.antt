@@ -6,3 +6,4 @@ pub mod ProofOfWalk
 pub mod Walking
 pub mod Claimed
 pub mod OneProof
+pub mod PrintedClaim
