@@ -1,12 +1,12 @@
 # The door for people. `make` proves every crate and builds the program into bin/, from nothing too; `make test` runs the
 # gate: every proof from nothing, the edits that must fail, and the tests; `make demo` runs the checker on three pigeons in
 # two holes.
-.PHONY: all test demo check layout refused-growths statuses figures wrong-definitions wrong-bodies gate-minutes
+.PHONY: all test demo check layout refused-growths statuses figures wrong-edits wrong-bodies gate-minutes
 
 # How many crates are proved side by side.
 JOBS ?= $(shell nproc)
 
-SOURCES := crates.txt $(shell find crates \( -name out -o -name must-fail -o -name wrong-definitions \) -prune -o -type f -print)
+SOURCES := crates.txt $(shell find crates \( -name out -o -name must-fail -o -name wrong-bodies -o -name wrong-definitions \) -prune -o -type f -print)
 
 all: bin/pbcheck
 
@@ -47,9 +47,10 @@ statuses: bin/pbcheck
 figures: bin/pbcheck
 	scripts/figures
 
-# Tries each edit of crates/NAME/wrong-definitions: a definition that is turned must break a law or a worked case.
-wrong-definitions:
-	scripts/wrong-definitions
+# Tries the edits beside the gate, of crates/NAME/wrong-bodies and crates/NAME/wrong-definitions: a body that is turned must break
+# the contract of its crate, a definition that is turned a law or a worked case. `scripts/wrong-edits CRATE` tries those of one crate.
+wrong-edits:
+	scripts/wrong-edits
 
 # Writes the lists of docs/wrong-bodies.md anew from the edits.
 wrong-bodies:

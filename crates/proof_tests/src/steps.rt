@@ -1,10 +1,11 @@
 //! The lines of steps: what is read, and the faults of lines that only differ in a space, a sign or a symbol. A table of every
 //! place by every kind of word stands in `wrong_words`.
 
-use crate::asking::{Case, fault_of, lit};
-use linear::{Names, Relation, Term, Var};
+use crate::asking::{Case, fault_of};
+use linear::{Lit, Names, Relation, Term, Var};
 use proof_steps::{Item, Step};
-use proof_text::read_step;
+use proof_text::{ProofFault, read_step};
+use std::alloc::Global;
 
 const LINES: [Case; 122] = [
     // `pol`
@@ -509,68 +510,117 @@ fn faults_of_steps(rt: HostRuntime) {
     }
 }
 
+const ITEMS: [Item; 10] = [
+    Item::Id(1),
+    Item::Id(-2),
+    Item::Add,
+    Item::Axiom(Lit {
+        var: Var(0),
+        negated: false,
+    }),
+    Item::Multiply(3),
+    Item::Divide(7),
+    Item::Saturate,
+    Item::Weaken(Var(1)),
+    Item::Axiom(Lit {
+        var: Var(0),
+        negated: true,
+    }),
+    Item::Axiom(Lit {
+        var: Var(2),
+        negated: false,
+    }),
+];
+
+/// Whether a line is a `pol` step of these items, behind which there are so many names.
+fn is_pol(alloc: Global, line: &[u8], wanted: &[Item], count: usize) -> bool {
+    let mut names = Names::new(alloc);
+    match read_step(alloc, line, &mut names) {
+        Ok(Step::Pol(items)) => items.as_slice() == wanted && names.len() == count,
+        _ => false,
+    }
+}
+
 #[test]
 fn pol_items(rt: HostRuntime) {
-    let alloc = rt.alloc();
-    let mut names = Names::new(alloc);
     let line = b"pol 1 -2 + x1 +3 * 007 d s x2 w ~x1 w1";
-    let Ok(Step::Pol(items)) = read_step(alloc, line, &mut names) else {
-        assert!(&rt; false);
-        return;
-    };
-    let wanted = [
-        Item::Id(1),
-        Item::Id(-2),
-        Item::Add,
-        Item::Axiom(lit(0, false)),
-        Item::Multiply(3),
-        Item::Divide(7),
-        Item::Saturate,
-        Item::Weaken(Var(1)),
-        Item::Axiom(lit(0, true)),
-        Item::Axiom(lit(2, false)),
-    ];
-    assert_eq!(&rt; items.as_slice(), wanted.as_slice());
-    assert_eq!(&rt; names.len(), 3);
+    assert!(&rt; is_pol(rt.alloc(), line, &ITEMS, 3));
 }
 
-#[test]
-fn rup_terms(rt: HostRuntime) {
-    let alloc = rt.alloc();
+/// The table of the names of a `sol` line.
+fn names_of(alloc: Global, line: &[u8]) -> Result<Names, ProofFault> {
     let mut names = Names::new(alloc);
-    assert!(&rt; read_step(alloc, b"sol x2", &mut names).is_ok());
-    let line = b"rup 3 x1 -2 ~x2 0 x1 >= +4 ; x9 y9";
-    let Ok(Step::Rup(constraint)) = read_step(alloc, line, &mut names) else {
-        assert!(&rt; false);
-        return;
-    };
-    let term = |coef: i128, var: u32, negated: bool| Term {
-        coef,
-        var: Var(var),
-        negated,
-    };
-    let wanted = [term(3, 1, false), term(-2, 0, true), term(0, 1, false)];
-    assert_eq!(&rt; constraint.terms.as_slice(), wanted.as_slice());
-    assert_eq!(&rt; constraint.relation, Relation::AtLeast);
-    assert_eq!(&rt; constraint.right, 4);
-    assert_eq!(&rt; names.len(), 2);
+    read_step(alloc, line, &mut names)?;
+    Ok(names)
 }
 
-#[test]
-fn refused_lines_add_no_names(rt: HostRuntime) {
-    let alloc = rt.alloc();
-    let mut names = Names::new(alloc);
-    assert!(&rt; read_step(alloc, b"sol x1", &mut names).is_ok());
-    let lines: [&'static [u8]; 4] = [
-        b"sol x1 x2 x3 4",
-        b"red 1 x7 >= 1 ; x8 -> x9 x8 -> 0",
-        b"rup 1 y1 1 y2 = 1 ;",
-        b"pol z1 z2 w q",
-    ];
-    for line in &lines {
-        assert!(&rt; read_step(alloc, line, &mut names).is_err());
-        assert_eq!(&rt; names.len(), 1);
+const TERMS: [Term; 3] = [
+    Term {
+        coef: 3,
+        var: Var(1),
+        negated: false,
+    },
+    Term {
+        coef: -2,
+        var: Var(0),
+        negated: true,
+    },
+    Term {
+        coef: 0,
+        var: Var(1),
+        negated: false,
+    },
+];
+
+/// Whether a step is `rup` of these terms, `>=` and 4.
+fn is_rup(step: &Step, wanted: &[Term]) -> bool {
+    match step {
+        Step::Rup(constraint) => {
+            constraint.terms.as_slice() == wanted
+                && constraint.relation == Relation::AtLeast
+                && constraint.right == 4
+        }
+        _ => false,
     }
-    assert!(&rt; read_step(alloc, b"sol x2 x1 x2", &mut names).is_ok());
-    assert_eq!(&rt; names.len(), 2);
+}
+
+/// Whether a line is a `rup` step of these terms behind a line that brought `x2`, and brings one name.
+fn is_rup_behind(alloc: Global, line: &[u8], wanted: &[Term]) -> Result<bool, ProofFault> {
+    let mut names = names_of(alloc, b"sol x2")?;
+    let step = read_step(alloc, line, &mut names)?;
+    Ok(is_rup(&step, wanted) && names.len() == 2)
+}
+
+#[test]
+fn rup_terms(rt: HostRuntime) -> Result<(), ProofFault> {
+    let line = b"rup 3 x1 -2 ~x2 0 x1 >= +4 ; x9 y9";
+    assert!(&rt; is_rup_behind(rt.alloc(), line, &TERMS)?);
+    Ok(())
+}
+
+/// Lines, whether each is read behind one that brought `x1`, and how many names there are then.
+const NAMES_BEHIND: [(&[u8], bool, usize); 5] = [
+    (b"sol x1 x2 x3 4", false, 1),
+    (b"red 1 x7 >= 1 ; x8 -> x9 x8 -> 0", false, 1),
+    (b"rup 1 y1 1 y2 = 1 ;", false, 1),
+    (b"pol z1 z2 w q", false, 1),
+    (b"sol x2 x1 x2", true, 2),
+];
+
+/// Whether a line is read behind one that brought `x1`, and how many names there are then.
+fn names_behind(alloc: Global, line: &[u8]) -> Result<(bool, usize), ProofFault> {
+    let mut names = names_of(alloc, b"sol x1")?;
+    let is_read = read_step(alloc, line, &mut names).is_ok();
+    Ok((is_read, names.len()))
+}
+
+#[test]
+fn refused_lines_add_no_names(rt: HostRuntime) -> Result<(), ProofFault> {
+    for (line, is_read, count) in &NAMES_BEHIND {
+        assert!(&rt;
+            names_behind(rt.alloc(), line)? == (*is_read, *count),
+            "{line:?}"
+        );
+    }
+    Ok(())
 }
