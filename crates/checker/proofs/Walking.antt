@@ -19,7 +19,7 @@ use Rattle.checker.specs.Stopped.{IsStopped, Refuses, Stops}
 use Rattle.checker.specs.Stopped.{refused}
 use Rattle.checker.specs.StopsBy.{StopsBy, reading_stop, judging_stop}
 use Rattle.checker.specs.Walk.{Accepts, Advances, Position, Reaches, Walks, beginning}
-use Rattle.checker.specs.WalkOf.{Reads, RefusesAt}
+use Rattle.checker.specs.WalkOf.{Reads}
 use Rattle.checker.specs.declared.stop.Stop.{Stop}
 use Rattle.checker.specs.declared.stop.Stop.TheVariants as stops
 use Rattle.checker.specs.declared.verdict.Code.{Code}
@@ -67,6 +67,10 @@ advances_by p old mid new number said reads accepts names left =
       names = names ∙ ap (λ (x : Position). x.names) reads.now_at;
       accepts = subst (λ l. Accepts p old l new) reads.said_is before;
     }
+
+-- what is read is refused at the line of this number
+abbrev pub RefusesAt : ℕ → Opb → State → Line → ℕ → Code → Type 0
+RefusesAt number p s said line code = (line ≡ number) × Refuses p s said code
 
 -- a line that is read and refused
 pub stops_refused : (p : Opb) (old mid : Position) (number : ℕ) (said : Line) (last : ℕ) (stop : Stop) → Reads old mid number said → StopsBy (RefusesAt number p mid.state said) stop → StopsBy (Stops p old last) stop

@@ -1,12 +1,9 @@
 -- The position at which the walk of the code stands, and what its parts do.
 use Rattle.std.specs.Prelude.{◌≡◌, ℕ}
-use Rattle.linear.specs.Opb.{Opb}
-use Rattle.proof_rules.specs.State.{State}
 use Rattle.proof_text.specs.declared.line.Line.{Line}
 use Rattle.checker.specs.Stopped.{Refuses, Stops}
 use Rattle.checker.specs.StopsBy.{StopsBy}
 use Rattle.checker.specs.Walk.{Accepts, Advances, Position, Next}
-use Rattle.checker.specs.declared.verdict.Code.{Code}
 use Rattle.checker.specs.declared.stop.Stop.{Stop}
 use Rattle.checker.specs.declared.walk.Walk.{Walk}
 
@@ -26,10 +23,6 @@ pub record Reads (old new : Position) (number : ℕ) (said : Line) : Type 0 wher
   pub said_is : said ≡ next.said
   pub now_at : new ≡ record old { names = next.names; left = next.behind }
 
--- what is read is refused at the line of this number
-abbrev pub RefusesAt : ℕ → Opb → State → Line → ℕ → Code → Type 0
-RefusesAt number p s said line code = (line ≡ number) × Refuses p s said code
-
 -- what a line says is accepted
 abbrev pub AcceptsOn : Walk → Line → Walk → Type 0
 AcceptsOn old said new = Accepts old.kernel.problem (position_of old) said (position_of new)
@@ -40,7 +33,8 @@ AdvancesOn old new = Advances old.kernel.problem (position_of old) (position_of 
 
 -- what a line says is refused, its number being this one
 abbrev pub IsRefusal : ℕ → Walk → Line → Stop → Type 0
-IsRefusal number walk said stop = StopsBy (RefusesAt number walk.kernel.problem walk.kernel.state said) stop
+IsRefusal number walk said stop =
+    StopsBy (λ line code. (line ≡ number) × Refuses walk.kernel.problem walk.kernel.state said code) stop
 
 -- no line leads on from where the walk stands
 abbrev pub IsStopOf : Walk → Stop → Type 0

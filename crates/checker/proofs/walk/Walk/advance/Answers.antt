@@ -5,9 +5,9 @@ use Rattle.kernel.specs.Held.{Held}
 use Rattle.proof_text.specs.Lines.{Pending}
 use Rattle.checker.specs.Stopped.{Stops}
 use Rattle.checker.specs.StopsBy.{StopsBy}
-use Rattle.checker.specs.Walk.{Accepts, Advances}
-use Rattle.checker.specs.WalkOf.{Reads, RefusesAt, position_of}
-use Rattle.checker.proofs.Walking.{advances_by, stops_refused}
+use Rattle.checker.specs.Walk.{Accepts}
+use Rattle.checker.specs.WalkOf.{position_of}
+use Rattle.checker.proofs.Walking.{RefusesAt, advances_by, stops_refused}
 use Rattle.checker.proofs.walk.Walk.advance.Goals as goal
 
 pub returns-clause-advances : goal.returns-clause-advances
