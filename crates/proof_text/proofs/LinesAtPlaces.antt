@@ -16,7 +16,8 @@ use Rattle.pb_text.specs.Lexeme.{kind_of}
 use Rattle.proof_text.specs.Kinds.{is_semicolon}
 use Rattle.proof_text.specs.Words.{is_first, is_empty, are_words, unclosed, AreSmall}
 use Rattle.proof_text.specs.NamesMet.{NamesMet, met_in}
-use Rattle.proof_text.specs.Numbering.{names_in, most_names}
+use Rattle.linear.specs.Largest.{most_names}
+use Rattle.proof_text.specs.Numbering.{names_in}
 use Rattle.proof_text.specs.Frame.{count_of, output}
 use Rattle.proof_text.specs.Rules.{rule_of}
 use Rattle.proof_text.specs.Steps.{step_by, counted_by, step_of, counted, IsProper, IsStep}

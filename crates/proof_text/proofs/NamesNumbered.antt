@@ -6,10 +6,11 @@ use Rattle.std.proofs.lemmas.Bool.Decides.{nat_tests}
 use Rattle.pb_text.specs.Lexeme.{kind_of}
 use Rattle.pb_text.specs.Word.{name_of}
 use Rattle.linear.specs.declared.term.Lit.{Lit}
-use Rattle.linear.specs.Table.{same_name, has_name, place_of, with_name}
+use Rattle.linear.specs.Table.{same_name, has_name, place_of, with_name, IsFullFor}
 use Rattle.proof_text.specs.Kinds.{is_literal}
 use Rattle.proof_text.specs.NamesMet.{NamesMet, met, met_in, but_last}
-use Rattle.proof_text.specs.Numbering.{names_in, most_names}
+use Rattle.linear.specs.Largest.{most_names}
+use Rattle.proof_text.specs.Numbering.{names_in}
 
 -- a name that is there keeps its number
 pub place_of-append : (names more : List (List ℕ)) (name : List ℕ) → has_name names name ≡ true → place_of (names ++ more) name ≡ place_of names name
@@ -248,7 +249,22 @@ too_many k (w ∷ ws) h e = by (is_literal (kind_of w)) e (λ n f. too_many (met
           | inr p ↦ let more : length (with_name k.names (name_of w)) ≤ length (names_in (with_name k.names (name_of w)) ws) = names_in-more (with_name k.names (name_of w)) ws in omega (arith, p.1, more)
         ]
 
--- the number of a name that is there, whether or not the last name is kept
-pub seen_number : (names : List (List ℕ)) (full : Bool) (name : List ℕ) → has_name names name ≡ true → place_of (if full then but_last names else names) name ≡ place_of names name
-seen_number names true name h = place_of-but_last names name h
-seen_number names false name h = refl
+-- the number of a name that was found or added, whether or not the last name counts
+pub found_number : (names new : List (List ℕ)) (full : Bool) (name : List ℕ) (n : ℕ) → new ≡ with_name names name → (full ≡ true → most_names ≤ length names) → length new ≤ most_names → n ≡ place_of names name
+    → n ≡ place_of (if full then but_last new else new) name
+found_number names new full name n e many few at = by (has_name names name) full refl e many
+  where
+    by : (h f : Bool) → has_name names name ≡ h → new ≡ (if h then names else names ++ name ∷ []) → (f ≡ true → most_names ≤ length names) → n ≡ place_of (if f then but_last new else new) name
+    by true true k d m = at ∙ sym (ap (λ ns. place_of (but_last ns) name) d ∙ place_of-but_last names name k)
+    by h false k d m = at ∙ sym (ap (λ ns. place_of ns name) e ∙ place_of-added names name)
+    by false true k d m =
+        let full : most_names ≤ length names = m refl in
+        let long : length new ≡ length (names ++ name ∷ []) = ap length d in
+        absurd (omega (arith, full, few, long, length-append names (name ∷ [])))
+
+-- the number of a name that found none
+pub beyond_number : (names new : List (List ℕ)) (name : List ℕ) → IsFullFor names most_names name → length names ≤ most_names → new ≡ names → 1 + place_of (but_last new) name ≡ most_names
+beyond_number names new name h few e =
+    let many : most_names ≤ length names = h.full in
+    let last : 1 + place_of (but_last names) name ≡ length names = place_of-beyond names name h.unknown (omega (arith, many)) in
+    ap (λ ns. 1 + place_of (but_last ns) name) e ∙ omega (arith, last, many, few)

@@ -15,7 +15,8 @@ use Rattle.proof_text.specs.declared.keyword.Rule.{Rule}
 use Rattle.proof_text.specs.declared.keyword.Rule.TheVariants as rules
 use Rattle.proof_text.specs.Words.{halves, unclosed, IsSmall, AreSmall}
 use Rattle.proof_text.specs.NamesMet.{NamesMet, met_in}
-use Rattle.proof_text.specs.Numbering.{names_in, most_names}
+use Rattle.linear.specs.Largest.{most_names}
+use Rattle.proof_text.specs.Numbering.{names_in}
 use Rattle.proof_text.specs.Forms.{are_literals, literals_of, are_integers, integers_of, terms_of, behind_terms, closing_of, are_items, items_of, are_images, images_of, lefts, repeats}
 use Rattle.proof_text.specs.PartsRead.{IsRead, IsConstraintRead}
 use Rattle.proof_text.specs.Steps.{constraint_of, rup_by, red_by, red_with, is_deletion, witness_words, step_by, counted_by, IsProper}

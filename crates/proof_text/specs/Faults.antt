@@ -7,7 +7,8 @@ use Rattle.proof_text.specs.declared.line.Line.{Line}
 use Rattle.proof_text.specs.declared.fault.ProofFault.{ProofFault}
 use Rattle.proof_text.specs.declared.fault.ProofFault.TheVariants as faults
 use Rattle.proof_text.specs.Words.{AreSmall}
-use Rattle.proof_text.specs.Numbering.{names_in, most_names}
+use Rattle.linear.specs.Largest.{most_names}
+use Rattle.proof_text.specs.Numbering.{names_in}
 use Rattle.proof_text.specs.Steps.{step_of, counted, IsProper}
 use Rattle.proof_text.specs.Spells.{line_of, naming, measured, IsProperLine}
 

@@ -5,6 +5,7 @@
 //! product's own spelling for "no bound".
 
 ghost use Rattle.std.specs.Prelude.{◌≡◌, ℕ, List, [], ◌∷◌, true, false, is_some, drop, IfOk, IfErr, OnOk, MatchOption};
+ghost use Rattle.pb_text.specs.TokensOf.{texts_of};
 ghost use Rattle.proof_text.specs.Words.{AreSmall, unclosed};
 ghost use Rattle.proof_text.specs.Forms.{are_literals, literals_of};
 ghost use Rattle.proof_text.specs.Conclusions as conclusions;
@@ -17,10 +18,9 @@ use crate::fault::ProofFault;
 use crate::keyword::{ConclusionKind, conclusion_kind_of};
 use crate::line_names::LineNames;
 use crate::line_words::LineWords;
-use crate::lookahead::Lookahead;
 use crate::values::{lits, number};
 use linear::{Lit, Seq};
-use pb_text::{Kind, Symbol, Token};
+use pb_text::{Kind, Lookahead, Symbol, Token};
 use proof_steps::{Conclusion, Lower, Upper};
 use std::alloc::Global;
 
@@ -204,9 +204,10 @@ pub(crate) fn conclusion(
     mut words: Lookahead<'_>,
     table: &mut LineNames,
 ) -> Result<Conclusion, ProofFault>
-    ensures read { IfOk result (λ c. IsConclusionLineRead table.old words.entry c table.new) }
+    ensures read { IfOk result (λ c. IsConclusionLineRead table.old (texts_of words.entry) c table.new) }
     ensures kept { table.new.before ≡ table.old.before }
-    ensures denies { IfErr result (λ f. Denies f (is_some (conclusions.conclusion_of [] words.entry)) (drop 1 (unclosed (drop 1 words.entry)))) }
+    ensures denies { let ws = texts_of words.entry in
+        IfErr result (λ f. Denies f (is_some (conclusions.conclusion_of [] ws)) (drop 1 (unclosed (drop 1 ws)))) }
     ensures plain { IfErr result IsPlain }
 {
     let Some(token) = words.take() else {

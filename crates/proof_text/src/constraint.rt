@@ -4,6 +4,7 @@
 //! `=` and `<=` would each be one constraint or two of the proof, with ids to match, and are left out where `>=` is due.
 
 ghost use Rattle.std.specs.Prelude.{◌≡◌, [], ◌∷◌, Some, is_some, false, true, ◌&&◌, IfOk, IfErr, OnOk};
+ghost use Rattle.pb_text.specs.TokensOf.{texts_of};
 ghost use Rattle.proof_text.specs.Words.{AreSmall, begins_integer};
 ghost use Rattle.proof_text.specs.Forms.{terms_of, behind_terms, closing_of};
 ghost use Rattle.proof_text.specs.PartsRead.{IsConstraintRead, Takes, SoFar};
@@ -12,10 +13,9 @@ ghost use Rattle.proof_text.specs.PartsDenied.{Denies, IsForm};
 use crate::before_semicolon::BeforeSemicolon;
 use crate::fault::ProofFault;
 use crate::line_names::LineNames;
-use crate::lookahead::Lookahead;
 use crate::values::{lit, number};
 use linear::{Relation, Seq, Signed, Term};
-use pb_text::{Kind, Symbol, Token};
+use pb_text::{Kind, Lookahead, Symbol, Token};
 use std::alloc::Global;
 
 /// The term that begins with a coefficient.
@@ -105,7 +105,7 @@ pub(crate) fn constraint<'a>(
     table: &mut LineNames,
 ) -> Result<(Signed, Lookahead<'a>), ProofFault>
     ensures read { IfOk result (λ r. IsConstraintRead table.old words.entry.front r.0 table.new) }
-    ensures behind { IfOk result (λ r. words.entry.behind ≡ Some r.1) }
+    ensures behind { IfOk result (λ r. words.entry.behind ≡ Some (texts_of r.1)) }
     ensures kept { table.new.before ≡ table.old.before }
     ensures denies { IfErr result (λ f. Denies f (is_some words.entry.behind && is_some (closing_of (behind_terms words.entry.front))) words.entry.front) }
 {

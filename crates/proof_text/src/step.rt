@@ -4,6 +4,7 @@
 //! met in order, and each fault says of the words what it should. A new rule is one more function and one more arm.
 
 ghost use Rattle.std.specs.Prelude.{◌≡◌, false, IfOk, IfErr};
+ghost use Rattle.pb_text.specs.TokensOf.{texts_of};
 ghost use Rattle.proof_text.specs.StepsRead.{IsStepRead};
 ghost use Rattle.proof_text.specs.PartsDenied.{DeniesRule};
 
@@ -13,19 +14,19 @@ use crate::fault::ProofFault;
 use crate::keyword::Rule;
 use crate::line_names::LineNames;
 use crate::line_words::LineWords;
-use crate::lookahead::Lookahead;
 use crate::pol::items;
 use crate::values::{lits, numbers};
 use crate::witness::{full_fault, images};
+use pb_text::Lookahead;
 use proof_steps::Step;
 use std::alloc::Global;
 use substitution::Substitution;
 
 /// `pol`: the items of an expression.
 fn pol(alloc: Global, words: Lookahead<'_>, table: &mut LineNames) -> Result<Step, ProofFault>
-    ensures read { IfOk result (λ s. IsStepRead Rule.Pol table.old words.entry s table.new) }
+    ensures read { IfOk result (λ s. IsStepRead Rule.Pol table.old (texts_of words.entry) s table.new) }
     ensures kept { table.new.before ≡ table.old.before }
-    ensures denies { IfErr result (λ f. DeniesRule f Rule.Pol table.old.names words.entry) }
+    ensures denies { IfErr result (λ f. DeniesRule f Rule.Pol table.old.names (texts_of words.entry)) }
 {
     let items = items(alloc, LineWords::new(words), table)?;
     Ok(Step::Pol(items))
@@ -33,9 +34,9 @@ fn pol(alloc: Global, words: Lookahead<'_>, table: &mut LineNames) -> Result<Ste
 
 /// `rup`: a constraint, `;`, and hints, which are passed over.
 fn rup(alloc: Global, words: Lookahead<'_>, table: &mut LineNames) -> Result<Step, ProofFault>
-    ensures read { IfOk result (λ s. IsStepRead Rule.Rup table.old words.entry s table.new) }
+    ensures read { IfOk result (λ s. IsStepRead Rule.Rup table.old (texts_of words.entry) s table.new) }
     ensures kept { table.new.before ≡ table.old.before }
-    ensures denies { IfErr result (λ f. DeniesRule f Rule.Rup table.old.names words.entry) }
+    ensures denies { IfErr result (λ f. DeniesRule f Rule.Rup table.old.names (texts_of words.entry)) }
 {
     let (constraint, _hints) = constraint(alloc, BeforeSemicolon::new(words), table)?;
     Ok(Step::Rup(constraint))
@@ -44,9 +45,9 @@ fn rup(alloc: Global, words: Lookahead<'_>, table: &mut LineNames) -> Result<Ste
 /// `red`: a constraint, `;`, and a substitution.
 fn red(alloc: Global, words: Lookahead<'_>, table: &mut LineNames) -> Result<Step, ProofFault>
     requires { table.old.full ≡ false }
-    ensures read { IfOk result (λ s. IsStepRead Rule.Red table.old words.entry s table.new) }
+    ensures read { IfOk result (λ s. IsStepRead Rule.Red table.old (texts_of words.entry) s table.new) }
     ensures kept { table.new.before ≡ table.old.before }
-    ensures denies { IfErr result (λ f. DeniesRule f Rule.Red table.old.names words.entry) }
+    ensures denies { IfErr result (λ f. DeniesRule f Rule.Red table.old.names (texts_of words.entry)) }
 {
     let (constraint, behind) = constraint(alloc, BeforeSemicolon::new(words), table)?;
     let witness = images(alloc, LineWords::new(behind), table)?;
@@ -65,9 +66,9 @@ fn red(alloc: Global, words: Lookahead<'_>, table: &mut LineNames) -> Result<Ste
 
 /// `sol`: literals.
 fn sol(alloc: Global, words: Lookahead<'_>, table: &mut LineNames) -> Result<Step, ProofFault>
-    ensures read { IfOk result (λ s. IsStepRead Rule.Sol table.old words.entry s table.new) }
+    ensures read { IfOk result (λ s. IsStepRead Rule.Sol table.old (texts_of words.entry) s table.new) }
     ensures kept { table.new.before ≡ table.old.before }
-    ensures denies { IfErr result (λ f. DeniesRule f Rule.Sol table.old.names words.entry) }
+    ensures denies { IfErr result (λ f. DeniesRule f Rule.Sol table.old.names (texts_of words.entry)) }
 {
     let lits = lits(alloc, LineWords::new(words), table)?;
     Ok(Step::Sol(lits))
@@ -75,9 +76,9 @@ fn sol(alloc: Global, words: Lookahead<'_>, table: &mut LineNames) -> Result<Ste
 
 /// `soli`: literals.
 fn soli(alloc: Global, words: Lookahead<'_>, table: &mut LineNames) -> Result<Step, ProofFault>
-    ensures read { IfOk result (λ s. IsStepRead Rule.Soli table.old words.entry s table.new) }
+    ensures read { IfOk result (λ s. IsStepRead Rule.Soli table.old (texts_of words.entry) s table.new) }
     ensures kept { table.new.before ≡ table.old.before }
-    ensures denies { IfErr result (λ f. DeniesRule f Rule.Soli table.old.names words.entry) }
+    ensures denies { IfErr result (λ f. DeniesRule f Rule.Soli table.old.names (texts_of words.entry)) }
 {
     let lits = lits(alloc, LineWords::new(words), table)?;
     Ok(Step::Soli(lits))
@@ -85,9 +86,9 @@ fn soli(alloc: Global, words: Lookahead<'_>, table: &mut LineNames) -> Result<St
 
 /// `del`: `id`, and ids.
 fn del(alloc: Global, mut words: Lookahead<'_>, table: &mut LineNames) -> Result<Step, ProofFault>
-    ensures read { IfOk result (λ s. IsStepRead Rule.Del table.old words.entry s table.new) }
+    ensures read { IfOk result (λ s. IsStepRead Rule.Del table.old (texts_of words.entry) s table.new) }
     ensures kept { table.new.before ≡ table.old.before }
-    ensures denies { IfErr result (λ f. DeniesRule f Rule.Del table.old.names words.entry) }
+    ensures denies { IfErr result (λ f. DeniesRule f Rule.Del table.old.names (texts_of words.entry)) }
 {
     let Some(token) = words.take() else {
         return Err(ProofFault::BadLine);
@@ -110,9 +111,9 @@ pub(crate) fn step(
     table: &mut LineNames,
 ) -> Result<Step, ProofFault>
     requires { table.old.full ≡ false }
-    ensures read { IfOk result (λ s. IsStepRead rule table.old words.entry s table.new) }
+    ensures read { IfOk result (λ s. IsStepRead rule table.old (texts_of words.entry) s table.new) }
     ensures kept { table.new.before ≡ table.old.before }
-    ensures denies { IfErr result (λ f. DeniesRule f rule table.old.names words.entry) }
+    ensures denies { IfErr result (λ f. DeniesRule f rule table.old.names (texts_of words.entry)) }
 {
     match rule {
         Rule::Pol => pol(alloc, words, table),

@@ -1,4 +1,5 @@
 use Rattle.std.proofs.Common.{subst}
+use Rattle.pb_text.specs.TokensOf.{texts_of}
 use Rattle.proof_text.specs.Forms.{are_literals, literals_of}
 use Rattle.proof_text.specs.PartsRead.{IsRead}
 use Rattle.proof_text.proofs.StepsRead.{soli_read}
@@ -9,4 +10,4 @@ returns-clause-read c =
     let k = c.args.table.now in
     let new = c.lits.new.table in
     let xs = c.in_ok-lits.lits in
-    soli_read k new c.args.words xs (subst (λ ws. IsRead are_literals literals_of k ws xs new) c.new.ensures c.in_ok-lits.ensures.read)
+    soli_read k new (texts_of c.args.words) xs (subst (λ ws. IsRead are_literals literals_of k ws xs new) c.new.ensures c.in_ok-lits.ensures.read)
