@@ -1,12 +1,12 @@
 -- What is read can be written: its integers are within the limit, and the table numbers its variables.
-use Rattle.std.proofs.Common.{◌≡◌, ℕ, zero, suc, ℤ, pos, neg_ℤ, ◌+◌, ◌<◌, ◌≤◌, ◌^◌, Bool, true, false, not, cond, ◌&&◌, ◌||◌, if◌then◌else◌, Option, Some, None, List, [], ◌∷◌, ◌++◌, length, drop, refl, sym, ap, subst, ◌∙◌, arith, codes}
+use Rattle.std.proofs.Common.{◌≡◌, ℕ, zero, suc, ℤ, pos, neg_ℤ, ◌+◌, ◌<◌, ◌≤◌, Bool, true, false, not, cond, ◌&&◌, ◌||◌, if◌then◌else◌, Option, Some, None, List, [], ◌∷◌, ◌++◌, length, drop, refl, sym, ap, subst, ◌∙◌, arith, codes}
 use Rattle.std.specs.Prelude.{All, ⊤, unsigned_abs}
 use Rattle.std.specs.Option.{option_map}
 use Rattle.std.specs.Str.{bytes_eq}
 use Rattle.std.proofs.lemmas.List.Elements.{All-cons, All-nil}
 use Rattle.pb_text.specs.Lexeme.{kind_of}
 use Rattle.pb_text.specs.Word.{is_negated, name_of}
-use Rattle.pb_text.specs.Number.{integer_size, integer_value, is_negative}
+use Rattle.pb_text.specs.Number.{integer_size, integer_value, is_negative, largest_number}
 use Rattle.linear.specs.Table.{same_name, has_name, place_of, with_name}
 use Rattle.linear.specs.declared.constraint.Signed.{Signed}
 use Rattle.linear.specs.declared.constraint.Relation.TheVariants as relations
@@ -115,8 +115,8 @@ size_of w = by (is_negative w) (integer_size w)
 -- integers
 pub integer_writable : (w : List ℕ) → IsSmall w → is_integer (kind_of w) ≡ true → IsWritable (integer_value w)
 integer_writable w s h =
-    let le : integer_size w ≤ 2 ^ 120 = s h in
-    subst (λ n. n ≤ 2 ^ 120) (sym (size_of w)) le
+    let le : integer_size w ≤ largest_number = s h in
+    subst (λ n. n ≤ largest_number) (sym (size_of w)) le
 
 pub integers_writable : (ws : List (List ℕ)) → are_integers ws ≡ true → AreSmall ws → All IsWritable (integers_of ws)
 integers_writable [] h s = All-nil IsWritable

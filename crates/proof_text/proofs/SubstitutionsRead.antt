@@ -1,10 +1,10 @@
 -- Names and images in turn.
-use Rattle.std.proofs.Common.{◌≡◌, ℕ, ◌^◌, ◌≤◌, Bool, true, false, not, ◌&&◌, ◌||◌, if◌then◌else◌, List, [], ◌∷◌, ◌++◌, length, refl, sym, ap, subst, ◌∙◌, arith, codes, lit≤}
+use Rattle.std.proofs.Common.{◌≡◌, ℕ, ◌≤◌, Bool, true, false, not, ◌&&◌, ◌||◌, if◌then◌else◌, List, [], ◌∷◌, ◌++◌, length, refl, sym, ap, subst, ◌∙◌, arith, codes, lit≤}
 use Rattle.std.specs.Str.{bytes_eq}
 use Rattle.pb_text.specs.Lexeme.{kind_of, kind_of_word}
 use Rattle.pb_text.specs.Name.{is_name}
 use Rattle.pb_text.specs.Word.{name_of, is_negated, is_integer as integer_word, is_literal as literal_word, is_misspelt}
-use Rattle.pb_text.specs.Number.{integer_size}
+use Rattle.pb_text.specs.Number.{integer_size, largest_number}
 use Rattle.pb_text.specs.declared.kind.Kind.{Kind}
 use Rattle.pb_text.specs.declared.kind.Kind.TheVariants.{Symbol, Stray, Integer, Literal, Misspelt, Other}
 use Rattle.linear.specs.declared.term.Lit.{Lit}
@@ -24,11 +24,11 @@ use Rattle.proof_text.proofs.NamesNumbered.{met_literal, met_other, met_in-appen
 use Rattle.proof_text.proofs.PartsInTurn.{lit_met}
 use Rattle.proof_text.proofs.PolItems.{same_word}
 
-pub zero_kind : (is_literal (kind_of (codes "0")) ≡ false) × (integer_size (codes "0") ≤ 2 ^ 120)
+pub zero_kind : (is_literal (kind_of (codes "0")) ≡ false) × (integer_size (codes "0") ≤ largest_number)
 unfolding kind_of kind_of_word integer_word literal_word is_misspelt is_name integer_size
 zero_kind = (refl, lit≤ tt)
 
-pub one_kind : (is_literal (kind_of (codes "1")) ≡ false) × (integer_size (codes "1") ≤ 2 ^ 120)
+pub one_kind : (is_literal (kind_of (codes "1")) ≡ false) × (integer_size (codes "1") ≤ largest_number)
 unfolding kind_of kind_of_word integer_word literal_word is_misspelt is_name integer_size
 one_kind = (refl, lit≤ tt)
 

@@ -1,8 +1,8 @@
 -- The words of a line: the bytes of its tokens. What a line says is told by them alone.
-use Rattle.std.specs.Prelude.{◌≡◌, ℕ, ◌^◌, ◌≤◌, Bool, true, false, ◌&&◌, if◌then◌else◌, Option, Some, None, List, [], ◌∷◌, drop, All, bytes_eq}
+use Rattle.std.specs.Prelude.{◌≡◌, ℕ, ◌≤◌, Bool, true, false, ◌&&◌, if◌then◌else◌, Option, Some, None, List, [], ◌∷◌, drop, All, bytes_eq}
 use Rattle.pb_text.specs.Lexeme.{lexemes, kind_of}
 use Rattle.pb_text.specs.TokensOf.{texts_of}
-use Rattle.pb_text.specs.Number.{integer_size}
+use Rattle.pb_text.specs.Number.{integer_size, largest_number}
 use Rattle.proof_text.specs.Kinds.{is_integer, is_semicolon, is_arrow}
 
 -- the words and symbols of a line, in order
@@ -53,7 +53,7 @@ halves (w ∷ rest) =
 
 -- a word that is no integer above 2^120 in size
 abbrev pub IsSmall : List ℕ → Type 0
-IsSmall w = is_integer (kind_of w) ≡ true → integer_size w ≤ 2 ^ 120
+IsSmall w = is_integer (kind_of w) ≡ true → integer_size w ≤ largest_number
 
 -- no integer among the words is above 2^120 in size
 abbrev pub AreSmall : List (List ℕ) → Type 0
