@@ -38,7 +38,7 @@ use Rattle.proof_text.specs.Frame.{header, count_of, output, ending}
 use Rattle.proof_text.specs.Spells.{line_of, naming, measured, IsLine}
 use Rattle.proof_text.specs.Writable.{IsLineWritable, IsWritable, IsNamed, IsTermWritable, IsConstraintWritable, IsItemWritable, IsImageWritable, IsPairWritable, IsLitWritable, IsStepWritable, IsLowerWritable, IsUpperWritable, IsHintWritable, IsConclusionWritable}
 use Rattle.proof_text.proofs.WordsByKind.{first_small, rest_small, none_small}
-use Rattle.proof_text.proofs.NamesNumbered.{has_name-append, has_name-last}
+use Rattle.linear.proofs.NumbersOfNames.{has_name-append, has_name-last}
 use Rattle.proof_text.proofs.PolItems.{same_word}
 
 pub both : (p q : Bool) → (p && q) ≡ true → (p ≡ true) × (q ≡ true)
