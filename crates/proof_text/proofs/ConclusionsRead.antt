@@ -21,7 +21,7 @@ use Rattle.proof_text.specs.NamesMet.{NamesMet, met_in}
 use Rattle.proof_text.specs.Forms.{are_literals, literals_of}
 use Rattle.proof_text.specs.PartsRead.{IsRead}
 use Rattle.proof_text.specs.Conclusions.{conclusion_kind_of, is_hint, hint_of, past_id, is_lower, lower_of, is_upper, upper_of, bounds_by, bounds_of, conclusion_by, literals_by, is_conclusion, conclusion_said, literals_said, conclusion_of, conclusion_literals}
-use Rattle.proof_text.specs.ConclusionsRead.{begins_right, IsHintRead, IsConclusionRead, AreConclusionWordsRead, IsConclusionLineRead}
+use Rattle.proof_text.specs.ConclusionsRead.{begins_right, IsHintRead, IsConclusionRead, IsConclusionLineRead}
 use Rattle.proof_text.specs.PartsDenied.{Denies}
 use Rattle.proof_text.specs.declared.fault.ProofFault.{ProofFault}
 use Rattle.proof_text.proofs.PolItems.{same_word}
@@ -167,40 +167,42 @@ kind_at : (names : List (List ℕ)) (w : List ℕ) (rest : List (List ℕ)) (v :
     → (conclusion_said names (w ∷ rest) ≡ conclusion_by v names rest) × (literals_said (w ∷ rest) ≡ literals_by v rest)
 kind_at names w rest v h = (ap (by_kind names rest) h, ap (lits_by rest) h)
 
-pub conclusion_words_read : (k new : NamesMet) (w : List ℕ) (ws rest : List (List ℕ)) (v : ConclusionKind) (c : Conclusion) → ws ≡ w ∷ rest → conclusion_kind_of w ≡ Some v → IsConclusionRead v k rest c new → AreConclusionWordsRead k ws c new
-conclusion_words_read k new w ws rest v c at h r =
-    subst (λ x. AreConclusionWordsRead k x c new) (sym at) (record {
-      says = (kind_at new.names w rest v h).0 ∙ r.says;
-      known = r.known ∙ ap (met_in k) (sym (kind_at [] w rest v h).1);
-      small = r.small;
-    })
-
-pub denied_conclusion_words : (f : ProofFault) (w : List ℕ) (ws rest : List (List ℕ)) (v : ConclusionKind) → ws ≡ w ∷ rest → conclusion_kind_of w ≡ Some v → Denies f (is_conclusion v rest) rest
-    → Denies f (is_some (conclusion_said [] ws)) (drop 1 ws)
-denied_conclusion_words f w ws rest v at h d =
-    subst (λ x. Denies f (is_some (conclusion_said [] x)) (drop 1 x)) (sym at)
-    (denied_more f (is_conclusion v rest) _ rest rest (λ e. ap is_some (kind_at [] w rest v h).0 ∙ e) (λ s. s) d)
-
 pub no_conclusion_kind : (w : List ℕ) (ws rest : List (List ℕ)) → ws ≡ w ∷ rest → conclusion_kind_of w ≡ None → is_some (conclusion_said [] ws) ≡ false
 no_conclusion_kind w ws rest at h = ap (λ x. is_some (conclusion_said [] x)) at ∙ ap (λ o. is_some (by_kind [] rest o)) h
 
--- a line that begins with `conclusion`
-pub conclusion_read : (k new : NamesMet) (w : List ℕ) (ws rest : List (List ℕ)) (c : Conclusion) → ws ≡ w ∷ rest → bytes_eq w (codes "conclusion") ≡ true → AreConclusionWordsRead k (unclosed rest) c new → IsConclusionLineRead k ws c new
+-- a line that begins with `conclusion` and the word of a kind
+pub conclusion_read : (k new : NamesMet) (w v : List ℕ) (ws rest more : List (List ℕ)) (kind : ConclusionKind) (c : Conclusion) → ws ≡ w ∷ rest → bytes_eq w (codes "conclusion") ≡ true → unclosed rest ≡ v ∷ more
+    → conclusion_kind_of v ≡ Some kind → IsConclusionRead kind k more c new → IsConclusionLineRead k ws c new
 unfolding conclusion_of conclusion_literals
-conclusion_read k new w ws rest c at h r =
+conclusion_read k new w v ws rest more kind c at h behind is r =
     subst (λ x. IsConclusionLineRead k x c new) (sym at) (record {
-      says = ap (λ t. if t then conclusion_said new.names (unclosed rest) else None) h ∙ r.says;
-      known = r.known;
-      small = r.small;
+      says =
+          ap (λ t. if t then conclusion_said new.names (unclosed rest) else None) h
+          ∙ ap (conclusion_said new.names) behind
+          ∙ (kind_at new.names v more kind is).0
+          ∙ r.says;
+      known = r.known ∙ ap (met_in k) (sym (ap literals_said behind ∙ (kind_at [] v more kind is).1));
+      small = subst AreSmall (sym (ap (drop 1) behind)) r.small;
     })
 
-pub denied_conclusion : (f : ProofFault) (w : List ℕ) (ws rest : List (List ℕ)) → ws ≡ w ∷ rest → bytes_eq w (codes "conclusion") ≡ true
-    → Denies f (is_some (conclusion_said [] (unclosed rest))) (drop 1 (unclosed rest)) → Denies f (is_some (conclusion_of [] ws)) (drop 1 (unclosed (drop 1 ws)))
+pub denied_conclusion : (f : ProofFault) (w v : List ℕ) (ws rest more : List (List ℕ)) (kind : ConclusionKind) → ws ≡ w ∷ rest → bytes_eq w (codes "conclusion") ≡ true → unclosed rest ≡ v ∷ more → conclusion_kind_of v ≡ Some kind
+    → Denies f (is_conclusion kind more) more → Denies f (is_some (conclusion_of [] ws)) (drop 1 (unclosed (drop 1 ws)))
 unfolding conclusion_of
-denied_conclusion f w ws rest at h d =
+denied_conclusion f w v ws rest more kind at h behind is d =
     subst (λ x. Denies f (is_some (conclusion_of [] x)) (drop 1 (unclosed (drop 1 x)))) (sym at)
-    (denied_more f (is_some (conclusion_said [] (unclosed rest))) _ (drop 1 (unclosed rest)) (drop 1 (unclosed rest))
-    (λ e. ap (λ t. is_some (if t then conclusion_said [] (unclosed rest) else None)) h ∙ e) (λ s. s) d)
+    (denied_more f (is_conclusion kind more) _ more (drop 1 (unclosed rest))
+    (λ e.
+    ap (λ t. is_some (if t then conclusion_said [] (unclosed rest) else None)) h
+    ∙ ap (λ x. is_some (conclusion_said [] x)) behind
+    ∙ ap is_some (kind_at [] v more kind is).0
+    ∙ e)
+    (λ s. subst AreSmall (ap (drop 1) behind) s) d)
+
+-- and one that says no conclusion behind the first
+pub nothing_said : (w : List ℕ) (ws rest : List (List ℕ)) → ws ≡ w ∷ rest → bytes_eq w (codes "conclusion") ≡ true → is_some (conclusion_said [] (unclosed rest)) ≡ false → is_some (conclusion_of [] ws) ≡ false
+unfolding conclusion_of
+nothing_said w ws rest at h none =
+    ap (λ x. is_some (conclusion_of [] x)) at ∙ ap (λ t. is_some (if t then conclusion_said [] (unclosed rest) else None)) h ∙ none
 
 pub no_conclusion : (ws : List (List ℕ)) → is_first (codes "conclusion") ws ≡ false → is_some (conclusion_of [] ws) ≡ false
 unfolding conclusion_of

@@ -3,6 +3,10 @@
 //! The constraint of `rup` and `red` ends with a `;` that may not be missing, since more stands behind it: hints, which
 //! are never judged, or a substitution. So the words before it and those behind it are read by different readers.
 
+ghost use Rattle.std.specs.Prelude.{◌≡◌, [], ◌∷◌, None, Some, false, drop, MatchOption};
+ghost use Rattle.pb_text.specs.TokensOf.{texts_of};
+ghost use Rattle.proof_text.specs.Words as words;
+
 use pb_text::{Kind, Lookahead, Symbol, Token};
 use std::marker::Model;
 
@@ -13,19 +17,12 @@ pub(crate) struct BeforeSemicolon<'a> {
 }
 
 impl<'a> Model for BeforeSemicolon<'a> {
-    ghost use Rattle.pb_text.specs.TokensOf.{texts_of};
-    ghost use Rattle.proof_text.specs.Words.{Halves, halves};
+    ghost Value = { words.Halves };
 
-    ghost Value = { Halves };
-
-    ghost view = { λ f. halves (texts_of f.left) };
+    ghost view = { λ f. words.halves (texts_of f.left) };
 }
 
 impl<'a> BeforeSemicolon<'a> {
-    ghost use Rattle.std.specs.Prelude.{◌≡◌, [], ◌∷◌, None, Some, false, drop, MatchOption};
-    ghost use Rattle.pb_text.specs.TokensOf.{texts_of};
-    ghost use Rattle.proof_text.specs.Words as words;
-
     /// The words that are left of a line.
     pub(crate) fn new(left: Lookahead<'a>) -> Self
         ensures { result ≡ words.halves (texts_of left.entry) }

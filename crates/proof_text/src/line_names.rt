@@ -7,6 +7,11 @@
 //! The table is owned for the line: were it borrowed, contracts could not say what became of it, since they lose the end of a
 //! borrow of something that owns memory once a struct holds it.
 
+ghost use Rattle.std.specs.Prelude.{◌≡◌, ◌≤◌, true, false, length, take, if◌then◌else◌, IfOk, OnOk, OnErr};
+ghost use Rattle.linear.specs.Largest.{most_names};
+ghost use Rattle.linear.specs.Table.{place_of, IsTable};
+ghost use Rattle.proof_text.specs.NamesMet.{NamesMet, met, but_last};
+
 use linear::{Lit, MOST_NAMES, Names, Var};
 use pb_text::Literal;
 use std::alloc::AllocError;
@@ -21,11 +26,6 @@ pub(crate) struct LineNames {
 }
 
 impl Model for LineNames {
-    ghost use Rattle.std.specs.Prelude.{◌≡◌, ◌≤◌, true, length, take, if◌then◌else◌};
-    ghost use Rattle.linear.specs.Largest.{most_names};
-    ghost use Rattle.linear.specs.Table.{IsTable};
-    ghost use Rattle.proof_text.specs.NamesMet.{NamesMet, but_last};
-
     ghost Value = { NamesMet };
 
     ghost view = { λ t. record {
@@ -38,10 +38,6 @@ impl Model for LineNames {
 }
 
 impl LineNames {
-    ghost use Rattle.std.specs.Prelude.{◌≡◌, false, IfOk, OnOk, OnErr};
-    ghost use Rattle.linear.specs.Table.{place_of, IsTable};
-    ghost use Rattle.proof_text.specs.NamesMet.{met};
-
     /// The names as a line begins.
     pub(crate) fn new(names: Names) -> Self
         ensures { result ≡ record { before = names; names = names; full = false } }

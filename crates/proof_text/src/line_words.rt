@@ -3,6 +3,10 @@
 //! The format lets nearly every line end with a `;` or without one. That is settled here once, so that the readers of the forms see words
 //! alone, and a second `;`, or one with words behind it, is a word like any other and stands in no form.
 
+ghost use Rattle.std.specs.Prelude.{◌≡◌, ℕ, List, [], ◌∷◌, drop, MatchOption, if◌then◌else◌};
+ghost use Rattle.pb_text.specs.TokensOf.{texts_of};
+ghost use Rattle.proof_text.specs.Words as words;
+
 use pb_text::{Kind, Lookahead, Symbol, Token};
 use std::marker::Model;
 
@@ -13,20 +17,12 @@ pub(crate) struct LineWords<'a> {
 }
 
 impl<'a> Model for LineWords<'a> {
-    ghost use Rattle.std.specs.Prelude.{ℕ, List};
-    ghost use Rattle.pb_text.specs.TokensOf.{texts_of};
-    ghost use Rattle.proof_text.specs.Words.{unclosed};
-
     ghost Value = { List (List ℕ) };
 
-    ghost view = { λ b. unclosed (texts_of b.left) };
+    ghost view = { λ b. words.unclosed (texts_of b.left) };
 }
 
 impl<'a> LineWords<'a> {
-    ghost use Rattle.std.specs.Prelude.{◌≡◌, [], ◌∷◌, drop, MatchOption, if◌then◌else◌};
-    ghost use Rattle.pb_text.specs.TokensOf.{texts_of};
-    ghost use Rattle.proof_text.specs.Words as words;
-
     /// The words that are left of a line.
     pub(crate) fn new(left: Lookahead<'a>) -> Self
         ensures { result ≡ words.unclosed (texts_of left.entry) }

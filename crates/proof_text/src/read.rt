@@ -14,7 +14,7 @@ ghost use Rattle.proof_text.specs.Faults.{DeniesStep, DeniesLine};
 ghost use Rattle.proof_text.specs.Writable.{IsStepWritable, IsLineWritable};
 
 use crate::conclude::conclusion;
-use crate::fault::ProofFault;
+use crate::fault::{ProofFault, Reading};
 use crate::frame::{count, is_end, is_header, output};
 use crate::keyword::rule_of;
 use crate::line::{Line, Place};
@@ -29,11 +29,7 @@ use std::alloc::Global;
 use std::mem;
 
 /// The step that the words of a line say.
-fn step_line(
-    alloc: Global,
-    mut words: Lookahead<'_>,
-    table: &mut LineNames,
-) -> Result<Step, ProofFault>
+fn step_line(alloc: Global, mut words: Lookahead<'_>, table: &mut LineNames) -> Reading<Step>
     requires { table.old.full ≡ false }
     ensures read { IfOk result (λ s. IsStepLineRead table.old (texts_of words.entry) s table.new) }
     ensures kept { table.new.before ≡ table.old.before }
@@ -49,7 +45,7 @@ fn step_line(
 }
 
 /// The step that the words of a line say, its new names added; `read_step` says which fault comes where.
-fn step_of_words(alloc: Global, words: Lookahead<'_>, names: &mut Names) -> Result<Step, ProofFault>
+fn step_of_words(alloc: Global, words: Lookahead<'_>, names: &mut Names) -> Reading<Step>
     ensures step { IfOk result (λ s. IsStep names.old (texts_of words.entry) s names.new) }
     ensures err { OnErr result (names.new ≡ names.old) }
     ensures denies { IfErr result (λ f. DeniesStep f names.old (texts_of words.entry)) }
@@ -89,11 +85,7 @@ pub fn read_step(alloc: Global, line: &[u8], names: &mut Names) -> Result<Step, 
 }
 
 /// The conclusion that the words of a line say, its new names added.
-fn conclusion_line(
-    alloc: Global,
-    words: Lookahead<'_>,
-    names: &mut Names,
-) -> Result<Line, ProofFault>
+fn conclusion_line(alloc: Global, words: Lookahead<'_>, names: &mut Names) -> Reading<Line>
     ensures line { IfOk result (λ l. IsLine Place.Conclusion names.old (texts_of words.entry) l names.new) }
     ensures err { OnErr result (names.new ≡ names.old) }
     ensures denies { IfErr result (λ f. DeniesLine f Place.Conclusion names.old (texts_of words.entry)) }
@@ -126,11 +118,7 @@ fn begins(words: &Lookahead<'_>, word: &[u8]) -> bool
 }
 
 /// A step, or the output line behind the steps.
-fn step_or_output(
-    alloc: Global,
-    words: Lookahead<'_>,
-    names: &mut Names,
-) -> Result<Line, ProofFault>
+fn step_or_output(alloc: Global, words: Lookahead<'_>, names: &mut Names) -> Reading<Line>
     ensures line { IfOk result (λ l. IsLine Place.Step names.old (texts_of words.entry) l names.new) }
     ensures err { OnErr result (names.new ≡ names.old) }
     ensures denies { IfErr result (λ f. DeniesLine f Place.Step names.old (texts_of words.entry)) }

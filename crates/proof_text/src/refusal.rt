@@ -26,36 +26,18 @@ pub(crate) fn rule_fault(token: Token<'_>) -> ProofFault
 
 /// The rules of the format that this profile leaves out.
 fn is_left_out(rule: &[u8]) -> bool {
-    is_left_out_order(rule) || is_left_out_check(rule)
-}
-
-fn is_left_out_order(rule: &[u8]) -> bool {
-    rule == b"dom".as_slice()
-        || rule == b"pre_order".as_slice()
-        || rule == b"load_order".as_slice()
-        || rule == b"obju".as_slice()
-        || rule == b"solx".as_slice()
-        || rule == b"core".as_slice()
-        || rule == b"begin".as_slice()
-        || rule == b"proofgoal".as_slice()
-}
-
-fn is_left_out_check(rule: &[u8]) -> bool {
-    rule == b"e".as_slice()
-        || rule == b"ea".as_slice()
-        || rule == b"i".as_slice()
-        || rule == b"ia".as_slice()
-        || rule == b"setlvl".as_slice()
-        || rule == b"wiplvl".as_slice()
-        || rule == b"delc".as_slice()
-        || rule == b"deld".as_slice()
+    match rule {
+        b"dom" | b"pre_order" | b"load_order" | b"obju" | b"solx" | b"core" | b"begin" => true,
+        b"proofgoal" | b"e" | b"ea" | b"i" | b"ia" | b"setlvl" | b"wiplvl" | b"delc" => true,
+        b"deld" => true,
+        _ => false,
+    }
 }
 
 /// The first words of lines that may not stand among the steps.
 fn is_frame(rule: &[u8]) -> bool {
-    rule == b"pseudo-Boolean".as_slice()
-        || rule == b"f".as_slice()
-        || rule == b"output".as_slice()
-        || rule == b"conclusion".as_slice()
-        || rule == b"end".as_slice()
+    match rule {
+        b"pseudo-Boolean" | b"f" | b"output" | b"conclusion" | b"end" => true,
+        _ => false,
+    }
 }

@@ -1,7 +1,7 @@
 //! Steps, rule by rule: what stands behind the word of a rule.
 //!
-//! Each rule has a function of its own with one contract for all: what the words say is the step, the names of its literals are
-//! met in order, and each fault says of the words what it should. A new rule is one more function and one more arm.
+//! All rules have one contract: what the words say is the step, the names of its literals are met in order, and each fault says of
+//! the words what it should. A new rule is one more arm, and a function of its own where it is more than one list.
 
 ghost use Rattle.std.specs.Prelude.{◌≡◌, false, IfOk, IfErr};
 ghost use Rattle.pb_text.specs.TokensOf.{texts_of};
@@ -10,7 +10,7 @@ ghost use Rattle.proof_text.specs.PartsDenied.{DeniesRule};
 
 use crate::before_semicolon::BeforeSemicolon;
 use crate::constraint::constraint;
-use crate::fault::ProofFault;
+use crate::fault::{ProofFault, Reading};
 use crate::keyword::Rule;
 use crate::line_names::LineNames;
 use crate::line_words::LineWords;
@@ -22,28 +22,8 @@ use proof_steps::Step;
 use std::alloc::Global;
 use substitution::Substitution;
 
-/// `pol`: the items of an expression.
-fn pol(alloc: Global, words: Lookahead<'_>, table: &mut LineNames) -> Result<Step, ProofFault>
-    ensures read { IfOk result (λ s. IsStepRead Rule.Pol table.old (texts_of words.entry) s table.new) }
-    ensures kept { table.new.before ≡ table.old.before }
-    ensures denies { IfErr result (λ f. DeniesRule f Rule.Pol table.old.names (texts_of words.entry)) }
-{
-    let items = items(alloc, LineWords::new(words), table)?;
-    Ok(Step::Pol(items))
-}
-
-/// `rup`: a constraint, `;`, and hints, which are passed over.
-fn rup(alloc: Global, words: Lookahead<'_>, table: &mut LineNames) -> Result<Step, ProofFault>
-    ensures read { IfOk result (λ s. IsStepRead Rule.Rup table.old (texts_of words.entry) s table.new) }
-    ensures kept { table.new.before ≡ table.old.before }
-    ensures denies { IfErr result (λ f. DeniesRule f Rule.Rup table.old.names (texts_of words.entry)) }
-{
-    let (constraint, _hints) = constraint(alloc, BeforeSemicolon::new(words), table)?;
-    Ok(Step::Rup(constraint))
-}
-
 /// `red`: a constraint, `;`, and a substitution.
-fn red(alloc: Global, words: Lookahead<'_>, table: &mut LineNames) -> Result<Step, ProofFault>
+fn red(alloc: Global, words: Lookahead<'_>, table: &mut LineNames) -> Reading<Step>
     requires { table.old.full ≡ false }
     ensures read { IfOk result (λ s. IsStepRead Rule.Red table.old (texts_of words.entry) s table.new) }
     ensures kept { table.new.before ≡ table.old.before }
@@ -64,28 +44,8 @@ fn red(alloc: Global, words: Lookahead<'_>, table: &mut LineNames) -> Result<Ste
     }
 }
 
-/// `sol`: literals.
-fn sol(alloc: Global, words: Lookahead<'_>, table: &mut LineNames) -> Result<Step, ProofFault>
-    ensures read { IfOk result (λ s. IsStepRead Rule.Sol table.old (texts_of words.entry) s table.new) }
-    ensures kept { table.new.before ≡ table.old.before }
-    ensures denies { IfErr result (λ f. DeniesRule f Rule.Sol table.old.names (texts_of words.entry)) }
-{
-    let lits = lits(alloc, LineWords::new(words), table)?;
-    Ok(Step::Sol(lits))
-}
-
-/// `soli`: literals.
-fn soli(alloc: Global, words: Lookahead<'_>, table: &mut LineNames) -> Result<Step, ProofFault>
-    ensures read { IfOk result (λ s. IsStepRead Rule.Soli table.old (texts_of words.entry) s table.new) }
-    ensures kept { table.new.before ≡ table.old.before }
-    ensures denies { IfErr result (λ f. DeniesRule f Rule.Soli table.old.names (texts_of words.entry)) }
-{
-    let lits = lits(alloc, LineWords::new(words), table)?;
-    Ok(Step::Soli(lits))
-}
-
 /// `del`: `id`, and ids.
-fn del(alloc: Global, mut words: Lookahead<'_>, table: &mut LineNames) -> Result<Step, ProofFault>
+fn del(alloc: Global, mut words: Lookahead<'_>, table: &mut LineNames) -> Reading<Step>
     ensures read { IfOk result (λ s. IsStepRead Rule.Del table.old (texts_of words.entry) s table.new) }
     ensures kept { table.new.before ≡ table.old.before }
     ensures denies { IfErr result (λ f. DeniesRule f Rule.Del table.old.names (texts_of words.entry)) }
@@ -109,18 +69,21 @@ pub(crate) fn step(
     rule: Rule,
     words: Lookahead<'_>,
     table: &mut LineNames,
-) -> Result<Step, ProofFault>
+) -> Reading<Step>
     requires { table.old.full ≡ false }
     ensures read { IfOk result (λ s. IsStepRead rule table.old (texts_of words.entry) s table.new) }
     ensures kept { table.new.before ≡ table.old.before }
     ensures denies { IfErr result (λ f. DeniesRule f rule table.old.names (texts_of words.entry)) }
 {
     match rule {
-        Rule::Pol => pol(alloc, words, table),
-        Rule::Rup => rup(alloc, words, table),
+        Rule::Pol => Ok(Step::Pol(items(alloc, LineWords::new(words), table)?)),
+        Rule::Rup => {
+            let (constraint, _hints) = constraint(alloc, BeforeSemicolon::new(words), table)?;
+            Ok(Step::Rup(constraint))
+        }
         Rule::Red => red(alloc, words, table),
-        Rule::Sol => sol(alloc, words, table),
-        Rule::Soli => soli(alloc, words, table),
+        Rule::Sol => Ok(Step::Sol(lits(alloc, LineWords::new(words), table)?)),
+        Rule::Soli => Ok(Step::Soli(lits(alloc, LineWords::new(words), table)?)),
         Rule::Del => del(alloc, words, table),
     }
 }

@@ -12,7 +12,7 @@ ghost use Rattle.proof_text.specs.Forms as forms;
 ghost use Rattle.proof_text.specs.PartsRead.{Takes, IsRead, IsImageRead};
 ghost use Rattle.proof_text.specs.PartsDenied.{Denies};
 
-use crate::fault::ProofFault;
+use crate::fault::{ProofFault, Reading};
 use crate::line_names::LineNames;
 use crate::line_words::LineWords;
 use crate::values::lit;
@@ -59,7 +59,7 @@ fn repeats(words: &[&[u8]]) -> bool
 }
 
 /// The image that a word writes: a literal, or the very text `0` or `1`.
-fn image(token: Token<'_>, table: &mut LineNames) -> Result<Image, ProofFault>
+fn image(token: Token<'_>, table: &mut LineNames) -> Reading<Image>
     ensures read { IfOk result (λ i. IsImageRead table.old token.entry.text.now i table.new) }
     ensures kept { table.new.before ≡ table.old.before }
     ensures denies { IfErr result (λ f. Denies f (forms.is_image token.entry.text.now) (token.entry.text.now ∷ [])) }
@@ -125,11 +125,7 @@ pub(crate) fn full_fault(witness: &Witness<'_>) -> ProofFault
 }
 
 /// A name and its image; between the two an arrow may stand.
-fn pair(
-    token: Token<'_>,
-    words: &mut LineWords<'_>,
-    table: &mut LineNames,
-) -> Result<(Var, Image), ProofFault>
+fn pair(token: Token<'_>, words: &mut LineWords<'_>, table: &mut LineNames) -> Reading<(Var, Image)>
     ensures takes { IfOk result (λ p. Takes forms.are_images forms.images_of table.old (token.entry.text.now ∷ words.old) p table.new words.new) }
     ensures left { OnOk result (forms.lefts (token.entry.text.now ∷ words.old) ≡ token.entry.text.now ∷ forms.lefts words.new) }
     ensures kept { table.new.before ≡ table.old.before }
@@ -155,7 +151,7 @@ pub(crate) fn images<'a>(
     alloc: Global,
     mut words: LineWords<'a>,
     table: &mut LineNames,
-) -> Result<Witness<'a>, ProofFault>
+) -> Reading<Witness<'a>>
     ensures read { IfOk result (λ w. IsRead forms.are_images forms.images_of table.old words.entry w.images.items table.new) }
     ensures names { IfOk result (λ w. map (λ s. s.now) w.names.items ≡ forms.lefts words.entry) }
     ensures kept { table.new.before ≡ table.old.before }
