@@ -58,11 +58,10 @@ pub(crate) fn output(mut words: LineWords<'_>) -> Reading<()>
         };
     }
     match words.next() {
-        None => Err(ProofFault::BadLine),
-        Some(token) => match token.kind {
-            Kind::Symbol(_) | Kind::Stray => Err(ProofFault::BadLine),
-            _ => Err(ProofFault::RuleLeftOut),
-        },
+        Some(token) if !matches!(token.kind, Kind::Symbol(_) | Kind::Stray) => {
+            Err(ProofFault::RuleLeftOut)
+        }
+        _ => Err(ProofFault::BadLine),
     }
 }
 

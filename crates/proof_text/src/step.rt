@@ -16,7 +16,7 @@ use crate::line_names::LineNames;
 use crate::line_words::LineWords;
 use crate::pol::items;
 use crate::values::{lits, numbers};
-use crate::witness::{full_fault, images};
+use crate::witness::{images, unless_twice};
 use pb_text::Lookahead;
 use proof_steps::Step;
 use std::alloc::Global;
@@ -32,7 +32,7 @@ fn red(alloc: Global, words: Lookahead<'_>, table: &mut LineNames) -> Reading<St
     let (constraint, behind) = constraint(alloc, BeforeSemicolon::new(words), table)?;
     let witness = images(alloc, LineWords::new(behind), table)?;
     if table.is_full() {
-        return Err(full_fault(&witness));
+        return Err(unless_twice(&witness, ProofFault::TooManyIds));
     }
     match Substitution::new(alloc, witness.images)? {
         Some(witness) => {

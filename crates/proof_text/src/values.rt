@@ -52,10 +52,7 @@ pub(crate) fn lit(token: Token<'_>, table: &mut LineNames) -> Reading<Lit>
     let Some(literal) = as_literal(token) else {
         return Err(ProofFault::BadLine);
     };
-    match table.lit(literal) {
-        Ok(lit) => Ok(lit),
-        Err(_) => Err(ProofFault::OutOfMemory),
-    }
+    Ok(table.lit(literal)?)
 }
 
 /// Literals up to the end of a line.

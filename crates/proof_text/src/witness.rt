@@ -86,6 +86,17 @@ fn begins_subproof(token: Token<'_>, behind: Option<Token<'_>>) -> bool
     }
 }
 
+/// This fault, or that of a name that stands twice on the left, which came first.
+pub(crate) fn unless_twice(witness: &Witness<'_>, fault: ProofFault) -> ProofFault
+    ensures { result ≡ (if forms.repeats (map (λ s. s.now) witness.now.names.items) then ProofFault.BadLine else fault) }
+{
+    if repeats(witness.names.as_slice()) {
+        ProofFault::BadLine
+    } else {
+        fault
+    }
+}
+
 /// The fault of a subproof behind a substitution. A name that stands twice on the left came first; where names found no
 /// number, the words tell.
 fn subproof_fault(alloc: Global, witness: Witness<'_>, full: bool) -> ProofFault
@@ -95,11 +106,7 @@ fn subproof_fault(alloc: Global, witness: Witness<'_>, full: bool) -> ProofFault
     ensures full { full ≡ true → result ≡ (if forms.repeats (map (λ s. s.now) witness.entry.names.items) then ProofFault.BadLine else ProofFault.RuleLeftOut) }
 {
     if full {
-        return if repeats(witness.names.as_slice()) {
-            ProofFault::BadLine
-        } else {
-            ProofFault::RuleLeftOut
-        };
+        return unless_twice(&witness, ProofFault::RuleLeftOut);
     }
     match Substitution::new(alloc, witness.images) {
         Ok(Some(witness)) => {
@@ -109,18 +116,6 @@ fn subproof_fault(alloc: Global, witness: Witness<'_>, full: bool) -> ProofFault
         }
         Ok(None) => ProofFault::BadLine,
         Err(_) => ProofFault::OutOfMemory,
-    }
-}
-
-/// The fault of a substitution that reads well, and has names that found no number. A name that stands twice on the left
-/// came first.
-pub(crate) fn full_fault(witness: &Witness<'_>) -> ProofFault
-    ensures { result ≡ (if forms.repeats (map (λ s. s.now) witness.now.names.items) then ProofFault.BadLine else ProofFault.TooManyIds) }
-{
-    if repeats(witness.names.as_slice()) {
-        ProofFault::BadLine
-    } else {
-        ProofFault::TooManyIds
     }
 }
 

@@ -45,8 +45,8 @@ returns-then-is_full-clause-denies c =
     let i : IsRead are_images images_of mid (unclosed w) images new = subst (λ u. IsRead are_images images_of mid u images new) c.new-2.ensures c.in_ok-witness.ensures.read in
     let full : new.full ≡ true = sym c.is_full.ensures ∙ c.if-is_full.true in
     let left : map (λ s. s.now) c.in_ok-witness.witness.names.items ≡ lefts (unclosed w) = c.in_ok-witness.ensures.names ∙ ap lefts c.new-2.ensures in
-    let f = c.full_fault.result in
-    denied_full f k new ws w (steps.Red x images) (c.full_fault.ensures ∙ ap (λ n. if repeats n then faults.BadLine else faults.TooManyIds) left) behind
+    let f = c.unless_twice.result in
+    denied_full f k new ws w (steps.Red x images) (c.unless_twice.ensures ∙ ap (λ n. if repeats n then faults.BadLine else faults.TooManyIds) left) behind
     c.requires (red_known k mid new ws w x images r behind i) full (red_small ws w behind r.small i.small) (red_says k mid new ws w x images r behind i)
 
 pub returns-in-Some-clause-read : goal.returns-in-Some-clause-read
