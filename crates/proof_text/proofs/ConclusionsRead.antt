@@ -24,7 +24,8 @@ use Rattle.proof_text.specs.Conclusions.{conclusion_kind_of, is_hint, hint_of, p
 use Rattle.proof_text.specs.ConclusionsRead.{begins_right, IsHintRead, IsConclusionRead, IsConclusionLineRead}
 use Rattle.proof_text.specs.PartsDenied.{Denies}
 use Rattle.proof_text.specs.declared.fault.ProofFault.{ProofFault}
-use Rattle.proof_text.proofs.PolItems.{same_word}
+use Rattle.proof_text.proofs.ByFirstWord.{judged_with, literals_with}
+use Rattle.proof_text.proofs.PolItems.{same_word, and_false_left}
 use Rattle.proof_text.proofs.WordsByKind.{all_small, none_small, rest_small, only_small, small_other, denied_more}
 
 inf_kind : is_integer (kind_of (codes "INF")) ≡ false
@@ -131,10 +132,6 @@ denied_id f l ws rest at d =
     subst (λ x. Denies f (is_some (bounds_of [] x)) x) (sym at)
     (denied_more f (begins_right rest) _ rest (l ∷ rest) (λ e. no_bounds l rest (colon_stays rest (lower_of l) e)) (λ s. rest_small l rest s) d)
 
-and_false : (p q : Bool) → p ≡ false → (p && q) ≡ false
-and_false true q h = cc
-and_false false q h = refl
-
 and_later : (p q : Bool) → q ≡ false → (p && q) ≡ false
 and_later true q h = h
 and_later false q h = refl
@@ -144,7 +141,7 @@ pub denied_upper : (f : ProofFault) (l u : List ℕ) (ws rest left more : List (
 denied_upper f l u ws rest left more at past e later d =
     subst (λ x. Denies f (is_some (bounds_of [] x)) x) (sym at)
     (denied_more f (is_upper u) _ (u ∷ []) (l ∷ rest)
-    (λ n. no_bounds l rest (ap (λ x. is_some (bounds_by [] (lower_of l) x)) (sym past ∙ e) ∙ choice (is_upper u && is_hint more) _ ∙ and_false (is_upper u) (is_hint more) n))
+    (λ n. no_bounds l rest (ap (λ x. is_some (bounds_by [] (lower_of l) x)) (sym past ∙ e) ∙ choice (is_upper u && is_hint more) _ ∙ and_false_left (is_upper u) (is_hint more) n))
     (λ s. only_small u more (subst AreSmall e (later (rest_small l rest s)))) d)
 
 pub denied_upper_hint : (f : ProofFault) (l u : List ℕ) (ws rest left more : List (List ℕ)) → ws ≡ l ∷ rest → left ≡ past_id rest → left ≡ u ∷ more → (AreSmall rest → AreSmall left)
@@ -155,20 +152,12 @@ denied_upper_hint f l u ws rest left more at past e later d =
     (λ n. no_bounds l rest (ap (λ x. is_some (bounds_by [] (lower_of l) x)) (sym past ∙ e) ∙ choice (is_upper u && is_hint more) _ ∙ and_later (is_upper u) (is_hint more) n))
     (λ s. rest_small u more (subst AreSmall e (later (rest_small l rest s)))) d)
 
-abbrev by_kind : List (List ℕ) → List (List ℕ) → Option ConclusionKind → Option Conclusion
-by_kind names rest None = None
-by_kind names rest (Some v) = conclusion_by v names rest
-
-abbrev lits_by : List (List ℕ) → Option ConclusionKind → List (List ℕ)
-lits_by rest None = []
-lits_by rest (Some v) = literals_by v rest
-
 kind_at : (names : List (List ℕ)) (w : List ℕ) (rest : List (List ℕ)) (v : ConclusionKind) → conclusion_kind_of w ≡ Some v
     → (conclusion_said names (w ∷ rest) ≡ conclusion_by v names rest) × (literals_said (w ∷ rest) ≡ literals_by v rest)
-kind_at names w rest v h = (ap (by_kind names rest) h, ap (lits_by rest) h)
+kind_at names w rest v h = (ap (judged_with names rest) h, ap (literals_with rest) h)
 
 pub no_conclusion_kind : (w : List ℕ) (ws rest : List (List ℕ)) → ws ≡ w ∷ rest → conclusion_kind_of w ≡ None → is_some (conclusion_said [] ws) ≡ false
-no_conclusion_kind w ws rest at h = ap (λ x. is_some (conclusion_said [] x)) at ∙ ap (λ o. is_some (by_kind [] rest o)) h
+no_conclusion_kind w ws rest at h = ap (λ x. is_some (conclusion_said [] x)) at ∙ ap (λ o. is_some (judged_with [] rest o)) h
 
 -- a line that begins with `conclusion` and the word of a kind
 pub conclusion_read : (k new : NamesMet) (w v : List ℕ) (ws rest more : List (List ℕ)) (kind : ConclusionKind) (c : Conclusion) → ws ≡ w ∷ rest → bytes_eq w (codes "conclusion") ≡ true → unclosed rest ≡ v ∷ more

@@ -28,6 +28,7 @@ use Rattle.proof_text.specs.PartsDenied.{Denies, IsForm, DeniesRule, NoStepBy, S
 use Rattle.proof_text.specs.Faults.{NoStep, SomeStep, DeniesStep, NoLine, SomeLine, DeniesPlaced}
 use Rattle.proof_text.specs.declared.fault.ProofFault.{ProofFault}
 use Rattle.proof_text.specs.declared.fault.ProofFault.TheVariants as faults
+use Rattle.proof_text.proofs.ByFirstWord.{step_with, counted_with, judged_with}
 use Rattle.proof_text.proofs.FaultsSaid.{form_denied, part_denied, same_denied}
 use Rattle.proof_text.proofs.PolItems.{first_word}
 use Rattle.proof_text.proofs.WordsByKind.{none_small}
@@ -39,21 +40,13 @@ use Rattle.proof_text.proofs.StepsRead.{said_anyway, apart, table_whole}
 abbrev pub fresh : List (List ℕ) → NamesMet
 fresh names = record { before = names; names = names; full = false }
 
-abbrev step_by_rule : List (List ℕ) → List (List ℕ) → Option Rule → Option Step
-step_by_rule names rest None = None
-step_by_rule names rest (Some rule) = step_by rule names rest
-
-abbrev counted_by_rule : List (List ℕ) → Option Rule → List (List ℕ)
-counted_by_rule rest None = []
-counted_by_rule rest (Some rule) = counted_by rule rest
-
-pub step_at : (names : List (List ℕ)) (w : List ℕ) (rest : List (List ℕ)) (o : Option Rule) → rule_of w ≡ o → step_of names (w ∷ rest) ≡ step_by_rule names rest o
+pub step_at : (names : List (List ℕ)) (w : List ℕ) (rest : List (List ℕ)) (o : Option Rule) → rule_of w ≡ o → step_of names (w ∷ rest) ≡ step_with names rest o
 unfolding step_of
-step_at names w rest o h = ap (step_by_rule names rest) h
+step_at names w rest o h = ap (step_with names rest) h
 
-pub counted_at : (w : List ℕ) (rest : List (List ℕ)) (o : Option Rule) → rule_of w ≡ o → counted (w ∷ rest) ≡ counted_by_rule rest o
+pub counted_at : (w : List ℕ) (rest : List (List ℕ)) (o : Option Rule) → rule_of w ≡ o → counted (w ∷ rest) ≡ counted_with rest o
 unfolding counted
-counted_at w rest o h = ap (counted_by_rule rest) h
+counted_at w rest o h = ap (counted_with rest) h
 
 pub ruled_read : (k new : NamesMet) (w : List ℕ) (ws rest : List (List ℕ)) (rule : Rule) (step : Step) → ws ≡ w ∷ rest → rule_of w ≡ Some rule → IsStepRead rule k rest step new → IsStepLineRead k ws step new
 ruled_read k new w ws rest rule step at h r =
@@ -111,7 +104,7 @@ unfolding step_of counted
 step_anyway names others [] step h proper has = cc
 step_anyway names others (w ∷ rest) step h proper has = by (rule_of w) h has
   where
-    by : (o : Option Rule) → step_by_rule names rest o ≡ Some step → HasNames others (counted_by_rule rest o) → (q : Step) × (step_by_rule others rest o ≡ Some q) × IsProper q
+    by : (o : Option Rule) → step_with names rest o ≡ Some step → HasNames others (counted_with rest o) → (q : Step) × (step_with others rest o ≡ Some q) × IsProper q
     by None h has = cc
     by (Some rule) h has = said_anyway rule names others rest step h (apart rule names rest step h proper) has
 
@@ -158,15 +151,11 @@ concluded_anyway kinds.Sat names others ws c h = (conclusions.Sat (hint_of other
 concluded_anyway kinds.Unsat names others ws c h = (c, h)
 concluded_anyway kinds.Bounds names others ws c h = all_bounds_anyway names others ws c h
 
-abbrev by_kind : List (List ℕ) → List (List ℕ) → Option ConclusionKind → Option Conclusion
-by_kind names rest None = None
-by_kind names rest (Some v) = conclusion_by v names rest
-
 conclusion_said_anyway : (names others ws : List (List ℕ)) (c : Conclusion) → conclusion_said names ws ≡ Some c → (q : Conclusion) × (conclusion_said others ws ≡ Some q)
 conclusion_said_anyway names others [] c h = cc
 conclusion_said_anyway names others (w ∷ rest) c h = by (conclusion_kind_of w) h
   where
-    by : (o : Option ConclusionKind) → by_kind names rest o ≡ Some c → (q : Conclusion) × (by_kind others rest o ≡ Some q)
+    by : (o : Option ConclusionKind) → judged_with names rest o ≡ Some c → (q : Conclusion) × (judged_with others rest o ≡ Some q)
     by None h = cc
     by (Some v) h = concluded_anyway v names others rest c h
 

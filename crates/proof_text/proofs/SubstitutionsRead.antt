@@ -22,7 +22,7 @@ use Rattle.proof_text.specs.declared.fault.ProofFault.{ProofFault}
 use Rattle.proof_text.proofs.WordsByKind.{all_small, rest_small, only_small, small_other, literal_alone, semicolon_alone, denied_more}
 use Rattle.proof_text.proofs.NamesNumbered.{met_literal, met_other, met_in-append}
 use Rattle.proof_text.proofs.PartsInTurn.{lit_met}
-use Rattle.proof_text.proofs.PolItems.{same_word}
+use Rattle.proof_text.proofs.PolItems.{same_word, and_true}
 
 pub zero_kind : (is_literal (kind_of (codes "0")) ≡ false) × (integer_size (codes "0") ≤ largest_number)
 unfolding kind_of kind_of_word integer_word literal_word is_misspelt is_name integer_size
@@ -91,10 +91,6 @@ image_no_arrow w h = by (is_literal (kind_of w)) (bytes_eq w (codes "0")) (bytes
     by false true o e f g h = ap (λ v. is_arrow (kind_of v)) (same_word w (codes "0") f) ∙ zero_no_arrow
     by false false true e f g h = ap (λ v. is_arrow (kind_of v)) (same_word w (codes "1") g) ∙ one_no_arrow
     by false false false e f g h = cc
-
-and_true : (p : Bool) → (p && true) ≡ p
-and_true true = refl
-and_true false = refl
 
 -- a name, an arrow and an image
 pub arrow_pair : (names : List (List ℕ)) (x a i : List ℕ) (rest : List (List ℕ)) → is_arrow (kind_of a) ≡ true
