@@ -4,13 +4,11 @@
 //! is kept; one without literals is a solution of no literals, and not the same as none. The lower bound `-INF` is this
 //! product's own spelling for "no bound".
 
-ghost use Rattle.std.specs.Prelude.{◌≡◌, ℕ, List, [], ◌∷◌, true, false, is_some, drop, IfOk, IfErr, OnOk, MatchOption};
+ghost use Rattle.std.specs.Prelude.{◌≡◌, [], ◌∷◌, true, is_some, drop, IfOk, IfErr, OnOk};
 ghost use Rattle.pb_text.specs.TokensOf.{texts_of};
 ghost use Rattle.proof_text.specs.Words.{AreSmall, unclosed};
-ghost use Rattle.proof_text.specs.Forms.{are_literals, literals_of};
 ghost use Rattle.proof_text.specs.Conclusions as conclusions;
 ghost use Rattle.proof_text.specs.ConclusionsRead.{begins_right, IsHintRead, IsConclusionRead, IsConclusionLineRead};
-ghost use Rattle.proof_text.specs.NamesMet.{NamesMet};
 ghost use Rattle.proof_text.specs.PartsDenied.{Denies};
 ghost use Rattle.proof_text.specs.Faults.{IsPlain};
 

@@ -3,7 +3,7 @@
 //! Terms stay as they are written, signs, zeros and repeated variables included: to bring them into normal form is the kernel's affair.
 //! `=` and `<=` would each be one constraint or two of the proof, with ids to match, and are left out where `>=` is due.
 
-ghost use Rattle.std.specs.Prelude.{◌≡◌, [], ◌∷◌, Some, is_some, false, true, ◌&&◌, IfOk, IfErr, OnOk};
+ghost use Rattle.std.specs.Prelude.{◌≡◌, [], ◌∷◌, Some, is_some, false, ◌&&◌, IfOk, IfErr, OnOk};
 ghost use Rattle.pb_text.specs.TokensOf.{texts_of};
 ghost use Rattle.proof_text.specs.Words.{AreSmall, begins_integer};
 ghost use Rattle.proof_text.specs.Forms.{terms_of, behind_terms, closing_of};

@@ -1,8 +1,7 @@
 //! The items of a `pol` line. An integer directly before `*` or `d` belongs to it, and so does a name directly before
 //! `w`; so each line has one reading.
 
-ghost use Rattle.std.specs.Prelude.{◌≡◌, ℕ, List, ◌∷◌, true, false, IfOk, IfErr, OnOk};
-ghost use Rattle.pb_text.specs.Lexeme.{kind_of};
+ghost use Rattle.std.specs.Prelude.{◌≡◌, ℕ, List, ◌∷◌, false, IfOk, IfErr};
 ghost use Rattle.proof_text.specs.Kinds.{is_integer, is_literal};
 ghost use Rattle.proof_text.specs.NamesMet.{NamesMet};
 ghost use Rattle.proof_text.specs.Forms.{are_items, items_of};

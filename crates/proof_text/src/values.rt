@@ -10,7 +10,7 @@ ghost use Rattle.pb_text.specs.Word.{name_of};
 ghost use Rattle.proof_text.specs.Kinds.{is_integer, is_literal};
 ghost use Rattle.proof_text.specs.Words.{IsSmall, AreSmall};
 ghost use Rattle.proof_text.specs.Numbering.{lit_of};
-ghost use Rattle.proof_text.specs.NamesMet.{met, met_in};
+ghost use Rattle.proof_text.specs.NamesMet.{met};
 ghost use Rattle.proof_text.specs.Forms.{are_literals, literals_of, are_integers, integers_of};
 ghost use Rattle.proof_text.specs.PartsRead.{IsRead};
 ghost use Rattle.proof_text.specs.PartsDenied.{Denies};
@@ -19,7 +19,7 @@ ghost use Rattle.proof_text.specs.Faults.{IsPlain};
 use crate::fault::{ProofFault, Reading};
 use crate::line_names::LineNames;
 use crate::line_words::LineWords;
-use linear::{Lit, Names, Seq};
+use linear::{Lit, Seq};
 use pb_text::{NumFault, Token, as_literal, integer};
 use std::alloc::Global;
 

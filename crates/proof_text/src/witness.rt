@@ -31,7 +31,7 @@ pub(crate) struct Witness<'a> {
 }
 
 /// Whether a word is among these.
-fn is_among(word: &[u8], words: &[&[u8]]) -> bool
+pub(crate) fn is_among(word: &[u8], words: &[&[u8]]) -> bool
     ensures { result ≡ list_any (λ v. bytes_eq v word.now) (map (λ s. s.now) words.now) }
 {
     let mut rest = words;
