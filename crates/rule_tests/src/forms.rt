@@ -3,66 +3,67 @@
 ghost use Rattle.std.specs.Prelude.{◌≡◌, IfOk};
 ghost use Rattle.normal_form.specs.Normal.{variable_bound};
 
-use super::support::{LIMIT, at_least, is, is_fault, negated, plain, signed};
-use linear::{Assignment, Relation, Term, Var};
+use super::support::{LIMIT, NOT, Written, X, at_least, is, is_fault, signed};
+use linear::{Assignment, Relation, Var};
 use normal_form::{
     CutFault, Normal, NormalBuilder, NormalTerm, both, holds, is_contradiction, negate, normalize,
 };
 use std::alloc::{AllocError, Global};
 
 // A written constraint with `>=`, its form, and the negation of that.
-#[derive(Drop)]
-struct FormRow<'a> {
-    terms: &'a [Term],
+#[derive(Clone, Copy)]
+struct FormRow {
+    terms: &'static [Written],
     right: i128,
-    form: &'a [Term],
+    form: &'static [Written],
     degree: u128,
-    opposite: &'a [Term],
+    opposite: &'static [Written],
     opposite_degree: u128,
 }
+
+const FORMS: [FormRow; 4] = [
+    // -2 x1 3 x2 -2 x1 >= -1: a repeated variable, and a coefficient below 0
+    FormRow {
+        terms: &[(-2, X, 1), (3, X, 2), (-2, X, 1)],
+        right: -1,
+        form: &[(4, NOT, 1), (3, X, 2)],
+        degree: 3,
+        opposite: &[(4, X, 1), (3, NOT, 2)],
+        opposite_degree: 5,
+    },
+    // 1 x1 1 ~x1 >= 1 holds everywhere
+    FormRow {
+        terms: &[(1, X, 1), (1, NOT, 1)],
+        right: 1,
+        form: &[],
+        degree: 0,
+        opposite: &[],
+        opposite_degree: 1,
+    },
+    // 2 x0 2 x1 >= 1
+    FormRow {
+        terms: &[(2, X, 0), (2, X, 1)],
+        right: 1,
+        form: &[(2, X, 0), (2, X, 1)],
+        degree: 1,
+        opposite: &[(2, NOT, 0), (2, NOT, 1)],
+        opposite_degree: 4,
+    },
+    // 1 x3 1 x2 >= -5: terms in any order, a degree below 0
+    FormRow {
+        terms: &[(1, X, 3), (1, X, 2)],
+        right: -5,
+        form: &[(1, X, 2), (1, X, 3)],
+        degree: 0,
+        opposite: &[(1, NOT, 2), (1, NOT, 3)],
+        opposite_degree: 3,
+    },
+];
 
 #[test]
 fn forms_and_negations(rt: HostRuntime) {
     let alloc = rt.alloc();
-    let rows = [
-        // -2 x1 3 x2 -2 x1 >= -1: a repeated variable, and a coefficient below 0
-        FormRow {
-            terms: &[plain(-2, 1), plain(3, 2), plain(-2, 1)],
-            right: -1,
-            form: &[negated(4, 1), plain(3, 2)],
-            degree: 3,
-            opposite: &[plain(4, 1), negated(3, 2)],
-            opposite_degree: 5,
-        },
-        // 1 x1 1 ~x1 >= 1 holds everywhere
-        FormRow {
-            terms: &[plain(1, 1), negated(1, 1)],
-            right: 1,
-            form: &[],
-            degree: 0,
-            opposite: &[],
-            opposite_degree: 1,
-        },
-        // 2 x0 2 x1 >= 1
-        FormRow {
-            terms: &[plain(2, 0), plain(2, 1)],
-            right: 1,
-            form: &[plain(2, 0), plain(2, 1)],
-            degree: 1,
-            opposite: &[negated(2, 0), negated(2, 1)],
-            opposite_degree: 4,
-        },
-        // 1 x3 1 x2 >= -5: terms in any order, a degree below 0
-        FormRow {
-            terms: &[plain(1, 3), plain(1, 2)],
-            right: -5,
-            form: &[plain(1, 2), plain(1, 3)],
-            degree: 0,
-            opposite: &[negated(1, 2), negated(1, 3)],
-            opposite_degree: 3,
-        },
-    ];
-    for row in &rows {
+    for row in &FORMS {
         let form = at_least(alloc, row.terms, row.right).expect(&rt, "a form");
         assert!(&rt; is(&form, row.form, row.degree));
         let copy = form.copy(alloc).expect(&rt, "memory");
@@ -76,23 +77,23 @@ fn forms_and_negations(rt: HostRuntime) {
 #[test]
 fn both_forms_of_an_equality(rt: HostRuntime) {
     let alloc = rt.alloc();
-    let terms = [plain(2, 1), plain(2, 2)];
+    let terms = [(2, X, 1), (2, X, 2)];
     let constraint = signed(alloc, &terms, Relation::Equal, 1).expect(&rt, "memory");
     let (at_least, at_most) = both(alloc, &constraint).expect(&rt, "two forms");
     assert!(&rt; is(&at_least, &terms, 1));
-    assert!(&rt; is(&at_most, &[negated(2, 1), negated(2, 2)], 3));
+    assert!(&rt; is(&at_most, &[(2, NOT, 1), (2, NOT, 2)], 3));
 }
 
 #[test]
 fn limits(rt: HostRuntime) {
     let alloc = rt.alloc();
-    let above = at_least(alloc, &[plain(LIMIT, 0), plain(1, 1)], 0);
+    let above = at_least(alloc, &[(LIMIT, X, 0), (1, X, 1)], 0);
     assert!(&rt; is_fault(above, CutFault::TooLarge));
     assert!(&rt; is_fault(at_least(alloc, &[], LIMIT + 1), CutFault::TooLarge));
     // the sizes count, not what is left of them
-    let cancelling = at_least(alloc, &[plain(LIMIT, 0), plain(-1, 0)], 0);
+    let cancelling = at_least(alloc, &[(LIMIT, X, 0), (-1, X, 0)], 0);
     assert!(&rt; is_fault(cancelling, CutFault::TooLarge));
-    let last = at_least(alloc, &[plain(LIMIT, 0)], 0).expect(&rt, "a form");
+    let last = at_least(alloc, &[(LIMIT, X, 0)], 0).expect(&rt, "a form");
     assert!(&rt; is_fault(negate(alloc, &last), CutFault::TooLarge));
     let highest = signed(alloc, &[], Relation::AtLeast, LIMIT).expect(&rt, "memory");
     let form = normalize(alloc, &highest).expect(&rt, "a form");
@@ -106,7 +107,7 @@ fn net_coefficients(rt: HostRuntime) {
     builder.push_net(Var(2), 0).expect(&rt, "memory");
     builder.push_net(Var(4), 5).expect(&rt, "memory");
     let made = builder.finish(2).expect(&rt, "a constraint");
-    assert!(&rt; is(&made, &[negated(3, 1), plain(5, 4)], 2));
+    assert!(&rt; is(&made, &[(3, NOT, 1), (5, X, 4)], 2));
 }
 
 // 2 x0 1 ~x1 >= 2

@@ -1,7 +1,7 @@
 //! What a propagator answers, and that its content is what was put in and not taken out.
 
-use super::support::{at_least, negated, not_x, plain, x};
-use linear::{Lit, Term};
+use super::support::{NOT, Written, X, at_least, not_x, x};
+use linear::Lit;
 use normal_form::CutFault;
 use propagate::{Id, Propagator, Reach, ScanPropagator, Trace};
 use std::alloc::Global;
@@ -11,7 +11,7 @@ fn put(
     alloc: Global,
     live: &mut ScanPropagator,
     id: Id,
-    terms: &[Term],
+    terms: &[Written],
     right: i128,
 ) -> Result<(), CutFault> {
     let constraint = at_least(alloc, terms, right)?;
@@ -25,9 +25,9 @@ fn put(
 // so one pass over them in order does not do.
 fn three_clauses(alloc: Global) -> Result<ScanPropagator, CutFault> {
     let mut live = ScanPropagator::empty(alloc);
-    put(alloc, &mut live, 3, &[negated(1, 1), plain(1, 2)], 1)?;
-    put(alloc, &mut live, 1, &[negated(1, 2), plain(1, 3)], 1)?;
-    put(alloc, &mut live, 8, &[plain(1, 1)], 1)?;
+    put(alloc, &mut live, 3, &[(1, NOT, 1), (1, X, 2)], 1)?;
+    put(alloc, &mut live, 1, &[(1, NOT, 2), (1, X, 3)], 1)?;
+    put(alloc, &mut live, 8, &[(1, X, 1)], 1)?;
     Ok(live)
 }
 
@@ -60,7 +60,7 @@ fn content(rt: HostRuntime) {
 fn refutations(rt: HostRuntime) {
     let alloc = rt.alloc();
     let mut live = three_clauses(alloc).expect(&rt, "a propagator");
-    let last = at_least(alloc, &[negated(1, 3)], 1).expect(&rt, "a constraint");
+    let last = at_least(alloc, &[(1, NOT, 3)], 1).expect(&rt, "a constraint");
     let extras = [last];
     assert!(&rt; !live.refute(&[]).expect(&rt, "memory"));
     assert!(&rt; live.refute(extras.as_slice()).expect(&rt, "memory"));
@@ -77,9 +77,9 @@ fn weights(rt: HostRuntime) {
     let rows = [(1, true), (2, false), (3, false)];
     for (var, refuted) in &rows {
         let mut live = ScanPropagator::empty(alloc);
-        let terms = [plain(3, 1), plain(2, 2), plain(1, 3)];
+        let terms = [(3, X, 1), (2, X, 2), (1, X, 3)];
         put(alloc, &mut live, 1, &terms, 4).expect(&rt, "a constraint");
-        put(alloc, &mut live, 2, &[negated(1, *var)], 1).expect(&rt, "a constraint");
+        put(alloc, &mut live, 2, &[(1, NOT, *var)], 1).expect(&rt, "a constraint");
         assert_eq!(&rt; live.refute(&[]).expect(&rt, "memory"), *refuted);
     }
 }
@@ -88,7 +88,7 @@ fn weights(rt: HostRuntime) {
 fn listings(rt: HostRuntime) {
     let alloc = rt.alloc();
     let mut live = ScanPropagator::empty(alloc);
-    put(alloc, &mut live, 1, &[plain(1, 1), plain(1, 2)], 1).expect(&rt, "a constraint");
+    put(alloc, &mut live, 1, &[(1, X, 1), (1, X, 2)], 1).expect(&rt, "a constraint");
     let reach = live.extend(&[not_x(1), not_x(1)]).expect(&rt, "memory");
     let mut count = 0;
     if let Reach::Closed(closed) = &reach {
@@ -115,13 +115,13 @@ fn traces(rt: HostRuntime) {
     let trace = live.trace(&[]).expect(&rt, "memory");
     assert!(&rt; is_trace(&trace, chain.as_slice(), None));
     // 1 ~x1 1 ~x4 >= 2 is broken as soon as x1 is listed
-    put(alloc, &mut live, 9, &[negated(1, 1), negated(1, 4)], 2).expect(&rt, "a constraint");
+    put(alloc, &mut live, 9, &[(1, NOT, 1), (1, NOT, 4)], 2).expect(&rt, "a constraint");
     let trace = live.trace(&[]).expect(&rt, "memory");
     assert!(&rt; is_trace(&trace, &[(x(1), 8)], Some(9)));
     // all that a constraint forces is listed at once
     let mut weighted = ScanPropagator::empty(alloc);
-    let terms = [plain(3, 1), plain(2, 2), plain(1, 3)];
-    put(alloc, &mut weighted, 1, &[negated(1, 4), negated(1, 3)], 1).expect(&rt, "a constraint");
+    let terms = [(3, X, 1), (2, X, 2), (1, X, 3)];
+    put(alloc, &mut weighted, 1, &[(1, NOT, 4), (1, NOT, 3)], 1).expect(&rt, "a constraint");
     put(alloc, &mut weighted, 2, &terms, 6).expect(&rt, "a constraint");
     let at_once = [(x(1), 2), (x(2), 2), (x(3), 2), (not_x(4), 1)];
     let trace = weighted.trace(&[]).expect(&rt, "memory");

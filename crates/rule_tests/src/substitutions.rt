@@ -3,8 +3,8 @@
 ghost use Rattle.std.specs.Prelude.{◌≡◌, IfOk, IfSome};
 ghost use Rattle.substitution.specs.Cases.{swap, to_plain};
 
-use super::support::{at_least, is, negated, not_x, plain, x};
-use linear::{Assignment, Lit, Term, Var};
+use super::support::{NOT, Written, X, at_least, is, not_x};
+use linear::{Assignment, Lit, Var};
 use normal_form::Normal;
 use opb_read::read;
 use std::alloc::{AllocError, Global};
@@ -32,6 +32,29 @@ fn swapped(alloc: Global) -> Result<Option<Substitution>, AllocError>
     images(alloc, &[(Var(1), to(2)), (Var(2), to(1))])
 }
 
+const FIRST: Image = Image::Lit(Lit {
+    var: Var(1),
+    negated: false,
+});
+
+const NOT_FIRST: Image = Image::Lit(Lit {
+    var: Var(1),
+    negated: true,
+});
+
+const SECOND: Image = Image::Lit(Lit {
+    var: Var(2),
+    negated: false,
+});
+
+// Images and their opposites.
+const OPPOSITES: [(Image, Image); 4] = [
+    (FIRST, NOT_FIRST),
+    (NOT_FIRST, FIRST),
+    (Image::Zero, Image::One),
+    (Image::One, Image::Zero),
+];
+
 #[test]
 fn each_variable_once(rt: HostRuntime) {
     let alloc = rt.alloc();
@@ -48,65 +71,60 @@ fn each_variable_once(rt: HostRuntime) {
         (Var(1), Image::Zero),
     ];
     assert!(&rt; images(alloc, &twice).expect(&rt, "memory").is_none());
-    let opposites = [
-        (Image::Lit(x(4)), Image::Lit(not_x(4))),
-        (Image::Lit(not_x(4)), Image::Lit(x(4))),
-        (Image::Zero, Image::One),
-        (Image::One, Image::Zero),
-    ];
-    for (image, opposite) in &opposites {
+    for (image, opposite) in &OPPOSITES {
         assert!(&rt; image.opposite() == *opposite);
     }
 }
 
 // 1 x1 1 ~x2 >= 1 under a substitution.
-#[derive(Drop)]
-struct ImageRow<'a> {
-    images: &'a [(Var, Image)],
-    under: &'a [Term],
+#[derive(Clone, Copy)]
+struct ImageRow {
+    images: &'static [(Var, Image)],
+    under: &'static [Written],
     degree: u128,
 }
+
+const UNDER: [ImageRow; 6] = [
+    // all images at once: one after the other would give `>= 0`
+    ImageRow {
+        images: &[(Var(1), SECOND), (Var(2), FIRST)],
+        under: &[(1, NOT, 1), (1, X, 2)],
+        degree: 1,
+    },
+    ImageRow {
+        images: &[(Var(1), Image::Zero)],
+        under: &[(1, NOT, 2)],
+        degree: 1,
+    },
+    ImageRow {
+        images: &[(Var(2), Image::Zero)],
+        under: &[(1, X, 1)],
+        degree: 0,
+    },
+    // images that meet
+    ImageRow {
+        images: &[(Var(1), SECOND)],
+        under: &[],
+        degree: 0,
+    },
+    ImageRow {
+        images: &[(Var(2), NOT_FIRST)],
+        under: &[(2, X, 1)],
+        degree: 1,
+    },
+    // a variable that does not occur
+    ImageRow {
+        images: &[(Var(5), Image::One)],
+        under: &[(1, X, 1), (1, NOT, 2)],
+        degree: 1,
+    },
+];
 
 #[test]
 fn constraints_under_substitutions(rt: HostRuntime) {
     let alloc = rt.alloc();
-    let constraint = at_least(alloc, &[plain(1, 1), negated(1, 2)], 1).expect(&rt, "a constraint");
-    let rows = [
-        // all images at once: one after the other would give `>= 0`
-        ImageRow {
-            images: &[(Var(1), to(2)), (Var(2), to(1))],
-            under: &[negated(1, 1), plain(1, 2)],
-            degree: 1,
-        },
-        ImageRow {
-            images: &[(Var(1), Image::Zero)],
-            under: &[negated(1, 2)],
-            degree: 1,
-        },
-        ImageRow {
-            images: &[(Var(2), Image::Zero)],
-            under: &[plain(1, 1)],
-            degree: 0,
-        },
-        // images that meet
-        ImageRow {
-            images: &[(Var(1), to(2))],
-            under: &[],
-            degree: 0,
-        },
-        ImageRow {
-            images: &[(Var(2), Image::Lit(not_x(1)))],
-            under: &[plain(2, 1)],
-            degree: 1,
-        },
-        // a variable that does not occur
-        ImageRow {
-            images: &[(Var(5), Image::One)],
-            under: &[plain(1, 1), negated(1, 2)],
-            degree: 1,
-        },
-    ];
-    for row in &rows {
+    let constraint = at_least(alloc, &[(1, X, 1), (1, NOT, 2)], 1).expect(&rt, "a constraint");
+    for row in &UNDER {
         let substitution = images(alloc, row.images)
             .expect(&rt, "memory")
             .expect(&rt, "a substitution");
@@ -127,67 +145,68 @@ fn assignments_after_a_swap(rt: HostRuntime) {
 }
 
 // Two constraints, and whether the first covers the second.
-#[derive(Drop)]
-struct CoverRow<'a> {
-    first: &'a [Term],
+#[derive(Clone, Copy)]
+struct CoverRow {
+    first: &'static [Written],
     first_degree: i128,
-    second: &'a [Term],
+    second: &'static [Written],
     second_degree: i128,
     covers: bool,
 }
 
+const COVERS: [CoverRow; 6] = [
+    // 1 x1 1 x2 1 x3 >= 2 covers itself, and 1 x1 1 x2 >= 1
+    CoverRow {
+        first: &[(1, X, 1), (1, X, 2), (1, X, 3)],
+        first_degree: 2,
+        second: &[(1, X, 1), (1, X, 2), (1, X, 3)],
+        second_degree: 2,
+        covers: true,
+    },
+    CoverRow {
+        first: &[(1, X, 1), (1, X, 2), (1, X, 3)],
+        first_degree: 2,
+        second: &[(1, X, 1), (1, X, 2)],
+        second_degree: 1,
+        covers: true,
+    },
+    // and is not covered by it, nor is twice as much
+    CoverRow {
+        first: &[(1, X, 1), (1, X, 2)],
+        first_degree: 1,
+        second: &[(1, X, 1), (1, X, 2), (1, X, 3)],
+        second_degree: 2,
+        covers: false,
+    },
+    CoverRow {
+        first: &[(1, X, 1), (1, X, 2)],
+        first_degree: 1,
+        second: &[(2, X, 1), (2, X, 2)],
+        second_degree: 2,
+        covers: false,
+    },
+    // the opposite literal does not count
+    CoverRow {
+        first: &[(1, X, 1)],
+        first_degree: 1,
+        second: &[(1, NOT, 1)],
+        second_degree: 1,
+        covers: false,
+    },
+    // a contradiction covers everything of no higher degree
+    CoverRow {
+        first: &[],
+        first_degree: 1,
+        second: &[(5, X, 3)],
+        second_degree: 1,
+        covers: true,
+    },
+];
+
 #[test]
 fn covering(rt: HostRuntime) {
     let alloc = rt.alloc();
-    let rows = [
-        // 1 x1 1 x2 1 x3 >= 2 covers itself, and 1 x1 1 x2 >= 1
-        CoverRow {
-            first: &[plain(1, 1), plain(1, 2), plain(1, 3)],
-            first_degree: 2,
-            second: &[plain(1, 1), plain(1, 2), plain(1, 3)],
-            second_degree: 2,
-            covers: true,
-        },
-        CoverRow {
-            first: &[plain(1, 1), plain(1, 2), plain(1, 3)],
-            first_degree: 2,
-            second: &[plain(1, 1), plain(1, 2)],
-            second_degree: 1,
-            covers: true,
-        },
-        // and is not covered by it, nor is twice as much
-        CoverRow {
-            first: &[plain(1, 1), plain(1, 2)],
-            first_degree: 1,
-            second: &[plain(1, 1), plain(1, 2), plain(1, 3)],
-            second_degree: 2,
-            covers: false,
-        },
-        CoverRow {
-            first: &[plain(1, 1), plain(1, 2)],
-            first_degree: 1,
-            second: &[plain(2, 1), plain(2, 2)],
-            second_degree: 2,
-            covers: false,
-        },
-        // the opposite literal does not count
-        CoverRow {
-            first: &[plain(1, 1)],
-            first_degree: 1,
-            second: &[negated(1, 1)],
-            second_degree: 1,
-            covers: false,
-        },
-        // a contradiction covers everything of no higher degree
-        CoverRow {
-            first: &[],
-            first_degree: 1,
-            second: &[plain(5, 3)],
-            second_degree: 1,
-            covers: true,
-        },
-    ];
-    for row in &rows {
+    for row in &COVERS {
         let first = at_least(alloc, row.first, row.first_degree).expect(&rt, "a constraint");
         let second = at_least(alloc, row.second, row.second_degree).expect(&rt, "a constraint");
         assert_eq!(&rt; covers(&first, &second), row.covers);
@@ -195,11 +214,11 @@ fn covering(rt: HostRuntime) {
 }
 
 // An objective, the image of its first variable, and what must be shown.
-#[derive(Drop)]
-struct GoalRow<'a> {
+#[derive(Clone, Copy)]
+struct GoalRow {
     problem: &'static [u8],
     image: Image,
-    goal: &'a [Term],
+    goal: &'static [Written],
     degree: u128,
 }
 
@@ -210,38 +229,39 @@ fn goal_of(alloc: Global, text: &[u8], image: Image) -> Option<Normal> {
     objective_goal(alloc, &problem, &substitution).ok()?
 }
 
+const GOALS: [GoalRow; 4] = [
+    // 1 x1 less 1 is at least 0
+    GoalRow {
+        problem: b"min: 1 x1 ;",
+        image: Image::One,
+        goal: &[(1, X, 0)],
+        degree: 1,
+    },
+    GoalRow {
+        problem: b"min: 1 x1 ;",
+        image: Image::Zero,
+        goal: &[(1, X, 0)],
+        degree: 0,
+    },
+    // 3 x1 2 x2 less 5 x2
+    GoalRow {
+        problem: b"min: 3 x1 2 x2 ;",
+        image: FIRST,
+        goal: &[(3, X, 0), (3, NOT, 1)],
+        degree: 3,
+    },
+    GoalRow {
+        problem: b"min: ;",
+        image: Image::One,
+        goal: &[],
+        degree: 0,
+    },
+];
+
 #[test]
 fn objectives(rt: HostRuntime) {
     let alloc = rt.alloc();
-    let rows = [
-        // 1 x1 less 1 is at least 0
-        GoalRow {
-            problem: b"min: 1 x1 ;",
-            image: Image::One,
-            goal: &[plain(1, 0)],
-            degree: 1,
-        },
-        GoalRow {
-            problem: b"min: 1 x1 ;",
-            image: Image::Zero,
-            goal: &[plain(1, 0)],
-            degree: 0,
-        },
-        // 3 x1 2 x2 less 5 x2
-        GoalRow {
-            problem: b"min: 3 x1 2 x2 ;",
-            image: to(1),
-            goal: &[plain(3, 0), negated(3, 1)],
-            degree: 3,
-        },
-        GoalRow {
-            problem: b"min: ;",
-            image: Image::One,
-            goal: &[],
-            degree: 0,
-        },
-    ];
-    for row in &rows {
+    for row in &GOALS {
         let goal = goal_of(alloc, row.problem, row.image).expect(&rt, "a goal");
         assert!(&rt; is(&goal, row.goal, row.degree));
     }

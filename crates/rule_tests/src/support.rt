@@ -12,23 +12,14 @@ pub(crate) const LIMIT: i128 = 1329227995784915872903807060280344576;
 /// 2^119: twice this is the limit.
 pub(crate) const HALF: i128 = 664613997892457936451903530140172288;
 
-/// A coefficient at a variable.
-pub(crate) fn plain(coef: i128, var: u32) -> Term {
-    Term {
-        coef,
-        var: Var(var),
-        negated: false,
-    }
-}
+/// A term of a table: its coefficient, and its literal as its sign and the number of its variable.
+pub(crate) type Written = (i128, bool, u32);
 
-/// A coefficient at the negation of a variable.
-pub(crate) fn negated(coef: i128, var: u32) -> Term {
-    Term {
-        coef,
-        var: Var(var),
-        negated: true,
-    }
-}
+/// The sign of a variable in a table.
+pub(crate) const X: bool = false;
+
+/// The sign of a negated variable in a table.
+pub(crate) const NOT: bool = true;
 
 /// The variable as a literal.
 pub(crate) fn x(var: u32) -> Lit {
@@ -46,46 +37,64 @@ pub(crate) fn not_x(var: u32) -> Lit {
     }
 }
 
+// The terms of a table's row.
+fn terms(alloc: Global, written: &[Written]) -> Result<Vec<Term>, AllocError> {
+    let mut terms = Vec::new(alloc);
+    for (coef, negated, var) in written {
+        terms.push(Term {
+            coef: *coef,
+            var: Var(*var),
+            negated: *negated,
+        })?;
+    }
+    Ok(terms)
+}
+
 /// A written constraint.
 pub(crate) fn signed(
     alloc: Global,
-    terms: &[Term],
+    written: &[Written],
     relation: Relation,
     right: i128,
 ) -> Result<Signed, AllocError>
     ensures { IfOk result (λ c. c.relation ≡ relation) }
 {
     Ok(Signed {
-        terms: Seq::from_vec(Vec::from_slice(alloc, terms)?),
+        terms: Seq::from_vec(terms(alloc, written)?),
         relation,
         right,
     })
 }
 
 /// The normal form of a written constraint with `>=`.
-pub(crate) fn at_least(alloc: Global, terms: &[Term], right: i128) -> Result<Normal, CutFault> {
-    let constraint = signed(alloc, terms, Relation::AtLeast, right)?;
+pub(crate) fn at_least(
+    alloc: Global,
+    written: &[Written],
+    right: i128,
+) -> Result<Normal, CutFault> {
+    let constraint = signed(alloc, written, Relation::AtLeast, right)?;
     normalize(alloc, &constraint)
 }
 
 // Whether a term of a normal constraint is this written one, whose coefficient is above 0.
-fn is_term(term: NormalTerm, written: Term) -> bool {
+fn is_term(term: NormalTerm, written: Written) -> bool {
+    let (coef, negated, var) = written;
     term.literal()
         == (Lit {
-            var: written.var,
-            negated: written.negated,
+            var: Var(var),
+            negated,
         })
-        && written.coef > 0
-        && term.coef == written.coef.unsigned_abs()
+        && coef > 0
+        && term.coef == coef.unsigned_abs()
 }
 
 /// Whether a constraint has exactly these terms, in this order, and this degree.
-pub(crate) fn is(constraint: &Normal, terms: &[Term], degree: u128) -> bool {
-    if constraint.len() != terms.len() || constraint.degree() != degree {
+pub(crate) fn is(constraint: &Normal, written: &[Written], degree: u128) -> bool {
+    if constraint.len() != written.len() || constraint.degree() != degree {
         return false;
     }
     for place in 0..constraint.len() {
-        if place >= terms.len() || !is_term(constraint.term(place), terms[place]) {
+        if place >= written.len() || !is_term(constraint.term(place), written[place]) {
             return false;
         }
     }
