@@ -11,8 +11,6 @@ use Rattle.proof_rules.specs.declared.fault.StepFault.{StepFault}
 use Rattle.proof_rules.specs.declared.fault.StepFault.TheVariants as faults
 use Rattle.proof_steps.specs.declared.step.Step.{Step}
 use Rattle.proof_steps.specs.declared.step.Step.TheVariants as steps
-use Rattle.proof_steps.specs.declared.conclusion.Conclusion.{Conclusion}
-use Rattle.proof_steps.specs.declared.conclusion.Conclusion.TheVariants as conclusions
 use Rattle.proof_rules.specs.Preserved.{IsPreserved, AreNormal}
 use Rattle.proof_rules.specs.State.{State}
 use Rattle.kernel.specs.Database.{Constraints}
@@ -27,18 +25,6 @@ pub record IsKept (k : Held) : Type 0 where
   pub within : IsWithin k.problem
   pub preserved : IsPreserved k.problem k.state
   pub normal : AreNormal k.state
-
--- a step whose kind the kernel judges so far
-abbrev pub IsJudgedStep : Step → Type 0
-IsJudgedStep (steps.Pol written) = ⊤
-IsJudgedStep (steps.Rup c) = ⊤
-IsJudgedStep _ = ⊥
-
--- a conclusion whose kind the kernel judges so far
-abbrev pub IsJudged : Conclusion → Type 0
-IsJudged conclusions.Nothing = ⊤
-IsJudged conclusions.Unsat = ⊤
-IsJudged _ = ⊥
 
 -- the state of these live constraints, in which no solution is logged
 abbrev pub opened : Constraints → State

@@ -2,4 +2,5 @@ pub mod Accepted
 pub mod Database
 pub mod File
 pub mod Held
+pub mod Kinds
 pub mod Stack

@@ -6,7 +6,8 @@ ghost use Rattle.proof_rules.specs.Fault.{OrMemory, IsConclusionFault};
 ghost use Rattle.proof_rules.specs.Justified.{IsJustified, IsBest};
 ghost use Rattle.proof_rules.specs.Shown.{IsShown, absurdity};
 ghost use Rattle.proof_rules.specs.State.{constraints};
-ghost use Rattle.kernel.specs.Held.{IsKept, IsJudged};
+ghost use Rattle.kernel.specs.Held.{IsKept};
+ghost use Rattle.kernel.specs.Kinds.{IsJudged};
 
 use super::accepted::Accepted;
 use super::kernel::Kernel;

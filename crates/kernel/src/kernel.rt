@@ -49,7 +49,8 @@ impl<'a, P: Propagator> Kernel<'a, P> {
     ghost use Rattle.proof_rules.specs.Legal.{Legal};
     ghost use Rattle.proof_rules.specs.Shown.{IsShown};
     ghost use Rattle.proof_rules.specs.State.{IsStart, HasRoom, constraints, with_constraint};
-    ghost use Rattle.kernel.specs.Held.{IsKept, IsJudgedStep, HasAtLeast};
+    ghost use Rattle.kernel.specs.Held.{IsKept, HasAtLeast};
+    ghost use Rattle.kernel.specs.Kinds.{IsJudgedStep};
 
     /// The kernel of a problem's file. Want of memory is the only fault.
     pub fn new(alloc: Global, problem: &'a Problem) -> Result<Self, StepFault>

@@ -7,6 +7,7 @@ mod conclusion;
 mod database;
 mod file;
 mod kernel;
+mod kinds;
 mod pol;
 mod rup;
 mod shown;
@@ -14,3 +15,4 @@ mod stack;
 
 pub use accepted::Accepted;
 pub use kernel::{Applied, Kernel};
+pub use kinds::{is_judged_conclusion, is_judged_step};
