@@ -1,3 +1,5 @@
+pub mod Best
 pub mod Keeping
 pub mod Listed
+pub mod Members
 pub mod Showing

@@ -3,4 +3,5 @@ pub mod Database
 pub mod File
 pub mod Held
 pub mod Kinds
+pub mod Logged
 pub mod Stack

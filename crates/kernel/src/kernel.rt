@@ -5,6 +5,7 @@
 use super::accepted::Accepted;
 use super::database::Database;
 use super::file::constraints_of_file;
+use super::log::Log;
 use super::shown::is_shown;
 use linear::Problem;
 use normal_form::Normal;
@@ -25,22 +26,24 @@ pub struct Applied {
 #[derive(Drop)]
 pub struct Kernel<'a, P: Propagator> {
     pub(crate) allocator: Global,
-    source: &'a Problem,
+    pub(crate) source: &'a Problem,
     pub(crate) database: Database<P>,
+    pub(crate) log: Log,
+    pub(crate) file_ids: u64,
 }
 
 impl<'a, P: Propagator> Model for Kernel<'a, P> {
     ghost use Rattle.std.specs.Coded.{codes};
     ghost use Rattle.proof_rules.specs.Codes.{state_code};
-    ghost use Rattle.kernel.specs.Held.{Held, IsKept, opened};
+    ghost use Rattle.kernel.specs.Held.{Held, Keeps, state_with};
 
     ghost Value = { Held };
 
     ghost coded = { Prim.hlevel (codes, state_code) };
 
-    ghost view = { λ k. record { problem = k.source.now; state = opened k.database } };
+    ghost view = { λ k. record { problem = k.source.now; state = state_with k.database k.log } };
 
-    ghost invariant = { λ k. IsKept (record { problem = k.source.now; state = opened k.database }) };
+    ghost invariant = { λ k. Keeps (record { problem = k.source.now; state = state_with k.database k.log }) k.file_ids };
 }
 
 impl<'a, P: Propagator> Kernel<'a, P> {
@@ -59,10 +62,13 @@ impl<'a, P: Propagator> Kernel<'a, P> {
         ensures others { OnErr result (IsErrOf result StepFault.OutOfMemory) }
     {
         let database = constraints_of_file(alloc, problem)?;
+        let file_ids = database.next_id() - 1;
         Ok(Kernel {
             allocator: alloc,
             source: problem,
             database,
+            log: Log::empty(alloc),
+            file_ids,
         })
     }
 
