@@ -48,6 +48,12 @@ pub record Keeps (k : Held) (file_ids : ℕ) : Type 0 where
   pub kept : IsKept k
   pub file : file_ids ≡ problem_ids k.problem.constraints
 
+-- the id that a step gives its constraint, if it adds one
+abbrev pub given_id : Step → State → Option ℕ
+given_id (steps.Sol listing) s = None
+given_id (steps.Del ids) s = None
+given_id _ s = Some s.next
+
 -- the relation of a constraint in a step is `>=`
 abbrev pub HasAtLeast : Step → Type 0
 HasAtLeast (steps.Rup c) = c.relation ≡ AtLeast

@@ -9,6 +9,7 @@ use Rattle.proof_steps.specs.declared.conclusion.Conclusion.TheVariants as concl
 abbrev pub IsJudgedStep : Step → Type 0
 IsJudgedStep (steps.Pol written) = ⊤
 IsJudgedStep (steps.Rup c) = ⊤
+IsJudgedStep (steps.Sol listing) = ⊤
 IsJudgedStep _ = ⊥
 
 -- a conclusion whose kind the kernel judges so far

@@ -5,3 +5,4 @@ pub mod Held
 pub mod Kinds
 pub mod Logged
 pub mod Stack
+pub mod Table

@@ -1,5 +1,5 @@
 -- What a proof has logged.
-use Rattle.std.specs.Prelude.{ℤ, Bool, List, [], Option, None, refl}
+use Rattle.std.specs.Prelude.{ℤ, Bool, List, [], ◌∷◌, ◌++◌, Option, None, refl}
 use Rattle.std.specs.Coded.{Coded, code_by, coded×, coded_ℕ, coded_ℤ, coded_bool, coded_list, coded_option}
 use Rattle.std.specs.FinSet as set
 use Rattle.std.specs.Ordering.{nat_cmp}
@@ -21,3 +21,7 @@ logged_code =
 -- nothing so far
 abbrev pub unlogged : Logged
 unlogged = record { logged = []; improve = None; improving = set.empty }
+
+-- with one more solution
+abbrev pub with_logged : List Bool → Logged → Logged
+with_logged g l = record l { logged = l.logged ++ g ∷ [] }

@@ -4,8 +4,9 @@
 ghost use Rattle.std.specs.Prelude.{◌≡◌, ◌≤◌, ◌^◌, MatchOption};
 ghost use Rattle.proof_rules.specs.State.{id_limit, id_of};
 
+use linear::Lit;
 use normal_form::Normal;
-use propagate::{Id, Propagator};
+use propagate::{Id, Propagator, Reach};
 use std::alloc::{AllocError, Global};
 use std::marker::Model;
 use substitution::covers;
@@ -39,6 +40,7 @@ impl<P: Propagator> Database<P> {
     ghost use Rattle.normal_form.specs.Normal.{NormalConstraint};
     ghost use Rattle.propagate.specs.Chain.{IsRefuted};
     ghost use Rattle.propagate.specs.Content.{IsLeastAbove};
+    ghost use Rattle.propagate.specs.Reach.{IsReach};
     ghost use Rattle.substitution.specs.Covering.{Covers};
     ghost use Rattle.std.specs.FinMap as map;
     ghost use Rattle.std.specs.Option.{option_copied};
@@ -107,6 +109,14 @@ impl<P: Propagator> Database<P> {
         ensures refuted { IfOk result (λ yes. IsTrue yes ↔ IsRefuted (map.values self.old.live ++ beside.now)) }
     {
         self.constraints.refute(beside)
+    }
+
+    /// What a listing extends to by propagation over the live constraints.
+    pub(crate) fn extend(&mut self, listing: &[Lit]) -> Result<Reach, AllocError>
+        ensures same { self.new ≡ self.old }
+        ensures reach { IfOk result (IsReach (map.values self.old.live) listing.now) }
+    {
+        self.constraints.extend(listing)
     }
 
     /// The live constraint that a number in a step means, if there is one: `-k` is the next id less `k`.

@@ -52,7 +52,7 @@ impl<'a, P: Propagator> Kernel<'a, P> {
     ghost use Rattle.proof_rules.specs.Legal.{Legal};
     ghost use Rattle.proof_rules.specs.Shown.{IsShown};
     ghost use Rattle.proof_rules.specs.State.{IsStart, HasRoom, constraints, with_constraint};
-    ghost use Rattle.kernel.specs.Held.{IsKept, HasAtLeast};
+    ghost use Rattle.kernel.specs.Held.{IsKept, HasAtLeast, given_id};
     ghost use Rattle.kernel.specs.Kinds.{IsJudgedStep};
 
     /// The kernel of a problem's file. Want of memory is the only fault.
@@ -80,21 +80,22 @@ impl<'a, P: Propagator> Kernel<'a, P> {
         self.database.next_id() - 1
     }
 
-    /// Applies a step, whole or not at all: `pol`, which adds the value of an expression, or `rup`, which adds a constraint
-    /// that is shown from the live ones. A refusal names the first fault in the order of judging, and leaves the kernel as
-    /// before; a legal step is refused for want of memory alone.
+    /// Applies a step, whole or not at all: `pol`, which adds the value of an expression, `rup`, which adds a constraint
+    /// that is shown from the live ones, or `sol`, which logs a solution of the file. A refusal names the first fault in the
+    /// order of judging, and leaves the kernel as before; a legal step is refused for want of memory alone.
     pub fn apply(&mut self, step: &Step) -> Result<Applied, StepFault>
         requires kind { IsJudgedStep step.now }
         requires relation { HasAtLeast step.now }
         ensures problem { self.new.problem ≡ self.old.problem }
         ensures ok { OnOk result (Legal self.old.problem self.old.state step.now self.new.state) }
-        ensures id { IfOk result (λ applied. applied.id ≡ Some self.old.state.next) }
+        ensures id { IfOk result (λ applied. applied.id ≡ given_id step.now self.old.state) }
         ensures fault { IfErr result (λ f. OrMemory f (IsStepFault self.old.problem self.old.state step.now f)) }
         ensures err { OnErr result (self.new ≡ self.old) }
     {
         match step {
             Step::Pol(items) => self.pol(items.as_slice()),
             Step::Rup(constraint) => self.rup(constraint),
+            Step::Sol(listing) => self.sol(listing.as_slice()),
             _ => unreachable!(),
         }
     }

@@ -13,7 +13,9 @@ mod log;
 mod pol;
 mod rup;
 mod shown;
+mod solution;
 mod stack;
+mod values;
 
 pub use accepted::Accepted;
 pub use kernel::{Applied, Kernel};

@@ -1,16 +1,16 @@
 //! What a proof has logged: its solutions, the least value of an improving one, and the ids of the constraints that improving
 //! ones added. All solutions are kept, and the best is looked up where it is asked for, at the end.
 
-ghost use Rattle.std.specs.Prelude.{◌≡◌, [], ◌↔◌, ◌<ℤ◌, All, IfSome, IsTrue};
+ghost use Rattle.std.specs.Prelude.{◌≡◌, [], ◌↔◌, ◌<ℤ◌, All, IfSome, IsTrue, OnErr, OnOk};
 ghost use Rattle.std.specs.Option.{option_copied};
 ghost use Rattle.proof_rules.specs.Claim.{IsSolution};
 ghost use Rattle.proof_rules.specs.Justified.{IsBest};
 ghost use Rattle.proof_rules.specs.Legal.{worth_of};
-ghost use Rattle.kernel.specs.Logged.{unlogged};
+ghost use Rattle.kernel.specs.Logged.{unlogged, with_logged};
 
 use super::ids::Ids;
 use linear::{Assignment, Problem};
-use std::alloc::Global;
+use std::alloc::{AllocError, Global};
 use std::marker::Model;
 
 /// What a proof has logged.
@@ -41,6 +41,15 @@ impl Log {
             least: None,
             asked: Ids::empty(alloc),
         }
+    }
+
+    /// Logs a solution.
+    pub(crate) fn push(&mut self, solution: Assignment) -> Result<(), AllocError>
+        ensures ok { OnOk result (self.new ≡ with_logged solution self.old) }
+        ensures err { OnErr result (self.new ≡ self.old) }
+    {
+        self.solutions.push(solution)?;
+        Ok(())
     }
 
     /// Whether no solution is logged.
