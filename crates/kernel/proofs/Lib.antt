@@ -1,7 +1,9 @@
 pub mod Best
 pub mod Completed
+pub mod Improving
 pub mod Keeping
 pub mod Listed
 pub mod Members
 pub mod Showing
 pub mod Tables
+pub mod TakenBack

@@ -10,6 +10,7 @@ abbrev pub IsJudgedStep : Step → Type 0
 IsJudgedStep (steps.Pol written) = ⊤
 IsJudgedStep (steps.Rup c) = ⊤
 IsJudgedStep (steps.Sol listing) = ⊤
+IsJudgedStep (steps.Soli listing) = ⊤
 IsJudgedStep _ = ⊥
 
 -- a conclusion whose kind the kernel judges so far

@@ -1,5 +1,5 @@
 -- What a proof has logged.
-use Rattle.std.specs.Prelude.{ℤ, Bool, List, [], ◌∷◌, ◌++◌, Option, None, refl}
+use Rattle.std.specs.Prelude.{ℕ, ℤ, Bool, List, [], ◌∷◌, ◌++◌, Option, None, Some, refl}
 use Rattle.std.specs.Coded.{Coded, code_by, coded×, coded_ℕ, coded_ℤ, coded_bool, coded_list, coded_option}
 use Rattle.std.specs.FinSet as set
 use Rattle.std.specs.Ordering.{nat_cmp}
@@ -25,3 +25,7 @@ unlogged = record { logged = []; improve = None; improving = set.empty }
 -- with one more solution
 abbrev pub with_logged : List Bool → Logged → Logged
 with_logged g l = record l { logged = l.logged ++ g ∷ [] }
+
+-- with one more solution, which improves to a value, and whose constraint has an id
+abbrev pub with_improved : List Bool → ℤ → ℕ → Logged → Logged
+with_improved g value id l = record { logged = l.logged ++ g ∷ []; improve = Some value; improving = set.insert l.improving id }

@@ -45,7 +45,7 @@ impl<P: Propagator> Database<P> {
     ghost use Rattle.std.specs.FinMap as map;
     ghost use Rattle.std.specs.Option.{option_copied};
     ghost use Rattle.proof_rules.specs.State.{AreNumbered};
-    ghost use Rattle.kernel.specs.Database.{pushed, found};
+    ghost use Rattle.kernel.specs.Database.{pushed, taken_back, found};
 
     /// No constraint; the first one takes the id 1.
     pub(crate) fn empty(alloc: Global) -> Self
@@ -77,12 +77,22 @@ impl<P: Propagator> Database<P> {
         requires { self.old.next < id_limit }
         ensures ok { OnOk result (self.new ≡ pushed constraint self.old) }
         ensures id { IfOk result (λ id. id ≡ self.old.next) }
+        ensures numbered { AreNumbered self.old.live self.old.next }
         ensures err { OnErr result (self.new ≡ self.old) }
     {
         let id = self.next_id as u32;
         self.constraints.insert(id, constraint)?;
         self.next_id += 1;
         Ok(id)
+    }
+
+    /// Takes the newest constraint out again, and its id back.
+    pub(crate) fn take_back(&mut self)
+        requires { 1 < self.old.next }
+        ensures { self.new ≡ taken_back self.old }
+    {
+        self.next_id -= 1;
+        self.constraints.remove(self.next_id as u32);
     }
 
     /// The least live id above this one.

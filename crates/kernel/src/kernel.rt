@@ -81,7 +81,8 @@ impl<'a, P: Propagator> Kernel<'a, P> {
     }
 
     /// Applies a step, whole or not at all: `pol`, which adds the value of an expression, `rup`, which adds a constraint
-    /// that is shown from the live ones, or `sol`, which logs a solution of the file. A refusal names the first fault in the
+    /// that is shown from the live ones, `sol`, which logs a solution of the file, or `soli`, which also adds a constraint that
+    /// asks for better ones. A refusal names the first fault in the
     /// order of judging, and leaves the kernel as before; a legal step is refused for want of memory alone.
     pub fn apply(&mut self, step: &Step) -> Result<Applied, StepFault>
         requires kind { IsJudgedStep step.now }
@@ -96,6 +97,7 @@ impl<'a, P: Propagator> Kernel<'a, P> {
             Step::Pol(items) => self.pol(items.as_slice()),
             Step::Rup(constraint) => self.rup(constraint),
             Step::Sol(listing) => self.sol(listing.as_slice()),
+            Step::Soli(listing) => self.soli(listing.as_slice()),
             _ => unreachable!(),
         }
     }

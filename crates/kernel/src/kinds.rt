@@ -11,7 +11,7 @@ pub fn is_judged_step(step: &Step) -> bool
     ensures { IsTrue result ↔ IsJudgedStep step.now }
 {
     match step {
-        Step::Pol(_) | Step::Rup(_) | Step::Sol(_) => true,
+        Step::Pol(_) | Step::Rup(_) | Step::Sol(_) | Step::Soli(_) => true,
         _ => false,
     }
 }

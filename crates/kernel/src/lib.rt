@@ -10,6 +10,7 @@ mod ids;
 mod kernel;
 mod kinds;
 mod log;
+mod objective;
 mod pol;
 mod rup;
 mod shown;

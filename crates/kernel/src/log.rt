@@ -6,10 +6,11 @@ ghost use Rattle.std.specs.Option.{option_copied};
 ghost use Rattle.proof_rules.specs.Claim.{IsSolution};
 ghost use Rattle.proof_rules.specs.Justified.{IsBest};
 ghost use Rattle.proof_rules.specs.Legal.{worth_of};
-ghost use Rattle.kernel.specs.Logged.{unlogged, with_logged};
+ghost use Rattle.kernel.specs.Logged.{unlogged, with_logged, with_improved};
 
 use super::ids::Ids;
 use linear::{Assignment, Problem};
+use propagate::Id;
 use std::alloc::{AllocError, Global};
 use std::marker::Model;
 
@@ -50,6 +51,35 @@ impl Log {
     {
         self.solutions.push(solution)?;
         Ok(())
+    }
+
+    /// Logs an improving solution, its value and the id of the constraint that asks for better ones.
+    pub(crate) fn improve(
+        &mut self,
+        solution: Assignment,
+        value: i128,
+        id: Id,
+    ) -> Result<(), AllocError>
+        ensures ok { OnOk result (self.new ≡ with_improved solution value id self.old) }
+        ensures err { OnErr result (self.new ≡ self.old) }
+    {
+        self.solutions.push(solution)?;
+        if let Err(refused) = self.asked.insert(id) {
+            self.solutions.pop();
+            return Err(refused);
+        }
+        self.least = Some(value);
+        Ok(())
+    }
+
+    /// Whether a value is below the least one of the improving solutions, if there is one.
+    pub(crate) fn improves(&self, value: i128) -> bool
+        ensures { IsTrue result ↔ IfSome self.now.improve (λ least. value <ℤ least) }
+    {
+        match self.least {
+            None => true,
+            Some(least) => value < least,
+        }
     }
 
     /// Whether no solution is logged.

@@ -2,18 +2,19 @@
 //! follow by propagation over the live constraints. Whether the completed listing is a solution is judged by the file, and
 //! never by the live constraints, which may ask for more, or for less.
 
-ghost use Rattle.std.specs.Prelude.{◌≡◌, ◌↔◌, ◌≤◌, None, Some, IfOk, IfErr, IsErrOf, IsTrue, OnOk, OnErr, length};
-ghost use Rattle.normal_form.specs.Normal.{IsNormal};
-ghost use Rattle.normal_form.specs.NormalOf.{IsNormalOf, size_sum};
+ghost use Rattle.std.specs.Prelude.{◌≡◌, ◌↔◌, None, Some, IfOk, IfErr, IsErrOf, IsTrue, OnOk, OnErr, length};
 ghost use Rattle.propagate.specs.Literals.{IsConsistent};
 ghost use Rattle.proof_rules.specs.Fault.{OrMemory, IsSolFault, IsSoliFault};
-ghost use Rattle.proof_rules.specs.Legal.{LegalSol, LegalSoli, Logs};
+ghost use Rattle.proof_rules.specs.Legal.{LegalSol, LegalSoli, Logs, with_improvement, worth_of};
 ghost use Rattle.proof_rules.specs.Solution.{Completes};
-ghost use Rattle.proof_rules.specs.State.{constraints};
+ghost use Rattle.proof_rules.specs.State.{HasRoom, constraints};
+ghost use Rattle.kernel.specs.Held.{IsKept};
 
 use super::kernel::{Applied, Kernel};
+use super::objective::below;
 use super::values::values;
 use linear::{Assignment, Lit};
+use normal_form::Normal;
 use proof_rules::StepFault;
 use propagate::{Propagator, Reach};
 use std::alloc::{AllocError, Global};
@@ -40,6 +41,55 @@ impl<'a, P: Propagator> Kernel<'a, P> {
         let solution = self.solution(listing)?;
         self.log.push(solution)?;
         Ok(Applied { id: None })
+    }
+
+    /// Logs a solution that is worth less than the improving ones before, and adds a constraint that asks for still less.
+    /// That there is an objective is judged first, then the solution, then its value, then the ids.
+    pub(crate) fn soli(&mut self, listing: &[Lit]) -> Result<Applied, StepFault>
+        ensures problem { self.new.problem ≡ self.old.problem }
+        ensures ok { OnOk result (LegalSoli self.old.problem self.old.state listing.now self.new.state) }
+        ensures id { IfOk result (λ applied. applied.id ≡ Some self.old.state.next) }
+        ensures fault { IfErr result (λ f. OrMemory f (IsSoliFault self.old.problem self.old.state listing.now f)) }
+        ensures err { OnErr result (self.new ≡ self.old) }
+    {
+        let problem = self.source;
+        let Some(objective) = problem.objective() else {
+            return Err(StepFault::NoObjective);
+        };
+        let solution = self.solution(listing)?;
+        let value = problem.value(&solution);
+        if !self.log.improves(value) {
+            return Err(StepFault::NotImproving);
+        }
+        if !self.database.has_room() {
+            return Err(StepFault::TooManyIds);
+        }
+        let better = below(self.allocator, objective.as_slice(), value)?;
+        self.improve(solution, value, better)
+    }
+
+    /// Logs an improving solution, and adds the constraint that asks for better ones, under the next id.
+    fn improve(
+        &mut self,
+        solution: Assignment,
+        value: i128,
+        better: Normal,
+    ) -> Result<Applied, StepFault>
+        requires value { value ≡ worth_of self.old.problem solution }
+        requires room { HasRoom self.old.state }
+        requires kept { IsKept (record { problem = self.old.problem; state = with_improvement self.old.problem solution better self.old.state }) }
+        ensures problem { self.new.problem ≡ self.old.problem }
+        ensures ok { OnOk result (self.new.state ≡ with_improvement self.old.problem solution better self.old.state) }
+        ensures id { IfOk result (λ applied. applied.id ≡ Some self.old.state.next) }
+        ensures memory { OnErr result (IsErrOf result StepFault.OutOfMemory) }
+        ensures err { OnErr result (self.new ≡ self.old) }
+    {
+        let id = self.database.push(better)?;
+        if self.log.improve(solution, value, id).is_err() {
+            self.database.take_back();
+            return Err(StepFault::OutOfMemory);
+        }
+        Ok(Applied { id: Some(id) })
     }
 
     /// The solution that a listing gives: first the listing is judged, then its completion, then what it satisfies.
