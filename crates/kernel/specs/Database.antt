@@ -19,6 +19,10 @@ constraints_code =
 abbrev pub pushed : NormalConstraint → Constraints → Constraints
 pushed n d = record { live = map.insert d.live d.next n; next = d.next + 1 }
 
+-- without the constraint of an id
+abbrev pub removed : ℕ → Constraints → Constraints
+removed id d = record { live = map.remove d.live id; next = d.next }
+
 -- without the newest constraint, whose id is the next one again
 abbrev pub taken_back : Constraints → Constraints
 taken_back d = record { live = map.remove d.live (d.next - 1); next = d.next - 1 }

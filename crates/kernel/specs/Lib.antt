@@ -1,5 +1,6 @@
 pub mod Accepted
 pub mod Database
+pub mod Deletion
 pub mod File
 pub mod Held
 pub mod Kinds

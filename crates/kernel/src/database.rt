@@ -23,7 +23,7 @@ pub(crate) struct Database<P: Propagator> {
 
 impl<P: Propagator> Model for Database<P> {
     ghost use Rattle.std.specs.Coded.{codes};
-    ghost use Rattle.proof_rules.specs.State.{AreNumbered};
+    ghost use Rattle.proof_rules.specs.State.{AreNumbered, id_of};
     ghost use Rattle.kernel.specs.Database.{Constraints, constraints_code};
 
     ghost Value = { Constraints };
@@ -36,7 +36,7 @@ impl<P: Propagator> Model for Database<P> {
 }
 
 impl<P: Propagator> Database<P> {
-    ghost use Rattle.std.specs.Prelude.{◌≡◌, ◌↔◌, ◌<◌, ◌++◌, IfOk, IsSomeAnd, IsTrue, OnErr, OnOk};
+    ghost use Rattle.std.specs.Prelude.{◌≡◌, ◌↔◌, ◌<◌, ◌++◌, IfOk, IsSome, IsSomeAnd, MatchOption, None, IsTrue, OnErr, OnOk};
     ghost use Rattle.normal_form.specs.Normal.{NormalConstraint};
     ghost use Rattle.propagate.specs.Chain.{IsRefuted};
     ghost use Rattle.propagate.specs.Content.{IsLeastAbove};
@@ -44,8 +44,8 @@ impl<P: Propagator> Database<P> {
     ghost use Rattle.substitution.specs.Covering.{Covers};
     ghost use Rattle.std.specs.FinMap as map;
     ghost use Rattle.std.specs.Option.{option_copied};
-    ghost use Rattle.proof_rules.specs.State.{AreNumbered};
-    ghost use Rattle.kernel.specs.Database.{pushed, taken_back, found};
+    ghost use Rattle.proof_rules.specs.State.{AreNumbered, id_of};
+    ghost use Rattle.kernel.specs.Database.{pushed, removed, taken_back, found};
 
     /// No constraint; the first one takes the id 1.
     pub(crate) fn empty(alloc: Global) -> Self
@@ -95,6 +95,16 @@ impl<P: Propagator> Database<P> {
         self.constraints.remove(self.next_id as u32);
     }
 
+    /// Takes out the live constraint that a number in a step means.
+    pub(crate) fn remove(&mut self, number: i128)
+        requires { IsSome (found self.old number) }
+        ensures { self.new ≡ removed (id_of self.old.next number) self.old }
+    {
+        if let Some(id) = id_of(self.next_id, number) {
+            self.constraints.remove(id);
+        }
+    }
+
     /// The least live id above this one.
     pub(crate) fn after(&self, id: Id) -> Option<Id>
         ensures least { IsLeastAbove self.now.live id result }
@@ -135,6 +145,15 @@ impl<P: Propagator> Database<P> {
     {
         let id = id_of(self.next_id, number)?;
         self.constraints.get(id)
+    }
+
+    /// The live id that a number in a step means, if there is one.
+    pub(crate) fn live_id(&self, number: i128) -> Option<Id>
+        ensures { MatchOption result (found self.now number ≡ None) (λ id. (id ≡ id_of self.now.next number) × IsSome (found self.now number)) }
+    {
+        let id = id_of(self.next_id, number)?;
+        let _constraint = self.constraints.get(id)?;
+        Some(id)
     }
 }
 

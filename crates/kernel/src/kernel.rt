@@ -80,10 +80,10 @@ impl<'a, P: Propagator> Kernel<'a, P> {
         self.database.next_id() - 1
     }
 
-    /// Applies a step, whole or not at all: `pol`, which adds the value of an expression, `rup`, which adds a constraint
-    /// that is shown from the live ones, `sol`, which logs a solution of the file, or `soli`, which also adds a constraint that
-    /// asks for better ones. A refusal names the first fault in the
-    /// order of judging, and leaves the kernel as before; a legal step is refused for want of memory alone.
+    /// Applies a step, whole or not at all: `pol`, which adds the value of an expression; `rup`, which adds a constraint that
+    /// is shown from the live ones; `sol`, which logs a solution of the file; `soli`, which also adds a constraint that asks
+    /// for better ones; `del`, which takes out constraints that steps derived. A refusal names the first fault in the order of
+    /// judging, and leaves the kernel as before; a legal step is refused for want of memory alone.
     pub fn apply(&mut self, step: &Step) -> Result<Applied, StepFault>
         requires kind { IsJudgedStep step.now }
         requires relation { HasAtLeast step.now }
@@ -98,6 +98,7 @@ impl<'a, P: Propagator> Kernel<'a, P> {
             Step::Rup(constraint) => self.rup(constraint),
             Step::Sol(listing) => self.sol(listing.as_slice()),
             Step::Soli(listing) => self.soli(listing.as_slice()),
+            Step::Del(ids) => self.del(ids.as_slice()),
             _ => unreachable!(),
         }
     }

@@ -5,6 +5,7 @@
 mod accepted;
 mod conclusion;
 mod database;
+mod deletion;
 mod file;
 mod ids;
 mod kernel;

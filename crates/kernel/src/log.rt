@@ -2,6 +2,7 @@
 //! ones added. All solutions are kept, and the best is looked up where it is asked for, at the end.
 
 ghost use Rattle.std.specs.Prelude.{◌≡◌, [], ◌↔◌, ◌<ℤ◌, All, IfSome, IsTrue, OnErr, OnOk};
+ghost use Rattle.std.specs.FinSet as set;
 ghost use Rattle.std.specs.Option.{option_copied};
 ghost use Rattle.proof_rules.specs.Claim.{IsSolution};
 ghost use Rattle.proof_rules.specs.Justified.{IsBest};
@@ -80,6 +81,13 @@ impl Log {
             None => true,
             Some(least) => value < least,
         }
+    }
+
+    /// Whether an id is that of a constraint that an improving solution added.
+    pub(crate) fn is_asked(&self, id: Id) -> bool
+        ensures { result ≡ set.contains self.now.improving id }
+    {
+        self.asked.contains(id)
     }
 
     /// Whether no solution is logged.
