@@ -7,9 +7,8 @@ use Rattle.proof_steps.specs.declared.conclusion.Conclusion.TheVariants as concl
 
 -- a step whose kind the kernel judges so far
 abbrev pub IsJudgedStep : Step → Type 0
-IsJudgedStep (steps.Pol written) = ⊤
-IsJudgedStep (steps.Rup c) = ⊤
-IsJudgedStep _ = ⊥
+IsJudgedStep (steps.Red c images) = ⊥
+IsJudgedStep _ = ⊤
 
 -- a conclusion whose kind the kernel judges so far
 abbrev pub IsJudged : Conclusion → Type 0

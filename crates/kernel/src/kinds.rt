@@ -11,8 +11,8 @@ pub fn is_judged_step(step: &Step) -> bool
     ensures { IsTrue result ↔ IsJudgedStep step.now }
 {
     match step {
-        Step::Pol(_) | Step::Rup(_) => true,
-        _ => false,
+        Step::Red(_, _) => false,
+        _ => true,
     }
 }
 
