@@ -1,5 +1,6 @@
 pub mod Best
 pub mod Completed
+pub mod Concluded
 pub mod Deleting
 pub mod Improving
 pub mod Keeping

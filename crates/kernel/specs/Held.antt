@@ -4,7 +4,8 @@ use Rattle.linear.specs.Opb.{Opb}
 use Rattle.linear.specs.Limits.{IsWithin}
 use Rattle.linear.specs.declared.constraint.Relation.TheVariants.{AtLeast}
 use Rattle.linear.specs.declared.constraint.Signed.{Signed}
-use Rattle.normal_form.specs.Normal.{NormalConstraint}
+use Rattle.normal_form.specs.Normal.{NormalConstraint, Fits}
+use Rattle.normal_form.specs.NormalOf.{IsNormalOf}
 use Rattle.proof_rules.specs.Shown.{IsAdmitted}
 use Rattle.proof_rules.specs.declared.fault.StepFault.{StepFault}
 use Rattle.proof_rules.specs.declared.fault.StepFault.TheVariants as faults
@@ -64,3 +65,8 @@ HasAtLeast _ = ⊤
 abbrev pub IsUnadmitted : Signed → StepFault → Type 0
 IsUnadmitted c faults.TooLarge = (n : NormalConstraint) → IsAdmitted c n → ⊥
 IsUnadmitted c _ = ⊥
+
+-- the normal form of a constraint is not within the limits
+abbrev pub IsUnfit : Signed → StepFault → Type 0
+IsUnfit c faults.TooLarge = (n : NormalConstraint) → IsNormalOf c n → Fits n → ⊥
+IsUnfit c _ = ⊥

@@ -3,7 +3,6 @@ use Rattle.std.specs.Prelude.{⊤}
 use Rattle.proof_steps.specs.declared.step.Step.{Step}
 use Rattle.proof_steps.specs.declared.step.Step.TheVariants as steps
 use Rattle.proof_steps.specs.declared.conclusion.Conclusion.{Conclusion}
-use Rattle.proof_steps.specs.declared.conclusion.Conclusion.TheVariants as conclusions
 
 -- a step whose kind the kernel judges so far
 abbrev pub IsJudgedStep : Step → Type 0
@@ -12,6 +11,4 @@ IsJudgedStep _ = ⊤
 
 -- a conclusion whose kind the kernel judges so far
 abbrev pub IsJudged : Conclusion → Type 0
-IsJudged conclusions.Nothing = ⊤
-IsJudged conclusions.Unsat = ⊤
-IsJudged _ = ⊥
+IsJudged _ = ⊤

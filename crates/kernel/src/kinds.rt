@@ -21,7 +21,9 @@ pub fn is_judged_conclusion(conclusion: &Conclusion) -> bool
     ensures { IsTrue result ↔ IsJudged conclusion.now }
 {
     match conclusion {
-        Conclusion::Nothing | Conclusion::Unsat => true,
-        _ => false,
+        Conclusion::Nothing
+        | Conclusion::Sat(_)
+        | Conclusion::Unsat
+        | Conclusion::Bounds(_, _, _) => true,
     }
 }

@@ -1,7 +1,7 @@
 //! What a proof has logged: its solutions, the least value of an improving one, and the ids of the constraints that improving
 //! ones added. All solutions are kept, and the best is looked up where it is asked for, at the end.
 
-ghost use Rattle.std.specs.Prelude.{◌≡◌, [], ◌↔◌, ◌<ℤ◌, All, IfSome, IsTrue, OnErr, OnOk};
+ghost use Rattle.std.specs.Prelude.{◌≡◌, [], ◌↔◌, ◌<ℤ◌, ◌≤ℤ◌, All, IfSome, IsTrue, OnErr, OnOk};
 ghost use Rattle.std.specs.FinSet as set;
 ghost use Rattle.std.specs.Option.{option_copied};
 ghost use Rattle.proof_rules.specs.Claim.{IsSolution};
@@ -80,6 +80,16 @@ impl Log {
         match self.least {
             None => true,
             Some(least) => value < least,
+        }
+    }
+
+    /// Whether a bound is at most the least value of the improving solutions, if there is one.
+    pub(crate) fn admits(&self, bound: i128) -> bool
+        ensures { IsTrue result ↔ IfSome self.now.improve (λ least. bound ≤ℤ least) }
+    {
+        match self.least {
+            None => true,
+            Some(least) => bound <= least,
         }
     }
 

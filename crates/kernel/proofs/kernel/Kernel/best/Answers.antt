@@ -10,16 +10,16 @@ use Rattle.kernel.proofs.kernel.Kernel.best.Goals as goal
 pub is_better-requires-clause-best : goal.is_better-requires-clause-best
 is_better-requires-clause-best g c = c.best-logged.ensures.solution
 
-pub returns-then-is_better : goal.returns-then-is_better
-returns-then-is_better g c =
+pub returns-then-is_better-clause-best : goal.returns-then-is_better-clause-best
+returns-then-is_better-clause-best g c =
     let k = c.self.inside in
     let last : List Bool = c.in-Some.last in
     let best = best_changes k.source.now k.log.logged last (option_copied c.best-logged.result) c.best-logged.ensures.best (c.if-is_better.ensures.0 refl) in
     subst (λ (x : Held). IsBest x.problem (with_extra c.args.extra x.state).logged (Some last)) c.self.view_is
     (subst (λ e. IsBest k.source.now (with_extra e (state_with k.database k.log)).logged (Some last)) (sym c.in-Some.is) best)
 
-pub returns : goal.returns
-returns g c =
+pub returns-clause-best : goal.returns-clause-best
+returns-clause-best g c =
     let k = c.self.inside in
     let last : List Bool = c.in-Some.last in
     let logged : Option (List Bool) = option_copied c.best-logged.result in

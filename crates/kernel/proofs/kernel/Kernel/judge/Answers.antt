@@ -6,7 +6,7 @@ use Rattle.kernel.proofs.kernel.Kernel.judge.Goals as goal
 pub returns-in_ok-best-in-Nothing-clause-justified : goal.returns-in_ok-best-in-Nothing-clause-justified
 returns-in_ok-best-in-Nothing-clause-justified g c =
     let k : Held = c.args.self.now in
-    subst (λ x. IsJustified k.problem k.state x c.in_ok-best-in-Nothing.field-0) (sym c.in-Nothing.is) (k.state, refl, tt, c.in_ok-best-in-Nothing.ensures)
+    subst (λ x. IsJustified k.problem k.state x c.in_ok-best-in-Nothing.field-0) (sym c.in-Nothing.is) (k.state, refl, tt, c.in_ok-best-in-Nothing.ensures.best)
 
 pub returns-in_ok-judge_exhausted-in-Unsat-clause-justified : goal.returns-in_ok-judge_exhausted-in-Unsat-clause-justified
 returns-in_ok-judge_exhausted-in-Unsat-clause-justified g c =
