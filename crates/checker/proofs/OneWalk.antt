@@ -3,7 +3,7 @@
 use Rattle.std.proofs.Common.{◌≡◌, ◌≢◌, ◌⊎◌, ℕ, ℤ, pos, inl, inr, Option, Some, None, List, [], ◌∷◌, length, refl, sym, ap, subst, ◌∙◌, arith}
 use Rattle.linear.specs.Opb.{Opb}
 use Rattle.kernel.specs.Accepted.{Judgement}
-use Rattle.kernel.specs.Kinds.{IsJudgedStep, IsJudged}
+use Rattle.kernel.specs.Kinds.{IsJudgedStep}
 use Rattle.proof_rules.specs.Fault.{IsStepFault, IsConclusionFault}
 use Rattle.proof_rules.specs.Forms.{problem_ids}
 use Rattle.proof_rules.specs.State.{State}
@@ -107,15 +107,11 @@ refuses_never p old new lines.Header code a r = absurd r
 refuses_never p old new (lines.Count count) code a r = r.0 a.0
 refuses_never p old new (lines.Step step) code a r = by r
   where
-    by : IsLeftOut (IsJudgedStep step) code ⊎ IsFaulty (IsStepFault p old.state step) code → ⊥
+    by : IsLeftOut step code ⊎ IsFaulty (IsStepFault p old.state step) code → ⊥
     by (inl out) = out.1 a.kind
     by (inr why) = step_never p old.state step why.0 new.state why.3 a.legal
 refuses_never p old new lines.Output code a r = absurd r
-refuses_never p old new (lines.Conclusion c) code a r = by r
-  where
-    by : IsLeftOut (IsJudged c) code ⊎ IsFaulty (IsConclusionFault p old.state c) code → ⊥
-    by (inl out) = out.1 a.kind
-    by (inr why) = conclusion_never p old.state c why.0 a.best why.3 a.justified
+refuses_never p old new (lines.Conclusion c) code a r = conclusion_never p old.state c r.0 a.best r.3 a.justified
 refuses_never p old new lines.End code a r = absurd r
 
 -- where the walk goes on it does not stop

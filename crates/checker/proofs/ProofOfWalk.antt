@@ -4,7 +4,7 @@ use Rattle.std.proofs.Common.{◌≡◌, ◌⊎◌, All, ℕ, ℤ, pos, inl, inr
 use Rattle.std.proofs.lemmas.List.Elements.{All-cons, All-nil}
 use Rattle.linear.specs.Opb.{Opb}
 use Rattle.kernel.specs.Accepted.{Judgement}
-use Rattle.kernel.specs.Kinds.{IsJudgedStep, IsJudged}
+use Rattle.kernel.specs.Kinds.{IsJudgedStep}
 use Rattle.proof_rules.specs.Forms.{problem_ids}
 use Rattle.proof_rules.specs.Justified.{IsJustified}
 use Rattle.proof_rules.specs.Legal.{Legal, Leads}
@@ -20,7 +20,7 @@ use Rattle.proof_text.specs.declared.line.Line.TheVariants as lines
 use Rattle.proof_text.specs.declared.line.Place.{Place}
 use Rattle.proof_text.specs.declared.line.Place.TheVariants as places
 use Rattle.checker.specs.Headline.{IsProved}
-use Rattle.checker.specs.Kinds.{IsOfJudgedKinds}
+use Rattle.checker.specs.Kinds.{AreOfJudgedKinds}
 use Rattle.checker.specs.Walk.{Accepts, Advances, IsOver, Next, Position, Reaches, Walks, beginning}
 use Rattle.checker.proofs.Sections.{Says, says}
 
@@ -39,7 +39,6 @@ record FromConclusion (p : Opb) (a : Judgement) (at : Position) : Type 0 where
   conclusion_is : IsLine places.Conclusion at.names (words concluded.text) (lines.Conclusion a.conclusion) all
   end_is : IsLine places.End all (words ended.text) lines.End all
   justified : IsJustified p at.state a.conclusion a.best
-  kind : IsJudged a.conclusion
 
 -- from among its steps on
 record FromSteps (p : Opb) (a : Judgement) (at : Position) : Type 0 where
@@ -129,7 +128,6 @@ before_end p a old new on section rest =
       conclusion_is = here;
       end_is = end.end_is;
       justified = takes.justified;
-      kind = takes.kind;
     })
 
 before_steps : (p : Opb) (a : Judgement) (old new : Position) → Advances p old new → old.section ≡ places.Step → From new.section p a new → FromSteps p a old
@@ -220,7 +218,7 @@ gathered p a at end [] walks over concluded =
 gathered p a at end (next ∷ path) walks over concluded = before p a at next at.section refl walks.0 (gathered p a next end path walks.1 over concluded)
 
 -- what a whole walk proves
-proved_by : (p : Opb) (proof : List ℕ) (a : Judgement) (start : State) → IsStart p start → FromHeader p a (beginning p proof start) → (proved : IsProved p proof a) × IsOfJudgedKinds proved.steps a.conclusion
+proved_by : (p : Opb) (proof : List ℕ) (a : Judgement) (start : State) → IsStart p start → FromHeader p a (beginning p proof start) → (proved : IsProved p proof a) × AreOfJudgedKinds proved.steps
 proved_by p proof a start starts whole =
     let counting : FromCount p a whole.behind = whole.rest in
     let stepping : FromSteps p a counting.behind = counting.rest in
@@ -256,7 +254,7 @@ proved_by p proof a start starts whole =
           justified = concluding.justified;
         };
       },
-      record { steps_are = stepping.judged; conclusion_is = concluding.kind },
+      stepping.judged,
     )
 
 -- where judging comes to the end, the proof is one

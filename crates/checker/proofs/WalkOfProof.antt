@@ -3,7 +3,7 @@ use Rattle.std.proofs.Common.{◌≡◌, ℕ, pos, All, Option, Some, None, List
 use Rattle.std.proofs.lemmas.List.Elements.{All-head, All-tail}
 use Rattle.linear.specs.Opb.{Opb}
 use Rattle.kernel.specs.Accepted.{Judgement}
-use Rattle.kernel.specs.Kinds.{IsJudgedStep, IsJudged}
+use Rattle.kernel.specs.Kinds.{IsJudgedStep}
 use Rattle.proof_rules.specs.Forms.{problem_ids}
 use Rattle.proof_rules.specs.Justified.{IsJustified}
 use Rattle.proof_rules.specs.Legal.{Legal, Leads}
@@ -17,7 +17,7 @@ use Rattle.proof_text.specs.declared.line.Line.TheVariants as lines
 use Rattle.proof_text.specs.declared.line.Place.{Place}
 use Rattle.proof_text.specs.declared.line.Place.TheVariants as places
 use Rattle.checker.specs.Headline.{IsProved}
-use Rattle.checker.specs.Kinds.{IsOfJudgedKinds}
+use Rattle.checker.specs.Kinds.{AreOfJudgedKinds}
 use Rattle.checker.specs.Walk.{Advances, IsOver, Position, Reaches, Walks, beginning}
 
 -- the walk comes to the end from here
@@ -47,22 +47,22 @@ from_end p names all l s concluded is =
     ahead p (position places.End names (l ∷ []) s concluded) (position places.After all [] s concluded) on (from_after p all s concluded)
 
 from_conclusion : (p : Opb) (a : Judgement) (names all last : List (List ℕ)) (l end : Numbered) (s : State) → IsLine places.Conclusion names (words l.text) (lines.Conclusion a.conclusion) all
-    → IsLine places.End all (words end.text) lines.End last → IsJustified p s a.conclusion a.best → IsJudged a.conclusion → Ends p (position places.Conclusion names (l ∷ end ∷ []) s None)
-from_conclusion p a names all last l end s is ended justified kind =
+    → IsLine places.End all (words end.text) lines.End last → IsJustified p s a.conclusion a.best → Ends p (position places.Conclusion names (l ∷ end ∷ []) s None)
+from_conclusion p a names all last l end s is ended justified =
     let old : Position = position places.Conclusion names (l ∷ end ∷ []) s None in
     let new : Position = position places.End all (end ∷ []) s (Some a) in
     let on : Advances p old new = record {
       next = record { line = l; behind = end ∷ []; in_order = refl; said = lines.Conclusion a.conclusion; names = all; is = is };
       left = refl;
       names = refl;
-      accepts = record { section_is = refl; kind = kind; best = a.best; justified = justified; state = refl; concluded = refl };
+      accepts = record { section_is = refl; best = a.best; justified = justified; state = refl; concluded = refl };
     } in
     ahead p old new on (from_end p all last end s (Some a) ended)
 
 from_output : (p : Opb) (a : Judgement) (names after all last : List (List ℕ)) (output l end : Numbered) (s : State) → IsLine places.Step names (words output.text) lines.Output after
-    → IsLine places.Conclusion after (words l.text) (lines.Conclusion a.conclusion) all → IsLine places.End all (words end.text) lines.End last → IsJustified p s a.conclusion a.best → IsJudged a.conclusion
+    → IsLine places.Conclusion after (words l.text) (lines.Conclusion a.conclusion) all → IsLine places.End all (words end.text) lines.End last → IsJustified p s a.conclusion a.best
     → Ends p (position places.Step names (output ∷ l ∷ end ∷ []) s None)
-from_output p a names after all last output l end s put is ended justified kind =
+from_output p a names after all last output l end s put is ended justified =
     let old : Position = position places.Step names (output ∷ l ∷ end ∷ []) s None in
     let new : Position = position places.Conclusion after (l ∷ end ∷ []) s None in
     let on : Advances p old new = record {
@@ -71,7 +71,7 @@ from_output p a names after all last output l end s put is ended justified kind 
       names = refl;
       accepts = record { section_is = refl; state = refl; concluded = refl };
     } in
-    ahead p old new on (from_conclusion p a after all last l end s is ended justified kind)
+    ahead p old new on (from_conclusion p a after all last l end s is ended justified)
 
 -- among the steps: what stands behind them comes to the end from the state to which they lead
 from_steps : (p : Opb) (s t : State) (names named : List (List ℕ)) (between behind : List Numbered) (steps : List Step) → AreSteps names between steps named → Leads p s steps t → All IsJudgedStep steps
@@ -91,7 +91,7 @@ from_steps p s t names named (b ∷ bs) behind (x ∷ xs) says leads judged rest
     ahead p old new on (from_steps p leads.0 t says.0 named bs behind xs says.2 leads.2 (All-tail IsJudgedStep x xs judged) rest)
 
 -- the walk of a proof
-pub walk_of : (p : Opb) (proof : List ℕ) (a : Judgement) (proved : IsProved p proof a) → IsOfJudgedKinds proved.steps a.conclusion → (end : Position) × Reaches p proof end × IsOver end
+pub walk_of : (p : Opb) (proof : List ℕ) (a : Judgement) (proved : IsProved p proof a) → AreOfJudgedKinds proved.steps → (end : Position) × Reaches p proof end × IsOver end
 walk_of p proof a proved kinds =
     let sp = proved.spelled in
     let s : State = proved.legal.start in
@@ -101,8 +101,8 @@ walk_of p proof a proved kinds =
     let second : Position = position places.Count p.names (sp.counted ∷ (sp.between ++ behind)) s None in
     let third : Position = position places.Step p.names (sp.between ++ behind) s None in
     let at_output : Ends p (position places.Step sp.named behind t None) =
-    from_output p a sp.named sp.after sp.all sp.all sp.output sp.concluded sp.ended t sp.output_is sp.conclusion_is sp.end_is proved.legal.justified kinds.conclusion_is in
-    let at_steps : Ends p third = from_steps p s t p.names sp.named sp.between behind proved.steps sp.steps_are proved.legal.leads kinds.steps_are at_output in
+    from_output p a sp.named sp.after sp.all sp.all sp.output sp.concluded sp.ended t sp.output_is sp.conclusion_is sp.end_is proved.legal.justified in
+    let at_steps : Ends p third = from_steps p s t p.names sp.named sp.between behind proved.steps sp.steps_are proved.legal.leads kinds at_output in
     let counted : Advances p second third = record {
       next = record { line = sp.counted; behind = sp.between ++ behind; in_order = refl; said = lines.Count (pos (problem_ids p.constraints)); names = p.names; is = sp.count_is };
       left = refl;

@@ -51,7 +51,7 @@ accepts_before p old mid new (lines.Step step) section state concluded a =
     record { section_is = a.section_is ∙ section; kind = a.kind; legal = subst (λ s. Legal p s step new.state) state a.legal; concluded = a.concluded ∙ concluded }
 accepts_before p old mid new lines.Output section state concluded a = record { section_is = a.section_is; state = a.state ∙ state; concluded = a.concluded ∙ concluded }
 accepts_before p old mid new (lines.Conclusion c) section state concluded a =
-    record { section_is = a.section_is; kind = a.kind; best = a.best; justified = subst (λ s. IsJustified p s c a.best) state a.justified; state = a.state ∙ state; concluded = a.concluded }
+    record { section_is = a.section_is; best = a.best; justified = subst (λ s. IsJustified p s c a.best) state a.justified; state = a.state ∙ state; concluded = a.concluded }
 accepts_before p old mid new lines.End section state concluded a = record { section_is = a.section_is; state = a.state ∙ state; concluded = a.concluded ∙ concluded }
 
 -- a line that is read and accepted

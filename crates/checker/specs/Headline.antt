@@ -13,7 +13,7 @@ use Rattle.proof_rules.specs.Forms.{problem_ids}
 use Rattle.proof_rules.specs.Justified.{IsLegalProof}
 use Rattle.proof_steps.specs.declared.step.Step.{Step}
 use Rattle.proof_text.specs.ProofSpells.{SpellsProof}
-use Rattle.checker.specs.Kinds.{IsOfJudgedKinds}
+use Rattle.checker.specs.Kinds.{AreOfJudgedKinds}
 use Rattle.checker.specs.Stopped.{IsStopped}
 use Rattle.checker.specs.declared.verdict.Code.{Code}
 use Rattle.checker.specs.declared.verdict.Verdict.{Verdict}
@@ -42,12 +42,12 @@ pub record IsBadProblem (text : List ℕ) (fault : OpbFault) : Type 0 where
   pub place : IsFaultAt text fault.code fault.line
   pub no_memory : fault.code ≢ problems.OutOfMemory
 
--- the text is no legal proof, of any conclusion, of the kinds that are judged so far
+-- the text is no legal proof, of any conclusion, by steps of the kinds that are judged so far
 abbrev pub IsUnproved : Opb → List ℕ → Type 0
-IsUnproved p proof = (a : Judgement) (proved : IsProved p proof a) → IsOfJudgedKinds proved.steps a.conclusion → ⊥
+IsUnproved p proof = (a : Judgement) (proved : IsProved p proof a) → AreOfJudgedKinds proved.steps → ⊥
 
--- The text spells a problem, and judging the proof stops at this line with this code; so it is no legal proof of the
--- kinds that are judged so far.
+-- The text spells a problem, and judging the proof stops at this line with this code; so it is no legal proof by
+-- steps of the kinds that are judged so far.
 pub record IsRefusedProof (text proof : List ℕ) (line : ℕ) (code : Code) : Type 0 where
   pub problem : Opb
   pub spelled : Spells text problem

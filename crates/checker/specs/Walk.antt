@@ -2,7 +2,7 @@
 use Rattle.std.specs.Prelude.{◌≡◌, ℕ, pos, Option, Some, None, Bool, List, [], ◌∷◌}
 use Rattle.linear.specs.Opb.{Opb}
 use Rattle.kernel.specs.Accepted.{Judgement}
-use Rattle.kernel.specs.Kinds.{IsJudgedStep, IsJudged}
+use Rattle.kernel.specs.Kinds.{IsJudgedStep}
 use Rattle.proof_rules.specs.Forms.{problem_ids}
 use Rattle.proof_rules.specs.Justified.{IsJustified}
 use Rattle.proof_rules.specs.Legal.{Legal}
@@ -39,10 +39,9 @@ pub record TakesStep (p : Opb) (old new : Position) (step : Step) : Type 0 where
   pub legal : Legal p old.state step new.state
   pub concluded : new.concluded ≡ old.concluded
 
--- a conclusion of a kind that is judged so far, which the state entitles to
+-- a conclusion that the state entitles to
 pub record TakesConclusion (p : Opb) (old new : Position) (c : Conclusion) : Type 0 where
   pub section_is : new.section ≡ places.End
-  pub kind : IsJudged c
   pub best : Option (List Bool)
   pub justified : IsJustified p old.state c best
   pub state : new.state ≡ old.state

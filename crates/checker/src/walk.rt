@@ -11,7 +11,7 @@ ghost use Rattle.checker.specs.Walk.{Reaches};
 ghost use Rattle.checker.specs.WalkOf.{position_of, AcceptsOn, AdvancesOn, IsRefusal, IsStopOf, Reads};
 
 use super::stop::{Stop, judging, reading};
-use kernel::{Accepted, is_judged_conclusion, is_judged_step};
+use kernel::{Accepted, is_judged_step};
 use linear::{Names, Problem};
 use proof_steps::{Conclusion, Step};
 use proof_text::{Line, Place, ProofFault, ProofReader, read_line};
@@ -167,7 +167,7 @@ impl<'a> Walk<'a> {
         }
     }
 
-    /// Judges the conclusion, and keeps what was accepted. What reads well and is not judged yet is left out.
+    /// Judges the conclusion, and keeps what was accepted.
     fn conclude(&mut self, conclusion: &Conclusion, number: u64) -> Result<(), Stop>
         ensures count { self.new.count ≡ self.old.count }
         ensures kernel { self.new.kernel ≡ self.old.kernel }
@@ -176,9 +176,6 @@ impl<'a> Walk<'a> {
         ensures accepts { OnOk result (AcceptsOn self.old (Line.Conclusion conclusion.now) self.new) }
         ensures stop { IfErr result (IsRefusal number self.old (Line.Conclusion conclusion.now)) }
     {
-        if !is_judged_conclusion(conclusion) {
-            return Err(reading(number, ProofFault::RuleLeftOut));
-        }
         match self.kernel.conclude(conclusion) {
             Ok(accepted) => {
                 self.concluded = Some(accepted);

@@ -106,10 +106,25 @@ fn logs_nothing_where_a_solution_is_refused(rt: HostRuntime) {
     let problem = problem(rt.alloc(), 1).expect(&rt, "memory");
     let mut kernel = kernel(&rt, &problem);
     let listing = Seq::from_vec(Vec::new(rt.alloc()));
-    assert!(&rt; matches!(kernel.apply(&Step::Sol(listing)), Err(StepFault::SolutionFalse)));
+    assert!(&rt;
+        matches!(
+            kernel.apply(&Step::Sol(listing)),
+            Err(StepFault::SolutionFalse)
+        )
+    );
     let listing = Seq::from_vec(Vec::new(rt.alloc()));
-    assert!(&rt; matches!(kernel.apply(&Step::Soli(listing)), Err(StepFault::NoObjective)));
-    assert!(&rt; matches!(kernel.conclude(&Conclusion::Sat(None)), Err(StepFault::UpperNotLogged)));
+    assert!(&rt;
+        matches!(
+            kernel.apply(&Step::Soli(listing)),
+            Err(StepFault::NoObjective)
+        )
+    );
+    assert!(&rt;
+        matches!(
+            kernel.conclude(&Conclusion::Sat(None)),
+            Err(StepFault::UpperNotLogged)
+        )
+    );
     assert!(&rt; kernel.conclude(&Conclusion::Unsat).is_ok());
     assert_eq!(&rt; kernel.last_id(), 3);
 }
@@ -125,7 +140,12 @@ fn hands_out_the_solution_that_was_logged(rt: HostRuntime) {
         .conclude(&Conclusion::Sat(None))
         .expect(&rt, "a conclusion");
     assert!(&rt; matches!(accepted.best(), Some(_)));
-    assert!(&rt; matches!(kernel.conclude(&Conclusion::Unsat), Err(StepFault::SolutionLogged)));
+    assert!(&rt;
+        matches!(
+            kernel.conclude(&Conclusion::Unsat),
+            Err(StepFault::SolutionLogged)
+        )
+    );
 }
 
 #[test]

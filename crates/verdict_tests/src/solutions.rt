@@ -30,9 +30,7 @@ fn answers<R: Abort + AllocGlobal>(rt: &R, rows: &[Row]) -> Result<(), Fail> {
     for row in rows {
         let proof = format!(in rt.alloc();
             "pseudo-Boolean proof version 2.0\nf {}\n{}output NONE\nconclusion {}\nend pseudo-Boolean proof\n",
-            row.count,
-            row.steps,
-            row.conclusion
+            row.count, row.steps, row.conclusion
         )?;
         let verdict = check(rt.alloc(), row.problem.as_bytes(), proof.as_bytes());
         let printed = verdict_text(rt.alloc(), row.problem.as_bytes(), &verdict)?;
@@ -525,6 +523,35 @@ fn upper_bounds_are_logged(rt: HostRuntime) -> Result<(), Fail> {
             steps: "",
             conclusion: "BOUNDS 7 5 : x1 ~x1",
             printed: "refused line 4 code 20 SolutionConflict\n",
+        },
+    ];
+    answers(&rt, &rows)
+}
+
+/// The corners of a triangle with one on each side, at the least price: every kind of step that is judged.
+#[test]
+fn an_optimum_with_its_proof(rt: HostRuntime) -> Result<(), Fail> {
+    let rows = [
+        Row {
+            problem: "min: 2 x1 3 x2 4 x3 ; 1 x1 1 x2 >= 1 ; 1 x2 1 x3 >= 1 ; 1 x1 1 x3 >= 1 ;",
+            count: 3,
+            steps: "sol x1 ~x2\nsoli x1 x2 ~x3\npol 1 2 + 3 + 2 d\npol 4 5 2 * +\ndel id 5\nrup >= 1 ;\n",
+            conclusion: "BOUNDS 5 5",
+            printed: "accepted BOUNDS 5 5\nv x1 x2 -x3\n",
+        },
+        Row {
+            problem: "min: 2 x1 3 x2 4 x3 ; 1 x1 1 x2 >= 1 ; 1 x2 1 x3 >= 1 ; 1 x1 1 x3 >= 1 ;",
+            count: 3,
+            steps: "sol x1 ~x2\nsoli x1 x2 ~x3\npol 1 2 + 3 + 2 d\ndel id 5\nrup >= 1 ;\n",
+            conclusion: "BOUNDS 5 5",
+            printed: "refused line 7 code 14 NotShown\n",
+        },
+        Row {
+            problem: EITHER,
+            count: 1,
+            steps: "sol x1 ~x2\n",
+            conclusion: "NONE",
+            printed: "accepted NONE\nv x1 -x2\n",
         },
     ];
     answers(&rt, &rows)

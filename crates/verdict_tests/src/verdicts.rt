@@ -251,9 +251,6 @@ fn lines_that_are_not_read(rt: HostRuntime) -> Result<(), Fail> {
 fn lines_that_are_left_out(rt: HostRuntime) -> Result<(), Fail> {
     let left_out = "refused line 3 code 4 RuleLeftOut\n";
     third_line(&rt, "red 1 x1 >= 1 ; x1 1", left_out, 1)?;
-    third_line(&rt, "sol x1 ~x2", left_out, 1)?;
-    third_line(&rt, "soli x1 x2", left_out, 1)?;
-    third_line(&rt, "del id 1", left_out, 1)?;
     third_line(&rt, "rup 1 x1 = 1 ;", left_out, 1)?;
     third_line(&rt, "del range 1 2", left_out, 1)?;
     third_line(&rt, "output ALL", left_out, 1)
@@ -337,14 +334,13 @@ fn concluded<R: Abort + AllocGlobal>(
     )
 }
 
-/// An objective changes nothing for `NONE` and `UNSAT`.
+/// An objective changes nothing for `NONE` and `UNSAT`; what propagation refutes shows every lower bound.
 #[test]
 fn conclusions_beside_an_objective(rt: HostRuntime) -> Result<(), Fail> {
-    let left_out = "refused line 4 code 4 RuleLeftOut\n";
     concluded(&rt, "UNSAT : 1", "accepted UNSAT\n", 0)?;
     concluded(&rt, "NONE", "accepted NONE\n", 0)?;
-    concluded(&rt, "SAT", left_out, 1)?;
-    concluded(&rt, "BOUNDS 1 INF", left_out, 1)?;
+    concluded(&rt, "SAT", "refused line 4 code 26 UpperNotLogged\n", 1)?;
+    concluded(&rt, "BOUNDS 1 INF", "accepted BOUNDS 1 INF\n", 0)?;
     concluded(&rt, "MAYBE", "refused line 4 code 5 BadLine\n", 1)
 }
 

@@ -1,11 +1,10 @@
-use Rattle.std.proofs.Common.{Some, ap, refl, rules}
+use Rattle.std.proofs.Common.{Some, ap, refl}
 use Rattle.kernel.specs.Held.{Held}
 use Rattle.checker.proofs.walk.Walk.conclude.Goals as goal
 
 pub returns-in-Ok-clause-accepts : goal.returns-in-Ok-clause-accepts
 returns-in-Ok-clause-accepts c = record {
   section_is = refl;
-  kind = search rules;
   best = c.in-Ok.accepted.best;
   justified = c.in-Ok.ensures.justified;
   state = ap (λ (k : Held). k.state) c.conclude.ensures.same;
