@@ -62,25 +62,38 @@ fn problem_cut_behind_each_byte(rt: HostRuntime) -> Result<(), Fail> {
 
 /// A piece of the pigeons' proof, and the code that is answered, on the line of the cut, where the proof is cut behind
 /// any byte of the piece.
-#[derive(Clone, Copy)]
-struct Piece {
-    text: &'static str,
-    code: &'static str,
-}
+type Piece = (&'static str, &'static str);
 
-fn answered(text: &'static str, code: &'static str) -> Piece {
-    Piece { text, code }
-}
-
-const BAD_LINE: &str = "5 BadLine";
-
-const TRUNCATED: &str = "6 Truncated";
-
-const STACK_SHAPE: &str = "11 StackShape";
+const PIECES: [Piece; 23] = [
+    ("pseudo-Boolean proof version 2.", "1 BadHeader"),
+    ("0\n", "6 Truncated"),
+    ("f ", "2 BadCount"),
+    ("5\n", "6 Truncated"),
+    // `p` is a rule of its own, and leaves nothing on the stack
+    ("p", "11 StackShape"),
+    ("o", "3 UnknownRule"),
+    ("l ", "11 StackShape"),
+    ("1 ", "6 Truncated"),
+    ("2 ", "11 StackShape"),
+    ("+ ", "6 Truncated"),
+    ("3 ", "11 StackShape"),
+    ("+ ", "6 Truncated"),
+    ("4 ", "11 StackShape"),
+    ("+ ", "6 Truncated"),
+    ("5 ", "11 StackShape"),
+    ("+\n", "6 Truncated"),
+    ("outpu", "3 UnknownRule"),
+    ("t ", "5 BadLine"),
+    ("NON", "4 RuleLeftOut"),
+    ("E\n", "6 Truncated"),
+    ("conclusion UNSA", "5 BadLine"),
+    ("T\n", "6 Truncated"),
+    ("end pseudo-Boolean proo", "5 BadLine"),
+];
 
 /// Checks the answers to a proof cut behind each byte of this piece.
 fn cut_within<R: Abort + AllocGlobal>(rt: &R, before: usize, piece: Piece) -> Result<(), Fail> {
-    for end in 0..piece.text.len() {
+    for end in 0..piece.0.len() {
         let Some(cut) = PROOF
             .as_bytes()
             .get(..before.saturating_add(end).saturating_add(1))
@@ -88,7 +101,7 @@ fn cut_within<R: Abort + AllocGlobal>(rt: &R, before: usize, piece: Piece) -> Re
             return Ok(());
         };
         let line = end_line(cut);
-        let text = format!(in rt.alloc(); "refused line {line} code {}\n", piece.code)?;
+        let text = format!(in rt.alloc(); "refused line {line} code {}\n", piece.1)?;
         answers(rt, OPB.as_bytes(), cut, text.as_str())?;
     }
     Ok(())
@@ -96,42 +109,10 @@ fn cut_within<R: Abort + AllocGlobal>(rt: &R, before: usize, piece: Piece) -> Re
 
 #[test]
 fn proof_cut_behind_each_byte(rt: HostRuntime) -> Result<(), Fail> {
-    let pieces = [
-        answered("pseudo-Boolean proof version 2.", "1 BadHeader"),
-        answered("0\n", TRUNCATED),
-        answered("f ", "2 BadCount"),
-        answered("5\n", TRUNCATED),
-        // `p` is a rule of its own, and leaves nothing on the stack
-        answered("p", STACK_SHAPE),
-        answered("o", "3 UnknownRule"),
-        answered("l ", STACK_SHAPE),
-        answered("1 ", TRUNCATED),
-        answered("2 ", STACK_SHAPE),
-        answered("+ ", TRUNCATED),
-        answered("3 ", STACK_SHAPE),
-        answered("+ ", TRUNCATED),
-        answered("4 ", STACK_SHAPE),
-        answered("+ ", TRUNCATED),
-        answered("5 ", STACK_SHAPE),
-        answered("+\n", TRUNCATED),
-        answered("outpu", "3 UnknownRule"),
-        answered("t ", BAD_LINE),
-        answered("NON", "4 RuleLeftOut"),
-        answered("E\n", TRUNCATED),
-        answered("conclusion UNSA", BAD_LINE),
-        answered("T\n", TRUNCATED),
-        answered("end pseudo-Boolean proo", BAD_LINE),
-    ];
-    answers(
-        &rt,
-        OPB.as_bytes(),
-        b"".as_slice(),
-        "refused line 1 code 6 Truncated\n",
-    )?;
     let mut before: usize = 0;
-    for piece in &pieces {
+    for piece in &PIECES {
         cut_within(&rt, before, *piece)?;
-        before = before.saturating_add(piece.text.len());
+        before = before.saturating_add(piece.0.len());
     }
     assert_eq!(&rt; before, PROOF.len().saturating_sub(2));
     answers(
@@ -155,6 +136,23 @@ fn line_ends_of_other_systems(rt: HostRuntime) -> Result<(), Fail> {
     answers(&rt, OPB.as_bytes(), proof.as_bytes(), "accepted UNSAT\n")
 }
 
+/// Bytes that no format has, in a problem.
+const STRANGE_PROBLEMS: [(&[u8], &str); 4] = [
+    (b"1 x\xff1 >= 1 ;", "bad problem line 1 code 4 BadName\n"),
+    (b"1 x1 >= 1 ;\n\xff", "bad problem line 2 code 1 BadToken\n"),
+    (b"1 x1\0 >= 1 ;", "bad problem line 1 code 4 BadName\n"),
+    (b"1 x1 >= 1 ;\0", "bad problem line 1 code 1 BadToken\n"),
+];
+
+/// Bytes that no format has, in a line before the first step of the pigeons' proof.
+const STRANGE_LINES: [(&[u8], &str); 5] = [
+    (b"pol \xff", "refused line 3 code 5 BadLine\n"),
+    (b"pol 1\0", "refused line 3 code 5 BadLine\n"),
+    (b"\0", "refused line 3 code 3 UnknownRule\n"),
+    (b"p\xc3\xb6l 1", "refused line 3 code 3 UnknownRule\n"),
+    (b"* \xff \0 in a comment", "accepted UNSAT\n"),
+];
+
 /// A proof of the pigeons' problem with this line before its first step.
 fn with_line<R: AllocGlobal>(rt: &R, line: &[u8]) -> Result<Vec<u8>, Fail> {
     let (front, steps) = PROOF.as_bytes().split_at(PROOF.find("pol").unwrap_or(0));
@@ -167,101 +165,92 @@ fn with_line<R: AllocGlobal>(rt: &R, line: &[u8]) -> Result<Vec<u8>, Fail> {
 
 #[test]
 fn bytes_that_no_format_has(rt: HostRuntime) -> Result<(), Fail> {
-    let opb = OPB.as_bytes();
-    answers(
-        &rt,
-        b"1 x\xff1 >= 1 ;".as_slice(),
-        b"".as_slice(),
-        "bad problem line 1 code 4 BadName\n",
-    )?;
-    answers(
-        &rt,
-        b"1 x1 >= 1 ;\n\xff".as_slice(),
-        b"".as_slice(),
-        "bad problem line 2 code 1 BadToken\n",
-    )?;
-    answers(
-        &rt,
-        b"1 x1\0 >= 1 ;".as_slice(),
-        b"".as_slice(),
-        "bad problem line 1 code 4 BadName\n",
-    )?;
-    answers(
-        &rt,
-        b"1 x1 >= 1 ;\0".as_slice(),
-        b"".as_slice(),
-        "bad problem line 1 code 1 BadToken\n",
-    )?;
-    let steps = [
-        (b"pol \xff".as_slice(), "refused line 3 code 5 BadLine\n"),
-        (b"pol 1\0".as_slice(), "refused line 3 code 5 BadLine\n"),
-        (b"\0".as_slice(), "refused line 3 code 3 UnknownRule\n"),
-        (
-            b"p\xc3\xb6l 1".as_slice(),
-            "refused line 3 code 3 UnknownRule\n",
-        ),
-        (b"* \xff \0 in a comment".as_slice(), "accepted UNSAT\n"),
-    ];
-    for (line, text) in &steps {
+    for (opb, text) in &STRANGE_PROBLEMS {
+        answers(&rt, opb, b"".as_slice(), text)?;
+    }
+    for (line, text) in &STRANGE_LINES {
         let proof = with_line(&rt, line)?;
-        answers(&rt, opb, proof.as_slice(), text)?;
+        answers(&rt, OPB.as_bytes(), proof.as_slice(), text)?;
     }
     Ok(())
 }
 
+/// A problem and a proof, what is printed, and a digit that stands a thousand times in the place of each `#`.
+#[derive(Clone, Copy)]
+struct LongInteger {
+    digit: &'static str,
+    opb: &'static str,
+    proof: &'static str,
+    text: &'static str,
+}
+
+const LONG_INTEGERS: [LongInteger; 5] = [
+    LongInteger {
+        digit: "9",
+        opb: "1 x1 >= 1 ;\n# x1 >= 1 ;",
+        proof: "",
+        text: "bad problem line 2 code 7 IntegerTooLarge\n",
+    },
+    LongInteger {
+        digit: "9",
+        opb: "1 x1 >= -# ;",
+        proof: "",
+        text: "bad problem line 1 code 7 IntegerTooLarge\n",
+    },
+    LongInteger {
+        digit: "9",
+        opb: OPB,
+        proof: "pseudo-Boolean proof version 2.0\nf 5\npol 1 # *\npol 1 2 + 3 + 4 + 5 +\noutput NONE\nconclusion UNSAT\nend pseudo-Boolean proof\n",
+        text: "refused line 3 code 8 IntegerTooLarge\n",
+    },
+    LongInteger {
+        digit: "9",
+        opb: OPB,
+        proof: "pseudo-Boolean proof version 2.0\nf #\n",
+        text: "refused line 2 code 2 BadCount\n",
+    },
+    LongInteger {
+        digit: "0",
+        opb: OPB,
+        proof: "pseudo-Boolean proof version 2.0\nf #5\noutput NONE\nconclusion NONE\nend pseudo-Boolean proof\n",
+        text: "accepted NONE\n",
+    },
+];
+
 #[test]
 fn integers_of_a_thousand_digits(rt: HostRuntime) -> Result<(), Fail> {
-    let nines = "9".repeat(rt.alloc(), 1000)?;
-    let opb = format!(in rt.alloc(); "1 x1 >= 1 ;\n{nines} x1 >= 1 ;")?;
-    answers(
-        &rt,
-        opb.as_bytes(),
-        b"".as_slice(),
-        "bad problem line 2 code 7 IntegerTooLarge\n",
-    )?;
-    let right = format!(in rt.alloc(); "1 x1 >= -{nines} ;")?;
-    answers(
-        &rt,
-        right.as_bytes(),
-        b"".as_slice(),
-        "bad problem line 1 code 7 IntegerTooLarge\n",
-    )?;
-    let line = format!(in rt.alloc(); "pol 1 {nines} *")?;
-    let proof = with_line(&rt, line.as_bytes())?;
-    answers(
-        &rt,
-        OPB.as_bytes(),
-        proof.as_slice(),
-        "refused line 3 code 8 IntegerTooLarge\n",
-    )?;
-    let count = format!(in rt.alloc(); "pseudo-Boolean proof version 2.0\nf {nines}\n")?;
-    answers(
-        &rt,
-        OPB.as_bytes(),
-        count.as_bytes(),
-        "refused line 2 code 2 BadCount\n",
-    )?;
-    let zeros = "0".repeat(rt.alloc(), 1000)?;
-    let padded = format!(in rt.alloc();
-        "pseudo-Boolean proof version 2.0\nf {zeros}5\noutput NONE\nconclusion NONE\nend pseudo-Boolean proof\n"
-    )?;
-    answers(&rt, OPB.as_bytes(), padded.as_bytes(), "accepted NONE\n")
+    for case in &LONG_INTEGERS {
+        let digits = case.digit.repeat(rt.alloc(), 1000)?;
+        let opb = case.opb.replace(rt.alloc(), "#", digits.as_str())?;
+        let proof = case.proof.replace(rt.alloc(), "#", digits.as_str())?;
+        answers(&rt, opb.as_bytes(), proof.as_bytes(), case.text)?;
+    }
+    Ok(())
 }
+
+/// Proofs of the problem whose file is empty, and what is printed.
+const OF_NOTHING: [(&[u8], &str); 3] = [
+    (b"", "refused line 1 code 6 Truncated\n"),
+    (
+        b"pseudo-Boolean proof version 2.0\nf 0\noutput NONE\nconclusion NONE\nend pseudo-Boolean proof",
+        "accepted NONE\n",
+    ),
+    (
+        b"pseudo-Boolean proof version 2.0\nf 0\noutput NONE\nconclusion UNSAT\nend pseudo-Boolean proof",
+        "refused line 4 code 24 LowerNotShown\n",
+    ),
+];
 
 #[test]
 fn empty_files(rt: HostRuntime) -> Result<(), Fail> {
-    let nothing = b"".as_slice();
-    answers(&rt, nothing, nothing, "refused line 1 code 6 Truncated\n")?;
     answers(
         &rt,
-        nothing,
-        b"pseudo-Boolean proof version 2.0\nf 0\noutput NONE\nconclusion NONE\nend pseudo-Boolean proof".as_slice(),
-        "accepted NONE\n",
+        OPB.as_bytes(),
+        b"".as_slice(),
+        "refused line 1 code 6 Truncated\n",
     )?;
-    answers(
-        &rt,
-        nothing,
-        b"pseudo-Boolean proof version 2.0\nf 0\noutput NONE\nconclusion UNSAT\nend pseudo-Boolean proof".as_slice(),
-        "refused line 4 code 24 LowerNotShown\n",
-    )
+    for (proof, text) in &OF_NOTHING {
+        answers(&rt, b"".as_slice(), proof, text)?;
+    }
+    Ok(())
 }
