@@ -1,6 +1,6 @@
 # The door for people. `make` proves every crate and builds the program into bin/, from nothing too; `make test` runs the
 # gate: every proof from nothing, the edits that must fail, and the tests; `make demo` runs the checker on three pigeons in
-# two holes.
+# two holes, and on an optimum.
 .PHONY: all test demo check layout refused-growths statuses figures wrong-edits wrong-bodies gate-minutes
 
 # How many crates are proved side by side.
@@ -25,6 +25,7 @@ test:
 
 demo: bin/pbcheck
 	bin/pbcheck examples/pigeons.opb examples/pigeons.pbp
+	bin/pbcheck examples/cover.opb examples/cover.pbp
 
 # What is quick while one works: every crate, over what earlier runs kept.
 check: layout
@@ -38,6 +39,7 @@ layout:
 refused-growths: bin/pbcheck
 	scripts/refused-growths examples/pigeons.opb examples/pigeons.pbp "accepted UNSAT"
 	scripts/refused-growths examples/pigeons.opb examples/pigeons-too-short.pbp "refused line 5 code 24 LowerNotShown"
+	scripts/refused-growths examples/cover.opb examples/cover.pbp "$$(printf 'accepted BOUNDS 5 5\nv x1 x2 -x3')"
 
 # Exit statuses and texts, failing reads and writes among them. Beside the gate: it wants a C compiler.
 statuses: bin/pbcheck

@@ -1,5 +1,9 @@
 mod ValueLine
-mod Judging
-mod Stops
-mod Exact
-mod Refused
+pub mod Sections
+pub mod OneWalk
+pub mod WalkOfProof
+pub mod ProofOfWalk
+pub mod Walking
+pub mod Claimed
+pub mod OneProof
+pub mod PrintedClaim

@@ -13,9 +13,8 @@ use Rattle.proof_rules.specs.Forms.{problem_ids}
 use Rattle.proof_rules.specs.Justified.{IsLegalProof}
 use Rattle.proof_steps.specs.declared.step.Step.{Step}
 use Rattle.proof_text.specs.ProofSpells.{SpellsProof}
-use Rattle.checker.specs.Kinds.{IsOfJudgedKinds}
-use Rattle.checker.specs.Refusal.{IsRefusalCode}
-use Rattle.checker.specs.Stopping.{IsStopped}
+use Rattle.checker.specs.Kinds.{AreOfJudgedKinds}
+use Rattle.checker.specs.Stopped.{IsStopped}
 use Rattle.checker.specs.declared.verdict.Code.{Code}
 use Rattle.checker.specs.declared.verdict.Verdict.{Verdict}
 use Rattle.checker.specs.declared.verdict.Verdict.TheVariants as verdicts
@@ -27,8 +26,8 @@ pub record IsProved (p : Opb) (proof : List ℕ) (accepted : Judgement) : Type 0
   pub spelled : SpellsProof proof p.names (pos (problem_ids p.constraints)) steps accepted.conclusion
   pub legal : IsLegalProof p steps accepted.conclusion accepted.best
 
--- The text spells exactly one problem, what was accepted is true of that problem's own signed terms, and the proof proves
--- it.
+-- The text spells exactly one problem, what was accepted is true of that problem's own signed terms, and the proof
+-- proves it.
 pub record IsTrueOf (text proof : List ℕ) (accepted : Judgement) : Type 0 where
   pub problem : Opb
   pub spelled : Spells text problem
@@ -43,23 +42,22 @@ pub record IsBadProblem (text : List ℕ) (fault : OpbFault) : Type 0 where
   pub place : IsFaultAt text fault.code fault.line
   pub no_memory : fault.code ≢ problems.OutOfMemory
 
--- the text is no legal proof, of any conclusion, of the kinds that are judged so far
+-- the text is no legal proof, of any conclusion, by steps of the kinds that are judged so far
 abbrev pub IsUnproved : Opb → List ℕ → Type 0
-IsUnproved p proof = (a : Judgement) (proved : IsProved p proof a) → IsOfJudgedKinds proved.steps a.conclusion → ⊥
+IsUnproved p proof = (a : Judgement) (proved : IsProved p proof a) → AreOfJudgedKinds proved.steps → ⊥
 
--- The text spells a problem, and judging the proof stops at this line with this code; so it is no legal proof of the kinds
--- that are judged so far.
+-- The text spells a problem, and judging the proof stops at this line with this code; so it is no legal proof by
+-- steps of the kinds that are judged so far.
 pub record IsRefusedProof (text proof : List ℕ) (line : ℕ) (code : Code) : Type 0 where
   pub problem : Opb
   pub spelled : Spells text problem
   pub within : IsWithin problem
   pub stopped : IsStopped problem proof line code
-  pub refusal : IsRefusalCode code
   pub unproved : IsUnproved problem proof
 
--- What a verdict says of the text of a problem and the text of a proof. Accepted: the conclusion is true of the problem, and
--- proved. Refused: the proof is none, and this is its first line that cannot be read or is not legal. A bad problem: its text
--- spells none within the limits, for this reason. Want of memory says nothing.
+-- What a verdict says of the text of a problem and the text of a proof. Accepted: the conclusion is true of the problem,
+-- and proved. Refused: the proof is none, and this is its first line that cannot be read or is not legal. A bad problem:
+-- its text spells none within the limits, for this reason. Want of memory says nothing.
 abbrev pub IsVerdictOf : List ℕ → List ℕ → Verdict → Type 0
 IsVerdictOf text proof (verdicts.Accepted accepted) = IsTrueOf text proof accepted
 IsVerdictOf text proof (verdicts.Refused line code) = IsRefusedProof text proof line code

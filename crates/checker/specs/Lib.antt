@@ -1,6 +1,7 @@
 pub mod Headline
-pub mod Printed
-pub mod Taking
-pub mod Stopping
 pub mod Kinds
-pub mod Refusal
+pub mod Printed
+pub mod Stopped
+pub mod StopsBy
+pub mod Walk
+pub mod WalkOf

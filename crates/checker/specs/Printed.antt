@@ -13,6 +13,7 @@ use Rattle.linear.specs.Opb.{Opb}
 use Rattle.linear.specs.Limits.{IsWithin}
 use Rattle.opb_read.specs.Spells.{Spells}
 use Rattle.opb_read.specs.Faults as problems
+use Rattle.opb_read.specs.declared.fault.OpbCode.{OpbCode}
 use Rattle.proof_text.specs.Faults as readings
 use Rattle.checker.specs.declared.verdict.Code.{Code}
 use Rattle.checker.specs.declared.verdict.Code.TheVariants.{Reading, Judging}
@@ -39,7 +40,8 @@ status_of verdicts.NoMemory = 4
 -- ` line L code C Name` and the end of the line
 abbrev pub with_fault : List ℕ → ℕ → ℕ → List ℕ → List ℕ
 with_fault before line number name =
-    ((((((before ++ codes " line ") ++ decimal line) ++ codes " code ") ++ decimal number) ++ codes " ") ++ name) ++ codes "\n"
+    let place : List ℕ = ((before ++ codes " line ") ++ decimal line) ++ codes " code " in
+    (((place ++ decimal number) ++ codes " ") ++ name) ++ codes "\n"
 
 abbrev pub with_lower : List ℕ → Lower → List ℕ
 with_lower before lowers.MinusInf = before ++ codes "-INF"
@@ -54,7 +56,8 @@ abbrev pub with_conclusion : List ℕ → Conclusion → List ℕ
 with_conclusion before conclusions.Nothing = before ++ codes "NONE"
 with_conclusion before (conclusions.Sat hint) = before ++ codes "SAT"
 with_conclusion before conclusions.Unsat = before ++ codes "UNSAT"
-with_conclusion before (conclusions.Bounds lower upper hint) = with_upper (with_lower (before ++ codes "BOUNDS ") lower ++ codes " ") upper
+with_conclusion before (conclusions.Bounds lower upper hint) =
+    with_upper (with_lower (before ++ codes "BOUNDS ") lower ++ codes " ") upper
 
 -- the first line of what is printed for an accepted conclusion
 abbrev pub accepted_line : Conclusion → List ℕ
@@ -97,7 +100,9 @@ IsAcceptedText opb accepted text =
 -- what is printed for a verdict about a problem's text
 abbrev pub IsPrinted : List ℕ → Verdict → List ℕ → Type 0
 IsPrinted opb (verdicts.Accepted accepted) text = IsAcceptedText opb accepted text
-IsPrinted opb (verdicts.Refused line code) text = text ≡ with_fault (codes "refused") line (number_of code) (name_of code)
+IsPrinted opb (verdicts.Refused line code) text =
+    text ≡ with_fault (codes "refused") line (number_of code) (name_of code)
 IsPrinted opb (verdicts.BadProblem fault) text =
-    text ≡ with_fault (codes "bad problem") fault.line (problems.number_of fault.code) (problems.name_of_code fault.code)
+    let code : OpbCode = fault.code in
+    text ≡ with_fault (codes "bad problem") fault.line (problems.number_of code) (problems.name_of_code code)
 IsPrinted opb verdicts.NoMemory text = text ≡ codes "no memory\n"

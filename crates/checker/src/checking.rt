@@ -4,50 +4,37 @@ ghost use Rattle.std.specs.Prelude.{ℕ, List};
 ghost use Rattle.opb_read.specs.Faults.{Denies};
 ghost use Rattle.opb_read.specs.FaultPlace.{IsFaultAt};
 ghost use Rattle.checker.specs.Headline.{IsVerdictOf};
-ghost use Rattle.checker.specs.Refusal.{IsRefusalAt};
 
-use super::judge::{Stop, judge};
-use super::verdict::{Code, Verdict};
+use super::judge::judge;
+use super::stop::Stop;
+use super::verdict::Verdict;
 use opb_read::{OpbCode, OpbFault, read};
-use proof_rules::StepFault;
-use proof_text::ProofFault;
 use std::alloc::Global;
 
 /// Judges a proof (VeriPB 2.0, this product's profile) of a problem (the linear OPB format).
 ///
-/// `Accepted`, for any two texts and whoever wrote the proof: the problem's text spells exactly one problem, the accepted
-/// conclusion is true of that problem's own signed terms (under `UNSAT` no 0-1 assignment satisfies it), and the proof's text
-/// spells a legal proof of it. `Refused` at a line: all lines before it are read and legal, and it is not; so the text is no
-/// legal proof of the kinds that are judged. `BadProblem` is the fault that `read` finds in the problem's text. Want of memory
-/// is never a refusal, but `NoMemory`.
+/// `Accepted`, for any two texts and whoever wrote the proof: the problem's text spells exactly one problem, the
+/// accepted conclusion is true of that problem's own signed terms (under `UNSAT` no 0-1 assignment satisfies it), and
+/// the proof's text spells a legal proof of it. `Refused` at a line: all lines before it are read and legal, and it is
+/// not; so the text is no legal proof by steps that are judged. `BadProblem` is the fault that `read` finds in the
+/// problem's text. Want of memory is never a refusal, but `NoMemory`.
 pub fn check(alloc: Global, opb: &[u8], proof: &[u8]) -> Verdict
     ensures sound { IsVerdictOf opb.now proof.now result }
 {
     match read(alloc, opb) {
         Ok(problem) => match judge(alloc, &problem, proof) {
             Ok(accepted) => Verdict::Accepted(accepted),
-            Err(Stop::At(line, code)) => refused(line, code),
+            Err(Stop::At(line, code)) => Verdict::Refused { line, code },
             Err(Stop::NoMemory) => Verdict::NoMemory,
         },
         Err(fault) => bad_problem(fault),
     }
 }
 
-/// The verdict where judging stops at a line.
-fn refused(line: u64, code: Code) -> Verdict
-    ensures { IsRefusalAt line code result }
-{
-    match code {
-        Code::Reading(ProofFault::OutOfMemory) | Code::Judging(StepFault::OutOfMemory) => {
-            Verdict::NoMemory
-        }
-        code => Verdict::Refused { line, code },
-    }
-}
-
 /// The verdict where the problem is not read.
 fn bad_problem(fault: OpbFault) -> Verdict
-    ensures { (text proof : List ℕ) → Denies fault.code text → IsFaultAt text fault.code fault.line → IsVerdictOf text proof result }
+    ensures { (text proof : List ℕ) → Denies fault.code text → IsFaultAt text fault.code fault.line
+        → IsVerdictOf text proof result }
 {
     match fault.code {
         OpbCode::OutOfMemory => Verdict::NoMemory,

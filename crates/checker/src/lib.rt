@@ -4,8 +4,10 @@
 mod checking;
 mod judge;
 pub mod laws;
+mod stop;
 mod text;
 mod verdict;
+mod walk;
 
 pub use checking::check;
 pub use text::verdict_text;

@@ -1,7 +1,8 @@
 //! What is printed for a verdict.
 
 ghost use Rattle.std.specs.Prelude.{◌≡◌, ◌<◌, [], IfOk, OnOk, length, slice_index_or};
-ghost use Rattle.checker.specs.Printed.{IsPrinted, IsAcceptedText, IsWithBest, with_fault, with_conclusion, with_lower, with_upper, with_value, with_values};
+ghost use Rattle.checker.specs.Printed.{IsPrinted, IsAcceptedText, IsWithBest};
+ghost use Rattle.checker.specs.Printed.{with_fault, with_conclusion, with_lower, with_upper, with_value, with_values};
 
 use super::verdict::Verdict;
 use itoa::Buffer;
@@ -11,8 +12,8 @@ use opb_read::{OpbCode, read};
 use proof_steps::{Conclusion, Lower, Upper};
 use std::alloc::{AllocError, Global};
 
-/// The text of a verdict, each line ended by LF: `accepted ..` and the `v` line of the best assignment where there is one,
-/// `refused line L code C Name`, `bad problem line L code C Name`, or `no memory`.
+/// The text of a verdict, each line ended by LF: `accepted ..` and the `v` line of the best assignment where there is
+/// one, `refused line L code C Name`, `bad problem line L code C Name`, or `no memory`.
 pub fn verdict_text(alloc: Global, opb: &[u8], verdict: &Verdict) -> Result<Vec<u8>, AllocError>
     ensures { IfOk result (λ text. IsPrinted opb.now verdict.now text.items) }
 {
@@ -108,8 +109,8 @@ fn write_upper(out: &mut Vec<u8>, upper: Upper) -> Result<(), AllocError>
     }
 }
 
-/// The `v` line, by the names that the problem's text gives. Where it spells no problem with as many variables, there is
-/// none.
+/// The `v` line, by the names that the problem's text gives. Where it spells no problem with as many variables, there
+/// is none.
 fn write_best(
     alloc: Global,
     out: &mut Vec<u8>,

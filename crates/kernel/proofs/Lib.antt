@@ -1,3 +1,11 @@
+pub mod Best
+pub mod Completed
+pub mod Concluded
+pub mod Deleting
+pub mod Improving
 pub mod Keeping
 pub mod Listed
+pub mod Members
 pub mod Showing
+pub mod Tables
+pub mod TakenBack

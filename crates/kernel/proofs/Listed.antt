@@ -1,10 +1,9 @@
 -- The constraints of a file, put in one after another, are those of its state.
-use Rattle.std.proofs.Common.{◌≡◌, ℕ, ◌+◌, ◌<◌, ◌≤◌, List, [], ◌∷◌, ◌++◌, length, get_or, take, refl, sym, ap, subst, ◌∙◌, append_assoc, arith}
+use Rattle.std.proofs.Common.{◌≡◌, ℕ, ◌+◌, ◌<◌, ◌≤◌, List, [], ◌∷◌, ◌++◌, length, get_or, take, refl, sym, ap, ◌∙◌, append_assoc, arith}
 use Rattle.std.proofs.lemmas.List.{append-nil, length-take}
 use Rattle.linear.specs.declared.constraint.Signed.{Signed}
 use Rattle.linear.specs.Limits.{most_constraints}
 use Rattle.normal_form.specs.Normal.{NormalConstraint}
-use Rattle.proof_rules.specs.Forms.{AreFormsOfAll}
 use Rattle.proof_rules.specs.State.{State, id_limit}
 use Rattle.proof_rules.proofs.FileForms.{forms_more, all_count, few_ids}
 use Rattle.proof_rules.proofs.Numbering.{state_push}

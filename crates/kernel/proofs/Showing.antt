@@ -1,5 +1,5 @@
 -- What is shown from constraints in two parts, and by their refutation beside a negation.
-use Rattle.std.proofs.Common.{◌≡◌, ◌↔◌, ◌⊎◌, inl, inr, Bool, List, [], ◌∷◌, ◌++◌, Any, IsTrue, sym, subst}
+use Rattle.std.proofs.Common.{◌↔◌, ◌⊎◌, inl, inr, Bool, List, [], ◌∷◌, ◌++◌, Any, IsTrue, sym, subst}
 use Rattle.normal_form.specs.Negation.{IsNegation}
 use Rattle.normal_form.specs.Normal.{NormalConstraint, Rises}
 use Rattle.normal_form.proofs.Negations.{one_negation}

@@ -1,5 +1,5 @@
 -- Live constraints by their ids, and the id that the next one takes.
-use Rattle.std.specs.Prelude.{ℕ, ◌+◌, ℤ, Option, refl}
+use Rattle.std.specs.Prelude.{ℕ, ◌+◌, ◌-◌, ℤ, Option, refl}
 use Rattle.std.specs.Coded.{Coded, code_by, coded×, coded_ℕ}
 use Rattle.std.specs.FinMap as map
 use Rattle.normal_form.specs.Normal.{NormalConstraint}
@@ -18,6 +18,14 @@ constraints_code =
 -- one more constraint, under the next id
 abbrev pub pushed : NormalConstraint → Constraints → Constraints
 pushed n d = record { live = map.insert d.live d.next n; next = d.next + 1 }
+
+-- without the constraint of an id
+abbrev pub removed : ℕ → Constraints → Constraints
+removed id d = record { live = map.remove d.live id; next = d.next }
+
+-- without the newest constraint, whose id is the next one again
+abbrev pub taken_back : Constraints → Constraints
+taken_back d = record { live = map.remove d.live (d.next - 1); next = d.next - 1 }
 
 -- the constraint that a number in a step means, if there is one
 abbrev pub found : Constraints → ℤ → Option NormalConstraint

@@ -3,7 +3,7 @@ use Rattle.std.specs.Prelude.{◌≡◌, List, [], ◌∷◌}
 use Rattle.linear.specs.declared.constraint.Signed.{Signed}
 use Rattle.normal_form.specs.Normal.{NormalConstraint}
 use Rattle.proof_rules.specs.Forms.{AreFormsOf, AreFormsOfAll}
-use Rattle.proof_rules.specs.State.{State, state_of}
+use Rattle.proof_rules.specs.State.{state_of}
 use Rattle.kernel.specs.Database.{Constraints, pushed}
 
 -- the constraints of a list, one after another

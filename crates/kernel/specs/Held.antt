@@ -1,21 +1,22 @@
 -- What a kernel holds, and what it keeps.
-use Rattle.std.specs.Prelude.{◌≡◌, [], None, ⊤}
-use Rattle.std.specs.FinSet as set
+use Rattle.std.specs.Prelude.{◌≡◌, ℕ, Bool, List, Option, None, Some, ⊤}
 use Rattle.linear.specs.Opb.{Opb}
 use Rattle.linear.specs.Limits.{IsWithin}
 use Rattle.linear.specs.declared.constraint.Relation.TheVariants.{AtLeast}
 use Rattle.linear.specs.declared.constraint.Signed.{Signed}
-use Rattle.normal_form.specs.Normal.{NormalConstraint}
+use Rattle.normal_form.specs.Normal.{NormalConstraint, Fits}
+use Rattle.normal_form.specs.NormalOf.{IsNormalOf}
 use Rattle.proof_rules.specs.Shown.{IsAdmitted}
 use Rattle.proof_rules.specs.declared.fault.StepFault.{StepFault}
 use Rattle.proof_rules.specs.declared.fault.StepFault.TheVariants as faults
 use Rattle.proof_steps.specs.declared.step.Step.{Step}
 use Rattle.proof_steps.specs.declared.step.Step.TheVariants as steps
-use Rattle.proof_steps.specs.declared.conclusion.Conclusion.{Conclusion}
-use Rattle.proof_steps.specs.declared.conclusion.Conclusion.TheVariants as conclusions
 use Rattle.proof_rules.specs.Preserved.{IsPreserved, AreNormal}
+use Rattle.proof_rules.specs.Legal.{with_solution}
 use Rattle.proof_rules.specs.State.{State}
+use Rattle.proof_rules.specs.Forms.{problem_ids}
 use Rattle.kernel.specs.Database.{Constraints}
+use Rattle.kernel.specs.Logged.{Logged}
 
 -- a problem, and the state of a proof of it
 pub record Held : Type 0 where
@@ -28,27 +29,31 @@ pub record IsKept (k : Held) : Type 0 where
   pub preserved : IsPreserved k.problem k.state
   pub normal : AreNormal k.state
 
--- a step whose kind the kernel judges so far
-abbrev pub IsJudgedStep : Step → Type 0
-IsJudgedStep (steps.Pol written) = ⊤
-IsJudgedStep (steps.Rup c) = ⊤
-IsJudgedStep _ = ⊥
-
--- a conclusion whose kind the kernel judges so far
-abbrev pub IsJudged : Conclusion → Type 0
-IsJudged conclusions.Nothing = ⊤
-IsJudged conclusions.Unsat = ⊤
-IsJudged _ = ⊥
-
--- the state of these live constraints, in which no solution is logged
-abbrev pub opened : Constraints → State
-opened d = record {
+-- the state of these live constraints and logged solutions
+abbrev pub state_with : Constraints → Logged → State
+state_with d l = record {
   live = d.live;
   next = d.next;
-  improve = None;
-  logged = [];
-  improving = set.empty;
+  improve = l.improve;
+  logged = l.logged;
+  improving = l.improving;
 }
+
+-- the state with one more solution, if there is one
+abbrev pub with_extra : Option (List Bool) → State → State
+with_extra None s = s
+with_extra (Some g) s = with_solution g s
+
+-- what the fields of every kernel keep: beside the above, the greatest id of the file is known
+pub record Keeps (k : Held) (file_ids : ℕ) : Type 0 where
+  pub kept : IsKept k
+  pub file : file_ids ≡ problem_ids k.problem.constraints
+
+-- the id that a step gives its constraint, if it adds one
+abbrev pub given_id : Step → State → Option ℕ
+given_id (steps.Sol listing) s = None
+given_id (steps.Del ids) s = None
+given_id _ s = Some s.next
 
 -- the relation of a constraint in a step is `>=`
 abbrev pub HasAtLeast : Step → Type 0
@@ -60,3 +65,8 @@ HasAtLeast _ = ⊤
 abbrev pub IsUnadmitted : Signed → StepFault → Type 0
 IsUnadmitted c faults.TooLarge = (n : NormalConstraint) → IsAdmitted c n → ⊥
 IsUnadmitted c _ = ⊥
+
+-- the normal form of a constraint is not within the limits
+abbrev pub IsUnfit : Signed → StepFault → Type 0
+IsUnfit c faults.TooLarge = (n : NormalConstraint) → IsNormalOf c n → Fits n → ⊥
+IsUnfit c _ = ⊥

@@ -1,5 +1,9 @@
 pub mod Accepted
 pub mod Database
+pub mod Deletion
 pub mod File
 pub mod Held
+pub mod Kinds
+pub mod Logged
 pub mod Stack
+pub mod Table

@@ -4,8 +4,9 @@
 ghost use Rattle.std.specs.Prelude.{◌≡◌, ◌≤◌, ◌^◌, MatchOption};
 ghost use Rattle.proof_rules.specs.State.{id_limit, id_of};
 
+use linear::Lit;
 use normal_form::Normal;
-use propagate::{Id, Propagator};
+use propagate::{Id, Propagator, Reach};
 use std::alloc::{AllocError, Global};
 use std::marker::Model;
 use substitution::covers;
@@ -22,7 +23,7 @@ pub(crate) struct Database<P: Propagator> {
 
 impl<P: Propagator> Model for Database<P> {
     ghost use Rattle.std.specs.Coded.{codes};
-    ghost use Rattle.proof_rules.specs.State.{AreNumbered};
+    ghost use Rattle.proof_rules.specs.State.{AreNumbered, id_of};
     ghost use Rattle.kernel.specs.Database.{Constraints, constraints_code};
 
     ghost Value = { Constraints };
@@ -35,15 +36,16 @@ impl<P: Propagator> Model for Database<P> {
 }
 
 impl<P: Propagator> Database<P> {
-    ghost use Rattle.std.specs.Prelude.{◌≡◌, ◌↔◌, ◌<◌, ◌++◌, IfOk, IsSomeAnd, IsTrue, OnErr, OnOk};
+    ghost use Rattle.std.specs.Prelude.{◌≡◌, ◌↔◌, ◌<◌, ◌++◌, IfOk, IsSome, IsSomeAnd, MatchOption, None, IsTrue, OnErr, OnOk};
     ghost use Rattle.normal_form.specs.Normal.{NormalConstraint};
     ghost use Rattle.propagate.specs.Chain.{IsRefuted};
     ghost use Rattle.propagate.specs.Content.{IsLeastAbove};
+    ghost use Rattle.propagate.specs.Reach.{IsReach};
     ghost use Rattle.substitution.specs.Covering.{Covers};
     ghost use Rattle.std.specs.FinMap as map;
     ghost use Rattle.std.specs.Option.{option_copied};
-    ghost use Rattle.proof_rules.specs.State.{AreNumbered};
-    ghost use Rattle.kernel.specs.Database.{pushed, found};
+    ghost use Rattle.proof_rules.specs.State.{AreNumbered, id_of};
+    ghost use Rattle.kernel.specs.Database.{pushed, removed, taken_back, found};
 
     /// No constraint; the first one takes the id 1.
     pub(crate) fn empty(alloc: Global) -> Self
@@ -75,12 +77,32 @@ impl<P: Propagator> Database<P> {
         requires { self.old.next < id_limit }
         ensures ok { OnOk result (self.new ≡ pushed constraint self.old) }
         ensures id { IfOk result (λ id. id ≡ self.old.next) }
+        ensures numbered { AreNumbered self.old.live self.old.next }
         ensures err { OnErr result (self.new ≡ self.old) }
     {
         let id = self.next_id as u32;
         self.constraints.insert(id, constraint)?;
         self.next_id += 1;
         Ok(id)
+    }
+
+    /// Takes the newest constraint out again, and its id back.
+    pub(crate) fn take_back(&mut self)
+        requires { 1 < self.old.next }
+        ensures { self.new ≡ taken_back self.old }
+    {
+        self.next_id -= 1;
+        self.constraints.remove(self.next_id as u32);
+    }
+
+    /// Takes out the live constraint that a number in a step means.
+    pub(crate) fn remove(&mut self, number: i128)
+        requires { IsSome (found self.old number) }
+        ensures { self.new ≡ removed (id_of self.old.next number) self.old }
+    {
+        if let Some(id) = id_of(self.next_id, number) {
+            self.constraints.remove(id);
+        }
     }
 
     /// The least live id above this one.
@@ -109,12 +131,29 @@ impl<P: Propagator> Database<P> {
         self.constraints.refute(beside)
     }
 
+    /// What a listing extends to by propagation over the live constraints.
+    pub(crate) fn extend(&mut self, listing: &[Lit]) -> Result<Reach, AllocError>
+        ensures same { self.new ≡ self.old }
+        ensures reach { IfOk result (IsReach (map.values self.old.live) listing.now) }
+    {
+        self.constraints.extend(listing)
+    }
+
     /// The live constraint that a number in a step means, if there is one: `-k` is the next id less `k`.
     pub(crate) fn find(&self, number: i128) -> Option<&Normal>
         ensures { option_copied result ≡ found self.now number }
     {
         let id = id_of(self.next_id, number)?;
         self.constraints.get(id)
+    }
+
+    /// The live id that a number in a step means, if there is one.
+    pub(crate) fn live_id(&self, number: i128) -> Option<Id>
+        ensures { MatchOption result (found self.now number ≡ None) (λ id. (id ≡ id_of self.now.next number) × IsSome (found self.now number)) }
+    {
+        let id = id_of(self.next_id, number)?;
+        let _constraint = self.constraints.get(id)?;
+        Some(id)
     }
 }
 

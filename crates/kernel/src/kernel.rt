@@ -5,6 +5,7 @@
 use super::accepted::Accepted;
 use super::database::Database;
 use super::file::constraints_of_file;
+use super::log::Log;
 use super::shown::is_shown;
 use linear::Problem;
 use normal_form::Normal;
@@ -25,22 +26,24 @@ pub struct Applied {
 #[derive(Drop)]
 pub struct Kernel<'a, P: Propagator> {
     pub(crate) allocator: Global,
-    source: &'a Problem,
+    pub(crate) source: &'a Problem,
     pub(crate) database: Database<P>,
+    pub(crate) log: Log,
+    pub(crate) file_ids: u64,
 }
 
 impl<'a, P: Propagator> Model for Kernel<'a, P> {
     ghost use Rattle.std.specs.Coded.{codes};
     ghost use Rattle.proof_rules.specs.Codes.{state_code};
-    ghost use Rattle.kernel.specs.Held.{Held, IsKept, opened};
+    ghost use Rattle.kernel.specs.Held.{Held, Keeps, state_with};
 
     ghost Value = { Held };
 
     ghost coded = { Prim.hlevel (codes, state_code) };
 
-    ghost view = { λ k. record { problem = k.source.now; state = opened k.database } };
+    ghost view = { λ k. record { problem = k.source.now; state = state_with k.database k.log } };
 
-    ghost invariant = { λ k. IsKept (record { problem = k.source.now; state = opened k.database }) };
+    ghost invariant = { λ k. Keeps (record { problem = k.source.now; state = state_with k.database k.log }) k.file_ids };
 }
 
 impl<'a, P: Propagator> Kernel<'a, P> {
@@ -49,7 +52,8 @@ impl<'a, P: Propagator> Kernel<'a, P> {
     ghost use Rattle.proof_rules.specs.Legal.{Legal};
     ghost use Rattle.proof_rules.specs.Shown.{IsShown};
     ghost use Rattle.proof_rules.specs.State.{IsStart, HasRoom, constraints, with_constraint};
-    ghost use Rattle.kernel.specs.Held.{IsKept, IsJudgedStep, HasAtLeast};
+    ghost use Rattle.kernel.specs.Held.{IsKept, HasAtLeast, given_id};
+    ghost use Rattle.kernel.specs.Kinds.{IsJudgedStep};
 
     /// The kernel of a problem's file. Want of memory is the only fault.
     pub fn new(alloc: Global, problem: &'a Problem) -> Result<Self, StepFault>
@@ -58,10 +62,13 @@ impl<'a, P: Propagator> Kernel<'a, P> {
         ensures others { OnErr result (IsErrOf result StepFault.OutOfMemory) }
     {
         let database = constraints_of_file(alloc, problem)?;
+        let file_ids = database.next_id() - 1;
         Ok(Kernel {
             allocator: alloc,
             source: problem,
             database,
+            log: Log::empty(alloc),
+            file_ids,
         })
     }
 
@@ -73,21 +80,25 @@ impl<'a, P: Propagator> Kernel<'a, P> {
         self.database.next_id() - 1
     }
 
-    /// Applies a step, whole or not at all: `pol`, which adds the value of an expression, or `rup`, which adds a constraint
-    /// that is shown from the live ones. A refusal names the first fault in the order of judging, and leaves the kernel as
-    /// before; a legal step is refused for want of memory alone.
+    /// Applies a step, whole or not at all: `pol`, which adds the value of an expression; `rup`, which adds a constraint that
+    /// is shown from the live ones; `sol`, which logs a solution of the file; `soli`, which also adds a constraint that asks
+    /// for better ones; `del`, which takes out constraints that steps derived. A refusal names the first fault in the order of
+    /// judging, and leaves the kernel as before; a legal step is refused for want of memory alone.
     pub fn apply(&mut self, step: &Step) -> Result<Applied, StepFault>
         requires kind { IsJudgedStep step.now }
         requires relation { HasAtLeast step.now }
         ensures problem { self.new.problem ≡ self.old.problem }
         ensures ok { OnOk result (Legal self.old.problem self.old.state step.now self.new.state) }
-        ensures id { IfOk result (λ applied. applied.id ≡ Some self.old.state.next) }
+        ensures id { IfOk result (λ applied. applied.id ≡ given_id step.now self.old.state) }
         ensures fault { IfErr result (λ f. OrMemory f (IsStepFault self.old.problem self.old.state step.now f)) }
         ensures err { OnErr result (self.new ≡ self.old) }
     {
         match step {
             Step::Pol(items) => self.pol(items.as_slice()),
             Step::Rup(constraint) => self.rup(constraint),
+            Step::Sol(listing) => self.sol(listing.as_slice()),
+            Step::Soli(listing) => self.soli(listing.as_slice()),
+            Step::Del(ids) => self.del(ids.as_slice()),
             _ => unreachable!(),
         }
     }

@@ -5,12 +5,20 @@
 mod accepted;
 mod conclusion;
 mod database;
+mod deletion;
 mod file;
+mod ids;
 mod kernel;
+mod kinds;
+mod log;
+mod objective;
 mod pol;
 mod rup;
 mod shown;
+mod solution;
 mod stack;
+mod values;
 
 pub use accepted::Accepted;
 pub use kernel::{Applied, Kernel};
+pub use kinds::is_judged_step;

@@ -10,7 +10,8 @@ use Rattle.opb_read.specs.Kinds.{is_literal, is_semicolon, begins_objective}
 use Rattle.opb_read.specs.Pieces.{Pieces, pieces}
 use Rattle.opb_read.specs.Forms.{names_in}
 use Rattle.opb_read.specs.FaultPlace.{is_begun, AreCountsWithin}
-use Rattle.opb_read.proofs.NumbersOfNames.{names_in-more, with_name-atmost}
+use Rattle.linear.proofs.NumbersOfNames.{with_name-atmost}
+use Rattle.opb_read.proofs.NumbersOfNames.{names_in-more}
 use Rattle.opb_read.proofs.Statements.{within_piece, end_of_piece}
 use Rattle.opb_read.proofs.CountsOfPassed.{IsFew, literals, literals-cons, begun-cons, CountsFrom}
 use Rattle.opb_read.proofs.StopsAreFaults.{plain, marked, counts_plain, plain_counts, counts_marked, marked_counts}

@@ -1,31 +1,11 @@
--- Names keep their numbers when more are added.
-use Rattle.std.proofs.Common.{◌≡◌, ℕ, ◌+◌, ◌<◌, ◌≤◌, Bool, true, false, not, cond, ◌||◌, List, [], ◌∷◌, ◌++◌, length, if◌then◌else◌, refl, ap, ◌∙◌, arith, length-append}
-use Rattle.std.specs.Cmp.Lexicographic.{nat_list_eq_equiv}
+-- Names keep their numbers when those of more tokens are added.
+use Rattle.std.proofs.Common.{◌≡◌, ℕ, ◌<◌, ◌≤◌, Bool, true, false, List, [], ◌∷◌, length, if◌then◌else◌, refl, ◌∙◌, arith}
 use Rattle.pb_text.specs.Lexeme.{Lexeme}
 use Rattle.pb_text.specs.Word.{name_of}
-use Rattle.linear.specs.Table.{same_name, has_name, place_of, with_name}
+use Rattle.linear.specs.Table.{has_name, place_of, with_name}
+use Rattle.linear.proofs.NumbersOfNames.{with_name-more, place_stays, has_stays, number_of-added, place_of-less}
 use Rattle.opb_read.specs.Kinds.{is_literal}
 use Rattle.opb_read.specs.Forms.{names_in}
-
-pub with_name-known : (names : List (List ℕ)) (name : List ℕ) → has_name names name ≡ true → with_name names name ≡ names
-with_name-known names name h = ap (λ b. if b then names else names ++ name ∷ []) h
-
-pub with_name-new : (names : List (List ℕ)) (name : List ℕ) → has_name names name ≡ false → length (with_name names name) ≡ length names + 1
-with_name-new names name h = ap (λ b. length (if b then names else names ++ name ∷ [])) h ∙ length-append names (name ∷ [])
-
-pub with_name-atmost : (names : List (List ℕ)) (name : List ℕ) → length (with_name names name) ≤ length names + 1
-with_name-atmost names name = by (has_name names name)
-  where
-    by : (b : Bool) → length (if b then names else names ++ name ∷ []) ≤ length names + 1
-    by true = omega arith
-    by false = omega (arith, length-append names (name ∷ []))
-
-pub with_name-more : (names : List (List ℕ)) (name : List ℕ) → length names ≤ length (with_name names name)
-with_name-more names name = by (has_name names name)
-  where
-    by : (b : Bool) → length names ≤ length (if b then names else names ++ name ∷ [])
-    by true = omega arith
-    by false = omega (arith, length-append names (name ∷ []))
 
 pub names_in-more : (names : List (List ℕ)) (ts : List Lexeme) → length names ≤ length (names_in names ts)
 names_in-more names [] = omega arith
@@ -35,51 +15,6 @@ names_in-more names (t ∷ ts) = by (is_literal t.kind) (names_in-more (with_nam
         → length names ≤ length (names_in (if b then with_name names (name_of t.text) else names) ts)
     by true h k = omega (arith, with_name-more names (name_of t.text), h)
     by false h k = k
-
-place_of-last : (names : List (List ℕ)) (name : List ℕ) → has_name names name ≡ false → place_of (names ++ name ∷ []) name ≡ place_of names name
-place_of-last [] name h = by (same_name name name) (nat_list_eq_equiv.refl name)
-  where
-    by : (b : Bool) → b ≡ true → cond (not b) (1 + 0) 0 ≡ 0
-    by true e = refl
-    by false e = cc
-place_of-last (n ∷ ns) name h = by (same_name name n) h (place_of-last ns name)
-  where
-    by : (b : Bool) → (b || has_name ns name) ≡ false → (has_name ns name ≡ false → place_of (ns ++ name ∷ []) name ≡ place_of ns name)
-        → cond (not b) (1 + place_of (ns ++ name ∷ []) name) 0 ≡ cond (not b) (1 + place_of ns name) 0
-    by true e rest = refl
-    by false e rest = ap (λ k. 1 + k) (rest e)
-
--- a name that is there keeps its number
-place_of-append : (names more : List (List ℕ)) (name : List ℕ) → has_name names name ≡ true → place_of (names ++ more) name ≡ place_of names name
-place_of-append [] more name h = cc
-place_of-append (n ∷ ns) more name h = by (same_name name n) h (place_of-append ns more name)
-  where
-    by : (b : Bool) → (b || has_name ns name) ≡ true → (has_name ns name ≡ true → place_of (ns ++ more) name ≡ place_of ns name)
-        → cond (not b) (1 + place_of (ns ++ more) name) 0 ≡ cond (not b) (1 + place_of ns name) 0
-    by true e rest = refl
-    by false e rest = ap (λ k. 1 + k) (rest e)
-
-has_name-append : (names more : List (List ℕ)) (name : List ℕ) → has_name names name ≡ true → has_name (names ++ more) name ≡ true
-has_name-append [] more name h = cc
-has_name-append (n ∷ ns) more name h = by (same_name name n) h (has_name-append ns more name)
-  where
-    by : (b : Bool) → (b || has_name ns name) ≡ true → (has_name ns name ≡ true → has_name (ns ++ more) name ≡ true) → (b || has_name (ns ++ more) name) ≡ true
-    by true e rest = refl
-    by false e rest = rest e
-
-place_stays : (names : List (List ℕ)) (name other : List ℕ) → has_name names name ≡ true → place_of (with_name names other) name ≡ place_of names name
-place_stays names name other h = by (has_name names other)
-  where
-    by : (b : Bool) → place_of (if b then names else names ++ other ∷ []) name ≡ place_of names name
-    by true = refl
-    by false = place_of-append names (other ∷ []) name h
-
-has_stays : (names : List (List ℕ)) (name other : List ℕ) → has_name names name ≡ true → has_name (with_name names other) name ≡ true
-has_stays names name other h = by (has_name names other)
-  where
-    by : (b : Bool) → has_name (if b then names else names ++ other ∷ []) name ≡ true
-    by true = h
-    by false = has_name-append names (other ∷ []) name h
 
 pub number_stays : (names : List (List ℕ)) (ts : List Lexeme) (name : List ℕ) → has_name names name ≡ true → place_of (names_in names ts) name ≡ place_of names name
 number_stays names [] name h = refl
@@ -91,31 +26,6 @@ number_stays names (t ∷ ts) name h =
         → place_of (names_in (if b then with_name names (name_of t.text) else names) ts) name ≡ place_of names name
     by true e k = e ∙ place_stays names name (name_of t.text) h
     by false e k = k
-
-has_name-last : (names : List (List ℕ)) (name : List ℕ) → has_name (names ++ name ∷ []) name ≡ true
-has_name-last [] name = ap (λ b. b || false) (nat_list_eq_equiv.refl name)
-has_name-last (n ∷ ns) name = by (same_name name n) (has_name-last ns name)
-  where
-    by : (b : Bool) → has_name (ns ++ name ∷ []) name ≡ true → (b || has_name (ns ++ name ∷ []) name) ≡ true
-    by true e = refl
-    by false e = e
-
--- a name has its number once it is added
-pub number_of-added : (names : List (List ℕ)) (name : List ℕ) → (has_name (with_name names name) name ≡ true) × (place_of (with_name names name) name ≡ place_of names name)
-number_of-added names name = by (has_name names name) refl
-  where
-    by : (b : Bool) → has_name names name ≡ b
-        → (has_name (if b then names else names ++ name ∷ []) name ≡ true) × (place_of (if b then names else names ++ name ∷ []) name ≡ place_of names name)
-    by true e = (e, refl)
-    by false e = (has_name-last names name, place_of-last names name e)
-
-place_of-less : (names : List (List ℕ)) (name : List ℕ) → has_name names name ≡ true → place_of names name < length names
-place_of-less [] name h = cc
-place_of-less (n ∷ ns) name h = by (same_name name n) h (place_of-less ns name)
-  where
-    by : (b : Bool) → (b || has_name ns name) ≡ true → (has_name ns name ≡ true → place_of ns name < length ns) → cond (not b) (1 + place_of ns name) 0 < length (n ∷ ns)
-    by true e rest = omega arith
-    by false e rest = omega (arith, rest e)
 
 -- the number of a name that is read next stays to the end, and is one of the table's
 pub number_at_end : (names : List (List ℕ)) (name : List ℕ) (ts : List Lexeme)

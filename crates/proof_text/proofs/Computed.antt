@@ -1,12 +1,13 @@
 -- Worked cases by computing: each condition of a line, and that a line is none.
-use Rattle.std.proofs.Common.{◌≡◌, ◌≢◌, ℕ, ◌≤◌, ◌^◌, length, Bool, true, false, not, ◌&&◌, ◌||◌, nat_le, Option, Some, None, List, [], ◌∷◌, refl, sym, subst, ◌∙◌, arith}
+use Rattle.std.proofs.Common.{◌≡◌, ◌≢◌, ℕ, ◌≤◌, length, Bool, true, false, not, ◌&&◌, ◌||◌, nat_le, Option, Some, None, List, [], ◌∷◌, refl, sym, subst, ◌∙◌, arith}
 use Rattle.std.specs.Prelude.{All}
 use Rattle.std.specs.List.{list_all}
 use Rattle.std.proofs.lemmas.List.Elements.{All-nil, All-cons}
 use Rattle.std.proofs.lemmas.List.Kept.{AllPairs-cons}
 use Rattle.std.proofs.lemmas.Bool.Decides.{nat_tests}
 use Rattle.pb_text.specs.Lexeme.{kind_of}
-use Rattle.pb_text.specs.Number.{integer_size}
+use Rattle.pb_text.specs.Number.{integer_size, largest_number}
+use Rattle.linear.specs.Largest.{most_names}
 use Rattle.linear.specs.declared.term.Var.{Var}
 use Rattle.linear.specs.declared.constraint.Signed.{Signed}
 use Rattle.substitution.specs.declared.image.Image.{Image}
@@ -30,10 +31,10 @@ nothing place text h old line new l =
 
 -- is a word no integer, or one within 2^120
 abbrev pub is_small : List ℕ → Bool
-is_small w = not (is_integer (kind_of w)) || nat_le (integer_size w) (2 ^ 120)
+is_small w = not (is_integer (kind_of w)) || nat_le (integer_size w) largest_number
 
 -- proofs that words are small, by computing
-within : (t : Bool) (n : ℕ) → not t || nat_le n (2 ^ 120) ≡ true → t ≡ true → n ≤ 2 ^ 120
+within : (t : Bool) (n : ℕ) → not t || nat_le n largest_number ≡ true → t ≡ true → n ≤ largest_number
 within true n h e = grind (arith, nat_tests, h)
 within false n h e = absurd cc
 
@@ -73,6 +74,6 @@ twice_left c x line says proper =
 
 -- a line is what its words say, each condition by computing
 pub spells : {place : Place} {old ws : List (List ℕ)} {line : Line} {new : List (List ℕ)}
-    → new ≡ names_in old (naming place ws) → line_of place new ws ≡ Some line → IsProperLine line → list_all is_small (measured place ws) ≡ true → length new ≤ 2 ^ 32
+    → new ≡ names_in old (naming place ws) → line_of place new ws ≡ Some line → IsProperLine line → list_all is_small (measured place ws) ≡ true → length new ≤ most_names
     → IsLine place old ws line new
 spells {place} {old} {ws} n s p m few = record { names = n; few = few; says = s; proper = p; small = all_small (measured place ws) m }

@@ -21,10 +21,11 @@ use Rattle.proof_text.specs.NamesMet.{NamesMet, met_in}
 use Rattle.proof_text.specs.Forms.{are_literals, literals_of}
 use Rattle.proof_text.specs.PartsRead.{IsRead}
 use Rattle.proof_text.specs.Conclusions.{conclusion_kind_of, is_hint, hint_of, past_id, is_lower, lower_of, is_upper, upper_of, bounds_by, bounds_of, conclusion_by, literals_by, is_conclusion, conclusion_said, literals_said, conclusion_of, conclusion_literals}
-use Rattle.proof_text.specs.ConclusionsRead.{begins_right, IsHintRead, IsConclusionRead, AreConclusionWordsRead, IsConclusionLineRead}
+use Rattle.proof_text.specs.ConclusionsRead.{begins_right, IsHintRead, IsConclusionRead, IsConclusionLineRead}
 use Rattle.proof_text.specs.PartsDenied.{Denies}
 use Rattle.proof_text.specs.declared.fault.ProofFault.{ProofFault}
-use Rattle.proof_text.proofs.PolItems.{same_word}
+use Rattle.proof_text.proofs.ByFirstWord.{judged_with, literals_with}
+use Rattle.proof_text.proofs.PolItems.{same_word, and_false_left}
 use Rattle.proof_text.proofs.WordsByKind.{all_small, none_small, rest_small, only_small, small_other, denied_more}
 
 inf_kind : is_integer (kind_of (codes "INF")) ≡ false
@@ -131,10 +132,6 @@ denied_id f l ws rest at d =
     subst (λ x. Denies f (is_some (bounds_of [] x)) x) (sym at)
     (denied_more f (begins_right rest) _ rest (l ∷ rest) (λ e. no_bounds l rest (colon_stays rest (lower_of l) e)) (λ s. rest_small l rest s) d)
 
-and_false : (p q : Bool) → p ≡ false → (p && q) ≡ false
-and_false true q h = cc
-and_false false q h = refl
-
 and_later : (p q : Bool) → q ≡ false → (p && q) ≡ false
 and_later true q h = h
 and_later false q h = refl
@@ -144,7 +141,7 @@ pub denied_upper : (f : ProofFault) (l u : List ℕ) (ws rest left more : List (
 denied_upper f l u ws rest left more at past e later d =
     subst (λ x. Denies f (is_some (bounds_of [] x)) x) (sym at)
     (denied_more f (is_upper u) _ (u ∷ []) (l ∷ rest)
-    (λ n. no_bounds l rest (ap (λ x. is_some (bounds_by [] (lower_of l) x)) (sym past ∙ e) ∙ choice (is_upper u && is_hint more) _ ∙ and_false (is_upper u) (is_hint more) n))
+    (λ n. no_bounds l rest (ap (λ x. is_some (bounds_by [] (lower_of l) x)) (sym past ∙ e) ∙ choice (is_upper u && is_hint more) _ ∙ and_false_left (is_upper u) (is_hint more) n))
     (λ s. only_small u more (subst AreSmall e (later (rest_small l rest s)))) d)
 
 pub denied_upper_hint : (f : ProofFault) (l u : List ℕ) (ws rest left more : List (List ℕ)) → ws ≡ l ∷ rest → left ≡ past_id rest → left ≡ u ∷ more → (AreSmall rest → AreSmall left)
@@ -155,52 +152,46 @@ denied_upper_hint f l u ws rest left more at past e later d =
     (λ n. no_bounds l rest (ap (λ x. is_some (bounds_by [] (lower_of l) x)) (sym past ∙ e) ∙ choice (is_upper u && is_hint more) _ ∙ and_later (is_upper u) (is_hint more) n))
     (λ s. rest_small u more (subst AreSmall e (later (rest_small l rest s)))) d)
 
-abbrev by_kind : List (List ℕ) → List (List ℕ) → Option ConclusionKind → Option Conclusion
-by_kind names rest None = None
-by_kind names rest (Some v) = conclusion_by v names rest
-
-abbrev lits_by : List (List ℕ) → Option ConclusionKind → List (List ℕ)
-lits_by rest None = []
-lits_by rest (Some v) = literals_by v rest
-
 kind_at : (names : List (List ℕ)) (w : List ℕ) (rest : List (List ℕ)) (v : ConclusionKind) → conclusion_kind_of w ≡ Some v
     → (conclusion_said names (w ∷ rest) ≡ conclusion_by v names rest) × (literals_said (w ∷ rest) ≡ literals_by v rest)
-kind_at names w rest v h = (ap (by_kind names rest) h, ap (lits_by rest) h)
-
-pub conclusion_words_read : (k new : NamesMet) (w : List ℕ) (ws rest : List (List ℕ)) (v : ConclusionKind) (c : Conclusion) → ws ≡ w ∷ rest → conclusion_kind_of w ≡ Some v → IsConclusionRead v k rest c new → AreConclusionWordsRead k ws c new
-conclusion_words_read k new w ws rest v c at h r =
-    subst (λ x. AreConclusionWordsRead k x c new) (sym at) (record {
-      says = (kind_at new.names w rest v h).0 ∙ r.says;
-      known = r.known ∙ ap (met_in k) (sym (kind_at [] w rest v h).1);
-      small = r.small;
-    })
-
-pub denied_conclusion_words : (f : ProofFault) (w : List ℕ) (ws rest : List (List ℕ)) (v : ConclusionKind) → ws ≡ w ∷ rest → conclusion_kind_of w ≡ Some v → Denies f (is_conclusion v rest) rest
-    → Denies f (is_some (conclusion_said [] ws)) (drop 1 ws)
-denied_conclusion_words f w ws rest v at h d =
-    subst (λ x. Denies f (is_some (conclusion_said [] x)) (drop 1 x)) (sym at)
-    (denied_more f (is_conclusion v rest) _ rest rest (λ e. ap is_some (kind_at [] w rest v h).0 ∙ e) (λ s. s) d)
+kind_at names w rest v h = (ap (judged_with names rest) h, ap (literals_with rest) h)
 
 pub no_conclusion_kind : (w : List ℕ) (ws rest : List (List ℕ)) → ws ≡ w ∷ rest → conclusion_kind_of w ≡ None → is_some (conclusion_said [] ws) ≡ false
-no_conclusion_kind w ws rest at h = ap (λ x. is_some (conclusion_said [] x)) at ∙ ap (λ o. is_some (by_kind [] rest o)) h
+no_conclusion_kind w ws rest at h = ap (λ x. is_some (conclusion_said [] x)) at ∙ ap (λ o. is_some (judged_with [] rest o)) h
 
--- a line that begins with `conclusion`
-pub conclusion_read : (k new : NamesMet) (w : List ℕ) (ws rest : List (List ℕ)) (c : Conclusion) → ws ≡ w ∷ rest → bytes_eq w (codes "conclusion") ≡ true → AreConclusionWordsRead k (unclosed rest) c new → IsConclusionLineRead k ws c new
+-- a line that begins with `conclusion` and the word of a kind
+pub conclusion_read : (k new : NamesMet) (w v : List ℕ) (ws rest more : List (List ℕ)) (kind : ConclusionKind) (c : Conclusion) → ws ≡ w ∷ rest → bytes_eq w (codes "conclusion") ≡ true → unclosed rest ≡ v ∷ more
+    → conclusion_kind_of v ≡ Some kind → IsConclusionRead kind k more c new → IsConclusionLineRead k ws c new
 unfolding conclusion_of conclusion_literals
-conclusion_read k new w ws rest c at h r =
+conclusion_read k new w v ws rest more kind c at h behind is r =
     subst (λ x. IsConclusionLineRead k x c new) (sym at) (record {
-      says = ap (λ t. if t then conclusion_said new.names (unclosed rest) else None) h ∙ r.says;
-      known = r.known;
-      small = r.small;
+      says =
+          ap (λ t. if t then conclusion_said new.names (unclosed rest) else None) h
+          ∙ ap (conclusion_said new.names) behind
+          ∙ (kind_at new.names v more kind is).0
+          ∙ r.says;
+      known = r.known ∙ ap (met_in k) (sym (ap literals_said behind ∙ (kind_at [] v more kind is).1));
+      small = subst AreSmall (sym (ap (drop 1) behind)) r.small;
     })
 
-pub denied_conclusion : (f : ProofFault) (w : List ℕ) (ws rest : List (List ℕ)) → ws ≡ w ∷ rest → bytes_eq w (codes "conclusion") ≡ true
-    → Denies f (is_some (conclusion_said [] (unclosed rest))) (drop 1 (unclosed rest)) → Denies f (is_some (conclusion_of [] ws)) (drop 1 (unclosed (drop 1 ws)))
+pub denied_conclusion : (f : ProofFault) (w v : List ℕ) (ws rest more : List (List ℕ)) (kind : ConclusionKind) → ws ≡ w ∷ rest → bytes_eq w (codes "conclusion") ≡ true → unclosed rest ≡ v ∷ more → conclusion_kind_of v ≡ Some kind
+    → Denies f (is_conclusion kind more) more → Denies f (is_some (conclusion_of [] ws)) (drop 1 (unclosed (drop 1 ws)))
 unfolding conclusion_of
-denied_conclusion f w ws rest at h d =
+denied_conclusion f w v ws rest more kind at h behind is d =
     subst (λ x. Denies f (is_some (conclusion_of [] x)) (drop 1 (unclosed (drop 1 x)))) (sym at)
-    (denied_more f (is_some (conclusion_said [] (unclosed rest))) _ (drop 1 (unclosed rest)) (drop 1 (unclosed rest))
-    (λ e. ap (λ t. is_some (if t then conclusion_said [] (unclosed rest) else None)) h ∙ e) (λ s. s) d)
+    (denied_more f (is_conclusion kind more) _ more (drop 1 (unclosed rest))
+    (λ e.
+    ap (λ t. is_some (if t then conclusion_said [] (unclosed rest) else None)) h
+    ∙ ap (λ x. is_some (conclusion_said [] x)) behind
+    ∙ ap is_some (kind_at [] v more kind is).0
+    ∙ e)
+    (λ s. subst AreSmall (ap (drop 1) behind) s) d)
+
+-- and one that says no conclusion behind the first
+pub nothing_said : (w : List ℕ) (ws rest : List (List ℕ)) → ws ≡ w ∷ rest → bytes_eq w (codes "conclusion") ≡ true → is_some (conclusion_said [] (unclosed rest)) ≡ false → is_some (conclusion_of [] ws) ≡ false
+unfolding conclusion_of
+nothing_said w ws rest at h none =
+    ap (λ x. is_some (conclusion_of [] x)) at ∙ ap (λ t. is_some (if t then conclusion_said [] (unclosed rest) else None)) h ∙ none
 
 pub no_conclusion : (ws : List (List ℕ)) → is_first (codes "conclusion") ws ≡ false → is_some (conclusion_of [] ws) ≡ false
 unfolding conclusion_of

@@ -3,6 +3,8 @@ pub mod ClosingSemicolon
 pub mod FirstSemicolon
 pub mod NamesNumbered
 pub mod WordsByKind
+pub mod ByFirstWord
+pub mod FaultsSaid
 pub mod PartsInTurn
 pub mod PolItems
 pub mod ConstraintsRead

@@ -10,13 +10,13 @@ use Rattle.proof_text.specs.declared.keyword.ConclusionKind.{ConclusionKind}
 use Rattle.proof_text.specs.declared.keyword.ConclusionKind.TheVariants as kinds
 use Rattle.proof_text.specs.declared.line.Line.{Line}
 use Rattle.proof_text.specs.declared.line.Line.TheVariants as lines
-use Rattle.proof_text.specs.declared.line.Place.{Place}
 use Rattle.proof_text.specs.declared.line.Place.TheVariants as places
 use Rattle.pb_text.specs.Lexeme.{kind_of}
 use Rattle.proof_text.specs.Kinds.{is_semicolon}
 use Rattle.proof_text.specs.Words.{is_first, is_empty, are_words, unclosed, AreSmall}
 use Rattle.proof_text.specs.NamesMet.{NamesMet, met_in}
-use Rattle.proof_text.specs.Numbering.{names_in, most_names}
+use Rattle.linear.specs.Largest.{most_names}
+use Rattle.proof_text.specs.Numbering.{names_in}
 use Rattle.proof_text.specs.Frame.{count_of, output}
 use Rattle.proof_text.specs.Rules.{rule_of}
 use Rattle.proof_text.specs.Steps.{step_by, counted_by, step_of, counted, IsProper, IsStep}
@@ -24,10 +24,12 @@ use Rattle.proof_text.specs.StepsRead.{IsStepRead, IsStepLineRead}
 use Rattle.proof_text.specs.Conclusions.{conclusion_kind_of, is_hint, hint_of, past_id, is_upper, upper_of, is_lower, lower_of, bounds_by, bounds_of, conclusion_by, conclusion_said, conclusion_of, conclusion_literals}
 use Rattle.proof_text.specs.ConclusionsRead.{IsConclusionLineRead}
 use Rattle.proof_text.specs.Spells.{line_of, IsProperLine, IsLine}
-use Rattle.proof_text.specs.PartsDenied.{Denies, IsForm, DeniesRule}
-use Rattle.proof_text.specs.Faults.{AreTooMany, NoStep, DeniesStep, NoLine, DeniesPlaced}
+use Rattle.proof_text.specs.PartsDenied.{Denies, IsForm, DeniesRule, NoStepBy, SomeStepBy}
+use Rattle.proof_text.specs.Faults.{NoStep, SomeStep, DeniesStep, NoLine, SomeLine, DeniesPlaced}
 use Rattle.proof_text.specs.declared.fault.ProofFault.{ProofFault}
 use Rattle.proof_text.specs.declared.fault.ProofFault.TheVariants as faults
+use Rattle.proof_text.proofs.ByFirstWord.{step_with, counted_with, judged_with}
+use Rattle.proof_text.proofs.FaultsSaid.{form_denied, part_denied, same_denied}
 use Rattle.proof_text.proofs.PolItems.{first_word}
 use Rattle.proof_text.proofs.WordsByKind.{none_small}
 use Rattle.proof_text.proofs.NamesNumbered.{too_many}
@@ -38,21 +40,13 @@ use Rattle.proof_text.proofs.StepsRead.{said_anyway, apart, table_whole}
 abbrev pub fresh : List (List ℕ) → NamesMet
 fresh names = record { before = names; names = names; full = false }
 
-abbrev step_by_rule : List (List ℕ) → List (List ℕ) → Option Rule → Option Step
-step_by_rule names rest None = None
-step_by_rule names rest (Some rule) = step_by rule names rest
-
-abbrev counted_by_rule : List (List ℕ) → Option Rule → List (List ℕ)
-counted_by_rule rest None = []
-counted_by_rule rest (Some rule) = counted_by rule rest
-
-pub step_at : (names : List (List ℕ)) (w : List ℕ) (rest : List (List ℕ)) (o : Option Rule) → rule_of w ≡ o → step_of names (w ∷ rest) ≡ step_by_rule names rest o
+pub step_at : (names : List (List ℕ)) (w : List ℕ) (rest : List (List ℕ)) (o : Option Rule) → rule_of w ≡ o → step_of names (w ∷ rest) ≡ step_with names rest o
 unfolding step_of
-step_at names w rest o h = ap (step_by_rule names rest) h
+step_at names w rest o h = ap (step_with names rest) h
 
-pub counted_at : (w : List ℕ) (rest : List (List ℕ)) (o : Option Rule) → rule_of w ≡ o → counted (w ∷ rest) ≡ counted_by_rule rest o
+pub counted_at : (w : List ℕ) (rest : List (List ℕ)) (o : Option Rule) → rule_of w ≡ o → counted (w ∷ rest) ≡ counted_with rest o
 unfolding counted
-counted_at w rest o h = ap (counted_by_rule rest) h
+counted_at w rest o h = ap (counted_with rest) h
 
 pub ruled_read : (k new : NamesMet) (w : List ℕ) (ws rest : List (List ℕ)) (rule : Rule) (step : Step) → ws ≡ w ∷ rest → rule_of w ≡ Some rule → IsStepRead rule k rest step new → IsStepLineRead k ws step new
 ruled_read k new w ws rest rule step at h r =
@@ -66,39 +60,16 @@ ruled_read k new w ws rest rule step at h r =
 
 -- both say the same of a fault where the words are the same
 step_denied : (f : ProofFault) (rule : Rule) (names : List (List ℕ)) (w : List ℕ) (rest : List (List ℕ)) → rule_of w ≡ Some rule → DeniesRule f rule names rest → DeniesStep f names (w ∷ rest)
-step_denied faults.BadHeader rule names w rest h d = d
-step_denied faults.BadCount rule names w rest h d = d
-step_denied faults.UnknownRule rule names w rest h d = λ s e p.
-    d s (ap (λ c. step_by rule (names_in names c) rest) (sym (counted_at w rest (Some rule) h)) ∙ sym (step_at (names_in names (counted (w ∷ rest))) w rest (Some rule) h) ∙ e) p
-step_denied faults.RuleLeftOut rule names w rest h d = λ s e p.
-    d s (ap (λ c. step_by rule (names_in names c) rest) (sym (counted_at w rest (Some rule) h)) ∙ sym (step_at (names_in names (counted (w ∷ rest))) w rest (Some rule) h) ∙ e) p
-step_denied faults.BadLine rule names w rest h d = λ s e p.
-    d s (ap (λ c. step_by rule (names_in names c) rest) (sym (counted_at w rest (Some rule) h)) ∙ sym (step_at (names_in names (counted (w ∷ rest))) w rest (Some rule) h) ∙ e) p
-step_denied faults.Truncated rule names w rest h d = d
-step_denied faults.TextAfterEnd rule names w rest h d = d
-step_denied faults.IntegerTooLarge rule names w rest h d = λ s. d (subst AreSmall (counted_at w rest (Some rule) h) s)
-step_denied faults.OutOfMemory rule names w rest h d = d
-step_denied faults.TooManyIds rule names w rest h d =
-    let c : counted (w ∷ rest) ≡ counted_by rule rest = counted_at w rest (Some rule) h in (
-      subst AreSmall (sym c) d.0,
-      (d.1.0, step_at (names_in names (counted (w ∷ rest))) w rest (Some rule) h ∙ ap (λ x. step_by rule (names_in names x) rest) c ∙ d.1.1, d.1.2),
-      subst (λ x. AreTooMany (names_in names x)) (sym c) d.2,
-    )
+step_denied f rule names w rest h d =
+    let ws = w ∷ rest in
+    let c : counted ws ≡ counted_by rule rest = counted_at w rest (Some rule) h in
+    let said = step_at (names_in names (counted ws)) w rest (Some rule) h in
+    let again = ap (λ x. step_by rule (names_in names x) rest) c in
+    same_denied f (NoStepBy rule names rest) (SomeStepBy rule names rest) (NoStep names ws) (SomeStep names ws) (counted_by rule rest) (names_in names (counted_by rule rest)) (counted ws) (names_in names (counted ws))
+    (λ none s e p. none s (sym again ∙ sym said ∙ e) p) (λ some. (some.0, said ∙ again ∙ some.1, some.2)) (sym c) (ap (names_in names) (sym c)) d
 
 pub ruled_denied : (f : ProofFault) (rule : Rule) (names : List (List ℕ)) (w : List ℕ) (ws rest : List (List ℕ)) → ws ≡ w ∷ rest → rule_of w ≡ Some rule → DeniesRule f rule names rest → DeniesStep f names ws
 ruled_denied f rule names w ws rest at h d = subst (λ x. DeniesStep f names x) (sym at) (step_denied f rule names w rest h d)
-
-form_denied : (f : ProofFault) (names ws : List (List ℕ)) → IsForm f → NoStep names ws → DeniesStep f names ws
-form_denied faults.BadHeader names ws h n = absurd h
-form_denied faults.BadCount names ws h n = absurd h
-form_denied faults.UnknownRule names ws h n = n
-form_denied faults.RuleLeftOut names ws h n = n
-form_denied faults.BadLine names ws h n = n
-form_denied faults.Truncated names ws h n = absurd h
-form_denied faults.TextAfterEnd names ws h n = absurd h
-form_denied faults.IntegerTooLarge names ws h n = absurd h
-form_denied faults.OutOfMemory names ws h n = absurd h
-form_denied faults.TooManyIds names ws h n = absurd h
 
 -- no rule
 no_rule : (names : List (List ℕ)) (w : List ℕ) (rest : List (List ℕ)) → rule_of w ≡ None → NoStep names (w ∷ rest)
@@ -106,7 +77,7 @@ no_rule names w rest h step e p =
     let none : ◌≡◌ {A = Option Step} None (Some step) = sym (step_at (names_in names (counted (w ∷ rest))) w rest None h) ∙ e in cc
 
 pub unruled_denied : (f : ProofFault) (names : List (List ℕ)) (w : List ℕ) (ws rest : List (List ℕ)) → ws ≡ w ∷ rest → rule_of w ≡ None → IsForm f → DeniesStep f names ws
-unruled_denied f names w ws rest at h form = subst (λ x. DeniesStep f names x) (sym at) (form_denied f names (w ∷ rest) form (no_rule names w rest h))
+unruled_denied f names w ws rest at h form = subst (λ x. DeniesStep f names x) (sym at) (form_denied f (NoStep names (w ∷ rest)) (SomeStep names (w ∷ rest)) (counted (w ∷ rest)) (names_in names (counted (w ∷ rest))) form (no_rule names w rest h))
 
 no_words : (names : List (List ℕ)) → NoStep names []
 unfolding step_of
@@ -133,7 +104,7 @@ unfolding step_of counted
 step_anyway names others [] step h proper has = cc
 step_anyway names others (w ∷ rest) step h proper has = by (rule_of w) h has
   where
-    by : (o : Option Rule) → step_by_rule names rest o ≡ Some step → HasNames others (counted_by_rule rest o) → (q : Step) × (step_by_rule others rest o ≡ Some q) × IsProper q
+    by : (o : Option Rule) → step_with names rest o ≡ Some step → HasNames others (counted_with rest o) → (q : Step) × (step_with others rest o ≡ Some q) × IsProper q
     by None h has = cc
     by (Some rule) h has = said_anyway rule names others rest step h (apart rule names rest step h proper) has
 
@@ -180,15 +151,11 @@ concluded_anyway kinds.Sat names others ws c h = (conclusions.Sat (hint_of other
 concluded_anyway kinds.Unsat names others ws c h = (c, h)
 concluded_anyway kinds.Bounds names others ws c h = all_bounds_anyway names others ws c h
 
-abbrev by_kind : List (List ℕ) → List (List ℕ) → Option ConclusionKind → Option Conclusion
-by_kind names rest None = None
-by_kind names rest (Some v) = conclusion_by v names rest
-
 conclusion_said_anyway : (names others ws : List (List ℕ)) (c : Conclusion) → conclusion_said names ws ≡ Some c → (q : Conclusion) × (conclusion_said others ws ≡ Some q)
 conclusion_said_anyway names others [] c h = cc
 conclusion_said_anyway names others (w ∷ rest) c h = by (conclusion_kind_of w) h
   where
-    by : (o : Option ConclusionKind) → by_kind names rest o ≡ Some c → (q : Conclusion) × (by_kind others rest o ≡ Some q)
+    by : (o : Option ConclusionKind) → judged_with names rest o ≡ Some c → (q : Conclusion) × (judged_with others rest o ≡ Some q)
     by None h = cc
     by (Some v) h = concluded_anyway v names others rest c h
 
@@ -219,16 +186,9 @@ no_conclusion_line names ws h line e p =
     cc (sym h ∙ ap is_some a.1)
 
 pub conclusion_denied : (f : ProofFault) (names ws : List (List ℕ)) → Denies f (is_some (conclusion_of [] ws)) (drop 1 (unclosed (drop 1 ws))) → DeniesPlaced f places.Conclusion names ws
-conclusion_denied faults.BadHeader names ws d = d
-conclusion_denied faults.BadCount names ws d = d
-conclusion_denied faults.UnknownRule names ws d = no_conclusion_line names ws d
-conclusion_denied faults.RuleLeftOut names ws d = no_conclusion_line names ws d
-conclusion_denied faults.BadLine names ws d = no_conclusion_line names ws d
-conclusion_denied faults.Truncated names ws d = d
-conclusion_denied faults.TextAfterEnd names ws d = d
-conclusion_denied faults.IntegerTooLarge names ws d = d
-conclusion_denied faults.OutOfMemory names ws d = d
-conclusion_denied faults.TooManyIds names ws d = absurd d
+conclusion_denied f names ws d =
+    part_denied f (is_some (conclusion_of [] ws)) (drop 1 (unclosed (drop 1 ws))) (NoLine places.Conclusion names ws) (SomeLine places.Conclusion names ws) (drop 1 (unclosed (drop 1 ws))) (names_in names (conclusion_literals ws))
+    (no_conclusion_line names ws) (λ s. s) d
 
 -- `output` is no rule
 output_rule : rule_of (codes "output") ≡ None
@@ -264,21 +224,10 @@ no_output_line names ws h none line e p =
     let x : ◌≡◌ {A = Option Step} None (Some s.0) = sym nothing ∙ s.1 in
     cc
 
-placed_form : (f : ProofFault) (place : Place) (names ws : List (List ℕ)) → IsForm f → NoLine place names ws → DeniesPlaced f place names ws
-placed_form faults.BadHeader place names ws h n = absurd h
-placed_form faults.BadCount place names ws h n = absurd h
-placed_form faults.UnknownRule place names ws h n = n
-placed_form faults.RuleLeftOut place names ws h n = n
-placed_form faults.BadLine place names ws h n = n
-placed_form faults.Truncated place names ws h n = absurd h
-placed_form faults.TextAfterEnd place names ws h n = absurd h
-placed_form faults.IntegerTooLarge place names ws h n = absurd h
-placed_form faults.OutOfMemory place names ws h n = absurd h
-placed_form faults.TooManyIds place names ws h n = absurd h
-
 pub output_denied : (f : ProofFault) (names ws : List (List ℕ)) → is_first (codes "output") ws ≡ true → are_words output (unclosed ws) ≡ false → IsForm f
     → DeniesPlaced f places.Step names ws
-output_denied f names ws h none form = placed_form f places.Step names ws form (no_output_line names ws h none)
+output_denied f names ws h none form =
+    form_denied f (NoLine places.Step names ws) (SomeLine places.Step names ws) (counted ws) (names_in names (counted ws)) form (no_output_line names ws h none)
 
 first_stays : (v : List ℕ) (ws : List (List ℕ)) → is_first v ws ≡ false → is_first v (unclosed ws) ≡ false
 first_stays v [] h = refl
@@ -311,25 +260,11 @@ no_step_line names ws h none line e p =
     none s.0 s.1 (subst IsProperLine s.2 p)
 
 pub step_denied_here : (f : ProofFault) (names ws : List (List ℕ)) → is_first (codes "output") ws ≡ false → DeniesStep f names ws → DeniesPlaced f places.Step names ws
-step_denied_here faults.BadHeader names ws h d = d
-step_denied_here faults.BadCount names ws h d = d
-step_denied_here faults.UnknownRule names ws h d = no_step_line names ws h d
-step_denied_here faults.RuleLeftOut names ws h d = no_step_line names ws h d
-step_denied_here faults.BadLine names ws h d = no_step_line names ws h d
-step_denied_here faults.Truncated names ws h d = d
-step_denied_here faults.TextAfterEnd names ws h d = d
-step_denied_here faults.IntegerTooLarge names ws h d = d
-step_denied_here faults.OutOfMemory names ws h d = d
-step_denied_here faults.TooManyIds names ws h d =
-    let n = names_in names (counted ws) in (
-      d.0,
-      (
-        lines.Step d.1.0,
-        ap (λ t. if t then Some lines.Output else option_map (λ s. lines.Step s) (step_of n ws)) (not_output ws h) ∙ ap (λ o. option_map (λ s. lines.Step s) o) d.1.1,
-        d.1.2,
-      ),
-      d.2,
-    )
+step_denied_here f names ws h d =
+    let n = names_in names (counted ws) in
+    let other = ap (λ t. if t then Some lines.Output else option_map (λ s. lines.Step s) (step_of n ws)) (not_output ws h) in
+    same_denied f (NoStep names ws) (SomeStep names ws) (NoLine places.Step names ws) (SomeLine places.Step names ws) (counted ws) n (counted ws) n
+    (no_step_line names ws h) (λ some. (lines.Step some.0, other ∙ ap (λ o. option_map (λ s. lines.Step s) o) some.1, some.2)) refl refl d
 
 -- no count
 pub no_count_line : (names ws : List (List ℕ)) → ((n : ℤ) → count_of (unclosed ws) ≡ Some n → AreSmall (unclosed ws) → ⊥) → (line : Line) → line_of places.Count names ws ≡ Some line → AreSmall (unclosed ws) → ⊥

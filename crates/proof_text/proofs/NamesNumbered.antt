@@ -1,72 +1,15 @@
 -- Names keep their numbers when more are met.
 use Rattle.std.proofs.Common.{◌≡◌, ◌⊎◌, inl, inr, ℕ, ◌+◌, ◌<◌, ◌≤◌, Bool, true, false, not, cond, ◌||◌, List, [], ◌∷◌, ◌++◌, length, if◌then◌else◌, refl, sym, ap, subst, ◌∙◌, arith, length-append}
 use Rattle.std.specs.Prelude.{nat_lt}
-use Rattle.std.specs.Cmp.Lexicographic.{nat_list_eq_equiv}
 use Rattle.std.proofs.lemmas.Bool.Decides.{nat_tests}
 use Rattle.pb_text.specs.Lexeme.{kind_of}
 use Rattle.pb_text.specs.Word.{name_of}
-use Rattle.linear.specs.declared.term.Lit.{Lit}
-use Rattle.linear.specs.Table.{same_name, has_name, place_of, with_name}
+use Rattle.linear.specs.Table.{same_name, has_name, place_of, with_name, IsFullFor}
+use Rattle.linear.proofs.NumbersOfNames.{with_name-more, place_of-append, has_name-append, has_name-last, number_of-added}
 use Rattle.proof_text.specs.Kinds.{is_literal}
 use Rattle.proof_text.specs.NamesMet.{NamesMet, met, met_in, but_last}
-use Rattle.proof_text.specs.Numbering.{names_in, most_names}
-
--- a name that is there keeps its number
-pub place_of-append : (names more : List (List ℕ)) (name : List ℕ) → has_name names name ≡ true → place_of (names ++ more) name ≡ place_of names name
-place_of-append [] more name h = cc
-place_of-append (n ∷ ns) more name h = by (same_name name n) h (place_of-append ns more name)
-  where
-    by : (b : Bool) → (b || has_name ns name) ≡ true → (has_name ns name ≡ true → place_of (ns ++ more) name ≡ place_of ns name)
-        → cond (not b) (1 + place_of (ns ++ more) name) 0 ≡ cond (not b) (1 + place_of ns name) 0
-    by true e rest = refl
-    by false e rest = ap (λ k. 1 + k) (rest e)
-
-pub has_name-append : (names more : List (List ℕ)) (name : List ℕ) → has_name names name ≡ true → has_name (names ++ more) name ≡ true
-has_name-append [] more name h = cc
-has_name-append (n ∷ ns) more name h = by (same_name name n) h (has_name-append ns more name)
-  where
-    by : (b : Bool) → (b || has_name ns name) ≡ true → (has_name ns name ≡ true → has_name (ns ++ more) name ≡ true) → (b || has_name (ns ++ more) name) ≡ true
-    by true e rest = refl
-    by false e rest = rest e
-
-pub has_name-last : (names : List (List ℕ)) (name : List ℕ) → has_name (names ++ name ∷ []) name ≡ true
-has_name-last [] name = ap (λ b. b || false) (nat_list_eq_equiv.refl name)
-has_name-last (n ∷ ns) name = by (same_name name n) (has_name-last ns name)
-  where
-    by : (b : Bool) → has_name (ns ++ name ∷ []) name ≡ true → (b || has_name (ns ++ name ∷ []) name) ≡ true
-    by true e = refl
-    by false e = e
-
--- a name that is not there has the number behind the last
-pub place_of-absent : (names : List (List ℕ)) (name : List ℕ) → has_name names name ≡ false → place_of names name ≡ length names
-place_of-absent [] name h = refl
-place_of-absent (n ∷ ns) name h = by (same_name name n) h (place_of-absent ns name)
-  where
-    by : (b : Bool) → (b || has_name ns name) ≡ false → (has_name ns name ≡ false → place_of ns name ≡ length ns)
-        → cond (not b) (1 + place_of ns name) 0 ≡ length (n ∷ ns)
-    by true e rest = cc
-    by false e rest = let k : place_of ns name ≡ length ns = rest e in omega (arith, k)
-
-place_of-last : (names : List (List ℕ)) (name : List ℕ) → has_name names name ≡ false → place_of (names ++ name ∷ []) name ≡ place_of names name
-place_of-last [] name h = by (same_name name name) (nat_list_eq_equiv.refl name)
-  where
-    by : (b : Bool) → b ≡ true → cond (not b) (1 + 0) 0 ≡ 0
-    by true e = refl
-    by false e = cc
-place_of-last (n ∷ ns) name h = by (same_name name n) h (place_of-last ns name)
-  where
-    by : (b : Bool) → (b || has_name ns name) ≡ false → (has_name ns name ≡ false → place_of (ns ++ name ∷ []) name ≡ place_of ns name)
-        → cond (not b) (1 + place_of (ns ++ name ∷ []) name) 0 ≡ cond (not b) (1 + place_of ns name) 0
-    by true e rest = refl
-    by false e rest = ap (λ k. 1 + k) (rest e)
-
--- a name has its number once it is added
-pub place_of-added : (names : List (List ℕ)) (name : List ℕ) → place_of (with_name names name) name ≡ place_of names name
-place_of-added names name = by (has_name names name) refl
-  where
-    by : (b : Bool) → has_name names name ≡ b → place_of (if b then names else names ++ name ∷ []) name ≡ place_of names name
-    by true e = refl
-    by false e = place_of-last names name e
+use Rattle.linear.specs.Largest.{most_names}
+use Rattle.proof_text.specs.Numbering.{names_in}
 
 -- all names but the last number every name as before
 pub place_of-but_last : (names : List (List ℕ)) (name : List ℕ) → has_name names name ≡ true → place_of (but_last names) name ≡ place_of names name
@@ -145,11 +88,6 @@ pub number_later : (k : NamesMet) (name : List ℕ) (ws more : List (List ℕ)) 
 number_later k name ws more =
     ap (λ (m : NamesMet). place_of m.names name) (sym (met_in-append (met k name) ws more)) ∙ stay (met k name) name (ws ++ more) (settled_met k name)
 
-pub same_lit : (l : Lit) (n : ℕ) (s : Bool) → l.var.0 ≡ n → l.negated ≡ s → l ≡ record { var = record { 0 = n }; negated = s }
-same_lit l n s e f =
-    ap (λ x. let y : Lit = record { var = record { 0 = x }; negated = l.negated } in y) e
-    ∙ ap (λ x. let y : Lit = record { var = record { 0 = n }; negated = x } in y) f
-
 pub met_literal : (k : NamesMet) (w : List ℕ) (ws : List (List ℕ)) → is_literal (kind_of w) ≡ true → met_in k (w ∷ ws) ≡ met_in (met k (name_of w)) ws
 met_literal k w ws h = ap (λ t. met_in (if t then met k (name_of w) else k) ws) h
 
@@ -184,13 +122,6 @@ full_stays k (w ∷ ws) h = by (is_literal (kind_of w)) (full_stays (met k (name
     by : (t : Bool) → (met_in (met k (name_of w)) ws).full ≡ true → (met_in k ws).full ≡ true → (met_in (if t then met k (name_of w) else k) ws).full ≡ true
     by true e f = e
     by false e f = f
-
-pub with_name-more : (names : List (List ℕ)) (name : List ℕ) → length names ≤ length (with_name names name)
-with_name-more names name = by (has_name names name)
-  where
-    by : (b : Bool) → length names ≤ length (if b then names else names ++ name ∷ [])
-    by true = omega arith
-    by false = omega (arith, length-append names (name ∷ []))
 
 pub names_in-more : (names : List (List ℕ)) (ws : List (List ℕ)) → length names ≤ length (names_in names ws)
 names_in-more names [] = omega arith
@@ -248,7 +179,22 @@ too_many k (w ∷ ws) h e = by (is_literal (kind_of w)) e (λ n f. too_many (met
           | inr p ↦ let more : length (with_name k.names (name_of w)) ≤ length (names_in (with_name k.names (name_of w)) ws) = names_in-more (with_name k.names (name_of w)) ws in omega (arith, p.1, more)
         ]
 
--- the number of a name that is there, whether or not the last name is kept
-pub seen_number : (names : List (List ℕ)) (full : Bool) (name : List ℕ) → has_name names name ≡ true → place_of (if full then but_last names else names) name ≡ place_of names name
-seen_number names true name h = place_of-but_last names name h
-seen_number names false name h = refl
+-- the number of a name that was found or added, whether or not the last name counts
+pub found_number : (names new : List (List ℕ)) (full : Bool) (name : List ℕ) (n : ℕ) → new ≡ with_name names name → (full ≡ true → most_names ≤ length names) → length new ≤ most_names → n ≡ place_of names name
+    → n ≡ place_of (if full then but_last new else new) name
+found_number names new full name n e many few at = by (has_name names name) full refl e many
+  where
+    by : (h f : Bool) → has_name names name ≡ h → new ≡ (if h then names else names ++ name ∷ []) → (f ≡ true → most_names ≤ length names) → n ≡ place_of (if f then but_last new else new) name
+    by true true k d m = at ∙ sym (ap (λ ns. place_of (but_last ns) name) d ∙ place_of-but_last names name k)
+    by h false k d m = at ∙ sym (ap (λ ns. place_of ns name) e ∙ (number_of-added names name).1)
+    by false true k d m =
+        let full : most_names ≤ length names = m refl in
+        let long : length new ≡ length (names ++ name ∷ []) = ap length d in
+        absurd (omega (arith, full, few, long, length-append names (name ∷ [])))
+
+-- the number of a name that found none
+pub beyond_number : (names new : List (List ℕ)) (name : List ℕ) → IsFullFor names most_names name → length names ≤ most_names → new ≡ names → 1 + place_of (but_last new) name ≡ most_names
+beyond_number names new name h few e =
+    let many : most_names ≤ length names = h.full in
+    let last : 1 + place_of (but_last names) name ≡ length names = place_of-beyond names name h.unknown (omega (arith, many)) in
+    ap (λ ns. 1 + place_of (but_last ns) name) e ∙ omega (arith, last, many, few)

@@ -15,7 +15,7 @@ use Rattle.substitution.specs.Images.{NamesOnce}
 use Rattle.proof_text.specs.Kinds.{is_literal, is_arrow}
 use Rattle.proof_text.specs.Words.{past_arrow}
 use Rattle.proof_text.specs.Forms.{is_variable, variable_of, is_image, image_of, are_images, images_of, lefts, repeats}
-use Rattle.proof_text.proofs.PolItems.{same_word}
+use Rattle.proof_text.proofs.PolItems.{same_word, or_false}
 use Rattle.proof_text.proofs.SubstitutionsRead.{image_no_arrow}
 use Rattle.proof_text.proofs.ReadIsWritable.{both, HasNames}
 
@@ -59,10 +59,6 @@ plain_name (b ∷ rest) h = ap (λ t. if t then rest else b ∷ rest) h
 not_true : (p : Bool) → not p ≡ true → p ≡ false
 not_true true h = cc
 not_true false h = refl
-
-or_false : (p q : Bool) → p ≡ false → q ≡ false → (p || q) ≡ false
-or_false true q h k = cc
-or_false false q h k = k
 
 neither : (p q : Bool) → (p || q) ≡ false → (p ≡ false) × (q ≡ false)
 neither true q h = cc

@@ -60,7 +60,7 @@ items_pair names a b rest h = (
   ap (λ t. if t then are_items rest else is_single a && are_items (b ∷ rest)) h,
 )
 
-and_true : (p : Bool) → (p && true) ≡ p
+pub and_true : (p : Bool) → (p && true) ≡ p
 and_true true = refl
 and_true false = refl
 
@@ -125,11 +125,11 @@ no_pair : (i s d v w : Bool) → (s || d) ≡ false → (v && w) ≡ false → (
 no_pair true s d v w h k = ap (λ t. t || (v && w)) h ∙ k
 no_pair false s d v w h k = k
 
-or_false : (p q : Bool) → p ≡ false → q ≡ false → (p || q) ≡ false
+pub or_false : (p q : Bool) → p ≡ false → q ≡ false → (p || q) ≡ false
 or_false true q h k = cc
 or_false false q h k = k
 
-and_false_left : (p q : Bool) → p ≡ false → (p && q) ≡ false
+pub and_false_left : (p q : Bool) → p ≡ false → (p && q) ≡ false
 and_false_left true q h = cc
 and_false_left false q h = refl
 

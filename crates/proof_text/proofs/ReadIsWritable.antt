@@ -1,12 +1,12 @@
 -- What is read can be written: its integers are within the limit, and the table numbers its variables.
-use Rattle.std.proofs.Common.{◌≡◌, ℕ, zero, suc, ℤ, pos, neg_ℤ, ◌+◌, ◌<◌, ◌≤◌, ◌^◌, Bool, true, false, not, cond, ◌&&◌, ◌||◌, if◌then◌else◌, Option, Some, None, List, [], ◌∷◌, ◌++◌, length, drop, refl, sym, ap, subst, ◌∙◌, arith, codes}
+use Rattle.std.proofs.Common.{◌≡◌, ℕ, zero, suc, ℤ, pos, neg_ℤ, ◌+◌, ◌<◌, ◌≤◌, Bool, true, false, not, cond, ◌&&◌, ◌||◌, if◌then◌else◌, Option, Some, None, List, [], ◌∷◌, ◌++◌, length, drop, refl, sym, ap, subst, ◌∙◌, arith, codes}
 use Rattle.std.specs.Prelude.{All, ⊤, unsigned_abs}
 use Rattle.std.specs.Option.{option_map}
 use Rattle.std.specs.Str.{bytes_eq}
 use Rattle.std.proofs.lemmas.List.Elements.{All-cons, All-nil}
 use Rattle.pb_text.specs.Lexeme.{kind_of}
 use Rattle.pb_text.specs.Word.{is_negated, name_of}
-use Rattle.pb_text.specs.Number.{integer_size, integer_value, is_negative}
+use Rattle.pb_text.specs.Number.{integer_size, integer_value, is_negative, largest_number}
 use Rattle.linear.specs.Table.{same_name, has_name, place_of, with_name}
 use Rattle.linear.specs.declared.constraint.Signed.{Signed}
 use Rattle.linear.specs.declared.constraint.Relation.TheVariants as relations
@@ -37,8 +37,9 @@ use Rattle.proof_text.specs.declared.line.Place.TheVariants as places
 use Rattle.proof_text.specs.Frame.{header, count_of, output, ending}
 use Rattle.proof_text.specs.Spells.{line_of, naming, measured, IsLine}
 use Rattle.proof_text.specs.Writable.{IsLineWritable, IsWritable, IsNamed, IsTermWritable, IsConstraintWritable, IsItemWritable, IsImageWritable, IsPairWritable, IsLitWritable, IsStepWritable, IsLowerWritable, IsUpperWritable, IsHintWritable, IsConclusionWritable}
+use Rattle.proof_text.proofs.ByFirstWord.{step_with, counted_with, judged_with, literals_with}
 use Rattle.proof_text.proofs.WordsByKind.{first_small, rest_small, none_small}
-use Rattle.proof_text.proofs.NamesNumbered.{has_name-append, has_name-last}
+use Rattle.linear.proofs.NumbersOfNames.{has_name-append, has_name-last}
 use Rattle.proof_text.proofs.PolItems.{same_word}
 
 pub both : (p q : Bool) → (p && q) ≡ true → (p ≡ true) × (q ≡ true)
@@ -115,8 +116,8 @@ size_of w = by (is_negative w) (integer_size w)
 -- integers
 pub integer_writable : (w : List ℕ) → IsSmall w → is_integer (kind_of w) ≡ true → IsWritable (integer_value w)
 integer_writable w s h =
-    let le : integer_size w ≤ 2 ^ 120 = s h in
-    subst (λ n. n ≤ 2 ^ 120) (sym (size_of w)) le
+    let le : integer_size w ≤ largest_number = s h in
+    subst (λ n. n ≤ largest_number) (sym (size_of w)) le
 
 pub integers_writable : (ws : List (List ℕ)) → are_integers ws ≡ true → AreSmall ws → All IsWritable (integers_of ws)
 integers_writable [] h s = All-nil IsWritable
@@ -308,14 +309,6 @@ ruled_writable rules.Del names ws step h k s =
     chosen (IsStepWritable (length names)) (is_deletion ws) (steps.Del (integers_of (unclosed (drop 1 ws)))) step h
     (λ t. integers_writable (unclosed (drop 1 ws)) (both (is_first (codes "id") ws) (are_integers (unclosed (drop 1 ws))) t).1 s)
 
-abbrev step_with : List (List ℕ) → List (List ℕ) → Option Rule → Option Step
-step_with names rest None = None
-step_with names rest (Some rule) = step_by rule names rest
-
-abbrev counted_with : List (List ℕ) → Option Rule → List (List ℕ)
-counted_with rest None = []
-counted_with rest (Some rule) = counted_by rule rest
-
 words_writable : (names ws : List (List ℕ)) (step : Step) → step_of names ws ≡ Some step → HasNames names (counted ws) → AreSmall (counted ws) → IsStepWritable (length names) step
 unfolding step_of counted
 words_writable names [] step h k s = cc
@@ -379,14 +372,6 @@ kind_writable kinds.Sat names ws c h k s =
     chosen (IsConclusionWritable (length names)) (is_hint ws) (conclusions.Sat (hint_of names ws)) c h (λ t. hint_writable names ws t k)
 kind_writable kinds.Unsat names ws c h k s = chosen (IsConclusionWritable (length names)) (is_empty (past_id ws)) conclusions.Unsat c h (λ t. tt)
 kind_writable kinds.Bounds names ws c h k s = bounds_writable names ws c h k s
-
-abbrev judged_with : List (List ℕ) → List (List ℕ) → Option ConclusionKind → Option Conclusion
-judged_with names rest None = None
-judged_with names rest (Some v) = conclusion_by v names rest
-
-abbrev literals_with : List (List ℕ) → Option ConclusionKind → List (List ℕ)
-literals_with rest None = []
-literals_with rest (Some v) = literals_by v rest
 
 judgement_writable : (names ws : List (List ℕ)) (c : Conclusion) → conclusion_said names ws ≡ Some c → HasNames names (literals_said ws) → AreSmall (drop 1 ws) → IsConclusionWritable (length names) c
 judgement_writable names [] c h k s = cc

@@ -15,17 +15,19 @@ use Rattle.proof_text.specs.declared.keyword.Rule.{Rule}
 use Rattle.proof_text.specs.declared.keyword.Rule.TheVariants as rules
 use Rattle.proof_text.specs.Words.{halves, unclosed, IsSmall, AreSmall}
 use Rattle.proof_text.specs.NamesMet.{NamesMet, met_in}
-use Rattle.proof_text.specs.Numbering.{names_in, most_names}
+use Rattle.linear.specs.Largest.{most_names}
+use Rattle.proof_text.specs.Numbering.{names_in}
 use Rattle.proof_text.specs.Forms.{are_literals, literals_of, are_integers, integers_of, terms_of, behind_terms, closing_of, are_items, items_of, are_images, images_of, lefts, repeats}
 use Rattle.proof_text.specs.PartsRead.{IsRead, IsConstraintRead}
 use Rattle.proof_text.specs.Steps.{constraint_of, rup_by, red_by, red_with, is_deletion, witness_words, step_by, counted_by, IsProper}
 use Rattle.proof_text.specs.StepsRead.{IsStepRead}
-use Rattle.proof_text.specs.PartsDenied.{Denies, NoStepBy, DeniesRule}
+use Rattle.proof_text.specs.PartsDenied.{Denies, NoStepBy, SomeStepBy, DeniesRule}
 use Rattle.proof_text.specs.declared.fault.ProofFault.{ProofFault}
 use Rattle.proof_text.specs.declared.fault.ProofFault.TheVariants as faults
 use Rattle.std.specs.Str.{bytes_eq}
 use Rattle.pb_text.specs.Lexeme.{kind_of}
 use Rattle.proof_text.specs.Kinds.{is_integer}
+use Rattle.proof_text.proofs.FaultsSaid.{part_denied}
 use Rattle.proof_text.proofs.WordsByKind.{none_small, all_small, first_small, rest_small, integer_alone}
 use Rattle.std.specs.Prelude.{⊤}
 use Rattle.proof_text.proofs.NamesNumbered.{met_in-append, met_other, all_found, too_many}
@@ -202,16 +204,9 @@ apart rules.Del names ws step h proper = tt
 -- a fault of a form is one of the rule's words
 pub denied_rule : (f : ProofFault) (rule : Rule) (form : Bool) (part names ws : List (List ℕ)) → ((step : Step) → step_by rule (names_in names (counted_by rule ws)) ws ≡ Some step → form ≡ true)
     → (AreSmall (counted_by rule ws) → AreSmall part) → Denies f form part → DeniesRule f rule names ws
-denied_rule faults.BadHeader rule form part names ws g s d = d
-denied_rule faults.BadCount rule form part names ws g s d = d
-denied_rule faults.UnknownRule rule form part names ws g s d = λ step h proper. cc (sym d ∙ g step h)
-denied_rule faults.RuleLeftOut rule form part names ws g s d = λ step h proper. cc (sym d ∙ g step h)
-denied_rule faults.BadLine rule form part names ws g s d = λ step h proper. cc (sym d ∙ g step h)
-denied_rule faults.Truncated rule form part names ws g s d = d
-denied_rule faults.TextAfterEnd rule form part names ws g s d = d
-denied_rule faults.IntegerTooLarge rule form part names ws g s d = λ small. d (s small)
-denied_rule faults.OutOfMemory rule form part names ws g s d = d
-denied_rule faults.TooManyIds rule form part names ws g s d = absurd d
+denied_rule f rule form part names ws g s d =
+    let all = names_in names (counted_by rule ws) in
+    part_denied f form part (NoStepBy rule names ws) (SomeStepBy rule names ws) (counted_by rule ws) all (λ none step h proper. cc (sym none ∙ g step h)) s d
 
 front_small : (xs ys : List (List ℕ)) → AreSmall (xs ++ ys) → AreSmall xs
 front_small [] ys s = none_small

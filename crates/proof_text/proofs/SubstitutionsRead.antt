@@ -1,10 +1,10 @@
 -- Names and images in turn.
-use Rattle.std.proofs.Common.{◌≡◌, ℕ, ◌^◌, ◌≤◌, Bool, true, false, not, ◌&&◌, ◌||◌, if◌then◌else◌, List, [], ◌∷◌, ◌++◌, length, refl, sym, ap, subst, ◌∙◌, arith, codes, lit≤}
+use Rattle.std.proofs.Common.{◌≡◌, ℕ, ◌≤◌, Bool, true, false, not, ◌&&◌, ◌||◌, if◌then◌else◌, List, [], ◌∷◌, ◌++◌, length, refl, sym, ap, subst, ◌∙◌, arith, codes, lit≤}
 use Rattle.std.specs.Str.{bytes_eq}
 use Rattle.pb_text.specs.Lexeme.{kind_of, kind_of_word}
 use Rattle.pb_text.specs.Name.{is_name}
 use Rattle.pb_text.specs.Word.{name_of, is_negated, is_integer as integer_word, is_literal as literal_word, is_misspelt}
-use Rattle.pb_text.specs.Number.{integer_size}
+use Rattle.pb_text.specs.Number.{integer_size, largest_number}
 use Rattle.pb_text.specs.declared.kind.Kind.{Kind}
 use Rattle.pb_text.specs.declared.kind.Kind.TheVariants.{Symbol, Stray, Integer, Literal, Misspelt, Other}
 use Rattle.linear.specs.declared.term.Lit.{Lit}
@@ -22,13 +22,13 @@ use Rattle.proof_text.specs.declared.fault.ProofFault.{ProofFault}
 use Rattle.proof_text.proofs.WordsByKind.{all_small, rest_small, only_small, small_other, literal_alone, semicolon_alone, denied_more}
 use Rattle.proof_text.proofs.NamesNumbered.{met_literal, met_other, met_in-append}
 use Rattle.proof_text.proofs.PartsInTurn.{lit_met}
-use Rattle.proof_text.proofs.PolItems.{same_word}
+use Rattle.proof_text.proofs.PolItems.{same_word, and_true}
 
-pub zero_kind : (is_literal (kind_of (codes "0")) ≡ false) × (integer_size (codes "0") ≤ 2 ^ 120)
+pub zero_kind : (is_literal (kind_of (codes "0")) ≡ false) × (integer_size (codes "0") ≤ largest_number)
 unfolding kind_of kind_of_word integer_word literal_word is_misspelt is_name integer_size
 zero_kind = (refl, lit≤ tt)
 
-pub one_kind : (is_literal (kind_of (codes "1")) ≡ false) × (integer_size (codes "1") ≤ 2 ^ 120)
+pub one_kind : (is_literal (kind_of (codes "1")) ≡ false) × (integer_size (codes "1") ≤ largest_number)
 unfolding kind_of kind_of_word integer_word literal_word is_misspelt is_name integer_size
 one_kind = (refl, lit≤ tt)
 
@@ -91,10 +91,6 @@ image_no_arrow w h = by (is_literal (kind_of w)) (bytes_eq w (codes "0")) (bytes
     by false true o e f g h = ap (λ v. is_arrow (kind_of v)) (same_word w (codes "0") f) ∙ zero_no_arrow
     by false false true e f g h = ap (λ v. is_arrow (kind_of v)) (same_word w (codes "1") g) ∙ one_no_arrow
     by false false false e f g h = cc
-
-and_true : (p : Bool) → (p && true) ≡ p
-and_true true = refl
-and_true false = refl
 
 -- a name, an arrow and an image
 pub arrow_pair : (names : List (List ℕ)) (x a i : List ℕ) (rest : List (List ℕ)) → is_arrow (kind_of a) ≡ true

@@ -1,8 +1,8 @@
 -- Words by their kinds, and what faults say of them.
-use Rattle.std.proofs.Common.{◌≡◌, ℕ, ◌^◌, ◌<◌, ◌≤◌, Bool, true, false, List, [], ◌∷◌, refl, sym, ap, ◌∙◌, arith}
+use Rattle.std.proofs.Common.{◌≡◌, ℕ, ◌<◌, ◌≤◌, Bool, true, false, List, [], ◌∷◌, refl, sym, ap, ◌∙◌, arith}
 use Rattle.std.proofs.lemmas.List.Elements.{All-head, All-tail, All-cons, All-nil}
 use Rattle.pb_text.specs.Lexeme.{kind_of}
-use Rattle.pb_text.specs.Number.{integer_size}
+use Rattle.pb_text.specs.Number.{integer_size, largest_number}
 use Rattle.pb_text.specs.declared.kind.Kind.{Kind}
 use Rattle.pb_text.specs.declared.kind.Kind.TheVariants.{Symbol, Stray, Integer, Literal, Misspelt, Other}
 use Rattle.proof_text.specs.Kinds.{is_integer, is_literal, is_semicolon}
@@ -59,14 +59,14 @@ semicolon_alone Other h = cc
 pub small_other : (w : List ℕ) → is_integer (kind_of w) ≡ false → IsSmall w
 small_other w h e = absurd (cc (sym h ∙ e))
 
-pub small_value : (w : List ℕ) → integer_size w ≤ 2 ^ 120 → IsSmall w
+pub small_value : (w : List ℕ) → integer_size w ≤ largest_number → IsSmall w
 small_value w h e = h
 
 -- an integer that is too large
-pub one_large : (w : List ℕ) → kind_of w ≡ Integer → 2 ^ 120 < integer_size w → AreSmall (w ∷ []) → ⊥
+pub one_large : (w : List ℕ) → kind_of w ≡ Integer → largest_number < integer_size w → AreSmall (w ∷ []) → ⊥
 one_large w k h small =
     let one : IsSmall w = All-head IsSmall w [] small in
-    let le : integer_size w ≤ 2 ^ 120 = one (integer_kind (kind_of w) k) in
+    let le : integer_size w ≤ largest_number = one (integer_kind (kind_of w) k) in
     absurd (omega (arith, h, le))
 
 pub all_small : (w : List ℕ) (rest : List (List ℕ)) → IsSmall w → AreSmall rest → AreSmall (w ∷ rest)

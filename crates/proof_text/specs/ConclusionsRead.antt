@@ -8,7 +8,7 @@ use Rattle.proof_text.specs.declared.keyword.ConclusionKind.{ConclusionKind}
 use Rattle.proof_text.specs.Kinds.{is_colon}
 use Rattle.proof_text.specs.Words.{unclosed, begins_integer, AreSmall}
 use Rattle.proof_text.specs.NamesMet.{NamesMet, met_in}
-use Rattle.proof_text.specs.Conclusions.{is_hint, hint_of, hinted, conclusion_by, literals_by, conclusion_said, literals_said, conclusion_of, conclusion_literals}
+use Rattle.proof_text.specs.Conclusions.{is_hint, hint_of, hinted, conclusion_by, literals_by, conclusion_of, conclusion_literals}
 
 -- no `:` stands first without an integer behind it
 abbrev pub begins_right : List (List ℕ) → Bool
@@ -27,12 +27,6 @@ pub record IsConclusionRead (kind : ConclusionKind) (k : NamesMet) (ws : List (L
   pub says : conclusion_by kind new.names ws ≡ Some c
   pub known : new ≡ met_in k (literals_by kind ws)
   pub small : AreSmall ws
-
--- the words behind `conclusion` are this conclusion, as it is read
-pub record AreConclusionWordsRead (k : NamesMet) (ws : List (List ℕ)) (c : Conclusion) (new : NamesMet) : Type 0 where
-  pub says : conclusion_said new.names ws ≡ Some c
-  pub known : new ≡ met_in k (literals_said ws)
-  pub small : AreSmall (drop 1 ws)
 
 -- the words of a line are this conclusion, as it is read
 pub record IsConclusionLineRead (k : NamesMet) (ws : List (List ℕ)) (c : Conclusion) (new : NamesMet) : Type 0 where

@@ -7,7 +7,8 @@ use Rattle.proof_text.specs.declared.line.Line.{Line}
 use Rattle.proof_text.specs.declared.fault.ProofFault.{ProofFault}
 use Rattle.proof_text.specs.declared.fault.ProofFault.TheVariants as faults
 use Rattle.proof_text.specs.Words.{AreSmall}
-use Rattle.proof_text.specs.Numbering.{names_in, most_names}
+use Rattle.linear.specs.Largest.{most_names}
+use Rattle.proof_text.specs.Numbering.{names_in}
 use Rattle.proof_text.specs.Steps.{step_of, counted, IsProper}
 use Rattle.proof_text.specs.Spells.{line_of, naming, measured, IsProperLine}
 
@@ -23,41 +24,41 @@ IsPlain faults.TooManyIds = ⊤
 IsPlain faults.OutOfMemory = ⊤
 IsPlain _ = ⊥
 
--- the words of a line are no step
+-- What a fault says of something that is read: `Nothing` is that its words have no form, `Something` that they have one when
+-- the table `all` numbers their names, and `counting` are the words whose integers count. Codes 3, 4 and 5: it is nothing.
+-- Code 8: an integer among those that count is above the largest number in size. Code 29: it is something, and its names
+-- are too many. Want of memory says nothing. No other fault comes.
+abbrev pub DeniesBy : ProofFault → Type 0 → Type 0 → List (List ℕ) → List (List ℕ) → Type 0
+DeniesBy faults.UnknownRule Nothing Something counting all = Nothing
+DeniesBy faults.RuleLeftOut Nothing Something counting all = Nothing
+DeniesBy faults.BadLine Nothing Something counting all = Nothing
+DeniesBy faults.IntegerTooLarge Nothing Something counting all = AreSmall counting → ⊥
+DeniesBy faults.TooManyIds Nothing Something counting all = AreSmall counting × Something × AreTooMany all
+DeniesBy faults.OutOfMemory Nothing Something counting all = ⊤
+DeniesBy _ Nothing Something counting all = ⊥
+
+-- the words of a line are no step, or they are one, where the table numbers their names
 abbrev pub NoStep : List (List ℕ) → List (List ℕ) → Type 0
 NoStep names ws = (step : Step) → step_of (names_in names (counted ws)) ws ≡ Some step → IsProper step → ⊥
 
--- What a fault in reading a step says, `names` being the table before the line. Codes 3, 4 and 5: the words are no step.
--- Code 8: an integer among those that count is above 2^120 in size. Code 29: the words are a step, and its names are too
--- many. Want of memory says nothing. No other fault comes.
-abbrev pub DeniesStep : ProofFault → List (List ℕ) → List (List ℕ) → Type 0
-DeniesStep faults.UnknownRule names ws = NoStep names ws
-DeniesStep faults.RuleLeftOut names ws = NoStep names ws
-DeniesStep faults.BadLine names ws = NoStep names ws
-DeniesStep faults.IntegerTooLarge names ws = AreSmall (counted ws) → ⊥
-DeniesStep faults.TooManyIds names ws =
-    AreSmall (counted ws)
-    × ((step : Step) × (step_of (names_in names (counted ws)) ws ≡ Some step) × IsProper step)
-    × AreTooMany (names_in names (counted ws))
-DeniesStep faults.OutOfMemory names ws = ⊤
-DeniesStep _ names ws = ⊥
+abbrev pub SomeStep : List (List ℕ) → List (List ℕ) → Type 0
+SomeStep names ws = (step : Step) × (step_of (names_in names (counted ws)) ws ≡ Some step) × IsProper step
 
--- the words of a line are nothing at their place
+-- what a fault in reading a step says, `names` being the table before the line
+abbrev pub DeniesStep : ProofFault → List (List ℕ) → List (List ℕ) → Type 0
+DeniesStep fault names ws = DeniesBy fault (NoStep names ws) (SomeStep names ws) (counted ws) (names_in names (counted ws))
+
+-- the words of a line are nothing at their place, or they are something
 abbrev pub NoLine : Place → List (List ℕ) → List (List ℕ) → Type 0
 NoLine place names ws = (line : Line) → line_of place (names_in names (naming place ws)) ws ≡ Some line → IsProperLine line → ⊥
 
+abbrev pub SomeLine : Place → List (List ℕ) → List (List ℕ) → Type 0
+SomeLine place names ws = (line : Line) × (line_of place (names_in names (naming place ws)) ws ≡ Some line) × IsProperLine line
+
 -- what a fault says of a line among the steps, or of a conclusion or an end
 abbrev pub DeniesPlaced : ProofFault → Place → List (List ℕ) → List (List ℕ) → Type 0
-DeniesPlaced faults.UnknownRule place names ws = NoLine place names ws
-DeniesPlaced faults.RuleLeftOut place names ws = NoLine place names ws
-DeniesPlaced faults.BadLine place names ws = NoLine place names ws
-DeniesPlaced faults.IntegerTooLarge place names ws = AreSmall (measured place ws) → ⊥
-DeniesPlaced faults.TooManyIds place names ws =
-    AreSmall (measured place ws)
-    × ((line : Line) × (line_of place (names_in names (naming place ws)) ws ≡ Some line) × IsProperLine line)
-    × AreTooMany (names_in names (naming place ws))
-DeniesPlaced faults.OutOfMemory place names ws = ⊤
-DeniesPlaced _ place names ws = ⊥
+DeniesPlaced fault place names ws =
+    DeniesBy fault (NoLine place names ws) (SomeLine place names ws) (measured place ws) (names_in names (naming place ws))
 
 -- What a fault says of a line at its place, `names` being the table before it. At the header the one fault is BadHeader:
 -- the line is no header. At the count it is BadCount: the line is no count, or its integer is too large. At the conclusion

@@ -16,7 +16,6 @@ pub mod ProofSpells
 pub mod Cases
 -- what private functions keep and promise one another
 pub mod LinesAhead
-pub mod WordsAhead
 pub mod NamesMet
 pub mod PartsRead
 pub mod PartsDenied

@@ -5,7 +5,7 @@ use Rattle.pb_text.specs.Lexeme.{kind_of}
 use Rattle.pb_text.specs.Word.{name_of}
 use Rattle.linear.specs.Table.{has_name}
 use Rattle.proof_text.specs.Kinds.{is_literal}
-use Rattle.proof_text.specs.Numbering.{most_names}
+use Rattle.linear.specs.Largest.{most_names}
 
 -- the names but for the last
 abbrev pub but_last : List (List ℕ) → List (List ℕ)

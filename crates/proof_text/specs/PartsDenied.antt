@@ -4,7 +4,7 @@ use Rattle.proof_steps.specs.declared.step.Step.{Step}
 use Rattle.proof_text.specs.declared.keyword.Rule.{Rule}
 use Rattle.proof_text.specs.Numbering.{names_in}
 use Rattle.proof_text.specs.Steps.{step_by, counted_by, IsProper}
-use Rattle.proof_text.specs.Faults.{AreTooMany}
+use Rattle.proof_text.specs.Faults.{DeniesBy}
 use Rattle.proof_text.specs.Words.{AreSmall}
 use Rattle.proof_text.specs.declared.fault.ProofFault.{ProofFault}
 use Rattle.proof_text.specs.declared.fault.ProofFault.TheVariants as faults
@@ -26,19 +26,13 @@ Denies faults.IntegerTooLarge form ws = AreSmall ws → ⊥
 Denies faults.OutOfMemory form ws = ⊤
 Denies _ form ws = ⊥
 
--- the words behind a rule's own word are no step
+-- the words behind a rule's own word are no step, or they are one
 abbrev pub NoStepBy : Rule → List (List ℕ) → List (List ℕ) → Type 0
 NoStepBy rule names ws = (step : Step) → step_by rule (names_in names (counted_by rule ws)) ws ≡ Some step → IsProper step → ⊥
 
+abbrev pub SomeStepBy : Rule → List (List ℕ) → List (List ℕ) → Type 0
+SomeStepBy rule names ws = (step : Step) × (step_by rule (names_in names (counted_by rule ws)) ws ≡ Some step) × IsProper step
+
 -- what a fault says of the words behind a rule's own word
 abbrev pub DeniesRule : ProofFault → Rule → List (List ℕ) → List (List ℕ) → Type 0
-DeniesRule faults.UnknownRule rule names ws = NoStepBy rule names ws
-DeniesRule faults.RuleLeftOut rule names ws = NoStepBy rule names ws
-DeniesRule faults.BadLine rule names ws = NoStepBy rule names ws
-DeniesRule faults.IntegerTooLarge rule names ws = AreSmall (counted_by rule ws) → ⊥
-DeniesRule faults.TooManyIds rule names ws =
-    AreSmall (counted_by rule ws)
-    × ((step : Step) × (step_by rule (names_in names (counted_by rule ws)) ws ≡ Some step) × IsProper step)
-    × AreTooMany (names_in names (counted_by rule ws))
-DeniesRule faults.OutOfMemory rule names ws = ⊤
-DeniesRule _ rule names ws = ⊥
+DeniesRule fault rule names ws = DeniesBy fault (NoStepBy rule names ws) (SomeStepBy rule names ws) (counted_by rule ws) (names_in names (counted_by rule ws))

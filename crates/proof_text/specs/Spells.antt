@@ -6,7 +6,8 @@ use Rattle.proof_text.specs.declared.line.Place.TheVariants as places
 use Rattle.proof_text.specs.declared.line.Line.{Line}
 use Rattle.proof_text.specs.declared.line.Line.TheVariants as lines
 use Rattle.proof_text.specs.Words.{are_words, unclosed, AreSmall}
-use Rattle.proof_text.specs.Numbering.{names_in, most_names}
+use Rattle.linear.specs.Largest.{most_names}
+use Rattle.proof_text.specs.Numbering.{names_in}
 use Rattle.proof_text.specs.Frame.{header, count_of, output, ending}
 use Rattle.proof_text.specs.Steps.{step_of, counted, IsProper}
 use Rattle.proof_text.specs.Conclusions.{conclusion_of, conclusion_literals}

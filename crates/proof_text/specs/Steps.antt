@@ -9,7 +9,8 @@ use Rattle.proof_steps.specs.declared.step.Step.TheVariants as steps
 use Rattle.proof_text.specs.declared.keyword.Rule.{Rule}
 use Rattle.proof_text.specs.declared.keyword.Rule.TheVariants as rules
 use Rattle.proof_text.specs.Words.{is_first, unclosed, halves, AreSmall}
-use Rattle.proof_text.specs.Numbering.{names_in, most_names}
+use Rattle.linear.specs.Largest.{most_names}
+use Rattle.proof_text.specs.Numbering.{names_in}
 use Rattle.proof_text.specs.Forms.{are_literals, literals_of, are_integers, integers_of, terms_of, behind_terms, closing_of, are_items, items_of, are_images, images_of}
 use Rattle.proof_text.specs.Rules.{rule_of}
 

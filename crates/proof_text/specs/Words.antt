@@ -1,16 +1,13 @@
 -- The words of a line: the bytes of its tokens. What a line says is told by them alone.
-use Rattle.std.specs.Prelude.{◌≡◌, ℕ, ◌^◌, ◌≤◌, Bool, true, false, ◌&&◌, if◌then◌else◌, Option, Some, None, List, [], ◌∷◌, map, drop, All, bytes_eq}
-use Rattle.pb_text.specs.Lexeme.{Lexeme, lexemes, kind_of}
-use Rattle.pb_text.specs.Number.{integer_size}
+use Rattle.std.specs.Prelude.{◌≡◌, ℕ, ◌≤◌, Bool, true, false, ◌&&◌, if◌then◌else◌, Option, Some, None, List, [], ◌∷◌, drop, All, bytes_eq}
+use Rattle.pb_text.specs.Lexeme.{lexemes, kind_of}
+use Rattle.pb_text.specs.TokensOf.{texts_of}
+use Rattle.pb_text.specs.Number.{integer_size, largest_number}
 use Rattle.proof_text.specs.Kinds.{is_integer, is_semicolon, is_arrow}
-
--- the bytes of tokens
-abbrev pub texts : List Lexeme → List (List ℕ)
-texts tokens = map (λ (t : Lexeme). t.text) tokens
 
 -- the words and symbols of a line, in order
 unfoldable pub words : List ℕ → List (List ℕ)
-words line = texts (lexemes line)
+words line = texts_of (lexemes line)
 
 -- are there none
 abbrev pub is_empty : List (List ℕ) → Bool
@@ -26,12 +23,6 @@ is_first word (w ∷ rest) = bytes_eq w word
 abbrev pub are_words : List (List ℕ) → List (List ℕ) → Bool
 are_words [] ws = is_empty ws
 are_words (word ∷ more) ws = is_first word ws && are_words more (drop 1 ws)
-
--- is nothing left but a closing `;`, which may be missing
-abbrev pub closes : List (List ℕ) → Bool
-closes [] = true
-closes (w ∷ []) = is_semicolon (kind_of w)
-closes (w ∷ v ∷ rest) = false
 
 -- the words without the closing `;`, if they have one
 abbrev pub unclosed : List (List ℕ) → List (List ℕ)
@@ -62,7 +53,7 @@ halves (w ∷ rest) =
 
 -- a word that is no integer above 2^120 in size
 abbrev pub IsSmall : List ℕ → Type 0
-IsSmall w = is_integer (kind_of w) ≡ true → integer_size w ≤ 2 ^ 120
+IsSmall w = is_integer (kind_of w) ≡ true → integer_size w ≤ largest_number
 
 -- no integer among the words is above 2^120 in size
 abbrev pub AreSmall : List (List ℕ) → Type 0

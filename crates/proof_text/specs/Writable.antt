@@ -1,6 +1,7 @@
 -- Within the limits: a step, a conclusion or a line whose integers are at most 2^120 in size and whose variables a table
 -- of so many names numbers. So is whatever was read, and whatever is so can be written.
-use Rattle.std.specs.Prelude.{◌≡◌, ℕ, ℤ, ◌^◌, ◌<◌, ◌≤◌, Option, Some, None, List, All, unsigned_abs, ⊤}
+use Rattle.std.specs.Prelude.{◌≡◌, ℕ, ℤ, ◌<◌, ◌≤◌, Option, Some, None, List, All, unsigned_abs, ⊤}
+use Rattle.pb_text.specs.Number.{largest_number}
 use Rattle.linear.specs.declared.term.Var.{Var}
 use Rattle.linear.specs.declared.term.Lit.{Lit}
 use Rattle.linear.specs.declared.term.Term.{Term}
@@ -23,7 +24,7 @@ use Rattle.proof_text.specs.declared.line.Line.TheVariants as lines
 
 -- at most 2^120 in size
 abbrev pub IsWritable : ℤ → Type 0
-IsWritable n = unsigned_abs n ≤ 2 ^ 120
+IsWritable n = unsigned_abs n ≤ largest_number
 
 -- numbered by a table of so many names
 abbrev pub IsNamed : ℕ → Var → Type 0

@@ -3,8 +3,11 @@
 //! The constraint of `rup` and `red` ends with a `;` that may not be missing, since more stands behind it: hints, which
 //! are never judged, or a substitution. So the words before it and those behind it are read by different readers.
 
-use crate::lookahead::Lookahead;
-use pb_text::{Kind, Symbol, Token};
+ghost use Rattle.std.specs.Prelude.{◌≡◌, [], ◌∷◌, None, Some, false, drop, MatchOption};
+ghost use Rattle.pb_text.specs.TokensOf.{texts_of};
+ghost use Rattle.proof_text.specs.Words as words;
+
+use pb_text::{Kind, Lookahead, Symbol, Token};
 use std::marker::Model;
 
 /// The words that are left, up to the first `;`.
@@ -14,20 +17,15 @@ pub(crate) struct BeforeSemicolon<'a> {
 }
 
 impl<'a> Model for BeforeSemicolon<'a> {
-    ghost use Rattle.proof_text.specs.Words.{Halves, halves};
+    ghost Value = { words.Halves };
 
-    ghost Value = { Halves };
-
-    ghost view = { λ f. halves f.left };
+    ghost view = { λ f. words.halves (texts_of f.left) };
 }
 
 impl<'a> BeforeSemicolon<'a> {
-    ghost use Rattle.std.specs.Prelude.{◌≡◌, [], ◌∷◌, None, Some, false, drop, MatchOption};
-    ghost use Rattle.proof_text.specs.Words as words;
-
     /// The words that are left of a line.
     pub(crate) fn new(left: Lookahead<'a>) -> Self
-        ensures { result ≡ words.halves left.entry }
+        ensures { result ≡ words.halves (texts_of left.entry) }
     {
         BeforeSemicolon { left }
     }
@@ -85,7 +83,7 @@ impl<'a> BeforeSemicolon<'a> {
     /// The words behind the `;`, which stands next; `None` where it is missing.
     pub(crate) fn into_behind(self) -> Option<Lookahead<'a>>
         requires { self.front ≡ [] }
-        ensures { MatchOption result (self.entry.behind ≡ None) (λ l. self.entry.behind ≡ Some l) }
+        ensures { MatchOption result (self.entry.behind ≡ None) (λ l. self.entry.behind ≡ Some (texts_of l)) }
     {
         let mut left = self.left;
         left.take()?;

@@ -4,32 +4,26 @@
 //! is kept; one without literals is a solution of no literals, and not the same as none. The lower bound `-INF` is this
 //! product's own spelling for "no bound".
 
-ghost use Rattle.std.specs.Prelude.{◌≡◌, ℕ, List, [], ◌∷◌, true, false, is_some, drop, IfOk, IfErr, OnOk, MatchOption};
+ghost use Rattle.std.specs.Prelude.{◌≡◌, [], ◌∷◌, true, is_some, drop, IfOk, IfErr, OnOk};
+ghost use Rattle.pb_text.specs.TokensOf.{texts_of};
 ghost use Rattle.proof_text.specs.Words.{AreSmall, unclosed};
-ghost use Rattle.proof_text.specs.Forms.{are_literals, literals_of};
 ghost use Rattle.proof_text.specs.Conclusions as conclusions;
-ghost use Rattle.proof_text.specs.ConclusionsRead.{begins_right, IsHintRead, IsConclusionRead, AreConclusionWordsRead, IsConclusionLineRead};
-ghost use Rattle.proof_text.specs.NamesMet.{NamesMet};
+ghost use Rattle.proof_text.specs.ConclusionsRead.{begins_right, IsHintRead, IsConclusionRead, IsConclusionLineRead};
 ghost use Rattle.proof_text.specs.PartsDenied.{Denies};
 ghost use Rattle.proof_text.specs.Faults.{IsPlain};
 
-use crate::fault::ProofFault;
+use crate::fault::{ProofFault, Reading};
 use crate::keyword::{ConclusionKind, conclusion_kind_of};
 use crate::line_names::LineNames;
 use crate::line_words::LineWords;
-use crate::lookahead::Lookahead;
 use crate::values::{lits, number};
 use linear::{Lit, Seq};
-use pb_text::{Kind, Symbol, Token};
+use pb_text::{Kind, Lookahead, Symbol, Token};
 use proof_steps::{Conclusion, Lower, Upper};
 use std::alloc::Global;
 
 /// A hint of literals, if one stands here.
-fn hint(
-    alloc: Global,
-    mut words: LineWords<'_>,
-    table: &mut LineNames,
-) -> Result<Option<Seq<Lit>>, ProofFault>
+fn hint(alloc: Global, mut words: LineWords<'_>, table: &mut LineNames) -> Reading<Option<Seq<Lit>>>
     ensures read { IfOk result (λ h. IsHintRead table.old words.entry h table.new) }
     ensures kept { table.new.before ≡ table.old.before }
     ensures denies { IfErr result (λ f. Denies f (conclusions.is_hint words.entry) words.entry) }
@@ -45,7 +39,7 @@ fn hint(
 }
 
 /// Passes a hint of an id, if one stands here. It is read and not kept.
-fn pass_id(words: &mut LineWords<'_>) -> Result<(), ProofFault>
+fn pass_id(words: &mut LineWords<'_>) -> Reading<()>
     ensures left { OnOk result (words.new ≡ conclusions.past_id words.old) }
     ensures small { OnOk result (AreSmall words.new → AreSmall words.old) }
     ensures later { OnOk result (AreSmall words.old → AreSmall words.new) }
@@ -67,7 +61,7 @@ fn pass_id(words: &mut LineWords<'_>) -> Result<(), ProofFault>
 }
 
 /// A lower bound.
-fn lower(token: Token<'_>) -> Result<Lower, ProofFault>
+fn lower(token: Token<'_>) -> Reading<Lower>
     ensures form { OnOk result (conclusions.is_lower token.entry.text.now ≡ true) }
     ensures value { IfOk result (λ l. l ≡ conclusions.lower_of token.entry.text.now) }
     ensures small { OnOk result (AreSmall (token.entry.text.now ∷ [])) }
@@ -84,7 +78,7 @@ fn lower(token: Token<'_>) -> Result<Lower, ProofFault>
 }
 
 /// An upper bound.
-fn upper(token: Token<'_>) -> Result<Upper, ProofFault>
+fn upper(token: Token<'_>) -> Reading<Upper>
     ensures form { OnOk result (conclusions.is_upper token.entry.text.now ≡ true) }
     ensures value { IfOk result (λ l. l ≡ conclusions.upper_of token.entry.text.now) }
     ensures small { OnOk result (AreSmall (token.entry.text.now ∷ [])) }
@@ -97,49 +91,8 @@ fn upper(token: Token<'_>) -> Result<Upper, ProofFault>
     Ok(Upper::At(number(token)?))
 }
 
-/// `NONE`, behind the word.
-fn nothing(words: LineWords<'_>) -> Result<Conclusion, ProofFault>
-    ensures read { IfOk result (λ c. (k : NamesMet) → IsConclusionRead ConclusionKind.Nothing k words.entry c k) }
-    ensures denies { IfErr result (λ f. Denies f (conclusions.is_conclusion ConclusionKind.Nothing words.entry) words.entry) }
-    ensures plain { IfErr result IsPlain }
-{
-    if words.is_empty() {
-        Ok(Conclusion::Nothing)
-    } else {
-        Err(ProofFault::BadLine)
-    }
-}
-
-/// `SAT`, behind the word.
-fn sat(alloc: Global, words: LineWords<'_>, table: &mut LineNames) -> Result<Conclusion, ProofFault>
-    ensures read { IfOk result (λ c. IsConclusionRead ConclusionKind.Sat table.old words.entry c table.new) }
-    ensures kept { table.new.before ≡ table.old.before }
-    ensures denies { IfErr result (λ f. Denies f (conclusions.is_conclusion ConclusionKind.Sat words.entry) words.entry) }
-    ensures plain { IfErr result IsPlain }
-{
-    Ok(Conclusion::Sat(hint(alloc, words, table)?))
-}
-
-/// `UNSAT`, behind the word.
-fn unsat(mut words: LineWords<'_>) -> Result<Conclusion, ProofFault>
-    ensures read { IfOk result (λ c. (k : NamesMet) → IsConclusionRead ConclusionKind.Unsat k words.entry c k) }
-    ensures denies { IfErr result (λ f. Denies f (conclusions.is_conclusion ConclusionKind.Unsat words.entry) words.entry) }
-    ensures plain { IfErr result IsPlain }
-{
-    pass_id(&mut words)?;
-    if words.is_empty() {
-        Ok(Conclusion::Unsat)
-    } else {
-        Err(ProofFault::BadLine)
-    }
-}
-
 /// `BOUNDS`, behind the word.
-fn bounds(
-    alloc: Global,
-    mut words: LineWords<'_>,
-    table: &mut LineNames,
-) -> Result<Conclusion, ProofFault>
+fn bounds(alloc: Global, mut words: LineWords<'_>, table: &mut LineNames) -> Reading<Conclusion>
     ensures read { IfOk result (λ c. IsConclusionRead ConclusionKind.Bounds table.old words.entry c table.new) }
     ensures kept { table.new.before ≡ table.old.before }
     ensures denies { IfErr result (λ f. Denies f (conclusions.is_conclusion ConclusionKind.Bounds words.entry) words.entry) }
@@ -158,42 +111,30 @@ fn bounds(
     Ok(Conclusion::Bounds(lower, upper, hint))
 }
 
-/// What stands behind `conclusion`.
-fn conclusion_words(
-    alloc: Global,
-    mut words: LineWords<'_>,
-    table: &mut LineNames,
-) -> Result<Conclusion, ProofFault>
-    ensures read { IfOk result (λ c. AreConclusionWordsRead table.old words.entry c table.new) }
-    ensures kept { table.new.before ≡ table.old.before }
-    ensures denies { IfErr result (λ f. Denies f (is_some (conclusions.conclusion_said [] words.entry)) (drop 1 words.entry)) }
-    ensures plain { IfErr result IsPlain }
-{
-    let Some(token) = words.take() else {
-        return Err(ProofFault::BadLine);
-    };
-    let Some(kind) = conclusion_kind_of(token.text) else {
-        return Err(ProofFault::BadLine);
-    };
-    of_kind(alloc, kind, words, table)
-}
-
 /// What stands behind the word of a conclusion of this kind.
 fn of_kind(
     alloc: Global,
     kind: ConclusionKind,
-    words: LineWords<'_>,
+    mut words: LineWords<'_>,
     table: &mut LineNames,
-) -> Result<Conclusion, ProofFault>
+) -> Reading<Conclusion>
     ensures read { IfOk result (λ c. IsConclusionRead kind table.old words.entry c table.new) }
     ensures kept { table.new.before ≡ table.old.before }
     ensures denies { IfErr result (λ f. Denies f (conclusions.is_conclusion kind words.entry) words.entry) }
     ensures plain { IfErr result IsPlain }
 {
     match kind {
-        ConclusionKind::Nothing => nothing(words),
-        ConclusionKind::Sat => sat(alloc, words, table),
-        ConclusionKind::Unsat => unsat(words),
+        ConclusionKind::Nothing if words.is_empty() => Ok(Conclusion::Nothing),
+        ConclusionKind::Nothing => Err(ProofFault::BadLine),
+        ConclusionKind::Sat => Ok(Conclusion::Sat(hint(alloc, words, table)?)),
+        ConclusionKind::Unsat => {
+            pass_id(&mut words)?;
+            if words.is_empty() {
+                Ok(Conclusion::Unsat)
+            } else {
+                Err(ProofFault::BadLine)
+            }
+        }
         ConclusionKind::Bounds => bounds(alloc, words, table),
     }
 }
@@ -203,10 +144,11 @@ pub(crate) fn conclusion(
     alloc: Global,
     mut words: Lookahead<'_>,
     table: &mut LineNames,
-) -> Result<Conclusion, ProofFault>
-    ensures read { IfOk result (λ c. IsConclusionLineRead table.old words.entry c table.new) }
+) -> Reading<Conclusion>
+    ensures read { IfOk result (λ c. IsConclusionLineRead table.old (texts_of words.entry) c table.new) }
     ensures kept { table.new.before ≡ table.old.before }
-    ensures denies { IfErr result (λ f. Denies f (is_some (conclusions.conclusion_of [] words.entry)) (drop 1 (unclosed (drop 1 words.entry)))) }
+    ensures denies { let ws = texts_of words.entry in
+        IfErr result (λ f. Denies f (is_some (conclusions.conclusion_of [] ws)) (drop 1 (unclosed (drop 1 ws)))) }
     ensures plain { IfErr result IsPlain }
 {
     let Some(token) = words.take() else {
@@ -215,5 +157,12 @@ pub(crate) fn conclusion(
     if token.text != b"conclusion".as_slice() {
         return Err(ProofFault::BadLine);
     }
-    conclusion_words(alloc, LineWords::new(words), table)
+    let mut words = LineWords::new(words);
+    let Some(token) = words.take() else {
+        return Err(ProofFault::BadLine);
+    };
+    let Some(kind) = conclusion_kind_of(token.text) else {
+        return Err(ProofFault::BadLine);
+    };
+    of_kind(alloc, kind, words, table)
 }

@@ -3,19 +3,19 @@
 //! Terms stay as they are written, signs, zeros and repeated variables included: to bring them into normal form is the kernel's affair.
 //! `=` and `<=` would each be one constraint or two of the proof, with ids to match, and are left out where `>=` is due.
 
-ghost use Rattle.std.specs.Prelude.{◌≡◌, [], ◌∷◌, Some, is_some, false, true, ◌&&◌, IfOk, IfErr, OnOk};
+ghost use Rattle.std.specs.Prelude.{◌≡◌, [], ◌∷◌, Some, is_some, false, ◌&&◌, IfOk, IfErr, OnOk};
+ghost use Rattle.pb_text.specs.TokensOf.{texts_of};
 ghost use Rattle.proof_text.specs.Words.{AreSmall, begins_integer};
 ghost use Rattle.proof_text.specs.Forms.{terms_of, behind_terms, closing_of};
 ghost use Rattle.proof_text.specs.PartsRead.{IsConstraintRead, Takes, SoFar};
-ghost use Rattle.proof_text.specs.PartsDenied.{Denies, IsForm};
+ghost use Rattle.proof_text.specs.PartsDenied.{Denies};
 
 use crate::before_semicolon::BeforeSemicolon;
-use crate::fault::ProofFault;
+use crate::fault::{ProofFault, Reading};
 use crate::line_names::LineNames;
-use crate::lookahead::Lookahead;
 use crate::values::{lit, number};
 use linear::{Relation, Seq, Signed, Term};
-use pb_text::{Kind, Symbol, Token};
+use pb_text::{Kind, Lookahead, Symbol, Token};
 use std::alloc::Global;
 
 /// The term that begins with a coefficient.
@@ -23,7 +23,7 @@ fn term(
     coefficient: Token<'_>,
     words: &mut BeforeSemicolon<'_>,
     table: &mut LineNames,
-) -> Result<Term, ProofFault>
+) -> Reading<Term>
     requires { coefficient.kind ≡ Kind.Integer }
     ensures takes { IfOk result (λ t. Takes behind_terms terms_of table.old (coefficient.entry.text.now ∷ words.old.front) t table.new words.new.front) }
     ensures behind { words.new.behind ≡ words.old.behind }
@@ -48,7 +48,7 @@ fn terms(
     alloc: Global,
     words: &mut BeforeSemicolon<'_>,
     table: &mut LineNames,
-) -> Result<Seq<Term>, ProofFault>
+) -> Reading<Seq<Term>>
     ensures read { IfOk result (λ v. SoFar behind_terms terms_of table.old words.old.front v table.new words.new.front) }
     ensures end { OnOk result (begins_integer words.new.front ≡ false) }
     ensures behind { words.new.behind ≡ words.old.behind }
@@ -63,18 +63,8 @@ fn terms(
     Ok(Seq::from_vec(terms))
 }
 
-/// The fault of a word where `>=` is due.
-fn relation_fault(token: Token<'_>) -> ProofFault
-    ensures { IsForm result }
-{
-    match token.kind {
-        Kind::Symbol(Symbol::Equals | Symbol::AtMost) => ProofFault::RuleLeftOut,
-        _ => ProofFault::BadLine,
-    }
-}
-
 /// `>=` and the right side.
-fn right_side(words: &mut BeforeSemicolon<'_>) -> Result<i128, ProofFault>
+fn right_side(words: &mut BeforeSemicolon<'_>) -> Reading<i128>
     ensures closing { IfOk result (λ n. closing_of words.old.front ≡ Some n) }
     ensures small { OnOk result (AreSmall words.old.front) }
     ensures end { OnOk result (words.new.front ≡ []) }
@@ -84,9 +74,11 @@ fn right_side(words: &mut BeforeSemicolon<'_>) -> Result<i128, ProofFault>
     let Some(token) = words.take() else {
         return Err(ProofFault::BadLine);
     };
-    let Kind::Symbol(Symbol::AtLeast) = token.kind else {
-        return Err(relation_fault(token));
-    };
+    match token.kind {
+        Kind::Symbol(Symbol::AtLeast) => {}
+        Kind::Symbol(Symbol::Equals | Symbol::AtMost) => return Err(ProofFault::RuleLeftOut),
+        _ => return Err(ProofFault::BadLine),
+    }
     let Some(token) = words.take() else {
         return Err(ProofFault::BadLine);
     };
@@ -103,9 +95,9 @@ pub(crate) fn constraint<'a>(
     alloc: Global,
     mut words: BeforeSemicolon<'a>,
     table: &mut LineNames,
-) -> Result<(Signed, Lookahead<'a>), ProofFault>
+) -> Reading<(Signed, Lookahead<'a>)>
     ensures read { IfOk result (λ r. IsConstraintRead table.old words.entry.front r.0 table.new) }
-    ensures behind { IfOk result (λ r. words.entry.behind ≡ Some r.1) }
+    ensures behind { IfOk result (λ r. words.entry.behind ≡ Some (texts_of r.1)) }
     ensures kept { table.new.before ≡ table.old.before }
     ensures denies { IfErr result (λ f. Denies f (is_some words.entry.behind && is_some (closing_of (behind_terms words.entry.front))) words.entry.front) }
 {

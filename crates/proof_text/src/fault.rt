@@ -1,5 +1,9 @@
 //! Why a line of a proof is refused. The numbers are printed and stay: programs compare them.
 
+ghost use Rattle.std.specs.Prelude.{◌≡◌};
+ghost use Rattle.proof_text.specs.Faults.{number_of, name_of_fault};
+ghost use Rattle.proof_text.specs.declared.fault.ProofFault.TheVariants.{OutOfMemory};
+
 use std::alloc::{AllocError, AllocFailed};
 use thiserror::Error;
 
@@ -38,10 +42,10 @@ pub enum ProofFault {
     TooManyIds,
 }
 
-impl ProofFault {
-    ghost use Rattle.std.specs.Prelude.{◌≡◌};
-    ghost use Rattle.proof_text.specs.Faults.{number_of, name_of_fault};
+/// What a part of a line says, or the fault of the line.
+pub(crate) type Reading<T> = Result<T, ProofFault>;
 
+impl ProofFault {
     /// The number that stands for the fault in printed kinds.
     pub fn number(self) -> u8
         ensures { result ≡ number_of self }
@@ -80,9 +84,6 @@ impl ProofFault {
 }
 
 impl From<AllocError> for ProofFault {
-    ghost use Rattle.std.specs.Prelude.{◌≡◌};
-    ghost use Rattle.proof_text.specs.declared.fault.ProofFault.TheVariants.{OutOfMemory};
-
     ghost from_gives = { λ _ e. e ≡ OutOfMemory };
 
     fn from(_e: AllocError) -> ProofFault {
@@ -91,9 +92,6 @@ impl From<AllocError> for ProofFault {
 }
 
 impl<T: Drop> From<AllocFailed<T>> for ProofFault {
-    ghost use Rattle.std.specs.Prelude.{◌≡◌};
-    ghost use Rattle.proof_text.specs.declared.fault.ProofFault.TheVariants.{OutOfMemory};
-
     ghost from_gives = { λ _ e. e ≡ OutOfMemory };
 
     fn from(_e: AllocFailed<T>) -> ProofFault {

@@ -8,7 +8,7 @@ ghost use Rattle.proof_text.specs.Words.{are_words, AreSmall};
 ghost use Rattle.proof_text.specs.Frame as frame;
 ghost use Rattle.proof_text.specs.PartsDenied.{IsForm};
 
-use crate::fault::ProofFault;
+use crate::fault::{ProofFault, Reading};
 use crate::line_words::LineWords;
 use crate::values::number;
 use pb_text::Kind;
@@ -42,7 +42,7 @@ pub(crate) fn count(mut words: LineWords<'_>) -> Option<i128>
 }
 
 /// The words are `output NONE`; another output is left out.
-pub(crate) fn output(mut words: LineWords<'_>) -> Result<(), ProofFault>
+pub(crate) fn output(mut words: LineWords<'_>) -> Reading<()>
     ensures ok { OnOk result (are_words frame.output words.entry ≡ true) }
     ensures form { IfErr result IsForm }
     ensures denies { IfErr result (λ f. are_words frame.output words.entry ≡ false) }
@@ -58,11 +58,10 @@ pub(crate) fn output(mut words: LineWords<'_>) -> Result<(), ProofFault>
         };
     }
     match words.next() {
-        None => Err(ProofFault::BadLine),
-        Some(token) => match token.kind {
-            Kind::Symbol(_) | Kind::Stray => Err(ProofFault::BadLine),
-            _ => Err(ProofFault::RuleLeftOut),
-        },
+        Some(token) if !matches!(token.kind, Kind::Symbol(_) | Kind::Stray) => {
+            Err(ProofFault::RuleLeftOut)
+        }
+        _ => Err(ProofFault::BadLine),
     }
 }
 

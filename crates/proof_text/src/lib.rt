@@ -18,7 +18,6 @@ mod laws;
 mod line;
 mod line_names;
 mod line_words;
-mod lookahead;
 mod pol;
 mod read;
 mod reader;

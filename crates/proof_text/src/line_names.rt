@@ -7,13 +7,15 @@
 //! The table is owned for the line: were it borrowed, contracts could not say what became of it, since they lose the end of a
 //! borrow of something that owns memory once a struct holds it.
 
-use linear::{Lit, Names, Var};
+ghost use Rattle.std.specs.Prelude.{◌≡◌, ◌≤◌, true, false, length, take, if◌then◌else◌, IfOk, OnOk, OnErr};
+ghost use Rattle.linear.specs.Largest.{most_names};
+ghost use Rattle.linear.specs.Table.{place_of, IsTable};
+ghost use Rattle.proof_text.specs.NamesMet.{NamesMet, met, but_last};
+
+use linear::{Lit, MOST_NAMES, Names, Var};
 use pb_text::Literal;
 use std::alloc::AllocError;
 use std::marker::Model;
-
-/// How many names a table can number.
-const MOST_NAMES: usize = 1 << 32;
 
 /// The names so far.
 #[derive(Drop)]
@@ -24,10 +26,6 @@ pub(crate) struct LineNames {
 }
 
 impl Model for LineNames {
-    ghost use Rattle.std.specs.Prelude.{◌≡◌, ◌≤◌, ◌^◌, true, length, take, if◌then◌else◌};
-    ghost use Rattle.linear.specs.Table.{IsTable};
-    ghost use Rattle.proof_text.specs.NamesMet.{NamesMet, but_last};
-
     ghost Value = { NamesMet };
 
     ghost view = { λ t. record {
@@ -36,14 +34,10 @@ impl Model for LineNames {
       full = t.full;
     } };
 
-    ghost invariant = { λ t. (t.before ≤ length t.names) × IsTable t.names × (t.full ≡ true → 2 ^ 32 ≤ length t.names) };
+    ghost invariant = { λ t. (t.before ≤ length t.names) × IsTable t.names × (t.full ≡ true → most_names ≤ length t.names) };
 }
 
 impl LineNames {
-    ghost use Rattle.std.specs.Prelude.{◌≡◌, false, IfOk, OnOk, OnErr};
-    ghost use Rattle.linear.specs.Table.{place_of, IsTable};
-    ghost use Rattle.proof_text.specs.NamesMet.{met};
-
     /// The names as a line begins.
     pub(crate) fn new(names: Names) -> Self
         ensures { result ≡ record { before = names; names = names; full = false } }
@@ -64,18 +58,14 @@ impl LineNames {
         ensures err { OnErr result (self.new ≡ self.old) }
     {
         let negated = literal.negated;
-        if self.names.len() < MOST_NAMES {
-            let var = self.names.intern(literal.name)?;
-            return Ok(Lit { var, negated });
-        }
-        if let Some(var) = self.names.find(literal.name) {
-            return Ok(Lit { var, negated });
-        }
-        self.full = true;
-        Ok(Lit {
-            var: Var(u32::MAX),
-            negated,
-        })
+        let var = match self.names.intern_within(literal.name, MOST_NAMES)? {
+            Some(var) => var,
+            None => {
+                self.full = true;
+                Var(u32::MAX)
+            }
+        };
+        Ok(Lit { var, negated })
     }
 
     /// Whether a name found no number.

@@ -3,8 +3,11 @@
 //! The format lets nearly every line end with a `;` or without one. That is settled here once, so that the readers of the forms see words
 //! alone, and a second `;`, or one with words behind it, is a word like any other and stands in no form.
 
-use crate::lookahead::Lookahead;
-use pb_text::{Kind, Symbol, Token};
+ghost use Rattle.std.specs.Prelude.{◌≡◌, ℕ, List, [], ◌∷◌, drop, MatchOption, if◌then◌else◌};
+ghost use Rattle.pb_text.specs.TokensOf.{texts_of};
+ghost use Rattle.proof_text.specs.Words as words;
+
+use pb_text::{Kind, Lookahead, Symbol, Token};
 use std::marker::Model;
 
 /// The words that are left, a closing `;` taken away.
@@ -14,45 +17,38 @@ pub(crate) struct LineWords<'a> {
 }
 
 impl<'a> Model for LineWords<'a> {
-    ghost use Rattle.std.specs.Prelude.{ℕ, List};
-    ghost use Rattle.proof_text.specs.Words.{unclosed};
-
     ghost Value = { List (List ℕ) };
 
-    ghost view = { λ b. unclosed b.left };
+    ghost view = { λ b. words.unclosed (texts_of b.left) };
 }
 
 impl<'a> LineWords<'a> {
-    ghost use Rattle.std.specs.Prelude.{◌≡◌, [], ◌∷◌, drop, MatchOption, if◌then◌else◌};
-    ghost use Rattle.proof_text.specs.Words as words;
-
     /// The words that are left of a line.
     pub(crate) fn new(left: Lookahead<'a>) -> Self
-        ensures { result ≡ words.unclosed left.entry }
+        ensures { result ≡ words.unclosed (texts_of left.entry) }
     {
         LineWords { left }
     }
 
     /// The next word; `None` at the end.
-    #[tactic(auto, using(crate::proofs::ClosingSemicolon::closed, crate::proofs::ClosingSemicolon::opened))]
+    #[tactic(auto, using(crate::proofs::ClosingSemicolon::opened))]
     pub(crate) fn next(&self) -> Option<Token<'a>>
         ensures { MatchOption result (self.now ≡ []) (λ t. self.now ≡ t.text.now ∷ drop 1 self.now) }
     {
-        if self.left.closes() {
+        if self.is_empty() {
             return None;
         }
         self.left.next()
     }
 
     /// Passes the next word, and gives it.
-    #[tactic(auto, using(crate::proofs::ClosingSemicolon::closed, crate::proofs::ClosingSemicolon::opened))]
+    #[tactic(auto, using(crate::proofs::ClosingSemicolon::passed))]
     pub(crate) fn take(&mut self) -> Option<Token<'a>>
         ensures { MatchOption result ((self.old ≡ []) × (self.new ≡ [])) (λ t. self.old ≡ t.text.now ∷ self.new) }
     {
-        if self.left.closes() {
-            return None;
-        }
-        self.left.take()
+        let token = self.next()?;
+        self.left.advance();
+        Some(token)
     }
 
     /// Passes the next word where it is this one, and says whether it is.
@@ -80,10 +76,14 @@ impl<'a> LineWords<'a> {
         }
     }
 
-    /// Whether no word is left.
+    /// Whether no word is left: nothing but a closing `;`, which may be missing.
     pub(crate) fn is_empty(&self) -> bool
         ensures { result ≡ words.is_empty self.now }
     {
-        self.next().is_none()
+        match (self.left.next(), self.left.after()) {
+            (None, _) => true,
+            (Some(token), None) => matches!(token.kind, Kind::Symbol(Symbol::Semicolon)),
+            _ => false,
+        }
     }
 }

@@ -1,15 +1,14 @@
 //! The items of a `pol` line. An integer directly before `*` or `d` belongs to it, and so does a name directly before
 //! `w`; so each line has one reading.
 
-ghost use Rattle.std.specs.Prelude.{◌≡◌, ℕ, List, ◌∷◌, true, false, IfOk, IfErr, OnOk};
-ghost use Rattle.pb_text.specs.Lexeme.{kind_of};
+ghost use Rattle.std.specs.Prelude.{◌≡◌, ℕ, List, ◌∷◌, false, IfOk, IfErr};
 ghost use Rattle.proof_text.specs.Kinds.{is_integer, is_literal};
 ghost use Rattle.proof_text.specs.NamesMet.{NamesMet};
 ghost use Rattle.proof_text.specs.Forms.{are_items, items_of};
 ghost use Rattle.proof_text.specs.PartsRead.{Takes, IsRead};
 ghost use Rattle.proof_text.specs.PartsDenied.{Denies};
 
-use crate::fault::ProofFault;
+use crate::fault::{ProofFault, Reading};
 use crate::line_names::LineNames;
 use crate::line_words::LineWords;
 use crate::values::{lit, number};
@@ -19,7 +18,7 @@ use proof_steps::Item;
 use std::alloc::Global;
 
 /// An id, or a factor with its operation.
-fn integer_item(token: Token<'_>, words: &mut LineWords<'_>) -> Result<Item, ProofFault>
+fn integer_item(token: Token<'_>, words: &mut LineWords<'_>) -> Reading<Item>
     requires { token.kind ≡ Kind.Integer }
     ensures takes { IfOk result (λ i. (k : NamesMet) → Takes are_items items_of k (token.entry.text.now ∷ words.old) i k words.new) }
     ensures denies { IfErr result (λ f. Denies f (are_items (token.entry.text.now ∷ words.old)) (token.entry.text.now ∷ words.old)) }
@@ -35,11 +34,7 @@ fn integer_item(token: Token<'_>, words: &mut LineWords<'_>) -> Result<Item, Pro
 }
 
 /// An axiom, or a variable with the weakening by it.
-fn literal_item(
-    token: Token<'_>,
-    words: &mut LineWords<'_>,
-    table: &mut LineNames,
-) -> Result<Item, ProofFault>
+fn literal_item(token: Token<'_>, words: &mut LineWords<'_>, table: &mut LineNames) -> Reading<Item>
     requires { token.kind ≡ Kind.Literal }
     ensures takes { IfOk result (λ i. Takes are_items items_of table.old (token.entry.text.now ∷ words.old) i table.new words.new) }
     ensures kept { table.new.before ≡ table.old.before }
@@ -53,7 +48,7 @@ fn literal_item(
 }
 
 /// `+` or `s`. (Both begin no name, but `s` begins with a letter, so its kind is that of a misspelt one.)
-fn operation_item(token: Token<'_>) -> Result<Item, ProofFault>
+fn operation_item(token: Token<'_>) -> Reading<Item>
     requires { (is_integer token.kind ≡ false) × (is_literal token.kind ≡ false) }
     ensures takes { IfOk result (λ i. (k : NamesMet) (rest : List (List ℕ)) → Takes are_items items_of k (token.entry.text.now ∷ rest) i k rest) }
     ensures denies { IfErr result (λ f. (rest : List (List ℕ)) → Denies f (are_items (token.entry.text.now ∷ rest)) (token.entry.text.now ∷ rest)) }
@@ -68,11 +63,7 @@ fn operation_item(token: Token<'_>) -> Result<Item, ProofFault>
 }
 
 /// The item that a word begins.
-fn item(
-    token: Token<'_>,
-    words: &mut LineWords<'_>,
-    table: &mut LineNames,
-) -> Result<Item, ProofFault>
+fn item(token: Token<'_>, words: &mut LineWords<'_>, table: &mut LineNames) -> Reading<Item>
     ensures takes { IfOk result (λ i. Takes are_items items_of table.old (token.entry.text.now ∷ words.old) i table.new words.new) }
     ensures kept { table.new.before ≡ table.old.before }
     ensures denies { IfErr result (λ f. Denies f (are_items (token.entry.text.now ∷ words.old)) (token.entry.text.now ∷ words.old)) }
@@ -89,7 +80,7 @@ pub(crate) fn items(
     alloc: Global,
     mut words: LineWords<'_>,
     table: &mut LineNames,
-) -> Result<Seq<Item>, ProofFault>
+) -> Reading<Seq<Item>>
     ensures read { IfOk result (λ v. IsRead are_items items_of table.old words.entry v table.new) }
     ensures kept { table.new.before ≡ table.old.before }
     ensures denies { IfErr result (λ f. Denies f (are_items words.entry) words.entry) }

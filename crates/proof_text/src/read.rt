@@ -5,7 +5,8 @@
 //! due, so that whatever stands there is a bad line; the header, the count and the text behind the end have one fault each.
 
 ghost use Rattle.std.specs.Prelude.{◌≡◌, false, length, IfOk, IfErr, OnErr};
-ghost use Rattle.proof_text.specs.Words.{words};
+ghost use Rattle.pb_text.specs.TokensOf.{texts_of};
+ghost use Rattle.proof_text.specs.Words.{words, is_first};
 ghost use Rattle.proof_text.specs.Steps.{IsStep};
 ghost use Rattle.proof_text.specs.StepsRead.{IsStepLineRead};
 ghost use Rattle.proof_text.specs.Spells.{IsLine};
@@ -13,30 +14,26 @@ ghost use Rattle.proof_text.specs.Faults.{DeniesStep, DeniesLine};
 ghost use Rattle.proof_text.specs.Writable.{IsStepWritable, IsLineWritable};
 
 use crate::conclude::conclusion;
-use crate::fault::ProofFault;
+use crate::fault::{ProofFault, Reading};
 use crate::frame::{count, is_end, is_header, output};
 use crate::keyword::rule_of;
 use crate::line::{Line, Place};
 use crate::line_names::LineNames;
 use crate::line_words::LineWords;
-use crate::lookahead::Lookahead;
 use crate::refusal::rule_fault;
 use crate::step::step;
 use linear::Names;
+use pb_text::Lookahead;
 use proof_steps::Step;
 use std::alloc::Global;
 use std::mem;
 
 /// The step that the words of a line say.
-fn step_line(
-    alloc: Global,
-    mut words: Lookahead<'_>,
-    table: &mut LineNames,
-) -> Result<Step, ProofFault>
+fn step_line(alloc: Global, mut words: Lookahead<'_>, table: &mut LineNames) -> Reading<Step>
     requires { table.old.full ≡ false }
-    ensures read { IfOk result (λ s. IsStepLineRead table.old words.entry s table.new) }
+    ensures read { IfOk result (λ s. IsStepLineRead table.old (texts_of words.entry) s table.new) }
     ensures kept { table.new.before ≡ table.old.before }
-    ensures denies { IfErr result (λ f. DeniesStep f table.old.names words.entry) }
+    ensures denies { IfErr result (λ f. DeniesStep f table.old.names (texts_of words.entry)) }
 {
     let Some(token) = words.take() else {
         return Err(ProofFault::BadLine);
@@ -48,10 +45,10 @@ fn step_line(
 }
 
 /// The step that the words of a line say, its new names added; `read_step` says which fault comes where.
-fn step_of_words(alloc: Global, words: Lookahead<'_>, names: &mut Names) -> Result<Step, ProofFault>
-    ensures step { IfOk result (λ s. IsStep names.old words.entry s names.new) }
+fn step_of_words(alloc: Global, words: Lookahead<'_>, names: &mut Names) -> Reading<Step>
+    ensures step { IfOk result (λ s. IsStep names.old (texts_of words.entry) s names.new) }
     ensures err { OnErr result (names.new ≡ names.old) }
-    ensures denies { IfErr result (λ f. DeniesStep f names.old words.entry) }
+    ensures denies { IfErr result (λ f. DeniesStep f names.old (texts_of words.entry)) }
 {
     let mut table = LineNames::new(mem::replace(names, Names::new(alloc)));
     match step_line(alloc, words, &mut table) {
@@ -77,6 +74,7 @@ fn step_of_words(alloc: Global, words: Lookahead<'_>, names: &mut Names) -> Resu
 ///
 /// `UnknownRule`, `RuleLeftOut` and `BadLine` come only where the line says no step, `IntegerTooLarge` only where an
 /// integer is too large, `TooManyIds` only where the line is well formed and the table would have more than 2^32 names.
+#[tactic(auto, unfolding(crate::specs::Words::words))]
 pub fn read_step(alloc: Global, line: &[u8], names: &mut Names) -> Result<Step, ProofFault>
     ensures step { IfOk result (λ s. IsStep names.old (words line.now) s names.new) }
     ensures writable { IfOk result (λ s. IsStepWritable (length names.new) s) }
@@ -87,14 +85,10 @@ pub fn read_step(alloc: Global, line: &[u8], names: &mut Names) -> Result<Step, 
 }
 
 /// The conclusion that the words of a line say, its new names added.
-fn conclusion_line(
-    alloc: Global,
-    words: Lookahead<'_>,
-    names: &mut Names,
-) -> Result<Line, ProofFault>
-    ensures line { IfOk result (λ l. IsLine Place.Conclusion names.old words.entry l names.new) }
+fn conclusion_line(alloc: Global, words: Lookahead<'_>, names: &mut Names) -> Reading<Line>
+    ensures line { IfOk result (λ l. IsLine Place.Conclusion names.old (texts_of words.entry) l names.new) }
     ensures err { OnErr result (names.new ≡ names.old) }
-    ensures denies { IfErr result (λ f. DeniesLine f Place.Conclusion names.old words.entry) }
+    ensures denies { IfErr result (λ f. DeniesLine f Place.Conclusion names.old (texts_of words.entry)) }
 {
     let mut table = LineNames::new(mem::replace(names, Names::new(alloc)));
     match conclusion(alloc, words, &mut table) {
@@ -113,19 +107,25 @@ fn conclusion_line(
     }
 }
 
+/// Whether this word stands next.
+fn begins(words: &Lookahead<'_>, word: &[u8]) -> bool
+    ensures { result ≡ is_first word.now (texts_of words.now) }
+{
+    match words.next() {
+        Some(token) => token.text == word,
+        None => false,
+    }
+}
+
 /// A step, or the output line behind the steps.
-fn step_or_output(
-    alloc: Global,
-    words: Lookahead<'_>,
-    names: &mut Names,
-) -> Result<Line, ProofFault>
-    ensures line { IfOk result (λ l. IsLine Place.Step names.old words.entry l names.new) }
+fn step_or_output(alloc: Global, words: Lookahead<'_>, names: &mut Names) -> Reading<Line>
+    ensures line { IfOk result (λ l. IsLine Place.Step names.old (texts_of words.entry) l names.new) }
     ensures err { OnErr result (names.new ≡ names.old) }
-    ensures denies { IfErr result (λ f. DeniesLine f Place.Step names.old words.entry) }
+    ensures denies { IfErr result (λ f. DeniesLine f Place.Step names.old (texts_of words.entry)) }
 {
     // That the names so far can be numbered is known by their table's type; this makes it known here.
-    let _count = names.len();
-    if words.begins(b"output") {
+    names.reveal();
+    if begins(&words, b"output") {
         output(LineWords::new(words))?;
         return Ok(Line::Output);
     }
@@ -133,7 +133,7 @@ fn step_or_output(
     Ok(Line::Step(step))
 }
 
-#[tactic(auto, unfolding(crate::specs::Faults::DeniesLine))]
+#[tactic(auto, unfolding(crate::specs::Faults::DeniesLine, crate::specs::Words::words))]
 /// What a line says at its place. Names that the table does not have are added in order; a refused line adds none.
 /// A step or a conclusion can be written again.
 ///
@@ -153,7 +153,7 @@ pub fn read_line(
     ensures denies { IfErr result (λ f. DeniesLine f place names.old (words line.now)) }
 {
     // That the names so far can be numbered is known by their table's type; this makes it known here.
-    let _count = names.len();
+    names.reveal();
     let words = Lookahead::new(line);
     match place {
         Place::Header => {

@@ -4,7 +4,7 @@
 //! cutting a token, since whoever reads it cuts its words anyway. Comment lines are no part of the format's grammar: a line
 //! whose first byte other than space and tab is `*` is passed over, as in the problem files of Roussel and Manquinho's format.
 
-ghost use Rattle.std.specs.Prelude.{◌≡◌, ◌+◌, ◌<◌, ◌≤◌, ◌^◌, true, length};
+ghost use Rattle.std.specs.Prelude.{◌≡◌, ◌+◌, ◌<◌, ◌^◌, true, length};
 ghost use Rattle.std.specs.List.{list_all};
 ghost use Rattle.pb_text.specs.Lexeme.{begins_comment, is_white};
 ghost use Rattle.proof_text.specs.Lines as lines;

@@ -1,57 +1,38 @@
 //! Steps, rule by rule: what stands behind the word of a rule.
 //!
-//! Each rule has a function of its own with one contract for all: what the words say is the step, the names of its literals are
-//! met in order, and each fault says of the words what it should. A new rule is one more function and one more arm.
+//! All rules have one contract: what the words say is the step, the names of its literals are met in order, and each fault says of
+//! the words what it should. A new rule is one more arm, and a function of its own where it is more than one list.
 
 ghost use Rattle.std.specs.Prelude.{◌≡◌, false, IfOk, IfErr};
+ghost use Rattle.pb_text.specs.TokensOf.{texts_of};
 ghost use Rattle.proof_text.specs.StepsRead.{IsStepRead};
 ghost use Rattle.proof_text.specs.PartsDenied.{DeniesRule};
 
 use crate::before_semicolon::BeforeSemicolon;
 use crate::constraint::constraint;
-use crate::fault::ProofFault;
+use crate::fault::{ProofFault, Reading};
 use crate::keyword::Rule;
 use crate::line_names::LineNames;
 use crate::line_words::LineWords;
-use crate::lookahead::Lookahead;
 use crate::pol::items;
 use crate::values::{lits, numbers};
-use crate::witness::{full_fault, images};
+use crate::witness::{images, unless_twice};
+use pb_text::Lookahead;
 use proof_steps::Step;
 use std::alloc::Global;
 use substitution::Substitution;
 
-/// `pol`: the items of an expression.
-fn pol(alloc: Global, words: Lookahead<'_>, table: &mut LineNames) -> Result<Step, ProofFault>
-    ensures read { IfOk result (λ s. IsStepRead Rule.Pol table.old words.entry s table.new) }
-    ensures kept { table.new.before ≡ table.old.before }
-    ensures denies { IfErr result (λ f. DeniesRule f Rule.Pol table.old.names words.entry) }
-{
-    let items = items(alloc, LineWords::new(words), table)?;
-    Ok(Step::Pol(items))
-}
-
-/// `rup`: a constraint, `;`, and hints, which are passed over.
-fn rup(alloc: Global, words: Lookahead<'_>, table: &mut LineNames) -> Result<Step, ProofFault>
-    ensures read { IfOk result (λ s. IsStepRead Rule.Rup table.old words.entry s table.new) }
-    ensures kept { table.new.before ≡ table.old.before }
-    ensures denies { IfErr result (λ f. DeniesRule f Rule.Rup table.old.names words.entry) }
-{
-    let (constraint, _hints) = constraint(alloc, BeforeSemicolon::new(words), table)?;
-    Ok(Step::Rup(constraint))
-}
-
 /// `red`: a constraint, `;`, and a substitution.
-fn red(alloc: Global, words: Lookahead<'_>, table: &mut LineNames) -> Result<Step, ProofFault>
+fn red(alloc: Global, words: Lookahead<'_>, table: &mut LineNames) -> Reading<Step>
     requires { table.old.full ≡ false }
-    ensures read { IfOk result (λ s. IsStepRead Rule.Red table.old words.entry s table.new) }
+    ensures read { IfOk result (λ s. IsStepRead Rule.Red table.old (texts_of words.entry) s table.new) }
     ensures kept { table.new.before ≡ table.old.before }
-    ensures denies { IfErr result (λ f. DeniesRule f Rule.Red table.old.names words.entry) }
+    ensures denies { IfErr result (λ f. DeniesRule f Rule.Red table.old.names (texts_of words.entry)) }
 {
     let (constraint, behind) = constraint(alloc, BeforeSemicolon::new(words), table)?;
     let witness = images(alloc, LineWords::new(behind), table)?;
     if table.is_full() {
-        return Err(full_fault(&witness));
+        return Err(unless_twice(&witness, ProofFault::TooManyIds));
     }
     match Substitution::new(alloc, witness.images)? {
         Some(witness) => {
@@ -63,31 +44,11 @@ fn red(alloc: Global, words: Lookahead<'_>, table: &mut LineNames) -> Result<Ste
     }
 }
 
-/// `sol`: literals.
-fn sol(alloc: Global, words: Lookahead<'_>, table: &mut LineNames) -> Result<Step, ProofFault>
-    ensures read { IfOk result (λ s. IsStepRead Rule.Sol table.old words.entry s table.new) }
-    ensures kept { table.new.before ≡ table.old.before }
-    ensures denies { IfErr result (λ f. DeniesRule f Rule.Sol table.old.names words.entry) }
-{
-    let lits = lits(alloc, LineWords::new(words), table)?;
-    Ok(Step::Sol(lits))
-}
-
-/// `soli`: literals.
-fn soli(alloc: Global, words: Lookahead<'_>, table: &mut LineNames) -> Result<Step, ProofFault>
-    ensures read { IfOk result (λ s. IsStepRead Rule.Soli table.old words.entry s table.new) }
-    ensures kept { table.new.before ≡ table.old.before }
-    ensures denies { IfErr result (λ f. DeniesRule f Rule.Soli table.old.names words.entry) }
-{
-    let lits = lits(alloc, LineWords::new(words), table)?;
-    Ok(Step::Soli(lits))
-}
-
 /// `del`: `id`, and ids.
-fn del(alloc: Global, mut words: Lookahead<'_>, table: &mut LineNames) -> Result<Step, ProofFault>
-    ensures read { IfOk result (λ s. IsStepRead Rule.Del table.old words.entry s table.new) }
+fn del(alloc: Global, mut words: Lookahead<'_>, table: &mut LineNames) -> Reading<Step>
+    ensures read { IfOk result (λ s. IsStepRead Rule.Del table.old (texts_of words.entry) s table.new) }
     ensures kept { table.new.before ≡ table.old.before }
-    ensures denies { IfErr result (λ f. DeniesRule f Rule.Del table.old.names words.entry) }
+    ensures denies { IfErr result (λ f. DeniesRule f Rule.Del table.old.names (texts_of words.entry)) }
 {
     let Some(token) = words.take() else {
         return Err(ProofFault::BadLine);
@@ -108,18 +69,21 @@ pub(crate) fn step(
     rule: Rule,
     words: Lookahead<'_>,
     table: &mut LineNames,
-) -> Result<Step, ProofFault>
+) -> Reading<Step>
     requires { table.old.full ≡ false }
-    ensures read { IfOk result (λ s. IsStepRead rule table.old words.entry s table.new) }
+    ensures read { IfOk result (λ s. IsStepRead rule table.old (texts_of words.entry) s table.new) }
     ensures kept { table.new.before ≡ table.old.before }
-    ensures denies { IfErr result (λ f. DeniesRule f rule table.old.names words.entry) }
+    ensures denies { IfErr result (λ f. DeniesRule f rule table.old.names (texts_of words.entry)) }
 {
     match rule {
-        Rule::Pol => pol(alloc, words, table),
-        Rule::Rup => rup(alloc, words, table),
+        Rule::Pol => Ok(Step::Pol(items(alloc, LineWords::new(words), table)?)),
+        Rule::Rup => {
+            let (constraint, _hints) = constraint(alloc, BeforeSemicolon::new(words), table)?;
+            Ok(Step::Rup(constraint))
+        }
         Rule::Red => red(alloc, words, table),
-        Rule::Sol => sol(alloc, words, table),
-        Rule::Soli => soli(alloc, words, table),
+        Rule::Sol => Ok(Step::Sol(lits(alloc, LineWords::new(words), table)?)),
+        Rule::Soli => Ok(Step::Soli(lits(alloc, LineWords::new(words), table)?)),
         Rule::Del => del(alloc, words, table),
     }
 }

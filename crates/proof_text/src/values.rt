@@ -10,22 +10,22 @@ ghost use Rattle.pb_text.specs.Word.{name_of};
 ghost use Rattle.proof_text.specs.Kinds.{is_integer, is_literal};
 ghost use Rattle.proof_text.specs.Words.{IsSmall, AreSmall};
 ghost use Rattle.proof_text.specs.Numbering.{lit_of};
-ghost use Rattle.proof_text.specs.NamesMet.{met, met_in};
+ghost use Rattle.proof_text.specs.NamesMet.{met};
 ghost use Rattle.proof_text.specs.Forms.{are_literals, literals_of, are_integers, integers_of};
 ghost use Rattle.proof_text.specs.PartsRead.{IsRead};
 ghost use Rattle.proof_text.specs.PartsDenied.{Denies};
 ghost use Rattle.proof_text.specs.Faults.{IsPlain};
 
-use crate::fault::ProofFault;
+use crate::fault::{ProofFault, Reading};
 use crate::line_names::LineNames;
 use crate::line_words::LineWords;
-use linear::{Lit, Names, Seq};
+use linear::{Lit, Seq};
 use pb_text::{NumFault, Token, as_literal, integer};
 use std::alloc::Global;
 
 /// The number of an integer.
 #[tactic(auto, using(crate::proofs::WordsByKind::one_large, crate::proofs::WordsByKind::small_value))]
-pub(crate) fn number(token: Token<'_>) -> Result<i128, ProofFault>
+pub(crate) fn number(token: Token<'_>) -> Reading<i128>
     ensures integer { OnOk result (is_integer (kind_of token.entry.text.now) ≡ true) }
     ensures value { IfOk result (λ n. n ≡ integer_value token.entry.text.now) }
     ensures small { OnOk result (IsSmall token.entry.text.now) }
@@ -41,7 +41,7 @@ pub(crate) fn number(token: Token<'_>) -> Result<i128, ProofFault>
 }
 
 /// The literal of a word, its name met.
-pub(crate) fn lit(token: Token<'_>, table: &mut LineNames) -> Result<Lit, ProofFault>
+pub(crate) fn lit(token: Token<'_>, table: &mut LineNames) -> Reading<Lit>
     ensures literal { OnOk result (is_literal (kind_of token.entry.text.now) ≡ true) }
     ensures value { IfOk result (λ l. l ≡ lit_of table.new.names token.entry.text.now) }
     ensures met { OnOk result (table.new ≡ met table.old (name_of token.entry.text.now)) }
@@ -52,10 +52,7 @@ pub(crate) fn lit(token: Token<'_>, table: &mut LineNames) -> Result<Lit, ProofF
     let Some(literal) = as_literal(token) else {
         return Err(ProofFault::BadLine);
     };
-    match table.lit(literal) {
-        Ok(lit) => Ok(lit),
-        Err(_) => Err(ProofFault::OutOfMemory),
-    }
+    Ok(table.lit(literal)?)
 }
 
 /// Literals up to the end of a line.
@@ -63,7 +60,7 @@ pub(crate) fn lits(
     alloc: Global,
     mut words: LineWords<'_>,
     table: &mut LineNames,
-) -> Result<Seq<Lit>, ProofFault>
+) -> Reading<Seq<Lit>>
     ensures read { IfOk result (λ v. IsRead are_literals literals_of table.old words.entry v table.new) }
     ensures kept { table.new.before ≡ table.old.before }
     ensures denies { IfErr result (λ f. Denies f (are_literals words.entry) words.entry) }
@@ -78,7 +75,7 @@ pub(crate) fn lits(
 }
 
 /// Integers up to the end of a line.
-pub(crate) fn numbers(alloc: Global, mut words: LineWords<'_>) -> Result<Seq<i128>, ProofFault>
+pub(crate) fn numbers(alloc: Global, mut words: LineWords<'_>) -> Reading<Seq<i128>>
     ensures integers { OnOk result (are_integers words.entry ≡ true) }
     ensures values { IfOk result (λ v. v ≡ integers_of words.entry) }
     ensures small { OnOk result (AreSmall words.entry) }

@@ -12,7 +12,7 @@ ghost use Rattle.proof_text.specs.Forms as forms;
 ghost use Rattle.proof_text.specs.PartsRead.{Takes, IsRead, IsImageRead};
 ghost use Rattle.proof_text.specs.PartsDenied.{Denies};
 
-use crate::fault::ProofFault;
+use crate::fault::{ProofFault, Reading};
 use crate::line_names::LineNames;
 use crate::line_words::LineWords;
 use crate::values::lit;
@@ -31,7 +31,7 @@ pub(crate) struct Witness<'a> {
 }
 
 /// Whether a word is among these.
-fn is_among(word: &[u8], words: &[&[u8]]) -> bool
+pub(crate) fn is_among(word: &[u8], words: &[&[u8]]) -> bool
     ensures { result ≡ list_any (λ v. bytes_eq v word.now) (map (λ s. s.now) words.now) }
 {
     let mut rest = words;
@@ -59,7 +59,7 @@ fn repeats(words: &[&[u8]]) -> bool
 }
 
 /// The image that a word writes: a literal, or the very text `0` or `1`.
-fn image(token: Token<'_>, table: &mut LineNames) -> Result<Image, ProofFault>
+fn image(token: Token<'_>, table: &mut LineNames) -> Reading<Image>
     ensures read { IfOk result (λ i. IsImageRead table.old token.entry.text.now i table.new) }
     ensures kept { table.new.before ≡ table.old.before }
     ensures denies { IfErr result (λ f. Denies f (forms.is_image token.entry.text.now) (token.entry.text.now ∷ [])) }
@@ -86,6 +86,17 @@ fn begins_subproof(token: Token<'_>, behind: Option<Token<'_>>) -> bool
     }
 }
 
+/// This fault, or that of a name that stands twice on the left, which came first.
+pub(crate) fn unless_twice(witness: &Witness<'_>, fault: ProofFault) -> ProofFault
+    ensures { result ≡ (if forms.repeats (map (λ s. s.now) witness.now.names.items) then ProofFault.BadLine else fault) }
+{
+    if repeats(witness.names.as_slice()) {
+        ProofFault::BadLine
+    } else {
+        fault
+    }
+}
+
 /// The fault of a subproof behind a substitution. A name that stands twice on the left came first; where names found no
 /// number, the words tell.
 fn subproof_fault(alloc: Global, witness: Witness<'_>, full: bool) -> ProofFault
@@ -95,11 +106,7 @@ fn subproof_fault(alloc: Global, witness: Witness<'_>, full: bool) -> ProofFault
     ensures full { full ≡ true → result ≡ (if forms.repeats (map (λ s. s.now) witness.entry.names.items) then ProofFault.BadLine else ProofFault.RuleLeftOut) }
 {
     if full {
-        return if repeats(witness.names.as_slice()) {
-            ProofFault::BadLine
-        } else {
-            ProofFault::RuleLeftOut
-        };
+        return unless_twice(&witness, ProofFault::RuleLeftOut);
     }
     match Substitution::new(alloc, witness.images) {
         Ok(Some(witness)) => {
@@ -112,24 +119,8 @@ fn subproof_fault(alloc: Global, witness: Witness<'_>, full: bool) -> ProofFault
     }
 }
 
-/// The fault of a substitution that reads well, and has names that found no number. A name that stands twice on the left
-/// came first.
-pub(crate) fn full_fault(witness: &Witness<'_>) -> ProofFault
-    ensures { result ≡ (if forms.repeats (map (λ s. s.now) witness.now.names.items) then ProofFault.BadLine else ProofFault.TooManyIds) }
-{
-    if repeats(witness.names.as_slice()) {
-        ProofFault::BadLine
-    } else {
-        ProofFault::TooManyIds
-    }
-}
-
 /// A name and its image; between the two an arrow may stand.
-fn pair(
-    token: Token<'_>,
-    words: &mut LineWords<'_>,
-    table: &mut LineNames,
-) -> Result<(Var, Image), ProofFault>
+fn pair(token: Token<'_>, words: &mut LineWords<'_>, table: &mut LineNames) -> Reading<(Var, Image)>
     ensures takes { IfOk result (λ p. Takes forms.are_images forms.images_of table.old (token.entry.text.now ∷ words.old) p table.new words.new) }
     ensures left { OnOk result (forms.lefts (token.entry.text.now ∷ words.old) ≡ token.entry.text.now ∷ forms.lefts words.new) }
     ensures kept { table.new.before ≡ table.old.before }
@@ -155,7 +146,7 @@ pub(crate) fn images<'a>(
     alloc: Global,
     mut words: LineWords<'a>,
     table: &mut LineNames,
-) -> Result<Witness<'a>, ProofFault>
+) -> Reading<Witness<'a>>
     ensures read { IfOk result (λ w. IsRead forms.are_images forms.images_of table.old words.entry w.images.items table.new) }
     ensures names { IfOk result (λ w. map (λ s. s.now) w.names.items ≡ forms.lefts words.entry) }
     ensures kept { table.new.before ≡ table.old.before }

@@ -19,7 +19,6 @@ use Rattle.proof_steps.specs.declared.conclusion.Upper.{Upper}
 use Rattle.proof_steps.specs.declared.conclusion.Upper.TheVariants as uppers
 use Rattle.proof_steps.specs.declared.conclusion.Conclusion.{Conclusion}
 use Rattle.proof_steps.specs.declared.conclusion.Conclusion.TheVariants as conclusions
-use Rattle.proof_text.specs.declared.keyword.ConclusionKind.{ConclusionKind}
 use Rattle.proof_text.specs.declared.keyword.ConclusionKind.TheVariants as kinds
 use Rattle.proof_text.specs.declared.line.Line.TheVariants as lines
 use Rattle.proof_text.specs.declared.line.Place.TheVariants as places
@@ -29,11 +28,12 @@ use Rattle.proof_text.specs.Words.{unclosed, IsSmall, AreSmall, words}
 use Rattle.proof_text.specs.Lines.{parted}
 use Rattle.proof_text.specs.Numbering.{names_in}
 use Rattle.proof_text.specs.Forms.{are_literals}
-use Rattle.proof_text.specs.Conclusions.{conclusion_kind_of, is_hint, hinted, hint_of, past_id, is_lower, lower_of, is_upper, upper_of, bounds_by, conclusion_by, literals_by, conclusion_said, literals_said, conclusion_of, conclusion_literals}
+use Rattle.proof_text.specs.Conclusions.{conclusion_kind_of, is_hint, hinted, hint_of, past_id, is_lower, lower_of, is_upper, upper_of, bounds_by, conclusion_said, literals_said, conclusion_of, conclusion_literals}
 use Rattle.proof_text.specs.Spells.{IsLine}
 use Rattle.proof_write.specs.Writing.{lit_words, hint_words, lower_word, upper_word, conclusion_words, line_text}
 use Rattle.proof_text.specs.Writable.{IsWritable, IsLowerWritable, IsUpperWritable, IsHintWritable, IsConclusionWritable}
 use Rattle.proof_write.proofs.WordsCut.{IsToken, plain_token, colon_token, AreTokens, line_words, line_alone}
+use Rattle.proof_text.proofs.ByFirstWord.{judged_with, literals_with}
 use Rattle.proof_text.proofs.WordsByKind.{none_small, all_small, small_other, integer_alone}
 use Rattle.proof_write.proofs.NumeralsBack.{numeral}
 use Rattle.proof_text.proofs.ClosingSemicolon.{stays_open}
@@ -56,14 +56,6 @@ word_kinds = (refl, refl, refl, refl, refl, refl)
 kind_words : (conclusion_kind_of (codes "NONE") ≡ Some kinds.Nothing) × (conclusion_kind_of (codes "SAT") ≡ Some kinds.Sat) × (conclusion_kind_of (codes "UNSAT") ≡ Some kinds.Unsat) × (conclusion_kind_of (codes "BOUNDS") ≡ Some kinds.Bounds)
 unfolding conclusion_kind_of
 kind_words = (refl, refl, refl, refl)
-
-abbrev by_kind : List (List ℕ) → List (List ℕ) → Option ConclusionKind → Option Conclusion
-by_kind names rest None = None
-by_kind names rest (Some v) = conclusion_by v names rest
-
-abbrev lits_by : List (List ℕ) → Option ConclusionKind → List (List ℕ)
-lits_by rest None = []
-lits_by rest (Some v) = literals_by v rest
 
 -- what the words behind `conclusion` are, read back
 record IsBack (names : List (List ℕ)) (c : Conclusion) : Type 0 where
@@ -173,8 +165,8 @@ conclusion_back names conclusions.Nothing t h =
     record {
       tokens = (f.token, tt);
       open_words = stays_open (codes "NONE") [] f.mark;
-      says = ap (by_kind names []) kind_words.0;
-      known = ap (λ o. names_in names (lits_by [] o)) kind_words.0;
+      says = ap (judged_with names []) kind_words.0;
+      known = ap (λ o. names_in names (literals_with [] o)) kind_words.0;
       small = none_small;
     }
 conclusion_back names (conclusions.Sat hint) t h =
@@ -184,8 +176,8 @@ conclusion_back names (conclusions.Sat hint) t h =
     record {
       tokens = (f.token, b.tokens);
       open_words = stays_open (codes "SAT") ws f.mark ∙ ap (λ x. codes "SAT" ∷ x) b.open_words;
-      says = ap (by_kind names ws) kind_words.1 ∙ ap (λ x. if x then Some (conclusions.Sat (hint_of names ws)) else None) b.form ∙ ap (λ x. Some (conclusions.Sat x)) b.value;
-      known = ap (λ o. names_in names (lits_by ws o)) kind_words.1 ∙ b.known;
+      says = ap (judged_with names ws) kind_words.1 ∙ ap (λ x. if x then Some (conclusions.Sat (hint_of names ws)) else None) b.form ∙ ap (λ x. Some (conclusions.Sat x)) b.value;
+      known = ap (λ o. names_in names (literals_with ws o)) kind_words.1 ∙ b.known;
       small = b.small;
     }
 conclusion_back names conclusions.Unsat t h =
@@ -193,8 +185,8 @@ conclusion_back names conclusions.Unsat t h =
     record {
       tokens = (f.token, tt);
       open_words = stays_open (codes "UNSAT") [] f.mark;
-      says = ap (by_kind names []) kind_words.2;
-      known = ap (λ o. names_in names (lits_by [] o)) kind_words.2;
+      says = ap (judged_with names []) kind_words.2;
+      known = ap (λ o. names_in names (literals_with [] o)) kind_words.2;
       small = none_small;
     }
 conclusion_back names (conclusions.Bounds l u hint) t h =
@@ -212,7 +204,7 @@ conclusion_back names (conclusions.Bounds l u hint) t h =
           stays_open (codes "BOUNDS") (lw ∷ uw ∷ hs) f.mark
           ∙ ap (λ x. codes "BOUNDS" ∷ x) (stays_open lw (uw ∷ hs) low.fair.mark ∙ ap (λ x. lw ∷ x) (stays_open uw hs up.fair.mark ∙ ap (λ x. uw ∷ x) b.open_words));
       says =
-          ap (by_kind names (lw ∷ uw ∷ hs)) kind_words.3
+          ap (judged_with names (lw ∷ uw ∷ hs)) kind_words.3
           ∙ ap (λ x. if x then bounds_by names (lower_of lw) (past_id (uw ∷ hs)) else None) low.form
           ∙ ap (bounds_by names (lower_of lw)) past
           ∙ ap (λ x. if x && is_hint hs then Some (conclusions.Bounds (lower_of lw) (upper_of uw) (hint_of names hs)) else None) up.form
@@ -220,7 +212,7 @@ conclusion_back names (conclusions.Bounds l u hint) t h =
           ∙ ap (λ x. Some (conclusions.Bounds x (upper_of uw) (hint_of names hs))) low.value
           ∙ ap (λ x. Some (conclusions.Bounds l x (hint_of names hs))) up.value
           ∙ ap (λ x. Some (conclusions.Bounds l u x)) b.value;
-      known = ap (λ o. names_in names (lits_by (lw ∷ uw ∷ hs) o)) kind_words.3 ∙ ap (λ ws. names_in names (hinted (drop 1 ws))) past ∙ b.known;
+      known = ap (λ o. names_in names (literals_with (lw ∷ uw ∷ hs) o)) kind_words.3 ∙ ap (λ ws. names_in names (hinted (drop 1 ws))) past ∙ b.known;
       small = joined lw (uw ∷ hs) low.fair.small (joined uw hs up.fair.small b.small);
     }
 

@@ -8,7 +8,7 @@ use Rattle.std.proofs.lemmas.Bool.Decides.{nat_tests}
 use Rattle.std.proofs.Math.Nat.{pow-suc}
 use Rattle.pb_text.specs.Name.{is_digit}
 use Rattle.pb_text.specs.Word.{without_sign, is_digits, is_integer}
-use Rattle.pb_text.specs.Number.{digits_value, integer_size, integer_value, is_negative}
+use Rattle.pb_text.specs.Number.{digits_value, integer_size, integer_value, is_negative, largest_number}
 use Rattle.pb_text.specs.Lexeme.{kind_of}
 use Rattle.pb_text.specs.declared.kind.Kind.TheVariants.{Integer}
 use Rattle.pb_text.proofs.KindTests.{integer_is}
@@ -97,7 +97,7 @@ and_true false q h k = cc
 lt_test : (n : ℕ) → 0 < n → nat_lt 0 n ≡ true
 lt_test n h = grind (arith, nat_tests)
 
-plain_numeral : (n : ℕ) → n ≤ 2 ^ 120 → IsNumeral (pos n) (decimal n)
+plain_numeral : (n : ℕ) → n ≤ largest_number → IsNumeral (pos n) (decimal n)
 unfolding integer_value integer_size is_integer
 plain_numeral n h =
     let w = writes n (omega arith) in
@@ -110,7 +110,7 @@ plain_numeral n h =
       small = λ e. omega (arith, size, h);
     }
 
-negative_numeral : (n : ℕ) → suc n ≤ 2 ^ 120 → IsNumeral (negsuc n) (45 ∷ decimal (suc n))
+negative_numeral : (n : ℕ) → suc n ≤ largest_number → IsNumeral (negsuc n) (45 ∷ decimal (suc n))
 unfolding integer_value integer_size is_integer
 negative_numeral n h =
     let w = writes (suc n) (omega arith) in

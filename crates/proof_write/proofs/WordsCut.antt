@@ -6,7 +6,8 @@ use Rattle.std.proofs.lemmas.Bool.Decides.{Decides-eqb}
 use Rattle.pb_text.specs.Lexeme.{Position, Cut, cut, past, begins, begins_arrow_head, begins_comment, is_white, symbol_length, lexemes, lexemes_from, lexeme_at}
 use Rattle.pb_text.specs.Cutting.{begins_word, behind}
 use Rattle.pb_text.proofs.Cutting.{cut_word, cut_no_word, word_first, symbol_first, white_passed, end_empty}
-use Rattle.proof_text.specs.Words.{texts, words}
+use Rattle.pb_text.specs.TokensOf.{texts_of}
+use Rattle.proof_text.specs.Words.{words}
 use Rattle.proof_text.specs.Lines.{Parted, parted}
 use Rattle.proof_write.specs.Writing.{spaced, line_text}
 
@@ -79,7 +80,7 @@ plain_cut (b ∷ w) p rest h c e =
 pub record Goes (w : List ℕ) (p : Position) (rest : List ℕ) : Type 0 where
   pub place : Position
   pub open_line : place.comment ≡ false
-  pub cuts : texts (lexemes_from p (w ++ rest)) ≡ w ∷ texts (lexemes_from place rest)
+  pub cuts : texts_of (lexemes_from p (w ++ rest)) ≡ w ∷ texts_of (lexemes_from place rest)
 
 -- a token of a written line: a space behind it, it is cut as it was written, and it has no LF
 pub record IsToken (w : List ℕ) : Type 0 where
@@ -102,26 +103,26 @@ plain_token w h some = record {
   goes = λ p rest c e. record {
     place = behind (length w) p;
     open_line = c;
-    cuts = ap texts (word_first p w (w ++ rest) (lexemes_from (behind (length w) p) rest) some (plain_cut w p rest h c e));
+    cuts = ap texts_of (word_first p w (w ++ rest) (lexemes_from (behind (length w) p) rest) some (plain_cut w p rest h c e));
   };
   clean = no_white_break w h;
 }
 
 pub semicolon_token : IsToken (codes ";")
 semicolon_token = record {
-  goes = λ p rest c e. record { place = behind 1 p; open_line = c; cuts = ap texts (symbol_first p (59 ∷ rest) c refl (omega arith)) };
+  goes = λ p rest c e. record { place = behind 1 p; open_line = c; cuts = ap texts_of (symbol_first p (59 ∷ rest) c refl (omega arith)) };
   clean = refl;
 }
 
 pub colon_token : IsToken (codes ":")
 colon_token = record {
-  goes = λ p rest c e. record { place = behind 1 p; open_line = c; cuts = ap texts (symbol_first p (58 ∷ rest) c refl (omega arith)) };
+  goes = λ p rest c e. record { place = behind 1 p; open_line = c; cuts = ap texts_of (symbol_first p (58 ∷ rest) c refl (omega arith)) };
   clean = refl;
 }
 
 pub at_least_token : IsToken (codes ">=")
 at_least_token = record {
-  goes = λ p rest c e. record { place = behind 2 p; open_line = c; cuts = ap texts (symbol_first p (62 ∷ 61 ∷ rest) c refl (omega arith)) };
+  goes = λ p rest c e. record { place = behind 2 p; open_line = c; cuts = ap texts_of (symbol_first p (62 ∷ 61 ∷ rest) c refl (omega arith)) };
   clean = refl;
 }
 
@@ -142,7 +143,7 @@ arrow_token = record {
   goes = λ p rest c e.
       let two = arrow_length rest e in
       let some : 0 < symbol_length (45 ∷ 62 ∷ rest) = omega (arith, two) in
-      record { place = behind 2 p; open_line = c; cuts = ap texts (arrow_first p rest (symbol_length (45 ∷ 62 ∷ rest)) two (symbol_first p (45 ∷ 62 ∷ rest) c refl some)) };
+      record { place = behind 2 p; open_line = c; cuts = ap texts_of (arrow_first p rest (symbol_length (45 ∷ 62 ∷ rest)) two (symbol_first p (45 ∷ 62 ∷ rest) c refl some)) };
   clean = refl;
 }
 
@@ -163,12 +164,12 @@ or_last : (a : Bool) → (a || true) ≡ true
 or_last true = refl
 or_last false = refl
 
-all_cut : (ws : List (List ℕ)) (p : Position) → AreTokens ws → p.comment ≡ false → texts (lexemes_from p (spaced ws)) ≡ ws
-all_cut [] p h c = ap texts (end_empty p [] refl)
+all_cut : (ws : List (List ℕ)) (p : Position) → AreTokens ws → p.comment ≡ false → texts_of (lexemes_from p (spaced ws)) ≡ ws
+all_cut [] p h c = ap texts_of (end_empty p [] refl)
 all_cut (w ∷ ws) p h c =
     let rest = w ++ spaced ws in
     let g = h.0.goes (past p 32 rest) (spaced ws) c (spaced_ends ws) in
-    ap texts (white_passed p 32 rest (or_last p.comment)) ∙ g.cuts ∙ ap (λ x. w ∷ x) (all_cut ws g.place h.1 g.open_line)
+    ap texts_of (white_passed p 32 rest (or_last p.comment)) ∙ g.cuts ∙ ap (λ x. w ∷ x) (all_cut ws g.place h.1 g.open_line)
 
 -- the words of a written line
 pub line_words : (w : List ℕ) (ws : List (List ℕ)) → IsToken w → AreTokens ws → begins_comment (w ++ spaced ws) ≡ false → words (line_text (w ∷ ws)) ≡ w ∷ ws

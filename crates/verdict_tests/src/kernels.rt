@@ -75,6 +75,79 @@ fn stays_as_it_was_where_a_step_is_refused(rt: HostRuntime) {
     assert!(&rt; pol(&rt, &mut kernel, &[Item::Id(3)]) == Ok(Some(4)));
 }
 
+/// What a `del` step of these ids answers: no id is given.
+fn del<R: Abort + AllocGlobal>(
+    rt: &R,
+    kernel: &mut Kernel<'_, ScanPropagator>,
+    ids: &[i128],
+) -> Result<Option<u32>, StepFault> {
+    let ids = Vec::from_slice(rt.alloc(), ids).expect(rt, "memory");
+    let applied = kernel.apply(&Step::Del(Seq::from_vec(ids)))?;
+    Ok(applied.id)
+}
+
+#[test]
+fn deletes_all_ids_of_a_line_or_none(rt: HostRuntime) {
+    let problem = problem(rt.alloc(), 0).expect(&rt, "memory");
+    let mut kernel = kernel(&rt, &problem);
+    assert!(&rt; pol(&rt, &mut kernel, &[Item::Id(3)]) == Ok(Some(4)));
+    assert!(&rt; del(&rt, &mut kernel, &[4, 9]) == Err(StepFault::DeadId));
+    assert!(&rt; del(&rt, &mut kernel, &[4, 1]) == Err(StepFault::FileConstraint));
+    assert!(&rt; del(&rt, &mut kernel, &[4, -1]) == Err(StepFault::DeadId));
+    assert!(&rt; pol(&rt, &mut kernel, &[Item::Id(4)]) == Ok(Some(5)));
+    assert!(&rt; del(&rt, &mut kernel, &[4, -1]) == Ok(None));
+    assert!(&rt; pol(&rt, &mut kernel, &[Item::Id(4)]) == Err(StepFault::DeadId));
+    assert!(&rt; pol(&rt, &mut kernel, &[Item::Id(3)]) == Ok(Some(6)));
+    assert_eq!(&rt; kernel.last_id(), 6);
+}
+
+#[test]
+fn logs_nothing_where_a_solution_is_refused(rt: HostRuntime) {
+    let problem = problem(rt.alloc(), 1).expect(&rt, "memory");
+    let mut kernel = kernel(&rt, &problem);
+    let listing = Seq::from_vec(Vec::new(rt.alloc()));
+    assert!(&rt;
+        matches!(
+            kernel.apply(&Step::Sol(listing)),
+            Err(StepFault::SolutionFalse)
+        )
+    );
+    let listing = Seq::from_vec(Vec::new(rt.alloc()));
+    assert!(&rt;
+        matches!(
+            kernel.apply(&Step::Soli(listing)),
+            Err(StepFault::NoObjective)
+        )
+    );
+    assert!(&rt;
+        matches!(
+            kernel.conclude(&Conclusion::Sat(None)),
+            Err(StepFault::UpperNotLogged)
+        )
+    );
+    assert!(&rt; kernel.conclude(&Conclusion::Unsat).is_ok());
+    assert_eq!(&rt; kernel.last_id(), 3);
+}
+
+#[test]
+fn hands_out_the_solution_that_was_logged(rt: HostRuntime) {
+    let problem = problem(rt.alloc(), 0).expect(&rt, "memory");
+    let mut kernel = kernel(&rt, &problem);
+    let listing = Seq::from_vec(Vec::new(rt.alloc()));
+    let applied = kernel.apply(&Step::Sol(listing)).expect(&rt, "a solution");
+    assert!(&rt; applied.id == None);
+    let accepted = kernel
+        .conclude(&Conclusion::Sat(None))
+        .expect(&rt, "a conclusion");
+    assert!(&rt; matches!(accepted.best(), Some(_)));
+    assert!(&rt;
+        matches!(
+            kernel.conclude(&Conclusion::Unsat),
+            Err(StepFault::SolutionLogged)
+        )
+    );
+}
+
 #[test]
 fn concludes_nothing_at_any_time(rt: HostRuntime) {
     let problem = problem(rt.alloc(), 0).expect(&rt, "memory");

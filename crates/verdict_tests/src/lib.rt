@@ -8,4 +8,6 @@ mod damaged;
 #[cfg(test)]
 mod kernels;
 #[cfg(test)]
+mod solutions;
+#[cfg(test)]
 mod verdicts;

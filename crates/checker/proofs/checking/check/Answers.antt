@@ -1,5 +1,10 @@
 use Rattle.linear.specs.Opb.{Opb}
-use Rattle.checker.proofs.Refused.{refused_there}
+use Rattle.std.proofs.Common.{subst}
+use Rattle.checker.specs.Stopped.{IsStopped}
+use Rattle.checker.specs.StopsBy.{StopsBy}
+use Rattle.checker.proofs.Claimed.{proved_claim}
+use Rattle.checker.proofs.OneWalk.{stopped_never}
+use Rattle.checker.proofs.WalkOfProof.{walk_of}
 use Rattle.opb_read.proofs.Spelled.{one_problem}
 use Rattle.checker.proofs.checking.check.Goals as goal
 
@@ -12,13 +17,21 @@ returns-in-Ok-judge c =
         spelled = c.in-Ok.ensures.spells;
         within = c.in-Ok.ensures.within;
         alone = λ other spells. one_problem c.args.opb.now other p spells c.in-Ok.ensures.spells;
-        claim = c.in-Ok-judge.ensures.claim;
+        claim = proved_claim p c.args.proof.now c.in-Ok-judge.accepted c.in-Ok-judge.ensures.proved;
         proved = c.in-Ok-judge.ensures.proved;
       };
     }
 
 pub returns-in-Err-At : goal.returns-in-Err-At
 returns-in-Err-At c =
+    let p : Opb = c.in-Ok.problem in
+    let stopped : IsStopped p c.args.proof.now c.in-Err-At.line c.in-Err-At.code = subst (StopsBy (IsStopped p c.args.proof.now)) c.in-Err-At.field-0-is c.in-Err-At.ensures.stop in
     record {
-      sound = refused_there c.args.opb.now c.args.proof.now c.in-Ok.problem _ _ _ _ c.in-Ok.ensures.spells c.in-Ok.ensures.within c.in-Err-At.ensures.stop c.in-Err-At.field-0-is c.refused.ensures;
+      sound = record {
+        problem = p;
+        spelled = c.in-Ok.ensures.spells;
+        within = c.in-Ok.ensures.within;
+        stopped = stopped;
+        unproved = λ a proved kinds. let walk = walk_of p c.args.proof.now a proved kinds in stopped_never p c.args.proof.now walk.0 c.in-Err-At.line c.in-Err-At.code walk.1 walk.2 stopped;
+      };
     }

@@ -1,5 +1,8 @@
-use Rattle.checker.proofs.Exact.{stopped_never}
+use Rattle.checker.proofs.OneWalk.{stopped_never}
+use Rattle.checker.proofs.WalkOfProof.{walk_of}
 use Rattle.checker.proofs.laws.refused_is_not_proved.Goals as goal
 
 pub returns : goal.returns
-returns _ p proof line code refusal stopped a proved kinds = stopped_never p proof line code a proved kinds refusal stopped
+returns c p proof line code stopped a proved kinds =
+    let walk = walk_of p proof a proved kinds in
+    stopped_never p proof walk.0 line code walk.1 walk.2 stopped

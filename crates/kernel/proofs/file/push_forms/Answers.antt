@@ -1,4 +1,4 @@
-use Rattle.std.proofs.Common.{◌≡◌, [], ◌∷◌, refl, sym, ap, subst, ◌∙◌}
+use Rattle.std.proofs.Common.{[], ◌∷◌, refl, sym, ap, subst, ◌∙◌}
 use Rattle.proof_rules.specs.Forms.{AreFormsAs}
 use Rattle.kernel.specs.Database.{pushed}
 use Rattle.kernel.proofs.file.push_forms.Goals as goal

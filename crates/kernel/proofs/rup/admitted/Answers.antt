@@ -1,5 +1,5 @@
 -- A constraint whose sizes or form are too large is not admitted.
-use Rattle.std.proofs.Common.{◌≡◌, ◌⊎◌, inl, inr, Result, Err, refl, ap, subst, arith}
+use Rattle.std.proofs.Common.{◌≡◌, inl, inr, Result, Err, refl, ap, subst, arith}
 use Rattle.std.proofs.lemmas.Result.{err_from_is_err_and}
 use Rattle.linear.specs.declared.constraint.Signed.{Signed}
 use Rattle.normal_form.specs.declared.fault.CutFault.{CutFault}

@@ -1,4 +1,4 @@
-use Rattle.std.proofs.Common.{◌≡◌, ◌↔◌, inl, List, ◌++◌, Any, IsTrue, refl, sym, subst, ◌∙◌}
+use Rattle.std.proofs.Common.{◌↔◌, inl, List, ◌++◌, Any, IsTrue, refl, sym, subst, ◌∙◌}
 use Rattle.std.proofs.lemmas.Bool.{false≢true}
 use Rattle.std.proofs.lemmas.Result.{IfOk-weaker}
 use Rattle.std.specs.FinMap as map

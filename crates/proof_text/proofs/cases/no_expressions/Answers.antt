@@ -1,8 +1,8 @@
-use Rattle.std.proofs.Common.{◌+◌, ◌≤◌, ◌^◌, [], refl, codes, arith}
+use Rattle.std.proofs.Common.{◌+◌, ◌≤◌, [], refl, codes, arith}
 use Rattle.pb_text.specs.Lexeme.{lexemes, lexemes_from, kind_of, kind_of_word}
 use Rattle.pb_text.specs.Word.{is_integer as integer_word, is_literal as literal_word, is_misspelt}
 use Rattle.pb_text.specs.Name.{is_name}
-use Rattle.pb_text.specs.Number.{integer_size, integer_value}
+use Rattle.pb_text.specs.Number.{integer_size, integer_value, largest_number}
 use Rattle.proof_text.specs.Words.{words}
 use Rattle.proof_text.specs.Rules.{rule_of}
 use Rattle.proof_text.specs.Steps.{step_of, counted}
@@ -12,7 +12,7 @@ use Rattle.proof_text.proofs.cases.no_expressions.Goals as goal
 
 pub returns-clause-too_large : goal.returns-clause-too_large
 unfolding words step_of counted rule_of lexemes lexemes_from kind_of kind_of_word integer_word literal_word is_misspelt is_name integer_size integer_value
-returns-clause-too_large c old line new l = let small : 2 ^ 120 + 1 ≤ 2 ^ 120 = l.small 1 [] (omega arith) refl in
+returns-clause-too_large c old line new l = let small : largest_number + 1 ≤ largest_number = l.small 1 [] (omega arith) refl in
     absurd (omega (arith, small))
 
 pub returns-clause-d_alone : goal.returns-clause-d_alone

@@ -1,5 +1,6 @@
 use Rattle.std.proofs.Common.{◌≡◌, ◌≤◌, length, sym, ap, subst, ◌∙◌}
-use Rattle.proof_text.specs.Numbering.{most_names}
+use Rattle.pb_text.specs.TokensOf.{texts_of}
+use Rattle.linear.specs.Largest.{most_names}
 use Rattle.proof_text.specs.ConclusionsRead.{IsConclusionLineRead}
 use Rattle.proof_text.specs.Spells.{IsLine}
 use Rattle.proof_text.specs.Faults.{DeniesLine}
@@ -14,7 +15,7 @@ returns-then-is_full-clause-denies c =
     let names = c.args.names.now in
     let k = c.new-table.result in
     let new = c.conclusion.new.table in
-    let ws = c.args.words in
+    let ws = texts_of c.args.words in
     let x = c.in-Ok.conclusion in
     let start : k ≡ fresh names = c.new-table.ensures ∙ ap fresh c.replace.ensures.value in
     let r : IsConclusionLineRead k ws x new = c.in-Ok.ensures.read in
@@ -25,7 +26,7 @@ returns-else-is_full-clause-line c =
     let names = c.args.names.now in
     let k = c.new-table.result in
     let new = c.conclusion.new.table in
-    let ws = c.args.words in
+    let ws = texts_of c.args.words in
     let x = c.in-Ok.conclusion in
     let start : k ≡ fresh names = c.new-table.ensures ∙ ap fresh c.replace.ensures.value in
     let r : IsConclusionLineRead k ws x new = c.in-Ok.ensures.read in
@@ -34,4 +35,4 @@ returns-else-is_full-clause-line c =
 
 pub returns-in-Err-clause-denies : goal.returns-in-Err-clause-denies
 unfolding DeniesLine
-returns-in-Err-clause-denies c = (c.in-Err.ensures.plain, conclusion_denied c.in-Err.fault c.args.names.now c.args.words c.in-Err.ensures.denies)
+returns-in-Err-clause-denies c = (c.in-Err.ensures.plain, conclusion_denied c.in-Err.fault c.args.names.now (texts_of c.args.words) c.in-Err.ensures.denies)

@@ -2,6 +2,7 @@ use Rattle.std.proofs.Common.{◌≡◌, ℤ, Some, length, refl, ap, subst, ◌
 use Rattle.proof_text.specs.Words.{words, unclosed, AreSmall}
 use Rattle.proof_text.specs.Frame.{count_of}
 use Rattle.std.proofs.lemmas.Result.{IfOk-weaker}
+use Rattle.pb_text.specs.TokensOf.{texts_of}
 use Rattle.proof_text.specs.declared.line.Place.TheVariants as places
 use Rattle.proof_text.specs.Spells.{IsLine}
 use Rattle.proof_text.specs.Faults.{DeniesLine}
@@ -11,10 +12,10 @@ use Rattle.proof_text.proofs.ReadIsWritable.{line_writable}
 use Rattle.proof_text.proofs.read.read_line.Goals as goal
 
 pub returns-in-None-clause-denies : goal.returns-in-None-clause-denies
-unfolding DeniesLine
+unfolding DeniesLine words
 returns-in-None-clause-denies c =
     let ws = words c.args.line.now in
-    let at = c.new-in-Count.ensures ∙ ap unclosed c.new-words.ensures in
+    let at = c.new-in-Count.ensures ∙ ap unclosed (ap texts_of c.new-words.ensures) in
     rw c.in-Count.is
     (refl, no_count_line c.args.names.now ws (subst (λ u. (n : ℤ) → count_of u ≡ Some n → AreSmall u → ⊥) at c.in-None.ensures))
 
@@ -22,7 +23,7 @@ pub returns-in-Step-clause-writable : goal.returns-in-Step-clause-writable
 returns-in-Step-clause-writable c =
     let old = c.args.names.now in
     let new = c.step_or_output.new.names in
-    let ws = c.new-words.result in
+    let ws = texts_of c.new-words.result in
     IfOk-weaker c.step_or_output.result (λ l. IsLine places.Step old ws l new) (λ l. IsLineWritable (length new) l)
     (λ l r. line_writable places.Step old ws new l r) c.step_or_output.ensures.line
 
@@ -30,6 +31,6 @@ pub returns-in-Conclusion-clause-writable : goal.returns-in-Conclusion-clause-wr
 returns-in-Conclusion-clause-writable c =
     let old = c.args.names.now in
     let new = c.conclusion_line.new.names in
-    let ws = c.new-words.result in
+    let ws = texts_of c.new-words.result in
     IfOk-weaker c.conclusion_line.result (λ l. IsLine places.Conclusion old ws l new) (λ l. IsLineWritable (length new) l)
     (λ l r. line_writable places.Conclusion old ws new l r) c.conclusion_line.ensures.line

@@ -1,5 +1,6 @@
 use Rattle.std.proofs.Common.{◌≡◌, true, false, codes, sym, ap, ◌∙◌}
 use Rattle.std.proofs.lemmas.Result.{err_from_is_err_and}
+use Rattle.pb_text.specs.TokensOf.{texts_of}
 use Rattle.proof_text.specs.Words.{is_first, are_words}
 use Rattle.proof_text.specs.Frame.{output}
 use Rattle.proof_text.specs.Faults.{DeniesLine}
@@ -10,7 +11,7 @@ pub returns-in_err-output-clause-denies : goal.returns-in_err-output-clause-deni
 unfolding DeniesLine
 returns-in_err-output-clause-denies c =
     let f = c.in_err-output.field-0.0 in
-    let ws = c.args.words in
+    let ws = texts_of c.args.words in
     let first : is_first (codes "output") ws ≡ true = sym c.begins.ensures ∙ c.if-begins.true in
     let none = ap (are_words output) (sym c.new.ensures) ∙ c.in_err-output.ensures.denies in
     let p = err_from_is_err_and c.from_residual.result c.from_residual.ensures.1 in
@@ -18,22 +19,22 @@ returns-in_err-output-clause-denies c =
 
 pub returns-then-begins-clause-line : goal.returns-then-begins-clause-line
 returns-then-begins-clause-line c =
-    let ws = c.args.words in
+    let ws = texts_of c.args.words in
     let first : is_first (codes "output") ws ≡ true = sym c.begins.ensures ∙ c.if-begins.true in
     output_placed c.args.names.now ws first (ap (are_words output) (sym c.new.ensures) ∙ c.in_ok-output.ensures.ok)
-    c.len-count.ensures.table.numbered
+    c.reveal.ensures.numbered
 
 pub returns-in_err-step-clause-denies : goal.returns-in_err-step-clause-denies
 unfolding DeniesLine
 returns-in_err-step-clause-denies c =
     let f = c.in_err-step.field-0.0 in
-    let ws = c.args.words in
+    let ws = texts_of c.args.words in
     let first : is_first (codes "output") ws ≡ false = sym c.begins.ensures ∙ c.if-begins.false in
     let p = err_from_is_err_and c.from_residual-in_err-step.result c.from_residual-in_err-step.ensures.1 in
     rw (p.1, p.2) (step_denied_here f c.args.names.now ws first c.in_err-step.ensures.denies)
 
 pub returns-clause-line : goal.returns-clause-line
 returns-clause-line c =
-    let ws = c.args.words in
+    let ws = texts_of c.args.words in
     let first : is_first (codes "output") ws ≡ false = sym c.begins.ensures ∙ c.if-begins.false in
     step_placed c.args.names.now c.step_of_words.new.names ws c.in_ok-step.step first c.in_ok-step.ensures.step

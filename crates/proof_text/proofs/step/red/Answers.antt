@@ -1,5 +1,6 @@
 use Rattle.std.proofs.Common.{◌≡◌, Some, is_some, map, if◌then◌else◌, ◌&&◌, true, false, sym, ap, subst, ◌∙◌}
 use Rattle.std.proofs.lemmas.Result.{err_from_is_err_and}
+use Rattle.pb_text.specs.TokensOf.{texts_of}
 use Rattle.substitution.specs.Images.{NamesOnce}
 use Rattle.proof_steps.specs.declared.step.Step.TheVariants as steps
 use Rattle.proof_text.specs.declared.keyword.Rule.TheVariants as rule
@@ -17,17 +18,17 @@ returns-in_err-constraint-clause-denies c =
     let f = c.in_err-constraint.field-0.0 in
     let p = err_from_is_err_and c.from_residual.result c.from_residual.ensures.1 in
     rw (p.1, p.2)
-    (denied_red f c.args.table.now.names c.args.words
+    (denied_red f c.args.table.now.names (texts_of c.args.words)
     (subst (λ (h : Halves). Denies f (is_some h.behind && is_some (closing_of (behind_terms h.front))) h.front) c.new.ensures c.in_err-constraint.ensures.denies))
 
 pub returns-in_err-witness-clause-denies : goal.returns-in_err-witness-clause-denies
 returns-in_err-witness-clause-denies c =
     let f = c.in_err-witness.field-0.0 in
-    let w = c.in_ok-constraint.behind in
-    let behind : (halves c.args.words).behind ≡ Some w = sym (ap (λ (h : Halves). h.behind) c.new.ensures) ∙ c.in_ok-constraint.ensures.behind in
+    let w = texts_of c.in_ok-constraint.behind in
+    let behind : (halves (texts_of c.args.words)).behind ≡ Some w = sym (ap (λ (h : Halves). h.behind) c.new.ensures) ∙ c.in_ok-constraint.ensures.behind in
     let p = err_from_is_err_and c.from_residual-in_err-witness.result c.from_residual-in_err-witness.ensures.1 in
     rw (p.1, p.2)
-    (denied_images f c.args.table.now.names c.args.words w behind
+    (denied_images f c.args.table.now.names (texts_of c.args.words) w behind
     (subst (λ ws. Denies f (are_images ws) ws) c.new-2.ensures c.in_err-witness.ensures.denies))
 
 pub returns-then-is_full-clause-denies : goal.returns-then-is_full-clause-denies
@@ -35,8 +36,8 @@ returns-then-is_full-clause-denies c =
     let k = c.args.table.now in
     let mid = c.constraint.new.table in
     let new = c.images.new.table in
-    let ws = c.args.words in
-    let w = c.in_ok-constraint.behind in
+    let ws = texts_of c.args.words in
+    let w = texts_of c.in_ok-constraint.behind in
     let x = c.in_ok-constraint.constraint in
     let images = c.in_ok-witness.witness.images.items in
     let behind : (halves ws).behind ≡ Some w = sym (ap (λ (h : Halves). h.behind) c.new.ensures) ∙ c.in_ok-constraint.ensures.behind in
@@ -44,8 +45,8 @@ returns-then-is_full-clause-denies c =
     let i : IsRead are_images images_of mid (unclosed w) images new = subst (λ u. IsRead are_images images_of mid u images new) c.new-2.ensures c.in_ok-witness.ensures.read in
     let full : new.full ≡ true = sym c.is_full.ensures ∙ c.if-is_full.true in
     let left : map (λ s. s.now) c.in_ok-witness.witness.names.items ≡ lefts (unclosed w) = c.in_ok-witness.ensures.names ∙ ap lefts c.new-2.ensures in
-    let f = c.full_fault.result in
-    denied_full f k new ws w (steps.Red x images) (c.full_fault.ensures ∙ ap (λ n. if repeats n then faults.BadLine else faults.TooManyIds) left) behind
+    let f = c.unless_twice.result in
+    denied_full f k new ws w (steps.Red x images) (c.unless_twice.ensures ∙ ap (λ n. if repeats n then faults.BadLine else faults.TooManyIds) left) behind
     c.requires (red_known k mid new ws w x images r behind i) full (red_small ws w behind r.small i.small) (red_says k mid new ws w x images r behind i)
 
 pub returns-in-Some-clause-read : goal.returns-in-Some-clause-read
@@ -53,8 +54,8 @@ returns-in-Some-clause-read c =
     let k = c.args.table.now in
     let mid = c.constraint.new.table in
     let new = c.images.new.table in
-    let ws = c.args.words in
-    let w = c.in_ok-constraint.behind in
+    let ws = texts_of c.args.words in
+    let w = texts_of c.in_ok-constraint.behind in
     let x = c.in_ok-constraint.constraint in
     let images = c.in_ok-witness.witness.images.items in
     let behind : (halves ws).behind ≡ Some w = sym (ap (λ (h : Halves). h.behind) c.new.ensures) ∙ c.in_ok-constraint.ensures.behind in
@@ -70,8 +71,8 @@ returns-in-None-clause-denies c =
     let k = c.args.table.now in
     let mid = c.constraint.new.table in
     let new = c.images.new.table in
-    let ws = c.args.words in
-    let w = c.in_ok-constraint.behind in
+    let ws = texts_of c.args.words in
+    let w = texts_of c.in_ok-constraint.behind in
     let x = c.in_ok-constraint.constraint in
     let images = c.in_ok-witness.witness.images.items in
     let behind : (halves ws).behind ≡ Some w = sym (ap (λ (h : Halves). h.behind) c.new.ensures) ∙ c.in_ok-constraint.ensures.behind in

@@ -1,25 +1,21 @@
-use Rattle.std.proofs.Common.{IfOk, refl, ap, subst, sym}
-use Rattle.proof_steps.specs.declared.conclusion.Conclusion.TheVariants as conclusions
-use Rattle.proof_rules.specs.Justified.{IsJustified, IsBest}
+use Rattle.std.proofs.Common.{sym, ap, subst}
 use Rattle.proof_rules.specs.Claim.{Claim}
+use Rattle.proof_rules.specs.Justified.{IsJustified}
 use Rattle.proof_rules.proofs.Concluding.{justified_claim}
 use Rattle.kernel.specs.Accepted.{Judgement}
+use Rattle.kernel.specs.Held.{Held, IsKept}
 use Rattle.kernel.proofs.kernel.Kernel.conclude.Goals as goal
 
-pub returns-in-Nothing-clause-justified : goal.returns-in-Nothing-clause-justified
-returns-in-Nothing-clause-justified g c =
-    let k = c.args.self.now in
-    let best : IsBest k.problem k.state.logged c.new.result.best = subst (IsBest k.problem k.state.logged) (sym (ap (λ (a : Judgement). a.best) c.new.ensures)) c.best.ensures.best in
-    subst (λ x. IsJustified k.problem k.state x c.new.result.best) (sym c.in-Nothing.is) (k.state, refl, tt, best)
+pub returns-clause-justified : goal.returns-clause-justified
+returns-clause-justified g c =
+    let k : Held = c.args.self.now in
+    subst (IsJustified k.problem k.state c.args.conclusion.now) (sym (ap (λ (a : Judgement). a.best) c.new-accepted.ensures)) c.in_ok-best.ensures.justified
 
-pub returns-in-Nothing-clause-claim : goal.returns-in-Nothing-clause-claim
-returns-in-Nothing-clause-claim g c =
-    let k = c.args.self.now in
-    let best : IsBest k.problem k.state.logged c.new.result.best = subst (IsBest k.problem k.state.logged) (sym (ap (λ (a : Judgement). a.best) c.new.ensures)) c.best.ensures.best in
-    subst (λ x. Claim k.problem x c.new.result.best) (sym (ap (λ (a : Judgement). a.conclusion) c.new.ensures))
-    (justified_claim k.problem k.state conclusions.Nothing c.new.result.best c.best.ensures.kept.preserved c.best.ensures.kept.normal (k.state, refl, tt, best))
-
-pub returns-in-Unsat-clause-justified : goal.returns-in-Unsat-clause-justified
-returns-in-Unsat-clause-justified g c =
-    let k = c.args.self.now in
-    subst (λ x. IfOk c.conclude_unsat.result (λ accepted. IsJustified k.problem k.state x accepted.best)) (sym c.in-Unsat.is) c.conclude_unsat.ensures.justified
+pub returns-clause-claim : goal.returns-clause-claim
+returns-clause-claim g c =
+    let k : Held = c.args.self.now in
+    let kept : IsKept k = subst IsKept c.self.view_is c.self.invariant.kept in
+    let claim : Claim k.problem c.args.conclusion.now c.in_ok-best.best =
+    justified_claim k.problem k.state c.args.conclusion.now c.in_ok-best.best kept.preserved kept.normal c.in_ok-best.ensures.justified in
+    subst (λ (a : Judgement). Claim k.problem a.conclusion a.best) (sym c.new-accepted.ensures)
+    (subst (λ x. Claim k.problem x c.in_ok-best.best) (sym c.in_ok-copied_conclusion.ensures) claim)

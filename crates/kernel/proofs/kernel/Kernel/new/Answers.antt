@@ -1,10 +1,19 @@
-use Rattle.kernel.specs.Held.{opened}
-use Rattle.kernel.proofs.Keeping.{starts, kept_start}
+use Rattle.std.proofs.Common.{◌≡◌, ◌+◌, ◌-◌, sym, subst, arith}
+use Rattle.linear.specs.Opb.{Opb}
+use Rattle.kernel.specs.Held.{Keeps, state_with}
+use Rattle.kernel.specs.Logged.{unlogged}
+use Rattle.kernel.proofs.Keeping.{starts, kept_start, file_count}
 use Rattle.kernel.proofs.kernel.Kernel.new.Goals as goal
 
 pub invariant_of-result : goal.invariant_of-result
 invariant_of-result g c =
-    let p = c.args.problem.now in
+    let p : Opb = c.args.problem.now in
     let d = c.in_ok-database.database in
     let file = c.in_ok-database.ensures in
-    kept_start p (opened d) file.within (starts p d file.file)
+    let next = c.next_id-file_ids.ensures in
+    let last : (c.next_id-file_ids.result - 1) + 1 ≡ d.next = omega (arith, next.value, next.numbered.first) in
+    let whole : Keeps (record { problem = p; state = state_with d unlogged }) (c.next_id-file_ids.result - 1) = record {
+      kept = kept_start p (state_with d unlogged) file.within (starts p d file.file);
+      file = file_count p d (c.next_id-file_ids.result - 1) file.file last;
+    } in
+    subst (λ l. Keeps (record { problem = p; state = state_with d l }) (c.next_id-file_ids.result - 1)) (sym c.empty.ensures) whole

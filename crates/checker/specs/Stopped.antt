@@ -1,0 +1,72 @@
+-- Where judging a proof stops, and why: the walk comes to a position, and no line leads on from there.
+use Rattle.std.specs.Prelude.{◌≡◌, ◌≢◌, ℕ, pos, ◌⊎◌, List, [], ◌∷◌}
+use Rattle.linear.specs.Opb.{Opb}
+use Rattle.kernel.specs.Kinds.{IsJudgedStep}
+use Rattle.proof_rules.specs.Fault.{IsStepFault, IsConclusionFault}
+use Rattle.proof_rules.specs.Forms.{problem_ids}
+use Rattle.proof_rules.specs.State.{State}
+use Rattle.proof_rules.specs.declared.fault.StepFault.{StepFault}
+use Rattle.proof_rules.specs.declared.fault.StepFault.TheVariants as judgings
+use Rattle.proof_steps.specs.declared.step.Step.{Step}
+use Rattle.proof_text.specs.Faults.{DeniesLine}
+use Rattle.proof_text.specs.Lines.{Numbered, lines_of}
+use Rattle.proof_text.specs.Words.{words}
+use Rattle.proof_text.specs.declared.fault.ProofFault.{ProofFault}
+use Rattle.proof_text.specs.declared.fault.ProofFault.TheVariants as readings
+use Rattle.proof_text.specs.declared.line.Line.{Line}
+use Rattle.proof_text.specs.declared.line.Line.TheVariants as lines
+use Rattle.proof_text.specs.declared.line.Place.TheVariants as places
+use Rattle.checker.specs.Walk.{Position, Next, Reaches}
+use Rattle.checker.specs.declared.verdict.Code.{Code}
+use Rattle.checker.specs.declared.verdict.Code.TheVariants.{Reading, Judging}
+
+-- a line is due, and the text ends, which is so on the line `last`
+pub record IsTruncated (at : Position) (last line : ℕ) (code : Code) : Type 0 where
+  pub due : at.section ≢ places.After
+  pub left : at.left ≡ []
+  pub line_is : line ≡ last
+  pub code_is : code ≡ Reading readings.Truncated
+
+-- the next line cannot be read at the section that is due; behind the end none can
+pub record IsUnread (at : Position) (line : ℕ) (code : Code) : Type 0 where
+  pub next : Numbered
+  pub behind : List Numbered
+  pub in_order : at.left ≡ next ∷ behind
+  pub line_is : line ≡ next.number
+  pub fault : ProofFault
+  pub code_is : code ≡ Reading fault
+  pub no_memory : fault ≢ readings.OutOfMemory
+  pub denied : DeniesLine fault at.section at.names (words next.text)
+
+-- a step of a kind that is not judged so far is left out
+abbrev pub IsLeftOut : Step → Code → Type 0
+IsLeftOut step code = (code ≡ Reading readings.RuleLeftOut) × (IsJudgedStep step → ⊥)
+
+-- what is judged has a fault
+abbrev pub IsFaulty : (StepFault → Type 0) → Code → Type 0
+IsFaulty IsFault code = (f : StepFault) × (code ≡ Judging f) × (f ≢ judgings.OutOfMemory) × IsFault f
+
+-- what a line says is not accepted: another count, a kind that is not judged so far, or a fault
+abbrev pub Refuses : Opb → State → Line → Code → Type 0
+Refuses p s (lines.Count count) code = (count ≢ pos (problem_ids p.constraints)) × (code ≡ Reading readings.BadCount)
+Refuses p s (lines.Step step) code = IsLeftOut step code ⊎ IsFaulty (IsStepFault p s step) code
+Refuses p s (lines.Conclusion c) code = IsFaulty (IsConclusionFault p s c) code
+Refuses p s _ code = ⊥
+
+-- the next line is read, and refused
+pub record IsRefused (p : Opb) (at : Position) (line : ℕ) (code : Code) : Type 0 where
+  pub next : Next at
+  pub line_is : line ≡ next.line.number
+  pub refuses : Refuses p at.state next.said code
+
+-- why no line leads on from a position, `last` being the line on which the text ends
+pub data Stops (p : Opb) (at : Position) (last line : ℕ) (code : Code) : Type 0 where
+  truncated : IsTruncated at last line code → Stops p at last line code
+  unread : IsUnread at line code → Stops p at last line code
+  refused : IsRefused p at line code → Stops p at last line code
+
+-- judging the proof of a problem stops at this line with this code
+pub record IsStopped (p : Opb) (proof : List ℕ) (line : ℕ) (code : Code) : Type 0 where
+  pub at : Position
+  pub reached : Reaches p proof at
+  pub stops : Stops p at (lines_of proof).last line code

@@ -1,0 +1,41 @@
+-- The position at which the walk of the code stands, and what its parts do.
+use Rattle.std.specs.Prelude.{◌≡◌, ℕ}
+use Rattle.proof_text.specs.declared.line.Line.{Line}
+use Rattle.checker.specs.Stopped.{Refuses, Stops}
+use Rattle.checker.specs.StopsBy.{StopsBy}
+use Rattle.checker.specs.Walk.{Accepts, Advances, Position, Next}
+use Rattle.checker.specs.declared.stop.Stop.{Stop}
+use Rattle.checker.specs.declared.walk.Walk.{Walk}
+
+abbrev pub position_of : Walk → Position
+position_of walk = record {
+  section = walk.section;
+  names = walk.names;
+  left = walk.reader.lines;
+  state = walk.kernel.state;
+  concluded = walk.concluded;
+}
+
+-- the line of this number is read, and says this; nothing is judged
+pub record Reads (old new : Position) (number : ℕ) (said : Line) : Type 0 where
+  pub next : Next old
+  pub number_is : number ≡ next.line.number
+  pub said_is : said ≡ next.said
+  pub now_at : new ≡ record old { names = next.names; left = next.behind }
+
+-- what a line says is accepted
+abbrev pub AcceptsOn : Walk → Line → Walk → Type 0
+AcceptsOn old said new = Accepts old.kernel.problem (position_of old) said (position_of new)
+
+-- the next line is read, and accepted
+abbrev pub AdvancesOn : Walk → Walk → Type 0
+AdvancesOn old new = Advances old.kernel.problem (position_of old) (position_of new)
+
+-- what a line says is refused, its number being this one
+abbrev pub IsRefusal : ℕ → Walk → Line → Stop → Type 0
+IsRefusal number walk said stop =
+    StopsBy (λ line code. (line ≡ number) × Refuses walk.kernel.problem walk.kernel.state said code) stop
+
+-- no line leads on from where the walk stands
+abbrev pub IsStopOf : Walk → Stop → Type 0
+IsStopOf walk stop = StopsBy (Stops walk.kernel.problem (position_of walk) walk.reader.last) stop

@@ -1,0 +1,201 @@
+//! The walk over the lines of a proof: each line that counts is read at the section that is due, judged, and leads to
+//! the next position. The first line that leads nowhere decides where judging stops, so nothing is read ahead.
+
+ghost use Rattle.std.specs.Prelude.{◌≡◌, ◌≢◌, ◌↔◌, [], IfOk, IfErr, IsTrue, OnOk, length};
+ghost use Rattle.proof_rules.specs.Forms.{problem_ids};
+ghost use Rattle.proof_text.specs.Lines.{lines_of};
+ghost use Rattle.proof_text.specs.Writable.{IsLineWritable};
+ghost use Rattle.checker.specs.Stopped.{IsStopped};
+ghost use Rattle.checker.specs.StopsBy.{StopsBy};
+ghost use Rattle.checker.specs.Walk.{Reaches};
+ghost use Rattle.checker.specs.WalkOf.{position_of, AcceptsOn, AdvancesOn, IsRefusal, IsStopOf, Reads};
+
+use super::stop::{Stop, judging, reading};
+use kernel::{Accepted, is_judged_step};
+use linear::{Names, Problem};
+use proof_steps::{Conclusion, Step};
+use proof_text::{Line, Place, ProofFault, ProofReader, read_line};
+use propagate::ScanPropagator;
+use std::alloc::Global;
+
+/// The judge of steps, over the plain propagator.
+type Kernel<'a> = kernel::Kernel<'a, ScanPropagator>;
+
+/// A line that was read, and its number.
+#[derive(Drop)]
+struct Read {
+    number: u64,
+    line: Line,
+}
+
+/// A position in a proof: the section that is due, the names so far, the lines that are left, the state of the kernel,
+/// and what was concluded.
+#[derive(Drop)]
+pub(crate) struct Walk<'a> {
+    allocator: Global,
+    section: Place,
+    names: Names,
+    reader: ProofReader<'a>,
+    kernel: Kernel<'a>,
+    /// The number of the file's constraints, an equality counted twice.
+    count: u64,
+    pub(crate) concluded: Option<Accepted>,
+}
+
+impl<'a> Walk<'a> {
+    /// The position before the first line.
+    pub(crate) fn begin(alloc: Global, problem: &'a Problem, proof: &'a [u8]) -> Result<Self, Stop>
+        ensures problem { IfOk result (λ walk. walk.kernel.problem ≡ problem.now) }
+        ensures begins { IfOk result (λ walk. Reaches problem.now proof.now (position_of walk)) }
+        ensures count { IfOk result (λ walk. walk.count ≡ problem_ids problem.now.constraints) }
+        ensures last { IfOk result (λ walk. walk.reader.last ≡ (lines_of proof.now).last) }
+        ensures stop { IfErr result (StopsBy (IsStopped problem.now proof.now)) }
+    {
+        let kernel = match Kernel::new(alloc, problem) {
+            Ok(kernel) => kernel,
+            Err(_) => return Err(Stop::NoMemory),
+        };
+        Ok(Walk {
+            allocator: alloc,
+            section: Place::Header,
+            names: problem.names().copy(alloc)?,
+            reader: ProofReader::new(proof),
+            count: kernel.last_id(),
+            kernel,
+            concluded: None,
+        })
+    }
+
+    /// Whether no section is due any more.
+    pub(crate) fn is_over(&self) -> bool
+        ensures { IsTrue result ↔ self.now.section ≡ Place.After }
+    {
+        matches!(self.section, Place::After)
+    }
+
+    /// Reads the next line and judges what it says.
+    pub(crate) fn advance(&mut self) -> Result<(), Stop>
+        requires due { self.old.section ≢ Place.After }
+        requires count { self.old.count ≡ problem_ids self.old.kernel.problem.constraints }
+        ensures count { self.new.count ≡ self.old.count }
+        ensures problem { self.new.kernel.problem ≡ self.old.kernel.problem }
+        ensures last { self.new.reader.last ≡ self.old.reader.last }
+        ensures advances { OnOk result (AdvancesOn self.old self.new) }
+        ensures stop { IfErr result (IsStopOf self.old) }
+    {
+        let Read { number, line } = self.read()?;
+        self.accept(&line, number)
+    }
+
+    /// The next line, as what it says at the section that is due.
+    fn read(&mut self) -> Result<Read, Stop>
+        requires due { self.old.section ≢ Place.After }
+        ensures count { self.new.count ≡ self.old.count }
+        ensures kernel { self.new.kernel ≡ self.old.kernel }
+        ensures last { self.new.reader.last ≡ self.old.reader.last }
+        ensures reads { IfOk result (λ r. Reads (position_of self.old) (position_of self.new) r.number r.line) }
+        ensures writable { IfOk result (λ read. IsLineWritable (length self.new.names) read.line) }
+        ensures stop { IfErr result (IsStopOf self.old) }
+    {
+        let Some(line) = self.reader.next() else {
+            return Err(reading(self.reader.end_number(), ProofFault::Truncated));
+        };
+        match read_line(self.allocator, self.section, line.text, &mut self.names) {
+            Ok(read) => Ok(Read {
+                number: line.number,
+                line: read,
+            }),
+            Err(fault) => Err(reading(line.number, fault)),
+        }
+    }
+
+    /// Judges what the line of this number says.
+    fn accept(&mut self, line: &Line, number: u64) -> Result<(), Stop>
+        requires writable { IsLineWritable (length self.old.names) line.now }
+        requires count { self.old.count ≡ problem_ids self.old.kernel.problem.constraints }
+        ensures count { self.new.count ≡ self.old.count }
+        ensures problem { self.new.kernel.problem ≡ self.old.kernel.problem }
+        ensures reader { self.new.reader ≡ self.old.reader }
+        ensures names { self.new.names ≡ self.old.names }
+        ensures accepts { OnOk result (AcceptsOn self.old line.now self.new) }
+        ensures stop { IfErr result (IsRefusal number self.old line.now) }
+    {
+        match line {
+            Line::Header => self.section = Place::Count,
+            Line::Count(count) => self.take_count(*count, number)?,
+            Line::Step(step) => self.step(step, number)?,
+            Line::Output => self.section = Place::Conclusion,
+            Line::Conclusion(conclusion) => self.conclude(conclusion, number)?,
+            Line::End => self.section = Place::After,
+        }
+        Ok(())
+    }
+
+    /// The count is that of the file's constraints, an equality counted twice.
+    fn take_count(&mut self, count: i128, number: u64) -> Result<(), Stop>
+        requires count { self.old.count ≡ problem_ids self.old.kernel.problem.constraints }
+        ensures count { self.new.count ≡ self.old.count }
+        ensures kernel { self.new.kernel ≡ self.old.kernel }
+        ensures reader { self.new.reader ≡ self.old.reader }
+        ensures names { self.new.names ≡ self.old.names }
+        ensures accepts { OnOk result (AcceptsOn self.old (Line.Count count) self.new) }
+        ensures stop { IfErr result (IsRefusal number self.old (Line.Count count)) }
+    {
+        if count != i128::from(self.count) {
+            return Err(reading(number, ProofFault::BadCount));
+        }
+        self.section = Place::Step;
+        Ok(())
+    }
+
+    /// Judges a step. What reads well and is not judged yet is left out.
+    fn step(&mut self, step: &Step, number: u64) -> Result<(), Stop>
+        requires writable { IsLineWritable (length self.old.names) (Line.Step step.now) }
+        ensures count { self.new.count ≡ self.old.count }
+        ensures problem { self.new.kernel.problem ≡ self.old.kernel.problem }
+        ensures reader { self.new.reader ≡ self.old.reader }
+        ensures names { self.new.names ≡ self.old.names }
+        ensures accepts { OnOk result (AcceptsOn self.old (Line.Step step.now) self.new) }
+        ensures stop { IfErr result (IsRefusal number self.old (Line.Step step.now)) }
+    {
+        if !is_judged_step(step) {
+            return Err(reading(number, ProofFault::RuleLeftOut));
+        }
+        match self.kernel.apply(step) {
+            Ok(_) => Ok(()),
+            Err(fault) => Err(judging(number, fault)),
+        }
+    }
+
+    /// Judges the conclusion, and keeps what was accepted.
+    fn conclude(&mut self, conclusion: &Conclusion, number: u64) -> Result<(), Stop>
+        ensures count { self.new.count ≡ self.old.count }
+        ensures kernel { self.new.kernel ≡ self.old.kernel }
+        ensures reader { self.new.reader ≡ self.old.reader }
+        ensures names { self.new.names ≡ self.old.names }
+        ensures accepts { OnOk result (AcceptsOn self.old (Line.Conclusion conclusion.now) self.new) }
+        ensures stop { IfErr result (IsRefusal number self.old (Line.Conclusion conclusion.now)) }
+    {
+        match self.kernel.conclude(conclusion) {
+            Ok(accepted) => {
+                self.concluded = Some(accepted);
+                self.section = Place::End;
+                Ok(())
+            }
+            Err(fault) => Err(judging(number, fault)),
+        }
+    }
+
+    /// Behind the end line nothing that counts is left.
+    pub(crate) fn finish(&mut self) -> Result<(), Stop>
+        requires over { self.old.section ≡ Place.After }
+        ensures none { OnOk result (self.old.reader.lines ≡ []) }
+        ensures concluded { self.new.concluded ≡ self.old.concluded }
+        ensures stop { IfErr result (IsStopOf self.old) }
+    {
+        match self.reader.next() {
+            None => Ok(()),
+            Some(line) => Err(reading(line.number, ProofFault::TextAfterEnd)),
+        }
+    }
+}

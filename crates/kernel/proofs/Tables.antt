@@ -1,0 +1,71 @@
+-- Tables of the values that a listing gives variables, and listings without constraints.
+use Rattle.std.proofs.Common.{◌≡◌, ℕ, ◌<◌, ◌≤◌, Bool, true, false, not, inl, inr, List, [], ◌∷◌, ◌++◌, map, Option, Some, None, MatchOption, length, get_or, set, refl, sym, ap, subst, ◌∙◌, arith}
+use Rattle.std.proofs.lemmas.Bool.{cases_eq, false≢true}
+use Rattle.std.proofs.lemmas.List.{length-set, length-map, get_or-set_same, get_or-set_other, get_or-map}
+use Rattle.std.specs.FinMap as fin
+use Rattle.std.specs.Ordering.{nat_cmp}
+use Rattle.linear.specs.declared.term.Lit.{Lit}
+use Rattle.normal_form.specs.Normal.{only}
+use Rattle.normal_form.proofs.SetSums.{only_is}
+use Rattle.propagate.specs.Chain.{LeadsToConflict}
+use Rattle.propagate.specs.Slack.{IsBroken}
+use Rattle.propagate.proofs.Listings.{among_cases, among_head, among_left, among_right, or_cases}
+use Rattle.propagate.specs.Literals.{among}
+use Rattle.proof_rules.specs.Solution.{value_at}
+use Rattle.proof_rules.specs.State.{Live}
+use Rattle.proof_rules.proofs.LiveConstraints.{Any-never}
+use Rattle.kernel.specs.Table.{GivesValue, IsTableOf, GivesAll, LeavesOut, HasGap}
+
+-- without constraints nothing leads to a conflict
+pub never_empty : (content : Live) (given : List Lit) → content ≡ fin.empty → LeadsToConflict (fin.values content) given → ⊥
+never_empty content given empty (chain, is_chain, conflict) =
+    Any-never (IsBroken (given ++ chain)) content (λ k n is broken. let same : None ≡ Some n = sym (fin.get-empty nat_cmp k) ∙ ap (λ m. fin.get m k) (sym empty) ∙ is in absurd (cc)) conflict
+
+not_not : (b : Bool) → not (not b) ≡ b
+not_not true = refl
+not_not false = refl
+
+-- one more literal gives its variable its value
+gives_own : (before : List Lit) (l : Lit) → GivesValue (before ++ l ∷ []) (l.var.0) (Some (not l.negated))
+gives_own before l =
+    among_right before (l ∷ []) (l.var.0) (not (not l.negated)) (subst (λ s. among (l ∷ []) (l.var.0) s ≡ true) (sym (not_not l.negated)) (among_head l []))
+
+-- and leaves all others as they were
+gives_other : (before : List Lit) (l : Lit) (v : ℕ) (o : Option Bool) → (v ≡ l.var.0 → ⊥) → GivesValue before v o → GivesValue (before ++ l ∷ []) v o
+gives_other before l v (Some value) other told = among_left before (l ∷ []) v (not value) told
+gives_other before l v None other none = λ value h. elim (among_cases before (l ∷ []) v (not value) h) as (λ _. ⊥) [
+  | inl m ↦ none value m
+  | inr m ↦ elim (or_cases (only (l.var.0) l.negated v (not value)) false m) as (λ _. ⊥) [
+    | inl o ↦ other (only_is (l.var.0) v l.negated (not value) o).0
+    | inr o ↦ false≢true o
+  ]
+]
+
+pub noted_inside : (before : List Lit) (table : List (Option Bool)) (l : Lit) → l.var.0 < length table → IsTableOf before table
+    → IsTableOf (before ++ l ∷ []) (set table (l.var.0) (Some (not l.negated)))
+noted_inside before table l inside h v below =
+    let value : Option Bool = Some (not l.negated) in
+    let after : List (Option Bool) = set table (l.var.0) value in
+    elim (cases_eq v (l.var.0)) as (λ _. GivesValue (before ++ l ∷ []) v (get_or after v None)) [
+      | inl same ↦
+          subst (λ w. GivesValue (before ++ l ∷ []) w (get_or after w None)) (sym same)
+          (subst (GivesValue (before ++ l ∷ []) (l.var.0)) (sym (get_or-set_same table (l.var.0) value None inside)) (gives_own before l))
+      | inr other ↦
+          subst (GivesValue (before ++ l ∷ []) v) (sym (get_or-set_other table (l.var.0) v value None other))
+          (gives_other before l v (get_or table v None) other (h v (omega (arith, below, length-set table (l.var.0) value))))
+    ]
+
+pub noted_outside : (before : List Lit) (table : List (Option Bool)) (l : Lit) → length table ≤ l.var.0 → IsTableOf before table → IsTableOf (before ++ l ∷ []) table
+noted_outside before table l outside h v below = gives_other before l v (get_or table v None) (λ same. omega (arith, outside, below, same)) (h v below)
+
+-- what a table of all literals says of the listing
+pub table_read : (count : ℕ) (listing : List Lit) (table : List (Option Bool)) (found : Option (List Bool)) → length table ≡ count → IsTableOf listing table
+    → MatchOption found (HasGap table) (λ g. map Some g ≡ table) → MatchOption found (LeavesOut count listing) (GivesAll count listing)
+table_read count listing table None long h (v, below, gap) = (v, omega (arith, below, long), subst (GivesValue listing v) gap (h v below))
+table_read count listing table (Some g) long h is =
+    let same : length g ≡ length table = sym (length-map g (λ b. Some b)) ∙ ap length is in (
+      same ∙ long,
+      λ v below.
+          let value : get_or table v None ≡ Some (value_at g v) = ap (λ t. get_or t v None) (sym is) ∙ get_or-map (λ b. Some b) g v false None below in
+          subst (GivesValue listing v) value (h v (omega (arith, below, same))),
+    )

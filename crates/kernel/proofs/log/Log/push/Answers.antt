@@ -1,0 +1,8 @@
+use Rattle.std.proofs.Common.{ap, ◌∙◌}
+use Rattle.kernel.specs.Logged.{with_logged}
+use Rattle.kernel.proofs.log.Log.push.Goals as goal
+
+pub returns-clause-ok : goal.returns-clause-ok
+returns-clause-ok c =
+    let l = c.self.inside in
+    ap (λ xs. record { logged = xs; improve = l.least; improving = l.asked }) c.in_ok-push.ensures.items ∙ ap (with_logged c.args.solution) c.self.view_is

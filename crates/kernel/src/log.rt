@@ -1,0 +1,136 @@
+//! What a proof has logged: its solutions, the least value of an improving one, and the ids of the constraints that improving
+//! ones added. All solutions are kept, and the best is looked up where it is asked for, at the end.
+
+ghost use Rattle.std.specs.Prelude.{◌≡◌, [], ◌↔◌, ◌<ℤ◌, ◌≤ℤ◌, All, IfSome, IsTrue, OnErr, OnOk};
+ghost use Rattle.std.specs.FinSet as set;
+ghost use Rattle.std.specs.Option.{option_copied};
+ghost use Rattle.proof_rules.specs.Claim.{IsSolution};
+ghost use Rattle.proof_rules.specs.Justified.{IsBest};
+ghost use Rattle.proof_rules.specs.Legal.{worth_of};
+ghost use Rattle.kernel.specs.Logged.{unlogged, with_logged, with_improved};
+
+use super::ids::Ids;
+use linear::{Assignment, Problem};
+use propagate::Id;
+use std::alloc::{AllocError, Global};
+use std::marker::Model;
+
+/// What a proof has logged.
+#[derive(Drop)]
+pub(crate) struct Log {
+    solutions: Vec<Assignment>,
+    least: Option<i128>,
+    asked: Ids,
+}
+
+impl Model for Log {
+    ghost use Rattle.kernel.specs.Logged.{Logged, logged_code};
+
+    ghost Value = { Logged };
+
+    ghost coded = { logged_code };
+
+    ghost view = { λ l. record { logged = l.solutions.items; improve = l.least; improving = l.asked } };
+}
+
+impl Log {
+    /// Nothing is logged.
+    pub(crate) fn empty(alloc: Global) -> Self
+        ensures { result ≡ unlogged }
+    {
+        Log {
+            solutions: Vec::new(alloc),
+            least: None,
+            asked: Ids::empty(alloc),
+        }
+    }
+
+    /// Logs a solution.
+    pub(crate) fn push(&mut self, solution: Assignment) -> Result<(), AllocError>
+        ensures ok { OnOk result (self.new ≡ with_logged solution self.old) }
+        ensures err { OnErr result (self.new ≡ self.old) }
+    {
+        self.solutions.push(solution)?;
+        Ok(())
+    }
+
+    /// Logs an improving solution, its value and the id of the constraint that asks for better ones.
+    pub(crate) fn improve(
+        &mut self,
+        solution: Assignment,
+        value: i128,
+        id: Id,
+    ) -> Result<(), AllocError>
+        ensures ok { OnOk result (self.new ≡ with_improved solution value id self.old) }
+        ensures err { OnErr result (self.new ≡ self.old) }
+    {
+        self.solutions.push(solution)?;
+        if let Err(refused) = self.asked.insert(id) {
+            self.solutions.pop();
+            return Err(refused);
+        }
+        self.least = Some(value);
+        Ok(())
+    }
+
+    /// Whether a value is below the least one of the improving solutions, if there is one.
+    pub(crate) fn improves(&self, value: i128) -> bool
+        ensures { IsTrue result ↔ IfSome self.now.improve (λ least. value <ℤ least) }
+    {
+        match self.least {
+            None => true,
+            Some(least) => value < least,
+        }
+    }
+
+    /// Whether a bound is at most the least value of the improving solutions, if there is one.
+    pub(crate) fn admits(&self, bound: i128) -> bool
+        ensures { IsTrue result ↔ IfSome self.now.improve (λ least. bound ≤ℤ least) }
+    {
+        match self.least {
+            None => true,
+            Some(least) => bound <= least,
+        }
+    }
+
+    /// Whether an id is that of a constraint that an improving solution added.
+    pub(crate) fn is_asked(&self, id: Id) -> bool
+        ensures { result ≡ set.contains self.now.improving id }
+    {
+        self.asked.contains(id)
+    }
+
+    /// Whether no solution is logged.
+    pub(crate) fn is_empty(&self) -> bool
+        ensures { IsTrue result ↔ (self.now.logged ≡ []) }
+    {
+        self.solutions.is_empty()
+    }
+
+    /// The logged solution of the least value, the earliest among equals; none where nothing is logged.
+    pub(crate) fn best(&self, problem: &Problem) -> Option<&Assignment>
+        requires { All (IsSolution problem.now) self.now.logged }
+        ensures best { IsBest problem.now self.now.logged (option_copied result) }
+        ensures solution { IfSome (option_copied result) (IsSolution problem.now) }
+    {
+        let mut best = None;
+        for solution in self.solutions.as_slice() {
+            if is_better(problem, solution, best) {
+                best = Some(solution);
+            }
+        }
+        best
+    }
+}
+
+/// Whether a solution is worth less than the best one of some others, if there is one.
+pub(crate) fn is_better(problem: &Problem, solution: &Assignment, best: Option<&Assignment>) -> bool
+    requires solution { IsSolution problem.now solution.now }
+    requires best { IfSome (option_copied best) (IsSolution problem.now) }
+    ensures { IsTrue result ↔ IfSome (option_copied best.entry) (λ b. worth_of problem.now solution.now <ℤ worth_of problem.now b) }
+{
+    match best {
+        None => true,
+        Some(best) => problem.value(solution) < problem.value(best),
+    }
+}

@@ -1,0 +1,81 @@
+//! Bounds of the objective, as normal constraints.
+
+ghost use Rattle.std.specs.Prelude.{◌≡◌, ◌+◌, ◌-ℤ◌, ◌≤◌, IfErr, IfOk, IsErrOf, OnErr, map, pos, unsigned_abs};
+ghost use Rattle.normal_form.specs.Normal.{Fits, IsNormal, largest_sum};
+ghost use Rattle.normal_form.specs.NormalOf.{IsNormalOf, sign_changed, size_sum};
+ghost use Rattle.substitution.specs.Objective.{largest_objective};
+ghost use Rattle.proof_rules.specs.Solution.{at_least, at_most};
+ghost use Rattle.proof_rules.specs.Fault.{OrMemory};
+ghost use Rattle.kernel.specs.Held.{IsUnfit};
+
+use linear::{Relation, Seq, Signed, Term};
+use normal_form::{Normal, normalize};
+use proof_rules::StepFault;
+use std::alloc::{AllocError, Global};
+
+/// `objective <= value - 1`, which asks for what is worth less. It is always within the limits.
+pub(crate) fn below(alloc: Global, objective: &[Term], value: i128) -> Result<Normal, StepFault>
+    requires objective { size_sum objective.now ≤ largest_objective }
+    requires value { unsigned_abs value ≤ largest_objective }
+    ensures form { IfOk result (IsNormalOf (at_most objective.now (value -ℤ pos 1))) }
+    ensures memory { OnErr result (IsErrOf result StepFault.OutOfMemory) }
+{
+    let constraint = Signed {
+        terms: Seq::from_vec(negated(alloc, objective)?),
+        relation: Relation::AtLeast,
+        right: 1 - value,
+    };
+    small_form(alloc, &constraint)
+}
+
+/// `objective >= bound`, where it is within the limits.
+pub(crate) fn above(alloc: Global, objective: &Seq<Term>, bound: i128) -> Result<Normal, StepFault>
+    requires { size_sum objective.now ≤ largest_objective }
+    ensures form { IfOk result (IsNormalOf (at_least objective.now bound)) }
+    ensures fits { IfOk result Fits }
+    ensures fault { IfErr result (λ f. OrMemory f (IsUnfit (at_least objective.now bound) f)) }
+{
+    let constraint = Signed {
+        terms: objective.clone()?,
+        relation: Relation::AtLeast,
+        right: bound,
+    };
+    form(alloc, &constraint)
+}
+
+/// The normal form of a constraint, where it is within the limits.
+fn form(alloc: Global, constraint: &Signed) -> Result<Normal, StepFault>
+    requires relation { constraint.now.relation ≡ Relation.AtLeast }
+    requires small { size_sum constraint.now.terms ≤ largest_sum }
+    ensures form { IfOk result (IsNormalOf constraint.now) }
+    ensures normal { IfOk result IsNormal }
+    ensures fault { IfErr result (λ f. OrMemory f (IsUnfit constraint.now f)) }
+{
+    Ok(normalize(alloc, constraint)?)
+}
+
+/// The normal form of a constraint that is small enough to have one within the limits.
+fn small_form(alloc: Global, constraint: &Signed) -> Result<Normal, StepFault>
+    requires relation { constraint.now.relation ≡ Relation.AtLeast }
+    requires small { size_sum constraint.now.terms + unsigned_abs constraint.now.right ≤ largest_sum }
+    ensures form { IfOk result (IsNormalOf constraint.now) }
+    ensures memory { OnErr result (IsErrOf result StepFault.OutOfMemory) }
+{
+    Ok(normalize(alloc, constraint)?)
+}
+
+/// Terms with their signs changed.
+fn negated(alloc: Global, terms: &[Term]) -> Result<Vec<Term>, AllocError>
+    requires { size_sum terms.now ≤ largest_objective }
+    ensures { IfOk result (λ negated. negated.items ≡ map sign_changed terms.now) }
+{
+    let mut negated = Vec::with_capacity(alloc, terms.len())?;
+    for term in terms {
+        negated.push(Term {
+            coef: -term.coef,
+            var: term.var,
+            negated: term.negated,
+        })?;
+    }
+    Ok(negated)
+}

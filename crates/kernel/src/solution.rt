@@ -1,0 +1,130 @@
+//! `sol` and `soli`: solutions that a proof lists. A listing need not name all variables of the file: what is left out must
+//! follow by propagation over the live constraints. Whether the completed listing is a solution is judged by the file, and
+//! never by the live constraints, which may ask for more, or for less.
+
+ghost use Rattle.std.specs.Prelude.{◌≡◌, ◌↔◌, None, Some, IfOk, IfErr, IsErrOf, IsTrue, OnOk, OnErr, length};
+ghost use Rattle.propagate.specs.Literals.{IsConsistent};
+ghost use Rattle.proof_rules.specs.Fault.{OrMemory, IsSolFault, IsSoliFault};
+ghost use Rattle.proof_rules.specs.Legal.{LegalSol, LegalSoli, Logs, with_improvement, worth_of};
+ghost use Rattle.proof_rules.specs.Solution.{Completes};
+ghost use Rattle.proof_rules.specs.State.{HasRoom, constraints};
+ghost use Rattle.kernel.specs.Held.{IsKept};
+
+use super::kernel::{Applied, Kernel};
+use super::objective::below;
+use super::values::values;
+use linear::{Assignment, Lit};
+use normal_form::Normal;
+use proof_rules::StepFault;
+use propagate::{Propagator, Reach};
+use std::alloc::{AllocError, Global};
+
+/// Whether a listing has no literal beside its opposite: without constraints nothing else is a conflict.
+fn is_consistent<P: Propagator>(alloc: Global, listing: &[Lit]) -> Result<bool, AllocError>
+    ensures { IfOk result (λ yes. IsTrue yes ↔ IsConsistent listing.now) }
+{
+    match P::empty(alloc).extend(listing)? {
+        Reach::Conflict => Ok(false),
+        Reach::Closed(_) => Ok(true),
+    }
+}
+
+impl<'a, P: Propagator> Kernel<'a, P> {
+    /// Logs a solution.
+    pub(crate) fn sol(&mut self, listing: &[Lit]) -> Result<Applied, StepFault>
+        ensures problem { self.new.problem ≡ self.old.problem }
+        ensures ok { OnOk result (LegalSol self.old.problem self.old.state listing.now self.new.state) }
+        ensures id { IfOk result (λ applied. applied.id ≡ None) }
+        ensures fault { IfErr result (λ f. OrMemory f (IsSolFault self.old.problem self.old.state listing.now f)) }
+        ensures err { OnErr result (self.new ≡ self.old) }
+    {
+        let solution = self.solution(listing)?;
+        self.log.push(solution)?;
+        Ok(Applied { id: None })
+    }
+
+    /// Logs a solution that is worth less than the improving ones before, and adds a constraint that asks for still less.
+    /// That there is an objective is judged first, then the solution, then its value, then the ids.
+    pub(crate) fn soli(&mut self, listing: &[Lit]) -> Result<Applied, StepFault>
+        ensures problem { self.new.problem ≡ self.old.problem }
+        ensures ok { OnOk result (LegalSoli self.old.problem self.old.state listing.now self.new.state) }
+        ensures id { IfOk result (λ applied. applied.id ≡ Some self.old.state.next) }
+        ensures fault { IfErr result (λ f. OrMemory f (IsSoliFault self.old.problem self.old.state listing.now f)) }
+        ensures err { OnErr result (self.new ≡ self.old) }
+    {
+        let problem = self.source;
+        let Some(objective) = problem.objective() else {
+            return Err(StepFault::NoObjective);
+        };
+        let solution = self.solution(listing)?;
+        let value = problem.value(&solution);
+        if !self.log.improves(value) {
+            return Err(StepFault::NotImproving);
+        }
+        if !self.database.has_room() {
+            return Err(StepFault::TooManyIds);
+        }
+        let better = below(self.allocator, objective.as_slice(), value)?;
+        self.improve(solution, value, better)
+    }
+
+    /// Logs an improving solution, and adds the constraint that asks for better ones, under the next id.
+    fn improve(
+        &mut self,
+        solution: Assignment,
+        value: i128,
+        better: Normal,
+    ) -> Result<Applied, StepFault>
+        requires value { value ≡ worth_of self.old.problem solution }
+        requires room { HasRoom self.old.state }
+        requires kept { IsKept (record { problem = self.old.problem; state = with_improvement self.old.problem solution better self.old.state }) }
+        ensures problem { self.new.problem ≡ self.old.problem }
+        ensures ok { OnOk result (self.new.state ≡ with_improvement self.old.problem solution better self.old.state) }
+        ensures id { IfOk result (λ applied. applied.id ≡ Some self.old.state.next) }
+        ensures memory { OnErr result (IsErrOf result StepFault.OutOfMemory) }
+        ensures err { OnErr result (self.new ≡ self.old) }
+    {
+        let id = self.database.push(better)?;
+        if self.log.improve(solution, value, id).is_err() {
+            self.database.take_back();
+            return Err(StepFault::OutOfMemory);
+        }
+        Ok(Applied { id: Some(id) })
+    }
+
+    /// The solution that a listing gives: first the listing is judged, then its completion, then what it satisfies.
+    pub(crate) fn solution(&mut self, listing: &[Lit]) -> Result<Assignment, StepFault>
+        ensures logs { IfOk result (Logs self.old.problem self.old.state listing.now) }
+        ensures fault { IfErr result (λ f. OrMemory f (IsSolFault self.old.problem self.old.state listing.now f)) }
+        ensures same { self.new ≡ self.old }
+    {
+        let solution = self.completion(listing)?;
+        if !self.source.satisfied(&solution) {
+            return Err(StepFault::SolutionFalse);
+        }
+        Ok(solution)
+    }
+
+    /// The values that a listing gives the variables of the file, where it names all of them, and else those that it
+    /// and what follows from it over the live constraints give them.
+    fn completion(&mut self, listing: &[Lit]) -> Result<Assignment, StepFault>
+        ensures completes { IfOk result (Completes (constraints self.old.state) (length self.old.problem.names) listing.now) }
+        ensures fault { IfErr result (λ f. OrMemory f (IsSolFault self.old.problem self.old.state listing.now f)) }
+        ensures same { self.new ≡ self.old }
+    {
+        if !is_consistent::<P>(self.allocator, listing)? {
+            return Err(StepFault::SolutionConflict);
+        }
+        let count = self.source.names().len();
+        if let Some(solution) = values(self.allocator, count, listing)? {
+            return Ok(solution);
+        }
+        let Reach::Closed(reached) = self.database.extend(listing)? else {
+            return Err(StepFault::SolutionConflict);
+        };
+        match values(self.allocator, count, reached.as_slice())? {
+            Some(solution) => Ok(solution),
+            None => Err(StepFault::SolutionPartial),
+        }
+    }
+}
