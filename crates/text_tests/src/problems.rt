@@ -1,7 +1,7 @@
 //! Names, lists, assignments and problems, with ample memory.
 
 use linear::{Assignment, Lit, Names, Problem, Relation, Seq, Signed, Term, Var};
-use opb_read::read;
+use opb_read::{OpbFault, read};
 use pb_text::{Literal, Tokens, as_literal};
 use std::alloc::{AllocError, Global};
 
@@ -86,24 +86,55 @@ fn wanted_terms(alloc: Global) -> Result<Seq<Term>, AllocError> {
     Ok(Seq::from_vec(terms))
 }
 
+/// Whether each constraint says that these terms add up to 0.
+fn are_equalities(constraints: &[Signed], terms: &Seq<Term>) -> bool {
+    constraints.iter().all(|constraint| {
+        constraint.relation == Relation::Equal
+            && constraint.right == 0
+            && same_terms(&constraint.terms, terms)
+    })
+}
+
+/// Whether a problem's copy is the same, and its second name `x2`.
+fn is_copied(alloc: Global, problem: &Problem) -> Result<bool, AllocError> {
+    let copy = problem.copy(alloc)?;
+    Ok(same(problem, &copy) && copy.names().get(Var(1)) == Some(b"x2".as_slice()))
+}
+
 #[test]
-fn a_problem_is_read_copied_and_judged(rt: HostRuntime) {
+fn a_problem_is_read_and_copied(rt: HostRuntime) {
     let alloc = rt.alloc();
-    let problem = read(alloc, b"min: 1 x1 ; +02 x2 -3 ~x1 = -0 ;").expect(&rt, "a problem");
     let terms = wanted_terms(alloc).expect(&rt, "memory");
-    for constraint in problem.constraints() {
-        assert!(&rt; constraint.relation == Relation::Equal);
-        assert!(&rt; constraint.right == 0);
-        assert!(&rt; same_terms(&constraint.terms, &terms));
-    }
-    let copy = problem.copy(alloc).expect(&rt, "memory");
-    assert!(&rt; same(&problem, &copy));
-    assert!(&rt; copy.names().get(Var(1)) == Some(b"x2".as_slice()));
-    let other = read(alloc, b"min: 1 x1 ; +02 x2 -3 x1 = -0 ;").expect(&rt, "a problem");
-    assert!(&rt; !same(&problem, &other));
-    let list = terms.clone().expect(&rt, "memory");
-    assert!(&rt; !list.is_empty());
-    assert!(&rt; list.into_vec().len() == terms.len());
+    let problem = read(alloc, b"min: 1 x1 ; +02 x2 -3 ~x1 = -0 ;").expect(&rt, "a problem");
+    assert!(&rt; are_equalities(problem.constraints(), &terms));
+    assert!(&rt; is_copied(alloc, &problem) == Ok(true));
+}
+
+/// Whether two files are read as the same problem.
+fn are_same(alloc: Global, left: &[u8], right: &[u8]) -> Result<bool, OpbFault> {
+    let left = read(alloc, left)?;
+    let right = read(alloc, right)?;
+    Ok(same(&left, &right))
+}
+
+#[test]
+fn a_sign_makes_another_problem(rt: HostRuntime) {
+    let first = b"min: 1 x1 ; +02 x2 -3 ~x1 = -0 ;";
+    let second = b"min: 1 x1 ; +02 x2 -3 x1 = -0 ;";
+    assert!(&rt; are_same(rt.alloc(), first, first) == Ok(true));
+    assert!(&rt; are_same(rt.alloc(), first, second) == Ok(false));
+}
+
+/// Whether a list that is copied has elements, and gives back as many.
+fn is_given_back(alloc: Global) -> Result<bool, AllocError> {
+    let terms = wanted_terms(alloc)?;
+    let list = terms.clone()?;
+    Ok(!list.is_empty() && list.into_vec().len() == terms.len())
+}
+
+#[test]
+fn lists_are_given_back(rt: HostRuntime) {
+    assert!(&rt; is_given_back(rt.alloc()) == Ok(true));
 }
 
 #[test]

@@ -308,7 +308,7 @@ const CONCLUDED: [Concluded; 7] = [
         text: "refused line 5 code 24 LowerNotShown\n",
         status: 1,
     },
-    // an objective changes nothing for `NONE` and `UNSAT`
+    // an objective changes nothing for `NONE` and `UNSAT`; what propagation refutes shows every lower bound
     Concluded {
         problem: Problem::Optimising,
         steps: "",
