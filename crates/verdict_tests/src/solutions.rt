@@ -5,35 +5,70 @@ use checker::{check, verdict_text};
 use std::process::Abort;
 use std::test::Fail;
 
-/// A problem whose constraints take `count` ids, the steps of a proof, each ended by LF, what it concludes, and what is
-/// printed.
+/// A problem, the steps of a proof, each ended by LF, what it concludes, and what is printed.
 #[derive(Clone, Copy)]
 struct Row {
-    problem: &'static str,
-    count: u64,
+    problem: Problem,
     steps: &'static str,
     conclusion: &'static str,
     printed: &'static str,
 }
 
-const EITHER: &str = "1 x1 1 x2 >= 1 ;";
+/// The problems of the rows. A row names its problem: a table of names is quick to prove, and one of texts is not.
+#[derive(Clone, Copy)]
+enum Problem {
+    Either,
+    SecondAlone,
+    Cheaper,
+    Equal,
+    Reward,
+    Contradiction,
+    Triangle,
+    Pigeons,
+}
 
-const CHEAPER: &str = "min: 2 x1 3 x2 ; 1 x1 1 x2 >= 1 ;";
+impl Problem {
+    fn text(self) -> &'static str {
+        match self {
+            Problem::Either => "1 x1 1 x2 >= 1 ;",
+            Problem::SecondAlone => "1 x1 1 x2 >= 1 ; 1 ~x1 >= 1 ;",
+            Problem::Cheaper => "min: 2 x1 3 x2 ; 1 x1 1 x2 >= 1 ;",
+            Problem::Equal => "min: 1 x1 1 x2 ; 1 x1 1 x2 >= 1 ;",
+            Problem::Reward => "min: -1 x1 ;",
+            Problem::Contradiction => "min: 1 x1 ; 1 x1 >= 2 ;",
+            Problem::Triangle => {
+                "min: 2 x1 3 x2 4 x3 ; 1 x1 1 x2 >= 1 ; 1 x2 1 x3 >= 1 ; 1 x1 1 x3 >= 1 ;"
+            }
+            Problem::Pigeons => {
+                "1 x1 1 x2 >= 1 ; 1 x3 1 x4 >= 1 ; 1 x5 1 x6 >= 1 ; -1 x1 -1 x3 -1 x5 >= -1 ; -1 x2 -1 x4 -1 x6 >= -1 ;"
+            }
+        }
+    }
 
-const EQUAL: &str = "min: 1 x1 1 x2 ; 1 x1 1 x2 >= 1 ;";
-
-const PIGEONS: &str =
-    "1 x1 1 x2 >= 1 ; 1 x3 1 x4 >= 1 ; 1 x5 1 x6 >= 1 ; -1 x1 -1 x3 -1 x5 >= -1 ; -1 x2 -1 x4 -1 x6 >= -1 ;";
+    /// How many ids its constraints take.
+    fn count(self) -> u64 {
+        match self {
+            Problem::Reward => 0,
+            Problem::Either | Problem::Cheaper | Problem::Equal | Problem::Contradiction => 1,
+            Problem::SecondAlone => 2,
+            Problem::Triangle => 3,
+            Problem::Pigeons => 5,
+        }
+    }
+}
 
 /// Checks what is printed for each row.
 fn answers<R: Abort + AllocGlobal>(rt: &R, rows: &[Row]) -> Result<(), Fail> {
     for row in rows {
+        let problem = row.problem.text().as_bytes();
         let proof = format!(in rt.alloc();
             "pseudo-Boolean proof version 2.0\nf {}\n{}output NONE\nconclusion {}\nend pseudo-Boolean proof\n",
-            row.count, row.steps, row.conclusion
+            row.problem.count(),
+            row.steps,
+            row.conclusion
         )?;
-        let verdict = check(rt.alloc(), row.problem.as_bytes(), proof.as_bytes());
-        let printed = verdict_text(rt.alloc(), row.problem.as_bytes(), &verdict)?;
+        let verdict = check(rt.alloc(), problem, proof.as_bytes());
+        let printed = verdict_text(rt.alloc(), problem, &verdict)?;
         assert_eq!(rt;
             printed.as_slice(),
             row.printed.as_bytes(),
@@ -48,43 +83,37 @@ fn answers<R: Abort + AllocGlobal>(rt: &R, rows: &[Row]) -> Result<(), Fail> {
 /// A listing is completed by propagation over the live constraints; it is judged by those of the file.
 const A_LOGGED_SOLUTION_IS_COMPLETED_AND_MEETS_THE_FILE: [Row; 6] = [
     Row {
-        problem: EITHER,
-        count: 1,
+        problem: Problem::Either,
         steps: "sol ~x1\n",
         conclusion: "SAT",
         printed: "accepted SAT\nv -x1 x2\n",
     },
     Row {
-        problem: EITHER,
-        count: 1,
+        problem: Problem::Either,
         steps: "sol x1\n",
         conclusion: "NONE",
         printed: "refused line 3 code 19 SolutionPartial\n",
     },
     Row {
-        problem: EITHER,
-        count: 1,
+        problem: Problem::Either,
         steps: "sol x1 ~x1\n",
         conclusion: "NONE",
         printed: "refused line 3 code 20 SolutionConflict\n",
     },
     Row {
-        problem: "1 x1 1 x2 >= 1 ; 1 ~x1 >= 1 ;",
-        count: 2,
+        problem: Problem::SecondAlone,
         steps: "sol x1\n",
         conclusion: "NONE",
         printed: "refused line 3 code 20 SolutionConflict\n",
     },
     Row {
-        problem: EITHER,
-        count: 1,
+        problem: Problem::Either,
         steps: "sol ~x1 ~x2\n",
         conclusion: "NONE",
         printed: "refused line 3 code 18 SolutionFalse\n",
     },
     Row {
-        problem: EITHER,
-        count: 1,
+        problem: Problem::Either,
         steps: "sol x1 x2 x1\n",
         conclusion: "SAT",
         printed: "accepted SAT\nv x1 x2\n",
@@ -99,50 +128,43 @@ fn a_logged_solution_is_completed_and_meets_the_file(rt: HostRuntime) -> Result<
 /// `soli`: an objective first, then as `sol`, then a value below the least one so far.
 const AN_IMPROVING_SOLUTION_HAS_AN_OBJECTIVE_AND_IS_BETTER: [Row; 7] = [
     Row {
-        problem: EQUAL,
-        count: 1,
+        problem: Problem::Equal,
         steps: "soli x1 ~x2\npol 1 2 +\n",
         conclusion: "BOUNDS 1 : 3 1",
         printed: "accepted BOUNDS 1 1\nv x1 -x2\n",
     },
     Row {
-        problem: EQUAL,
-        count: 1,
+        problem: Problem::Equal,
         steps: "soli ~x1 ~x2\n",
         conclusion: "NONE",
         printed: "refused line 3 code 18 SolutionFalse\n",
     },
     Row {
-        problem: EQUAL,
-        count: 1,
+        problem: Problem::Equal,
         steps: "soli x1 ~x2\nsoli x1 ~x2\n",
         conclusion: "NONE",
         printed: "refused line 4 code 21 NotImproving\n",
     },
     Row {
-        problem: EQUAL,
-        count: 1,
+        problem: Problem::Equal,
         steps: "soli x1 ~x2\nsoli ~x1 ~x2\n",
         conclusion: "NONE",
         printed: "refused line 4 code 18 SolutionFalse\n",
     },
     Row {
-        problem: EITHER,
-        count: 1,
+        problem: Problem::Either,
         steps: "soli x1 x2\n",
         conclusion: "NONE",
         printed: "refused line 3 code 22 NoObjective\n",
     },
     Row {
-        problem: EITHER,
-        count: 1,
+        problem: Problem::Either,
         steps: "soli x1 ~x1\n",
         conclusion: "NONE",
         printed: "refused line 3 code 22 NoObjective\n",
     },
     Row {
-        problem: CHEAPER,
-        count: 1,
+        problem: Problem::Cheaper,
         steps: "soli ~x1 x2\nsoli x1 ~x2\n",
         conclusion: "BOUNDS 2 2",
         printed: "accepted BOUNDS 2 2\nv x1 -x2\n",
@@ -157,92 +179,79 @@ fn an_improving_solution_has_an_objective_and_is_better(rt: HostRuntime) -> Resu
 /// `del id`: each id in its turn, a dead one before one of the file or of an improving solution.
 const WHAT_IS_DELETED_IS_GONE: [Row; 13] = [
     Row {
-        problem: EITHER,
-        count: 1,
+        problem: Problem::Either,
         steps: "pol 1 2 *\ndel id 2\npol 2 1 +\n",
         conclusion: "NONE",
         printed: "refused line 5 code 10 DeadId\n",
     },
     Row {
-        problem: EITHER,
-        count: 1,
+        problem: Problem::Either,
         steps: "pol 1\ndel id 2\npol 1\npol 3\n",
         conclusion: "NONE",
         printed: "accepted NONE\n",
     },
     Row {
-        problem: EITHER,
-        count: 1,
+        problem: Problem::Either,
         steps: "pol 1\npol 1\ndel id 3 -2\n",
         conclusion: "NONE",
         printed: "accepted NONE\n",
     },
     Row {
-        problem: EITHER,
-        count: 1,
+        problem: Problem::Either,
         steps: "pol 1\ndel id 2 2\n",
         conclusion: "NONE",
         printed: "refused line 4 code 10 DeadId\n",
     },
     Row {
-        problem: EITHER,
-        count: 1,
+        problem: Problem::Either,
         steps: "pol 1\ndel id 2 -1\n",
         conclusion: "NONE",
         printed: "refused line 4 code 10 DeadId\n",
     },
     Row {
-        problem: EITHER,
-        count: 1,
+        problem: Problem::Either,
         steps: "del id 1\n",
         conclusion: "NONE",
         printed: "refused line 3 code 23 FileConstraint\n",
     },
     Row {
-        problem: EITHER,
-        count: 1,
+        problem: Problem::Either,
         steps: "del id 1 9\n",
         conclusion: "NONE",
         printed: "refused line 3 code 23 FileConstraint\n",
     },
     Row {
-        problem: EITHER,
-        count: 1,
+        problem: Problem::Either,
         steps: "del id 9 1\n",
         conclusion: "NONE",
         printed: "refused line 3 code 10 DeadId\n",
     },
     Row {
-        problem: EITHER,
-        count: 1,
+        problem: Problem::Either,
         steps: "del id 0\n",
         conclusion: "NONE",
         printed: "refused line 3 code 10 DeadId\n",
     },
     Row {
-        problem: EITHER,
-        count: 1,
+        problem: Problem::Either,
         steps: "del id\n",
         conclusion: "NONE",
         printed: "accepted NONE\n",
     },
     Row {
-        problem: CHEAPER,
-        count: 1,
+        problem: Problem::Cheaper,
         steps: "soli ~x1 x2\nsoli x1 ~x2\ndel id 2\n",
         conclusion: "NONE",
         printed: "refused line 5 code 23 FileConstraint\n",
     },
     Row {
-        problem: PIGEONS,
-        count: 5,
+        problem: Problem::Pigeons,
         steps: "pol 1 2 + 3 + 4 + 5 +\ndel id 6\n",
         conclusion: "UNSAT",
         printed: "refused line 6 code 24 LowerNotShown\n",
     },
     Row {
-        problem: PIGEONS,
-        count: 5,
+        problem: Problem::Pigeons,
         steps: "pol 1 2 + 3 + 4 + 5 +\ndel id 6\nrup >= 1 ;\n",
         conclusion: "NONE",
         printed: "refused line 5 code 14 NotShown\n",
@@ -257,50 +266,43 @@ fn what_is_deleted_is_gone(rt: HostRuntime) -> Result<(), Fail> {
 /// `SAT` and its hint, which is one more `sol`.
 const SATISFIABLE_BY_WHAT_WAS_LOGGED: [Row; 7] = [
     Row {
-        problem: EITHER,
-        count: 1,
+        problem: Problem::Either,
         steps: "",
         conclusion: "SAT",
         printed: "refused line 4 code 26 UpperNotLogged\n",
     },
     Row {
-        problem: EITHER,
-        count: 1,
+        problem: Problem::Either,
         steps: "",
         conclusion: "SAT : ~x1",
         printed: "accepted SAT\nv -x1 x2\n",
     },
     Row {
-        problem: EITHER,
-        count: 1,
+        problem: Problem::Either,
         steps: "",
         conclusion: "SAT : x1",
         printed: "refused line 4 code 19 SolutionPartial\n",
     },
     Row {
-        problem: EITHER,
-        count: 1,
+        problem: Problem::Either,
         steps: "",
         conclusion: "SAT : x1 ~x1",
         printed: "refused line 4 code 20 SolutionConflict\n",
     },
     Row {
-        problem: EITHER,
-        count: 1,
+        problem: Problem::Either,
         steps: "",
         conclusion: "SAT : ~x1 ~x2",
         printed: "refused line 4 code 18 SolutionFalse\n",
     },
     Row {
-        problem: EITHER,
-        count: 1,
+        problem: Problem::Either,
         steps: "sol x1 ~x2\nsol ~x1 x2\n",
         conclusion: "SAT",
         printed: "accepted SAT\nv x1 -x2\n",
     },
     Row {
-        problem: EITHER,
-        count: 1,
+        problem: Problem::Either,
         steps: "sol x1 ~x2\n",
         conclusion: "SAT : ~x1 x2",
         printed: "accepted SAT\nv x1 -x2\n",
@@ -315,22 +317,19 @@ fn satisfiable_by_what_was_logged(rt: HostRuntime) -> Result<(), Fail> {
 /// `UNSAT`: a logged solution first, then what is not shown.
 const UNSATISFIABLE_ONLY_WHERE_NOTHING_WAS_LOGGED: [Row; 3] = [
     Row {
-        problem: EQUAL,
-        count: 1,
+        problem: Problem::Equal,
         steps: "soli x1 ~x2\npol 1 2 +\n",
         conclusion: "UNSAT",
         printed: "refused line 6 code 27 SolutionLogged\n",
     },
     Row {
-        problem: EITHER,
-        count: 1,
+        problem: Problem::Either,
         steps: "sol x1 x2\n",
         conclusion: "UNSAT",
         printed: "refused line 5 code 27 SolutionLogged\n",
     },
     Row {
-        problem: EITHER,
-        count: 1,
+        problem: Problem::Either,
         steps: "",
         conclusion: "UNSAT",
         printed: "refused line 4 code 24 LowerNotShown\n",
@@ -345,99 +344,85 @@ fn unsatisfiable_only_where_nothing_was_logged(rt: HostRuntime) -> Result<(), Fa
 /// The lower bound of `BOUNDS`: an objective, the hint, a bound above the best, its size, then what is not shown.
 const LOWER_BOUNDS_ARE_SHOWN: [Row; 14] = [
     Row {
-        problem: CHEAPER,
-        count: 1,
+        problem: Problem::Cheaper,
         steps: "",
         conclusion: "BOUNDS 2 INF",
         printed: "accepted BOUNDS 2 INF\n",
     },
     Row {
-        problem: CHEAPER,
-        count: 1,
+        problem: Problem::Cheaper,
         steps: "",
         conclusion: "BOUNDS 3 INF",
         printed: "refused line 4 code 24 LowerNotShown\n",
     },
     Row {
-        problem: CHEAPER,
-        count: 1,
+        problem: Problem::Cheaper,
         steps: "",
         conclusion: "BOUNDS -INF INF",
         printed: "accepted BOUNDS -INF INF\n",
     },
     Row {
-        problem: CHEAPER,
-        count: 1,
+        problem: Problem::Cheaper,
         steps: "soli x1 ~x2\n",
         conclusion: "BOUNDS 3 9",
         printed: "refused line 5 code 25 LowerAboveBest\n",
     },
     Row {
-        problem: CHEAPER,
-        count: 1,
+        problem: Problem::Cheaper,
         steps: "soli x1 x2\n",
         conclusion: "BOUNDS 5 5",
         printed: "refused line 5 code 24 LowerNotShown\n",
     },
     Row {
-        problem: CHEAPER,
-        count: 1,
+        problem: Problem::Cheaper,
         steps: "soli x1 ~x2\n",
         conclusion: "BOUNDS 1329227995784915872903807060280344576 2",
         printed: "refused line 5 code 25 LowerAboveBest\n",
     },
     Row {
-        problem: CHEAPER,
-        count: 1,
+        problem: Problem::Cheaper,
         steps: "",
         conclusion: "BOUNDS 1329227995784915872903807060280344576 2",
         printed: "refused line 4 code 24 LowerNotShown\n",
     },
     Row {
-        problem: "min: -1 x1 ;",
-        count: 0,
+        problem: Problem::Reward,
         steps: "",
         conclusion: "BOUNDS 1329227995784915872903807060280344576 2",
         printed: "refused line 4 code 13 TooLarge\n",
     },
     Row {
-        problem: CHEAPER,
-        count: 1,
+        problem: Problem::Cheaper,
         steps: "",
         conclusion: "BOUNDS -1329227995784915872903807060280344576 INF",
         printed: "accepted BOUNDS -1329227995784915872903807060280344576 INF\n",
     },
     Row {
-        problem: CHEAPER,
-        count: 1,
+        problem: Problem::Cheaper,
         steps: "",
         conclusion: "BOUNDS INF INF",
         printed: "refused line 4 code 24 LowerNotShown\n",
     },
     Row {
-        problem: CHEAPER,
-        count: 1,
+        problem: Problem::Cheaper,
         steps: "",
         conclusion: "BOUNDS INF INF : x1 x2",
         printed: "refused line 4 code 27 SolutionLogged\n",
     },
     Row {
-        problem: "min: 1 x1 ; 1 x1 >= 2 ;",
-        count: 1,
+        problem: Problem::Contradiction,
         steps: "",
         conclusion: "BOUNDS INF INF",
         printed: "accepted BOUNDS INF INF\n",
     },
     Row {
-        problem: "min: 1 x1 ; 1 x1 >= 2 ;",
-        count: 1,
+        problem: Problem::Contradiction,
         steps: "",
         conclusion: "BOUNDS 7 INF",
         printed: "accepted BOUNDS 7 INF\n",
     },
     Row {
-        problem: EQUAL,
-        count: 1,
+        problem: Problem::Equal,
         steps: "soli x1 ~x2\npol 1 2 +\n",
         conclusion: "BOUNDS 2 1",
         printed: "refused line 6 code 25 LowerAboveBest\n",
@@ -452,78 +437,67 @@ fn lower_bounds_are_shown(rt: HostRuntime) -> Result<(), Fail> {
 /// The upper bound of `BOUNDS`, judged last; the best is of the least value, the earliest among equals.
 const UPPER_BOUNDS_ARE_LOGGED: [Row; 11] = [
     Row {
-        problem: CHEAPER,
-        count: 1,
+        problem: Problem::Cheaper,
         steps: "soli ~x1 x2\nsoli x1 ~x2\n",
         conclusion: "BOUNDS 2 1",
         printed: "refused line 6 code 26 UpperNotLogged\n",
     },
     Row {
-        problem: CHEAPER,
-        count: 1,
+        problem: Problem::Cheaper,
         steps: "soli x1 ~x2\nsol x1 x2\n",
         conclusion: "BOUNDS 2 2",
         printed: "accepted BOUNDS 2 2\nv x1 -x2\n",
     },
     Row {
-        problem: CHEAPER,
-        count: 1,
+        problem: Problem::Cheaper,
         steps: "",
         conclusion: "BOUNDS 0 5 : x1 x2",
         printed: "accepted BOUNDS 0 5\nv x1 x2\n",
     },
     Row {
-        problem: CHEAPER,
-        count: 1,
+        problem: Problem::Cheaper,
         steps: "",
         conclusion: "BOUNDS -INF 5 : x1 x2",
         printed: "accepted BOUNDS -INF 5\nv x1 x2\n",
     },
     Row {
-        problem: CHEAPER,
-        count: 1,
+        problem: Problem::Cheaper,
         steps: "",
         conclusion: "BOUNDS -INF 4 : x1 x2",
         printed: "refused line 4 code 26 UpperNotLogged\n",
     },
     Row {
-        problem: CHEAPER,
-        count: 1,
+        problem: Problem::Cheaper,
         steps: "",
         conclusion: "BOUNDS 3 1",
         printed: "refused line 4 code 24 LowerNotShown\n",
     },
     Row {
-        problem: EQUAL,
-        count: 1,
+        problem: Problem::Equal,
         steps: "sol x1 ~x2\nsol ~x1 x2\n",
         conclusion: "BOUNDS 1 1",
         printed: "accepted BOUNDS 1 1\nv x1 -x2\n",
     },
     Row {
-        problem: EQUAL,
-        count: 1,
+        problem: Problem::Equal,
         steps: "sol x1 x2\nsol ~x1 x2\n",
         conclusion: "BOUNDS 1 7",
         printed: "accepted BOUNDS 1 7\nv -x1 x2\n",
     },
     Row {
-        problem: EITHER,
-        count: 1,
+        problem: Problem::Either,
         steps: "",
         conclusion: "BOUNDS 0 5",
         printed: "refused line 4 code 22 NoObjective\n",
     },
     Row {
-        problem: EITHER,
-        count: 1,
+        problem: Problem::Either,
         steps: "",
         conclusion: "BOUNDS 0 5 : x1 ~x1",
         printed: "refused line 4 code 22 NoObjective\n",
     },
     Row {
-        problem: CHEAPER,
-        count: 1,
+        problem: Problem::Cheaper,
         steps: "",
         conclusion: "BOUNDS 7 5 : x1 ~x1",
         printed: "refused line 4 code 20 SolutionConflict\n",
@@ -538,22 +512,19 @@ fn upper_bounds_are_logged(rt: HostRuntime) -> Result<(), Fail> {
 /// The corners of a triangle with one on each side, at the least price: every kind of step that is judged.
 const AN_OPTIMUM_WITH_ITS_PROOF: [Row; 3] = [
     Row {
-        problem: "min: 2 x1 3 x2 4 x3 ; 1 x1 1 x2 >= 1 ; 1 x2 1 x3 >= 1 ; 1 x1 1 x3 >= 1 ;",
-        count: 3,
+        problem: Problem::Triangle,
         steps: "sol x1 ~x2\nsoli x1 x2 ~x3\npol 1 2 + 3 + 2 d\npol 4 5 2 * +\ndel id 5\nrup >= 1 ;\n",
         conclusion: "BOUNDS 5 5",
         printed: "accepted BOUNDS 5 5\nv x1 x2 -x3\n",
     },
     Row {
-        problem: "min: 2 x1 3 x2 4 x3 ; 1 x1 1 x2 >= 1 ; 1 x2 1 x3 >= 1 ; 1 x1 1 x3 >= 1 ;",
-        count: 3,
+        problem: Problem::Triangle,
         steps: "sol x1 ~x2\nsoli x1 x2 ~x3\npol 1 2 + 3 + 2 d\ndel id 5\nrup >= 1 ;\n",
         conclusion: "BOUNDS 5 5",
         printed: "refused line 7 code 14 NotShown\n",
     },
     Row {
-        problem: EITHER,
-        count: 1,
+        problem: Problem::Either,
         steps: "sol x1 ~x2\n",
         conclusion: "NONE",
         printed: "accepted NONE\nv x1 -x2\n",
