@@ -21,4 +21,4 @@ mod values;
 
 pub use accepted::Accepted;
 pub use kernel::{Applied, Kernel};
-pub use kinds::{is_judged_conclusion, is_judged_step};
+pub use kinds::is_judged_step;
