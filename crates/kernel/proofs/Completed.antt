@@ -1,5 +1,5 @@
 -- What completes a listing, and why nothing does.
-use Rattle.std.proofs.Common.{◌≡◌, ℕ, ◌<◌, inl, inr, Bool, List, Option, Some, None, MatchOption, length, refl, sym, subst}
+use Rattle.std.proofs.Common.{◌≡◌, ℕ, ◌<◌, inl, inr, Bool, List, length, refl, sym, subst}
 use Rattle.linear.specs.declared.term.Lit.{Lit}
 use Rattle.linear.specs.Opb.{Opb}
 use Rattle.normal_form.specs.Normal.{NormalConstraint}
