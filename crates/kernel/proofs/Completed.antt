@@ -1,5 +1,5 @@
 -- What completes a listing, and why nothing does.
-use Rattle.std.proofs.Common.{◌≡◌, ℕ, ◌<◌, inl, inr, Bool, List, Option, Some, None, MatchOption, length, refl, sym, subst}
+use Rattle.std.proofs.Common.{◌≡◌, ℕ, ◌<◌, inl, inr, Bool, List, length, refl, sym, subst}
 use Rattle.linear.specs.declared.term.Lit.{Lit}
 use Rattle.linear.specs.Opb.{Opb}
 use Rattle.normal_form.specs.Normal.{NormalConstraint}
@@ -17,11 +17,7 @@ use Rattle.kernel.specs.Table.{GivesAll, LeavesOut}
 pub unnamed : (count : ℕ) (listing : List Lit) → LeavesOut count listing → NamesAll count listing → ⊥
 unnamed count listing (v, below, none) all = let h = all v below in none h.0 h.1
 
--- where no value is found there is the other case
-pub not_found : (A : List Bool → Type 0) (B : Type 0) (o : Option (List Bool)) → ((g : List Bool) → o ≡ Some g → ⊥) → MatchOption o B A → B
-not_found A B None h b = b
-not_found A B (Some g) h a = absurd (h g refl)
-
+-- where a listing does not extend to another one it is impossible
 pub not_closed : (live : List NormalConstraint) (listing : List Lit) (r : Reach) → ((closed : List Lit) → r ≡ reaches.Closed closed → ⊥) → IsReach live listing r → IsImpossible live listing
 not_closed live listing reaches.Conflict h is = is
 not_closed live listing (reaches.Closed closed) h is = absurd (h closed refl)

@@ -34,11 +34,7 @@ pub not_admitted : (o : Option ℤ) (v : ℤ) → (IfSome o (λ least. v ≤ℤ 
 not_admitted None v fails = absurd (fails tt)
 not_admitted (Some least) v fails = (least, refl, elim (less_or_not least v) as (λ _. least <ℤ v) [ inl less ↦ less | inr h ↦ absurd (fails h) ])
 
--- without a best solution nothing is logged
-pub none_logged : (p : Opb) (logged : List (List Bool)) (best : Option (List Bool)) → ((g : List Bool) → best ≡ Some g → ⊥) → IsBest p logged best → logged ≡ []
-none_logged p logged None h empty = empty
-none_logged p logged (Some g) h best = absurd (h g refl)
-
+-- with a best solution something is logged
 pub some_logged : (p : Opb) (logged : List (List Bool)) (g : List Bool) → IsBest p logged (Some g) → logged ≢ []
 some_logged p logged g (before, behind', is, less, least) empty = absurd (omega (arith, ap length (sym is ∙ empty), length-append before (g ∷ behind')))
 

@@ -33,10 +33,11 @@ fn absurd(alloc: Global) -> Normal
 
 impl<'a, P: Propagator> Kernel<'a, P> {
     /// Judges a conclusion, and leaves the kernel as it was. What is accepted is true of the problem's own signed terms.
-    /// A hint is judged first, as one more solution, which is logged for the conclusion alone. Then `NONE` is always accepted;
-    /// `SAT` where a solution is logged; `UNSAT` where none is, and `0 >= 1` is shown from the live constraints; `BOUNDS`
-    /// where there is an objective, the lower bound is at most the least improving value and is shown, and some logged
-    /// solution is worth no more than the upper one. A refusal names the first fault in the order of judging.
+    /// `NONE` is always accepted; `SAT` where a solution is logged; `UNSAT` where none is, and `0 >= 1` is shown from the live
+    /// constraints; `BOUNDS` where there is an objective, the lower bound is at most the least improving value and is shown,
+    /// and some logged solution is worth no more than the upper one. A hint is judged before the rest, as one more solution
+    /// that is logged for the conclusion alone; that there is an objective is judged before it. A refusal names the first
+    /// fault in the order of judging.
     pub fn conclude(&mut self, conclusion: &Conclusion) -> Result<Accepted, StepFault>
         ensures justified { IfOk result (λ accepted. IsJustified self.old.problem self.old.state conclusion.now accepted.best) }
         ensures conclusion { IfOk result (λ accepted. accepted.conclusion ≡ conclusion.now) }
@@ -46,8 +47,7 @@ impl<'a, P: Propagator> Kernel<'a, P> {
     {
         let _ = &self.source;
         let best = self.judge(conclusion)?;
-        let accepted = Accepted::new(copied_conclusion(conclusion)?, best);
-        Ok(accepted)
+        Ok(Accepted::new(copied_conclusion(conclusion)?, best))
     }
 
     /// Judges a conclusion, and gives the best solution.

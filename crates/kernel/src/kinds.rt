@@ -1,4 +1,5 @@
-//! Which kinds of steps are judged so far. Whoever reads proofs asks here, so that a new kind is let in at one place.
+//! Which kinds of steps are judged so far. Whoever reads proofs asks here, so that a new kind is let in at
+//! one place.
 
 ghost use Rattle.std.specs.Prelude.{◌↔◌, IsTrue};
 ghost use Rattle.kernel.specs.Kinds.{IsJudgedStep};

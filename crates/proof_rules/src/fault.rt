@@ -64,7 +64,7 @@ pub enum StepFault {
     /// A growth was refused.
     #[error("out of memory")]
     OutOfMemory,
-    /// The next id or the next variable number would be 2^32.
+    /// The next id would be 2^32.
     #[error("too many ids")]
     TooManyIds,
 }

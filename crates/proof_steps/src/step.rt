@@ -33,7 +33,7 @@ pub enum Step {
     Red(Signed, Substitution),
     /// Logs a solution.
     Sol(Seq<Lit>),
-    /// Logs a solution that is better than those before, and asks for still better ones.
+    /// Logs a solution that is better than those of such steps before, and asks for still better ones.
     Soli(Seq<Lit>),
     /// Removes constraints by their ids.
     Del(Seq<i128>),

@@ -1,7 +1,8 @@
 //! Covering: whether one constraint shows another without more ado.
 //!
-//! The goals of a redundance step in the VeriPB format are mostly constraints that are there already, under a
-//! substitution that does not touch them, or weaker ones. Such a goal needs no propagation: what the one has more than
+//! What a proof of the VeriPB format asks to be shown is often there already: a `rup` or a lower bound that repeats or
+//! weakens a live constraint, or a goal of a redundance step, under a substitution that does not touch it. It needs no
+//! propagation: what the one has more than
 //! the other at its literals can be given up by weakening, each coefficient at the price of as much degree. Terms rise
 //! by variable on both sides, so one pass over both is enough, and the excess is at most the coefficient sum, so it
 //! never leaves its type.

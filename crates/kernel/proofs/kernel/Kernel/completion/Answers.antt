@@ -8,7 +8,7 @@ use Rattle.proof_rules.specs.Solution.{Completes}
 use Rattle.proof_rules.specs.State.{State, constraints}
 use Rattle.kernel.specs.Held.{Held, state_with}
 use Rattle.kernel.specs.Table.{GivesAll, LeavesOut}
-use Rattle.kernel.proofs.Completed.{not_found, not_closed, said_whole, reached_whole, conflicts, leaves_partial}
+use Rattle.kernel.proofs.Completed.{not_closed, said_whole, reached_whole, conflicts, leaves_partial}
 use Rattle.kernel.proofs.kernel.Kernel.completion.Goals as goal
 
 pub returns-in-Some-clause-completes : goal.returns-in-Some-clause-completes
@@ -30,7 +30,7 @@ returns-in_default-2-clause-fault g c =
     let listing : List Lit = c.args.listing.now in
     let count : c.len-count.result ≡ length k.source.now.names = c.len-count.ensures.len ∙ ap length c.names.ensures.names in
     let consistent : IsConsistent listing = c.in_ok-is_consistent.ensures.0 c.if-not-branch.false in
-    let out : LeavesOut c.len-count.result listing = not_found (GivesAll c.len-count.result listing) (LeavesOut c.len-count.result listing) c.in_ok-solution.field-0 c.in_default.not-Some c.in_ok-solution.ensures in
+    let out : LeavesOut c.len-count.result listing = subst (λ o. MatchOption o (LeavesOut c.len-count.result listing) (GivesAll c.len-count.result listing)) c.in_default.is c.in_ok-solution.ensures in
     let impossible = not_closed (constraints s) listing c.in_ok-reached.field-0 c.in_default-2.not-Closed c.in_ok-reached.ensures.reach in
     subst (λ (x : Held). IsSolFault x.problem x.state listing faults.SolutionConflict) c.self.view_is
     (conflicts k.source.now s listing consistent (subst (λ n. LeavesOut n listing) count out) impossible)
@@ -42,7 +42,7 @@ returns-in-Some-2-clause-completes g c =
     let listing : List Lit = c.args.listing.now in
     let count : c.len-count.result ≡ length k.source.now.names = c.len-count.ensures.len ∙ ap length c.names.ensures.names in
     let consistent : IsConsistent listing = c.in_ok-is_consistent.ensures.0 c.if-not-branch.false in
-    let out : LeavesOut c.len-count.result listing = not_found (GivesAll c.len-count.result listing) (LeavesOut c.len-count.result listing) c.in_ok-solution.field-0 c.in_default.not-Some c.in_ok-solution.ensures in
+    let out : LeavesOut c.len-count.result listing = subst (λ o. MatchOption o (LeavesOut c.len-count.result listing) (GivesAll c.len-count.result listing)) c.in_default.is c.in_ok-solution.ensures in
     let reach = subst (IsReach (constraints s) listing) c.in-Closed.is c.in_ok-reached.ensures.reach in
     let closed : List Lit = c.in-Closed.reached in
     let gives : GivesAll c.len-count.result c.as_slice.result.now c.in-Some-2.solution =

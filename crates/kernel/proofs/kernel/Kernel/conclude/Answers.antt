@@ -9,7 +9,7 @@ use Rattle.kernel.proofs.kernel.Kernel.conclude.Goals as goal
 pub returns-clause-justified : goal.returns-clause-justified
 returns-clause-justified g c =
     let k : Held = c.args.self.now in
-    subst (IsJustified k.problem k.state c.args.conclusion.now) (sym (ap (λ (a : Judgement). a.best) c.new-accepted.ensures)) c.in_ok-best.ensures.justified
+    subst (IsJustified k.problem k.state c.args.conclusion.now) (sym (ap (λ (a : Judgement). a.best) c.new.ensures)) c.in_ok-best.ensures.justified
 
 pub returns-clause-claim : goal.returns-clause-claim
 returns-clause-claim g c =
@@ -17,5 +17,5 @@ returns-clause-claim g c =
     let kept : IsKept k = subst IsKept c.self.view_is c.self.invariant.kept in
     let claim : Claim k.problem c.args.conclusion.now c.in_ok-best.best =
     justified_claim k.problem k.state c.args.conclusion.now c.in_ok-best.best kept.preserved kept.normal c.in_ok-best.ensures.justified in
-    subst (λ (a : Judgement). Claim k.problem a.conclusion a.best) (sym c.new-accepted.ensures)
+    subst (λ (a : Judgement). Claim k.problem a.conclusion a.best) (sym c.new.ensures)
     (subst (λ x. Claim k.problem x c.in_ok-best.best) (sym c.in_ok-copied_conclusion.ensures) claim)
