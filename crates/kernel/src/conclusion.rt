@@ -45,6 +45,7 @@ impl<'a, P: Propagator> Kernel<'a, P> {
         ensures fault { IfErr result (λ f. OrMemory f (IsConclusionFault self.old.problem self.old.state conclusion.now f)) }
         ensures same { self.new ≡ self.old }
     {
+        // That the kernel keeps an answer is known by its type; this makes it known here.
         let _ = &self.source;
         let best = self.judge(conclusion)?;
         Ok(Accepted::new(copied_conclusion(conclusion)?, best))
