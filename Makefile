@@ -1,7 +1,7 @@
 # The door for people. `make` proves every crate and builds the program into bin/, from nothing too; `make test` runs the
 # gate: every proof from nothing, the edits that must fail, and the tests; `make demo` runs the checker on three pigeons in
 # two holes, and on an optimum.
-.PHONY: all test demo check layout refused-growths statuses figures wrong-edits wrong-bodies gate-minutes
+.PHONY: all test demo check layout refused-growths statuses figures differential wrong-edits wrong-bodies gate-minutes
 
 # How many crates are proved side by side.
 JOBS ?= $(shell nproc)
@@ -44,6 +44,10 @@ refused-growths: bin/pbcheck
 # Exit statuses and texts, failing reads and writes among them. Beside the gate: it wants a C compiler.
 statuses: bin/pbcheck
 	scripts/statuses
+
+# Compares the checker with a second, plain judge on random problems and proofs, and what is accepted with all assignments.
+differential: bin/pbcheck
+	scripts/differential
 
 # Times the checker on large problems and proofs.
 figures: bin/pbcheck
