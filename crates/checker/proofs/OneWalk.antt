@@ -3,7 +3,6 @@
 use Rattle.std.proofs.Common.{◌≡◌, ◌≢◌, ◌⊎◌, ℕ, ℤ, pos, inl, inr, Option, Some, None, List, [], ◌∷◌, length, refl, sym, ap, subst, ◌∙◌, arith}
 use Rattle.linear.specs.Opb.{Opb}
 use Rattle.kernel.specs.Accepted.{Judgement}
-use Rattle.kernel.specs.Kinds.{IsJudgedStep}
 use Rattle.proof_rules.specs.Fault.{IsStepFault, IsConclusionFault}
 use Rattle.proof_rules.specs.Forms.{problem_ids}
 use Rattle.proof_rules.specs.State.{State}
@@ -24,7 +23,7 @@ use Rattle.proof_text.specs.declared.line.Line.{Line}
 use Rattle.proof_text.specs.declared.line.Line.TheVariants as lines
 use Rattle.proof_text.specs.declared.line.Place.{Place}
 use Rattle.proof_text.specs.declared.line.Place.TheVariants as places
-use Rattle.checker.specs.Stopped.{IsLeftOut, IsFaulty, IsStopped, IsTruncated, IsUnread, IsRefused, Refuses, Stops}
+use Rattle.checker.specs.Stopped.{IsFaulty, IsStopped, IsTruncated, IsUnread, IsRefused, Refuses, Stops}
 use Rattle.checker.specs.Stopped.{truncated, unread, refused}
 use Rattle.checker.specs.Walk.{Accepts, Advances, IsOver, Next, Position, Reaches, Walks, beginning}
 use Rattle.checker.specs.declared.verdict.Code.{Code}
@@ -105,11 +104,7 @@ denied_never f places.After old ws line new d sure is = let none : ◌≡◌ {A 
 refuses_never : (p : Opb) (old new : Position) (said : Line) (code : Code) → Accepts p old said new → Refuses p old.state said code → ⊥
 refuses_never p old new lines.Header code a r = absurd r
 refuses_never p old new (lines.Count count) code a r = r.0 a.0
-refuses_never p old new (lines.Step step) code a r = by r
-  where
-    by : IsLeftOut step code ⊎ IsFaulty (IsStepFault p old.state step) code → ⊥
-    by (inl out) = out.1 a.kind
-    by (inr why) = step_never p old.state step why.0 new.state why.3 a.legal
+refuses_never p old new (lines.Step step) code a r = step_never p old.state step r.0 new.state r.3 a.legal
 refuses_never p old new lines.Output code a r = absurd r
 refuses_never p old new (lines.Conclusion c) code a r = conclusion_never p old.state c r.0 a.best r.3 a.justified
 refuses_never p old new lines.End code a r = absurd r

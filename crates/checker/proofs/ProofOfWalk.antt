@@ -1,10 +1,8 @@
 -- A walk that comes to the end has read a legal proof of the kinds that are judged: what is left of a proof is gathered section by
 -- section, from the last position back to the first.
 use Rattle.std.proofs.Common.{◌≡◌, ◌⊎◌, All, ℕ, ℤ, pos, inl, inr, Option, Some, None, List, [], ◌∷◌, ◌++◌, refl, sym, ap, subst, ◌∙◌}
-use Rattle.std.proofs.lemmas.List.Elements.{All-cons, All-nil}
 use Rattle.linear.specs.Opb.{Opb}
 use Rattle.kernel.specs.Accepted.{Judgement}
-use Rattle.kernel.specs.Kinds.{IsJudgedStep}
 use Rattle.proof_rules.specs.Forms.{problem_ids}
 use Rattle.proof_rules.specs.Justified.{IsJustified}
 use Rattle.proof_rules.specs.Legal.{Legal, Leads}
@@ -20,7 +18,6 @@ use Rattle.proof_text.specs.declared.line.Line.TheVariants as lines
 use Rattle.proof_text.specs.declared.line.Place.{Place}
 use Rattle.proof_text.specs.declared.line.Place.TheVariants as places
 use Rattle.checker.specs.Headline.{IsProved}
-use Rattle.checker.specs.Kinds.{AreOfJudgedKinds}
 use Rattle.checker.specs.Walk.{Accepts, Advances, IsOver, Next, Position, Reaches, Walks, beginning}
 use Rattle.checker.proofs.Sections.{Says, says}
 
@@ -51,7 +48,6 @@ record FromSteps (p : Opb) (a : Judgement) (at : Position) : Type 0 where
   says : AreSteps at.names between steps named
   output_is : IsLine places.Step named (words output.text) lines.Output behind.names
   leads : Leads p at.state steps behind.state
-  judged : All IsJudgedStep steps
   rest : FromConclusion p a behind
 
 -- from its count on
@@ -149,7 +145,6 @@ before_steps p a old new on section rest =
           says = refl;
           output_is = subst (λ n. IsLine places.Step old.names (words on.next.line.text) lines.Output n) (sym on.names) is;
           leads = moves.state;
-          judged = All-nil IsJudgedStep;
           rest = behind;
         }
     by (inr said) =
@@ -166,7 +161,6 @@ before_steps p a old new on section rest =
           says = (new.names, subst (λ n. IsLine places.Step old.names (words on.next.line.text) (lines.Step said.0) n) (sym on.names) is, behind.says);
           output_is = behind.output_is;
           leads = (new.state, takes.legal, behind.leads);
-          judged = All-cons IsJudgedStep said.0 behind.steps takes.kind behind.judged;
           rest = behind.rest;
         }
 
@@ -218,49 +212,47 @@ gathered p a at end [] walks over concluded =
 gathered p a at end (next ∷ path) walks over concluded = before p a at next at.section refl walks.0 (gathered p a next end path walks.1 over concluded)
 
 -- what a whole walk proves
-proved_by : (p : Opb) (proof : List ℕ) (a : Judgement) (start : State) → IsStart p start → FromHeader p a (beginning p proof start) → (proved : IsProved p proof a) × AreOfJudgedKinds proved.steps
+proved_by : (p : Opb) (proof : List ℕ) (a : Judgement) (start : State) → IsStart p start → FromHeader p a (beginning p proof start) → IsProved p proof a
 proved_by p proof a start starts whole =
     let counting : FromCount p a whole.behind = whole.rest in
     let stepping : FromSteps p a counting.behind = counting.rest in
     let concluding : FromConclusion p a stepping.behind = stepping.rest in
     let names : counting.behind.names ≡ p.names = counting.names_are ∙ whole.names_are in
-    let state : counting.behind.state ≡ start = counting.state_is ∙ whole.state_is in (
-      record {
-        steps = stepping.steps;
-        spelled = record {
-          header = whole.header;
-          counted = counting.counted;
-          output = stepping.output;
-          concluded = concluding.concluded;
-          ended = concluding.ended;
-          between = stepping.between;
-          in_order = whole.in_order ∙ ap (λ ls. whole.header ∷ ls) (counting.in_order ∙ ap (λ ls. counting.counted ∷ ls)
-              (stepping.in_order ∙ ap (λ ls. stepping.between ++ stepping.output ∷ ls) concluding.in_order));
-          named = stepping.named;
-          after = stepping.behind.names;
-          all = concluding.all;
-          header_is = whole.header_is;
-          count_is = subst (λ n. IsLine places.Count n (words counting.counted.text) (lines.Count (pos (problem_ids p.constraints))) n) whole.names_are counting.count_is;
-          steps_are = subst (λ n. AreSteps n stepping.between stepping.steps stepping.named) names stepping.says;
-          output_is = stepping.output_is;
-          conclusion_is = concluding.conclusion_is;
-          end_is = concluding.end_is;
-        };
-        legal = record {
-          start = start;
-          end = stepping.behind.state;
-          starts = starts;
-          leads = subst (λ s. Leads p s stepping.steps stepping.behind.state) state stepping.leads;
-          justified = concluding.justified;
-        };
-      },
-      stepping.judged,
-    )
+    let state : counting.behind.state ≡ start = counting.state_is ∙ whole.state_is in
+    record {
+      steps = stepping.steps;
+      spelled = record {
+        header = whole.header;
+        counted = counting.counted;
+        output = stepping.output;
+        concluded = concluding.concluded;
+        ended = concluding.ended;
+        between = stepping.between;
+        in_order = whole.in_order ∙ ap (λ ls. whole.header ∷ ls) (counting.in_order ∙ ap (λ ls. counting.counted ∷ ls)
+            (stepping.in_order ∙ ap (λ ls. stepping.between ++ stepping.output ∷ ls) concluding.in_order));
+        named = stepping.named;
+        after = stepping.behind.names;
+        all = concluding.all;
+        header_is = whole.header_is;
+        count_is = subst (λ n. IsLine places.Count n (words counting.counted.text) (lines.Count (pos (problem_ids p.constraints))) n) whole.names_are counting.count_is;
+        steps_are = subst (λ n. AreSteps n stepping.between stepping.steps stepping.named) names stepping.says;
+        output_is = stepping.output_is;
+        conclusion_is = concluding.conclusion_is;
+        end_is = concluding.end_is;
+      };
+      legal = record {
+        start = start;
+        end = stepping.behind.state;
+        starts = starts;
+        leads = subst (λ s. Leads p s stepping.steps stepping.behind.state) state stepping.leads;
+        justified = concluding.justified;
+      };
+    }
 
 -- where judging comes to the end, the proof is one
 pub proved_at_end : (p : Opb) (proof : List ℕ) (at : Position) (a : Judgement) → Reaches p proof at → IsOver at → at.concluded ≡ Some a → IsProved p proof a
 proved_at_end p proof at a reached over concluded =
-    (proved_by p proof a reached.start reached.starts (gathered p a (beginning p proof reached.start) at reached.path reached.walks over concluded)).0
+    proved_by p proof a reached.start reached.starts (gathered p a (beginning p proof reached.start) at reached.path reached.walks over concluded)
 
 -- something was concluded where the end line is due, and behind it
 abbrev Settled : Place → Option Judgement → Type 0

@@ -1,9 +1,7 @@
 -- A legal proof of the kinds that are judged is a walk that comes to the end.
 use Rattle.std.proofs.Common.{◌≡◌, ℕ, pos, All, Option, Some, None, List, [], ◌∷◌, ◌++◌, Bool, refl, sym, subst}
-use Rattle.std.proofs.lemmas.List.Elements.{All-head, All-tail}
 use Rattle.linear.specs.Opb.{Opb}
 use Rattle.kernel.specs.Accepted.{Judgement}
-use Rattle.kernel.specs.Kinds.{IsJudgedStep}
 use Rattle.proof_rules.specs.Forms.{problem_ids}
 use Rattle.proof_rules.specs.Justified.{IsJustified}
 use Rattle.proof_rules.specs.Legal.{Legal, Leads}
@@ -17,7 +15,6 @@ use Rattle.proof_text.specs.declared.line.Line.TheVariants as lines
 use Rattle.proof_text.specs.declared.line.Place.{Place}
 use Rattle.proof_text.specs.declared.line.Place.TheVariants as places
 use Rattle.checker.specs.Headline.{IsProved}
-use Rattle.checker.specs.Kinds.{AreOfJudgedKinds}
 use Rattle.checker.specs.Walk.{Advances, IsOver, Position, Reaches, Walks, beginning}
 
 -- the walk comes to the end from here
@@ -74,25 +71,25 @@ from_output p a names after all last output l end s put is ended justified =
     ahead p old new on (from_conclusion p a after all last l end s is ended justified)
 
 -- among the steps: what stands behind them comes to the end from the state to which they lead
-from_steps : (p : Opb) (s t : State) (names named : List (List ℕ)) (between behind : List Numbered) (steps : List Step) → AreSteps names between steps named → Leads p s steps t → All IsJudgedStep steps
+from_steps : (p : Opb) (s t : State) (names named : List (List ℕ)) (between behind : List Numbered) (steps : List Step) → AreSteps names between steps named → Leads p s steps t
     → Ends p (position places.Step named behind t None) → Ends p (position places.Step names (between ++ behind) s None)
-from_steps p s t names named [] behind [] says leads judged rest = subst (λ n. Ends p (position places.Step n behind s None)) says (subst (λ u. Ends p (position places.Step named behind u None)) leads rest)
-from_steps p s t names named [] behind (x ∷ xs) says leads judged rest = absurd says
-from_steps p s t names named (b ∷ bs) behind [] says leads judged rest = absurd says
-from_steps p s t names named (b ∷ bs) behind (x ∷ xs) says leads judged rest =
+from_steps p s t names named [] behind [] says leads rest = subst (λ n. Ends p (position places.Step n behind s None)) says (subst (λ u. Ends p (position places.Step named behind u None)) leads rest)
+from_steps p s t names named [] behind (x ∷ xs) says leads rest = absurd says
+from_steps p s t names named (b ∷ bs) behind [] says leads rest = absurd says
+from_steps p s t names named (b ∷ bs) behind (x ∷ xs) says leads rest =
     let old : Position = position places.Step names (b ∷ (bs ++ behind)) s None in
     let new : Position = position places.Step says.0 (bs ++ behind) leads.0 None in
     let on : Advances p old new = record {
       next = record { line = b; behind = bs ++ behind; in_order = refl; said = lines.Step x; names = says.0; is = says.1 };
       left = refl;
       names = refl;
-      accepts = record { section_is = refl; kind = All-head IsJudgedStep x xs judged; legal = leads.1; concluded = refl };
+      accepts = record { section_is = refl; legal = leads.1; concluded = refl };
     } in
-    ahead p old new on (from_steps p leads.0 t says.0 named bs behind xs says.2 leads.2 (All-tail IsJudgedStep x xs judged) rest)
+    ahead p old new on (from_steps p leads.0 t says.0 named bs behind xs says.2 leads.2 rest)
 
 -- the walk of a proof
-pub walk_of : (p : Opb) (proof : List ℕ) (a : Judgement) (proved : IsProved p proof a) → AreOfJudgedKinds proved.steps → (end : Position) × Reaches p proof end × IsOver end
-walk_of p proof a proved kinds =
+pub walk_of : (p : Opb) (proof : List ℕ) (a : Judgement) (proved : IsProved p proof a) → (end : Position) × Reaches p proof end × IsOver end
+walk_of p proof a proved =
     let sp = proved.spelled in
     let s : State = proved.legal.start in
     let t : State = proved.legal.end in
@@ -102,7 +99,7 @@ walk_of p proof a proved kinds =
     let third : Position = position places.Step p.names (sp.between ++ behind) s None in
     let at_output : Ends p (position places.Step sp.named behind t None) =
     from_output p a sp.named sp.after sp.all sp.all sp.output sp.concluded sp.ended t sp.output_is sp.conclusion_is sp.end_is proved.legal.justified in
-    let at_steps : Ends p third = from_steps p s t p.names sp.named sp.between behind proved.steps sp.steps_are proved.legal.leads kinds at_output in
+    let at_steps : Ends p third = from_steps p s t p.names sp.named sp.between behind proved.steps sp.steps_are proved.legal.leads at_output in
     let counted : Advances p second third = record {
       next = record { line = sp.counted; behind = sp.between ++ behind; in_order = refl; said = lines.Count (pos (problem_ids p.constraints)); names = p.names; is = sp.count_is };
       left = refl;

@@ -48,7 +48,7 @@ accepts_before : (p : Opb) (old mid new : Position) (said : Line) → mid.sectio
 accepts_before p old mid new lines.Header section state concluded a = record { section_is = a.section_is; state = a.state ∙ state; concluded = a.concluded ∙ concluded }
 accepts_before p old mid new (lines.Count n) section state concluded a = (a.0, record { section_is = a.1.section_is; state = a.1.state ∙ state; concluded = a.1.concluded ∙ concluded })
 accepts_before p old mid new (lines.Step step) section state concluded a =
-    record { section_is = a.section_is ∙ section; kind = a.kind; legal = subst (λ s. Legal p s step new.state) state a.legal; concluded = a.concluded ∙ concluded }
+    record { section_is = a.section_is ∙ section; legal = subst (λ s. Legal p s step new.state) state a.legal; concluded = a.concluded ∙ concluded }
 accepts_before p old mid new lines.Output section state concluded a = record { section_is = a.section_is; state = a.state ∙ state; concluded = a.concluded ∙ concluded }
 accepts_before p old mid new (lines.Conclusion c) section state concluded a =
     record { section_is = a.section_is; best = a.best; justified = subst (λ s. IsJustified p s c a.best) state a.justified; state = a.state ∙ state; concluded = a.concluded }

@@ -13,7 +13,6 @@ use Rattle.proof_rules.specs.Forms.{problem_ids}
 use Rattle.proof_rules.specs.Justified.{IsLegalProof}
 use Rattle.proof_steps.specs.declared.step.Step.{Step}
 use Rattle.proof_text.specs.ProofSpells.{SpellsProof}
-use Rattle.checker.specs.Kinds.{AreOfJudgedKinds}
 use Rattle.checker.specs.Stopped.{IsStopped}
 use Rattle.checker.specs.declared.verdict.Code.{Code}
 use Rattle.checker.specs.declared.verdict.Verdict.{Verdict}
@@ -42,12 +41,11 @@ pub record IsBadProblem (text : List ℕ) (fault : OpbFault) : Type 0 where
   pub place : IsFaultAt text fault.code fault.line
   pub no_memory : fault.code ≢ problems.OutOfMemory
 
--- the text is no legal proof, of any conclusion, by steps of the kinds that are judged so far
+-- the text is no legal proof, of any conclusion
 abbrev pub IsUnproved : Opb → List ℕ → Type 0
-IsUnproved p proof = (a : Judgement) (proved : IsProved p proof a) → AreOfJudgedKinds proved.steps → ⊥
+IsUnproved p proof = (a : Judgement) → IsProved p proof a → ⊥
 
--- The text spells a problem, and judging the proof stops at this line with this code; so it is no legal proof by
--- steps of the kinds that are judged so far.
+-- The text spells a problem, and judging the proof stops at this line with this code; so it is no legal proof.
 pub record IsRefusedProof (text proof : List ℕ) (line : ℕ) (code : Code) : Type 0 where
   pub problem : Opb
   pub spelled : Spells text problem
@@ -56,8 +54,7 @@ pub record IsRefusedProof (text proof : List ℕ) (line : ℕ) (code : Code) : T
   pub unproved : IsUnproved problem proof
 
 -- What a verdict says of the text of a problem and the text of a proof. Accepted: the conclusion is true of the problem,
--- and proved. Refused: the proof is none by steps that are judged so far, and this is its first line that cannot be read, is
--- not judged, or is not legal. A bad problem: its text spells none within the limits, for this reason. Want of memory says
+-- and proved. Refused: the proof is none, and this is its first line that cannot be read or is not legal. A bad problem: its text spells none within the limits, for this reason. Want of memory says
 -- nothing.
 abbrev pub IsVerdictOf : List ℕ → List ℕ → Verdict → Type 0
 IsVerdictOf text proof (verdicts.Accepted accepted) = IsTrueOf text proof accepted

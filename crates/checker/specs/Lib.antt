@@ -1,5 +1,4 @@
 pub mod Headline
-pub mod Kinds
 pub mod Printed
 pub mod Stopped
 pub mod StopsBy

@@ -1,13 +1,11 @@
 -- Where judging a proof stops, and why: the walk comes to a position, and no line leads on from there.
-use Rattle.std.specs.Prelude.{◌≡◌, ◌≢◌, ℕ, pos, ◌⊎◌, List, [], ◌∷◌}
+use Rattle.std.specs.Prelude.{◌≡◌, ◌≢◌, ℕ, pos, List, [], ◌∷◌}
 use Rattle.linear.specs.Opb.{Opb}
-use Rattle.kernel.specs.Kinds.{IsJudgedStep}
 use Rattle.proof_rules.specs.Fault.{IsStepFault, IsConclusionFault}
 use Rattle.proof_rules.specs.Forms.{problem_ids}
 use Rattle.proof_rules.specs.State.{State}
 use Rattle.proof_rules.specs.declared.fault.StepFault.{StepFault}
 use Rattle.proof_rules.specs.declared.fault.StepFault.TheVariants as judgings
-use Rattle.proof_steps.specs.declared.step.Step.{Step}
 use Rattle.proof_text.specs.Faults.{DeniesLine}
 use Rattle.proof_text.specs.Lines.{Numbered, lines_of}
 use Rattle.proof_text.specs.Words.{words}
@@ -38,18 +36,14 @@ pub record IsUnread (at : Position) (line : ℕ) (code : Code) : Type 0 where
   pub no_memory : fault ≢ readings.OutOfMemory
   pub denied : DeniesLine fault at.section at.names (words next.text)
 
--- a step of a kind that is not judged so far is left out
-abbrev pub IsLeftOut : Step → Code → Type 0
-IsLeftOut step code = (code ≡ Reading readings.RuleLeftOut) × (IsJudgedStep step → ⊥)
-
 -- what is judged has a fault
 abbrev pub IsFaulty : (StepFault → Type 0) → Code → Type 0
 IsFaulty IsFault code = (f : StepFault) × (code ≡ Judging f) × (f ≢ judgings.OutOfMemory) × IsFault f
 
--- what a line says is not accepted: another count, a kind that is not judged so far, or a fault
+-- what a line says is not accepted: another count, or a fault
 abbrev pub Refuses : Opb → State → Line → Code → Type 0
 Refuses p s (lines.Count count) code = (count ≢ pos (problem_ids p.constraints)) × (code ≡ Reading readings.BadCount)
-Refuses p s (lines.Step step) code = IsLeftOut step code ⊎ IsFaulty (IsStepFault p s step) code
+Refuses p s (lines.Step step) code = IsFaulty (IsStepFault p s step) code
 Refuses p s (lines.Conclusion c) code = IsFaulty (IsConclusionFault p s c) code
 Refuses p s _ code = ⊥
 

@@ -2,7 +2,6 @@
 use Rattle.std.specs.Prelude.{◌≡◌, ℕ, pos, Option, Some, None, Bool, List, [], ◌∷◌}
 use Rattle.linear.specs.Opb.{Opb}
 use Rattle.kernel.specs.Accepted.{Judgement}
-use Rattle.kernel.specs.Kinds.{IsJudgedStep}
 use Rattle.proof_rules.specs.Forms.{problem_ids}
 use Rattle.proof_rules.specs.Justified.{IsJustified}
 use Rattle.proof_rules.specs.Legal.{Legal}
@@ -32,10 +31,9 @@ pub record Moves (old new : Position) (section : Place) : Type 0 where
   pub state : new.state ≡ old.state
   pub concluded : new.concluded ≡ old.concluded
 
--- a step of a kind that is judged so far, which is legal
+-- a step that is legal
 pub record TakesStep (p : Opb) (old new : Position) (step : Step) : Type 0 where
   pub section_is : new.section ≡ old.section
-  pub kind : IsJudgedStep step
   pub legal : Legal p old.state step new.state
   pub concluded : new.concluded ≡ old.concluded
 

@@ -5,18 +5,17 @@ ghost use Rattle.linear.specs.Opb.{Opb};
 ghost use Rattle.kernel.specs.Accepted.{Judgement};
 ghost use Rattle.proof_rules.specs.Claim.{IsSolution};
 ghost use Rattle.checker.specs.Headline.{IsProved, IsTrueOf};
-ghost use Rattle.checker.specs.Kinds.{AreOfJudgedKinds};
 ghost use Rattle.checker.specs.Stopped.{IsStopped};
 ghost use Rattle.checker.specs.Printed.{IsPrinted, accepted_line, with_assignment};
 ghost use Rattle.checker.specs.declared.verdict.Verdict.TheVariants.{Accepted};
 
 use super::verdict::Code;
 
-/// Where judging stops at a line, the text is no legal proof by steps of the kinds that are judged so far: so
+/// Where judging stops at a line, the text is no legal proof: so
 /// `check` refuses only what it must.
 pub fn refused_is_not_proved()
     ensures { (p : Opb) → (proof : List ℕ) → (line : ℕ) → (code : Code) → IsStopped p proof line code
-        → (a : Judgement) → (proved : IsProved p proof a) → AreOfJudgedKinds proved.steps → ⊥ }
+        → (a : Judgement) → IsProved p proof a → ⊥ }
 {}
 
 /// Judging a proof stops at one line at most.

@@ -11,7 +11,7 @@ ghost use Rattle.checker.specs.Walk.{Reaches};
 ghost use Rattle.checker.specs.WalkOf.{position_of, AcceptsOn, AdvancesOn, IsRefusal, IsStopOf, Reads};
 
 use super::stop::{Stop, judging, reading};
-use kernel::{Accepted, is_judged_step};
+use kernel::Accepted;
 use linear::{Names, Problem};
 use proof_steps::{Conclusion, Step};
 use proof_text::{Line, Place, ProofFault, ProofReader, read_line};
@@ -148,7 +148,7 @@ impl<'a> Walk<'a> {
         Ok(())
     }
 
-    /// Judges a step. What reads well and is not judged yet is left out.
+    /// Judges a step.
     fn step(&mut self, step: &Step, number: u64) -> Result<(), Stop>
         requires writable { IsLineWritable (length self.old.names) (Line.Step step.now) }
         ensures count { self.new.count ≡ self.old.count }
@@ -158,9 +158,6 @@ impl<'a> Walk<'a> {
         ensures accepts { OnOk result (AcceptsOn self.old (Line.Step step.now) self.new) }
         ensures stop { IfErr result (IsRefusal number self.old (Line.Step step.now)) }
     {
-        if !is_judged_step(step) {
-            return Err(reading(number, ProofFault::RuleLeftOut));
-        }
         match self.kernel.apply(step) {
             Ok(_) => Ok(()),
             Err(fault) => Err(judging(number, fault)),

@@ -6,6 +6,7 @@ pub mod Improving
 pub mod Keeping
 pub mod Listed
 pub mod Members
+pub mod GoalsShown
 pub mod Showing
 pub mod Tables
 pub mod TakenBack

@@ -3,7 +3,7 @@ pub mod Database
 pub mod Deletion
 pub mod File
 pub mod Held
-pub mod Kinds
 pub mod Logged
+pub mod Redundancy
 pub mod Stack
 pub mod Table

@@ -9,7 +9,7 @@ use normal_form::Normal;
 use propagate::{Id, Propagator, Reach};
 use std::alloc::{AllocError, Global};
 use std::marker::Model;
-use substitution::covers;
+use substitution::{Substitution, apply, covers};
 
 /// Ids are below this number.
 const ID_LIMIT: u64 = 1 << 32;
@@ -36,6 +36,7 @@ impl<P: Propagator> Model for Database<P> {
 }
 
 impl<P: Propagator> Database<P> {
+    ghost use Rattle.kernel.specs.Redundancy.{BecomesBeyond};
     ghost use Rattle.std.specs.Prelude.{◌≡◌, ◌↔◌, ◌<◌, ◌++◌, IfOk, IsSome, IsSomeAnd, MatchOption, None, IsTrue, OnErr, OnOk};
     ghost use Rattle.normal_form.specs.Normal.{NormalConstraint};
     ghost use Rattle.propagate.specs.Chain.{IsRefuted};
@@ -121,6 +122,26 @@ impl<P: Propagator> Database<P> {
             Some(live) => covers(live, constraint),
             None => false,
         }
+    }
+
+    /// What the live constraint of an id becomes under a witness; none where it covers that itself, as one does that has no
+    /// variable of the witness.
+    pub(crate) fn becoming(
+        &self,
+        alloc: Global,
+        id: Id,
+        witness: &Substitution,
+    ) -> Result<Option<Normal>, AllocError>
+        ensures { IfOk result (λ goal. (n : NormalConstraint) → map.get self.now.live id ≡ Some n → BecomesBeyond n witness.now goal) }
+    {
+        let Some(live) = self.constraints.get(id) else {
+            return Ok(None);
+        };
+        let goal = apply(alloc, live, witness)?;
+        if covers(live, &goal) {
+            return Ok(None);
+        }
+        Ok(Some(goal))
     }
 
     /// Whether the live constraints are refuted with some beside them.

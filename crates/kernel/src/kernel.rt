@@ -53,7 +53,6 @@ impl<'a, P: Propagator> Kernel<'a, P> {
     ghost use Rattle.proof_rules.specs.Shown.{IsShown};
     ghost use Rattle.proof_rules.specs.State.{IsStart, HasRoom, constraints, with_constraint};
     ghost use Rattle.kernel.specs.Held.{IsKept, HasAtLeast, given_id};
-    ghost use Rattle.kernel.specs.Kinds.{IsJudgedStep};
 
     /// The kernel of a problem's file. Want of memory is the only fault.
     pub fn new(alloc: Global, problem: &'a Problem) -> Result<Self, StepFault>
@@ -81,11 +80,10 @@ impl<'a, P: Propagator> Kernel<'a, P> {
     }
 
     /// Applies a step, whole or not at all: `pol`, which adds the value of an expression; `rup`, which adds a constraint that
-    /// is shown from the live ones; `sol`, which logs a solution of the file; `soli`, which also adds a constraint that asks
+    /// is shown from the live ones; `red`, which adds one that is redundant by a witness; `sol`, which logs a solution of the file; `soli`, which also adds a constraint that asks
     /// for better ones; `del`, which takes out constraints that steps derived. A refusal names the first fault in the order of
     /// judging, and leaves the kernel as before; a legal step is refused for want of memory alone.
     pub fn apply(&mut self, step: &Step) -> Result<Applied, StepFault>
-        requires kind { IsJudgedStep step.now }
         requires relation { HasAtLeast step.now }
         ensures problem { self.new.problem ≡ self.old.problem }
         ensures ok { OnOk result (Legal self.old.problem self.old.state step.now self.new.state) }
@@ -99,7 +97,7 @@ impl<'a, P: Propagator> Kernel<'a, P> {
             Step::Sol(listing) => self.sol(listing.as_slice()),
             Step::Soli(listing) => self.soli(listing.as_slice()),
             Step::Del(ids) => self.del(ids.as_slice()),
-            _ => unreachable!(),
+            Step::Red(constraint, witness) => self.red(constraint, witness),
         }
     }
 

@@ -9,10 +9,10 @@ mod deletion;
 mod file;
 mod ids;
 mod kernel;
-mod kinds;
 mod log;
 mod objective;
 mod pol;
+mod redundancy;
 mod rup;
 mod shown;
 mod solution;
@@ -21,4 +21,3 @@ mod values;
 
 pub use accepted::Accepted;
 pub use kernel::{Applied, Kernel};
-pub use kinds::is_judged_step;

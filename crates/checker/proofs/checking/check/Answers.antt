@@ -32,6 +32,6 @@ returns-in-Err-At c =
         spelled = c.in-Ok.ensures.spells;
         within = c.in-Ok.ensures.within;
         stopped = stopped;
-        unproved = λ a proved kinds. let walk = walk_of p c.args.proof.now a proved kinds in stopped_never p c.args.proof.now walk.0 c.in-Err-At.line c.in-Err-At.code walk.1 walk.2 stopped;
+        unproved = λ a proved. let walk = walk_of p c.args.proof.now a proved in stopped_never p c.args.proof.now walk.0 c.in-Err-At.line c.in-Err-At.code walk.1 walk.2 stopped;
       };
     }

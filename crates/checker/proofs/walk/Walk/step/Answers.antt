@@ -1,5 +1,5 @@
-use Rattle.std.proofs.Common.{refl, rules}
+use Rattle.std.proofs.Common.{refl}
 use Rattle.checker.proofs.walk.Walk.step.Goals as goal
 
 pub returns-in-Ok-clause-accepts : goal.returns-in-Ok-clause-accepts
-returns-in-Ok-clause-accepts c = record { section_is = refl; kind = search rules; legal = c.in-Ok.ensures.ok; concluded = refl }
+returns-in-Ok-clause-accepts c = record { section_is = refl; legal = c.in-Ok.ensures.ok; concluded = refl }

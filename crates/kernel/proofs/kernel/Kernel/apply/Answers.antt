@@ -20,3 +20,8 @@ returns-in-Del-clause-fault g c =
     let k : Held = c.args.self.now in
     subst (λ x. IfErr c.del.result (λ f. OrMemory f (IsStepFault k.problem k.state x f))) (sym c.in-Del.is)
     (subst (λ l. IfErr c.del.result (λ f. OrMemory f (IsDelFault k.problem k.state l f))) c.as_slice-in-Del.ensures c.del.ensures.fault)
+
+pub returns-in-Red-clause-fault : goal.returns-in-Red-clause-fault
+returns-in-Red-clause-fault g c =
+    let k : Held = c.args.self.now in
+    subst (λ x. IfErr c.red.result (λ f. OrMemory f (IsStepFault k.problem k.state x f))) (sym c.in-Red.is) c.red.ensures.fault

@@ -1,0 +1,29 @@
+use Rattle.std.proofs.Common.{◌≡◌, ◌↔◌, ◌++◌, List, None, Option, Some, IfOk, IsTrue, refl, sym, subst}
+use Rattle.std.proofs.lemmas.Result.{IfOk-weaker}
+use Rattle.std.specs.FinMap as map
+use Rattle.normal_form.specs.Normal.{NormalConstraint}
+use Rattle.proof_rules.specs.Legal.{IsShownUnder}
+use Rattle.proof_rules.specs.Shown.{IsShown}
+use Rattle.kernel.specs.Redundancy.{BecomesBeyond}
+use Rattle.kernel.proofs.GoalsShown.{shown_under, covered_under}
+use Rattle.kernel.proofs.redundancy.shows_live.Goals as goal
+
+pub returns-in_default-clause-shown : goal.returns-in_default-clause-shown
+returns-in_default-clause-shown g c =
+    let live = c.args.database.now.live in
+    let beside : List NormalConstraint = c.args.beside.now.items in
+    let images = c.args.witness.now in
+    λ n is.
+    let b : BecomesBeyond n images None = subst (BecomesBeyond n images) c.in_default.is (c.in_ok-goal.ensures n is) in
+    (λ _. covered_under live beside images c.args.id n b.0 is b.1 b.2, λ _. refl)
+
+pub returns-clause-shown : goal.returns-clause-shown
+returns-clause-shown g c =
+    let live = c.args.database.now.live in
+    let beside : List NormalConstraint = c.args.beside.now.items in
+    let images = c.args.witness.now in
+    let r = c.in-Some.goal in
+    IfOk-weaker c.is_shown.result (λ yes. IsTrue yes ↔ IsShown (map.values live ++ beside) r)
+    (λ yes. (n : NormalConstraint) → map.get live c.args.id ≡ Some n → IsTrue yes ↔ IsShownUnder (map.values live ++ beside) images n)
+    (λ yes shown n is. shown_under (map.values live ++ beside) images n r yes (subst (BecomesBeyond n images) c.in-Some.is (c.in_ok-goal.ensures n is)) shown)
+    c.is_shown.ensures.shown

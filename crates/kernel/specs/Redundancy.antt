@@ -1,0 +1,42 @@
+-- The goals of a `red` step that are open.
+use Rattle.std.specs.Prelude.{◌≡◌, ℕ, ◌<◌, List, [], ◌∷◌, ◌++◌, MatchOption, Option, Some}
+use Rattle.std.specs.FinMap as map
+use Rattle.linear.specs.Opb.{Opb}
+use Rattle.linear.specs.declared.term.Term.{Term}
+use Rattle.normal_form.specs.Negation.{IsNegation}
+use Rattle.normal_form.specs.Normal.{NormalConstraint}
+use Rattle.substitution.specs.Covering.{Covers}
+use Rattle.substitution.specs.Images.{Images}
+use Rattle.substitution.specs.Under.{IsUnder}
+use Rattle.proof_rules.specs.Fault.{IsGoalFault}
+use Rattle.proof_rules.specs.Legal.{IsShownUnder, IsShownNotRaised, Redundant}
+use Rattle.proof_rules.specs.State.{Live, State, constraints}
+use Rattle.proof_rules.specs.declared.fault.StepFault.{StepFault}
+use Rattle.proof_rules.specs.declared.fault.StepFault.TheVariants as faults
+use Rattle.kernel.specs.Held.{Held}
+
+-- what a constraint becomes under the images, if it does not cover that itself
+abbrev pub BecomesBeyond : NormalConstraint → Images → Option NormalConstraint → Type 0
+BecomesBeyond n images goal = MatchOption goal ((r : NormalConstraint) × IsUnder n images r × Covers n r) (IsUnder n images)
+
+-- the goal of a live constraint is open, the first one by rising id
+abbrev pub IsOpenLive : Live → List NormalConstraint → Images → StepFault → Type 0
+IsOpenLive live from images (faults.GoalOpen id) =
+    (e : NormalConstraint) × (map.get live id ≡ Some e) × (IsShownUnder from images e → ⊥)
+    × ((k : ℕ) (d : NormalConstraint) → k < id → map.get live k ≡ Some d → IsShownUnder from images d)
+IsOpenLive live from images _ = ⊥
+
+-- the goal of the objective is open
+abbrev pub IsRaised : Opb → List NormalConstraint → Images → StepFault → Type 0
+IsRaised p from images faults.GoalOpenObjective =
+    (objective : List Term) × (p.objective ≡ Some objective) × (IsShownNotRaised from images objective → ⊥)
+IsRaised p from images _ = ⊥
+
+-- all goals of a new constraint are shown, beside its negation
+abbrev pub AreGoalsShown : Held → Images → NormalConstraint → Type 0
+AreGoalsShown k images n = (m : NormalConstraint) × Redundant k.problem (constraints k.state) images n m
+
+-- one of them is open
+abbrev pub IsGoalOpen : Held → Images → NormalConstraint → StepFault → Type 0
+IsGoalOpen k images n f =
+    (m : NormalConstraint) × IsNegation n m × IsGoalFault k.problem k.state (constraints k.state ++ m ∷ []) images n f

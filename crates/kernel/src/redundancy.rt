@@ -1,0 +1,116 @@
+//! `red`: a constraint is added that need not follow, where a witness turns every solution that it forbids into one that is
+//! no worse (redundance-based strengthening, after the VeriPB format). The goals are judged in order: the live constraints by
+//! rising id, the new one, the objective; each is shown from the live ones beside the negation of the new one. Most live
+//! constraints have no variable of the witness, and become themselves: such a one covers what it becomes, and costs one look
+//! at itself and none at the database.
+
+ghost use Rattle.std.specs.Prelude.{◌≡◌, ◌↔◌, ◌++◌, ◌∷◌, [], Some, All, IfOk, IfErr, IfSome, IsErrOf, IsTrue, OnErr, OnOk};
+ghost use Rattle.std.specs.FinMap as map;
+ghost use Rattle.linear.specs.declared.constraint.Relation.TheVariants.{AtLeast};
+ghost use Rattle.normal_form.specs.Normal.{NormalConstraint};
+ghost use Rattle.proof_rules.specs.Fault.{OrMemory, IsRedFault};
+ghost use Rattle.proof_rules.specs.Legal.{IsShownUnder, IsShownNotRaised, LegalRed};
+ghost use Rattle.kernel.specs.Redundancy.{AreGoalsShown, IsGoalOpen, IsOpenLive, IsRaised};
+
+use super::database::Database;
+use super::kernel::{Applied, Kernel};
+use super::rup::admitted;
+use super::shown::is_shown;
+use linear::{Problem, Signed};
+use normal_form::{Normal, negate};
+use proof_rules::StepFault;
+use propagate::{Id, Propagator};
+use std::alloc::Global;
+use substitution::{Substitution, apply, objective_goal};
+
+impl<'a, P: Propagator> Kernel<'a, P> {
+    /// Adds a redundant constraint. The limits are judged first, then the ids, then the goals.
+    pub(crate) fn red(
+        &mut self,
+        constraint: &Signed,
+        witness: &Substitution,
+    ) -> Result<Applied, StepFault>
+        requires { constraint.now.relation ≡ AtLeast }
+        ensures problem { self.new.problem ≡ self.old.problem }
+        ensures ok { OnOk result (LegalRed self.old.problem self.old.state constraint.now witness.now self.new.state) }
+        ensures id { IfOk result (λ applied. applied.id ≡ Some self.old.state.next) }
+        ensures fault { IfErr result (λ f. OrMemory f (IsRedFault self.old.problem self.old.state constraint.now witness.now f)) }
+        ensures err { OnErr result (self.new ≡ self.old) }
+    {
+        let constraint = admitted(self.allocator, constraint)?;
+        if !self.database.has_room() {
+            return Err(StepFault::TooManyIds);
+        }
+        self.judge_goals(&constraint, witness)?;
+        self.add(constraint)
+    }
+
+    /// Judges the goals of a new constraint. One of degree 0 has all of them shown, since its negation is a contradiction, which
+    /// might not fit and is not made.
+    fn judge_goals(&mut self, constraint: &Normal, witness: &Substitution) -> Result<(), StepFault>
+        ensures same { self.new ≡ self.old }
+        ensures shown { OnOk result (AreGoalsShown self.old witness.now constraint.now) }
+        ensures fault { IfErr result (λ f. OrMemory f (IsGoalOpen self.old witness.now constraint.now f)) }
+    {
+        let _ = &self.source;
+        if constraint.degree() == 0 {
+            return Ok(());
+        }
+        let mut beside = Vec::new(self.allocator);
+        beside.push(negate(self.allocator, constraint)?)?;
+        judge_live(self.allocator, &mut self.database, &mut beside, witness)?;
+        let goal = apply(self.allocator, constraint, witness)?;
+        if !is_shown(self.allocator, &mut self.database, &mut beside, &goal)? {
+            return Err(StepFault::GoalOpenSelf);
+        }
+        let Some(goal) = objective_goal(self.allocator, self.source, witness)? else {
+            return Ok(());
+        };
+        if !is_shown(self.allocator, &mut self.database, &mut beside, &goal)? {
+            return Err(StepFault::GoalOpenObjective);
+        }
+        Ok(())
+    }
+}
+
+/// Judges what the live constraints become under the witness, by rising id.
+fn judge_live<P: Propagator>(
+    alloc: Global,
+    database: &mut Database<P>,
+    beside: &mut Vec<Normal>,
+    witness: &Substitution,
+) -> Result<(), StepFault>
+    ensures same { database.new ≡ database.old }
+    ensures beside { beside.new.items ≡ beside.old.items }
+    ensures shown { OnOk result (All (IsShownUnder (map.values database.old.live ++ beside.old.items) witness.now) (map.values database.old.live)) }
+    ensures fault { IfErr result (λ f. OrMemory f (IsOpenLive database.old.live (map.values database.old.live ++ beside.old.items) witness.now f)) }
+{
+    let mut id: Id = 0;
+    while let Some(next) = database.after(id) {
+        if !shows_live(alloc, database, beside, next, witness)? {
+            return Err(StepFault::GoalOpen(next));
+        }
+        id = next;
+    }
+    Ok(())
+}
+
+/// Whether what the live constraint of an id becomes is shown.
+fn shows_live<P: Propagator>(
+    alloc: Global,
+    database: &mut Database<P>,
+    beside: &mut Vec<Normal>,
+    id: Id,
+    witness: &Substitution,
+) -> Result<bool, StepFault>
+    ensures same { database.new ≡ database.old }
+    ensures beside { beside.new.items ≡ beside.old.items }
+    ensures shown { IfOk result (λ yes. (n : NormalConstraint) → map.get database.old.live id ≡ Some n
+        → IsTrue yes ↔ IsShownUnder (map.values database.old.live ++ beside.old.items) witness.now n) }
+    ensures memory { OnErr result (IsErrOf result StepFault.OutOfMemory) }
+{
+    let Some(goal) = database.becoming(alloc, id, witness)? else {
+        return Ok(true);
+    };
+    is_shown(alloc, database, beside, &goal)
+}
