@@ -20,10 +20,11 @@ impl<T> Model for Seq<T> {
 }
 
 impl<T> Seq<T> {
-    /// The list of a vector's elements.
-    pub fn from_vec(items: Vec<T>) -> Self
+    /// The list of a vector's elements. Room that it does not use is given back, since lists are kept for long.
+    pub fn from_vec(mut items: Vec<T>) -> Self
         ensures { result ≡ items.items }
     {
+        items.shrink_to_fit();
         Seq { items }
     }
 

@@ -48,6 +48,7 @@ fn past_comment(c: Cursor<'_>) -> Cursor<'_>
 
 /// Passes one byte of white space, or the rest of a comment line; `None` at a token and at the end.
 #[tactic(auto, unfolding(crate::specs::Lexeme::lexemes_from))]
+#[inline(always)]
 fn past_gap(c: Cursor<'_>) -> Option<Cursor<'_>>
     ensures { MatchOption
         result
@@ -85,6 +86,7 @@ fn past_gap(c: Cursor<'_>) -> Option<Cursor<'_>>
 }
 
 /// Passes all white space and all comment lines before the next token.
+#[inline(always)]
 pub(crate) fn past_gaps(c: Cursor<'_>) -> Cursor<'_>
     ensures same { ahead result ≡ ahead c.entry }
     ensures at_token { IsAtToken result }
@@ -99,6 +101,7 @@ pub(crate) fn past_gaps(c: Cursor<'_>) -> Cursor<'_>
 // Symbols and words.
 
 /// How many bytes the symbol has with which a text begins, a stray `<` or `>` included; 0 where it begins with none.
+#[inline(always)]
 fn symbol_length(text: &[u8]) -> usize
     ensures symbol { result ≡ cutting.symbol_length text.now }
     ensures within { result ≤ length text.now }
@@ -114,6 +117,7 @@ fn symbol_length(text: &[u8]) -> usize
 }
 
 /// What follows the byte of a word at the front; `None` where white space, a symbol or the end stands there.
+#[inline(always)]
 fn past_word_byte(text: &[u8]) -> Option<&[u8]>
     ensures { MatchOption
         result
@@ -121,18 +125,29 @@ fn past_word_byte(text: &[u8]) -> Option<&[u8]>
         (λ rest. (begins_word text.now ≡ true) × (rest.now ≡ drop 1 text.now)) }
 {
     match text {
-        [] | [b' ' | b'\t' | b'\r' | b'\n', ..] => None,
-        [_, rest @ ..] => {
-            if symbol_length(text) == 0 {
-                Some(rest)
-            } else {
-                None
+        [] => None,
+        [b, rest @ ..] => {
+            // Most bytes are letters and digits, which need one look.
+            if *b > b'>' || (*b >= b'0' && *b <= b'9') {
+                return Some(rest);
+            }
+            match *b {
+                b' ' | b'\t' | b'\r' | b'\n' | b';' | b':' | b'=' | b'<' | b'>' => None,
+                b'-' => {
+                    if symbol_length(text) == 0 {
+                        Some(rest)
+                    } else {
+                        None
+                    }
+                }
+                _ => Some(rest),
             }
         }
     }
 }
 
 /// How many bytes the word has that stands at the front of a text; 0 where none does.
+#[inline(always)]
 fn word_length(text: &[u8]) -> usize
     ensures within { result ≤ length text.now }
     ensures word { (p : Position) →
@@ -152,6 +167,7 @@ fn word_length(text: &[u8]) -> usize
 }
 
 /// How many bytes the token has that stands at the front of a text; 0 at its end.
+#[inline(always)]
 pub(crate) fn token_length(text: &[u8]) -> usize
     requires { begins_white text.now ≡ false }
     ensures within { result ≤ length text.now }
