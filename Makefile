@@ -1,6 +1,6 @@
 # The door for people. `make` proves every crate and builds the program into bin/, from nothing too; `make test` runs the
 # gate: every proof from nothing, the edits that must fail, and the tests; `make demo` runs the checker on three pigeons in
-# two holes, and on an optimum.
+# two holes, an optimum, a symmetry and a new name.
 .PHONY: all test demo check layout refused-growths statuses figures differential wrong-edits wrong-bodies gate-minutes
 
 # How many crates are proved side by side.
@@ -26,6 +26,8 @@ test:
 demo: bin/pbcheck
 	bin/pbcheck examples/pigeons.opb examples/pigeons.pbp
 	bin/pbcheck examples/cover.opb examples/cover.pbp
+	bin/pbcheck examples/machines.opb examples/machines.pbp
+	bin/pbcheck examples/majority.opb examples/majority.pbp
 
 # What is quick while one works: every crate, over what earlier runs kept.
 check: layout
@@ -40,6 +42,7 @@ refused-growths: bin/pbcheck
 	scripts/refused-growths examples/pigeons.opb examples/pigeons.pbp "accepted UNSAT"
 	scripts/refused-growths examples/pigeons.opb examples/pigeons-too-short.pbp "refused line 5 code 24 LowerNotShown"
 	scripts/refused-growths examples/cover.opb examples/cover.pbp "$$(printf 'accepted BOUNDS 5 5\nv x1 x2 -x3')"
+	scripts/refused-growths examples/majority.opb examples/majority.pbp "accepted UNSAT"
 
 # Exit statuses and texts, failing reads and writes among them. Beside the gate: it wants a C compiler.
 statuses: bin/pbcheck

@@ -7,16 +7,12 @@ use Rattle.std.proofs.Math.Seq.{get_or-append_seam}
 use Rattle.linear.specs.declared.term.Lit.{Lit}
 use Rattle.linear.specs.declared.term.Term.{Term}
 use Rattle.linear.specs.Opb.{Opb}
-use Rattle.proof_steps.specs.declared.conclusion.Lower.{Lower}
 use Rattle.proof_steps.specs.declared.conclusion.Upper.{Upper}
-use Rattle.proof_steps.specs.declared.conclusion.Conclusion.TheVariants as conclusions
-use Rattle.proof_steps.specs.declared.conclusion.Lower.TheVariants as lowers
 use Rattle.proof_steps.specs.declared.conclusion.Upper.TheVariants as uppers
 use Rattle.proof_rules.specs.declared.fault.StepFault.{StepFault}
-use Rattle.proof_rules.specs.declared.fault.StepFault.TheVariants as faults
 use Rattle.proof_rules.specs.Claim.{ClaimsUpper}
 use Rattle.proof_rules.specs.Fault as judging
-use Rattle.proof_rules.specs.Fault.{IsBoundFault, IsLowerFault, IsBoundsFault, IsSatFault, IsHintFault, IsConclusionFault}
+use Rattle.proof_rules.specs.Fault.{IsBoundFault}
 use Rattle.proof_rules.specs.Justified.{EntitlesUpper, TakesHint, IsBest}
 use Rattle.proof_rules.specs.Legal.{worth_of}
 use Rattle.proof_rules.specs.State.{State}
@@ -57,30 +53,3 @@ upper_claimed p s (uppers.At bound) (Some best) b (i, g, below, is, worth) =
 pub bound_beside : (extra : Option (List Bool)) (s : State) (objective : List Term) (bound : ℤ) (f : StepFault) → IsBoundFault s objective bound f → IsBoundFault (with_extra extra s) objective bound f
 bound_beside None s objective bound f h = h
 bound_beside (Some g) s objective bound f h = h
-
--- the faults of BOUNDS
-
-abbrev pub BehindObjective : Opb → State → List Term → Lower → Upper → Option (List Lit) → StepFault → Type 0
-BehindObjective p s objective lower upper hint f = IsHintFault p s hint f ⊎ judging.IsBehindHint p s hint (λ t. IsBoundsFault p t objective lower upper f)
-
-no_hint_fault : (p : Opb) (s : State) (hint : Option (List Lit)) → IsHintFault p s hint faults.NoObjective → ⊥
-no_hint_fault p s None h = h
-no_hint_fault p s (Some listing) h = h
-
-no_lower_fault : (s : State) (objective : List Term) (lower : Lower) → IsLowerFault s objective lower faults.NoObjective → ⊥
-no_lower_fault s objective lowers.MinusInf h = h
-no_lower_fault s objective (lowers.At bound) h = h
-no_lower_fault s objective lowers.Inf h = h
-
-no_bounds_fault : (p : Opb) (s : State) (objective : List Term) (lower : Lower) (upper : Upper) → IsBoundsFault p s objective lower upper faults.NoObjective → ⊥
-no_bounds_fault p s objective lower upper (inl h) = no_lower_fault s objective lower h
-no_bounds_fault p s objective lower upper (inr h) = h.1
-
-never_behind : (p : Opb) (s : State) (objective : List Term) (lower : Lower) (upper : Upper) (hint : Option (List Lit)) → BehindObjective p s objective lower upper hint faults.NoObjective → ⊥
-never_behind p s objective lower upper hint (inl h) = no_hint_fault p s hint h
-never_behind p s objective lower upper hint (inr ((t, takes), h)) = no_bounds_fault p t objective lower upper (h t takes)
-
-pub bounds_fault : (p : Opb) (s : State) (objective : List Term) (lower : Lower) (upper : Upper) (hint : Option (List Lit)) (f : StepFault) → p.objective ≡ Some objective
-    → BehindObjective p s objective lower upper hint f → IsConclusionFault p s (conclusions.Bounds lower upper hint) f
-bounds_fault p s objective lower upper hint faults.NoObjective is h = absurd (never_behind p s objective lower upper hint h)
-bounds_fault p s objective lower upper hint _ is h = (objective, is, h)

@@ -166,7 +166,7 @@ unsat_from p s (inl exhausted) = let best = best_exists p s.logged in inl (best.
 unsat_from p s (inr fault) = inr fault
 
 -- the faults of a hint and of bounds, apart from that there is no objective
-abbrev BehindObjective : Opb → State → List Term → Lower → Upper → Option (List Lit) → StepFault → Type 0
+abbrev pub BehindObjective : Opb → State → List Term → Lower → Upper → Option (List Lit) → StepFault → Type 0
 BehindObjective p s objective lower upper hint f = IsHintFault p s hint f ⊎ judging.IsBehindHint p s hint (λ t. IsBoundsFault p t objective lower upper f)
 
 no_hint_fault : (p : Opb) (s : State) (hint : Option (List Lit)) → IsHintFault p s hint faults.NoObjective → ⊥
@@ -186,7 +186,7 @@ never_behind : (p : Opb) (s : State) (objective : List Term) (lower : Lower) (up
 never_behind p s objective lower upper hint (inl h) = no_hint_fault p s hint h
 never_behind p s objective lower upper hint (inr ((t, takes), h)) = no_bounds_fault p t objective lower upper (h t takes)
 
-bounds_fault : (p : Opb) (s : State) (objective : List Term) (lower : Lower) (upper : Upper) (hint : Option (List Lit)) (f : StepFault) → p.objective ≡ Some objective
+pub bounds_fault : (p : Opb) (s : State) (objective : List Term) (lower : Lower) (upper : Upper) (hint : Option (List Lit)) (f : StepFault) → p.objective ≡ Some objective
     → BehindObjective p s objective lower upper hint f → IsConclusionFault p s (conclusions.Bounds lower upper hint) f
 bounds_fault p s objective lower upper hint faults.NoObjective is h = absurd (never_behind p s objective lower upper hint h)
 bounds_fault p s objective lower upper hint _ is h = (objective, is, h)

@@ -19,7 +19,7 @@ pub enum ProofFault {
     /// The first word of a step's line is no rule of the format.
     #[error("unknown rule")]
     UnknownRule,
-    /// A rule, an output or a relation that is left out of this profile, or not yet judged.
+    /// A rule, an output or a relation that is left out of this profile.
     #[error("rule left out")]
     RuleLeftOut,
     /// Any other line that is not in the grammar at its place.

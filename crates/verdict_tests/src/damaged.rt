@@ -1,7 +1,7 @@
 //! Damaged and strange texts: each gets a clear refusal with its line. The pigeons' problem and proof are cut behind each
 //! byte; what is then answered follows from the formats.
 
-use checker::{check, verdict_text};
+use super::answers::answers;
 use std::process::Abort;
 use std::test::Fail;
 
@@ -10,23 +10,6 @@ const OPB: &str =
 
 const PROOF: &str =
     "pseudo-Boolean proof version 2.0\nf 5\npol 1 2 + 3 + 4 + 5 +\noutput NONE\nconclusion UNSAT\nend pseudo-Boolean proof\n";
-
-/// Checks what is printed for two texts.
-fn answers<R: Abort + AllocGlobal>(
-    rt: &R,
-    opb: &[u8],
-    proof: &[u8],
-    text: &str,
-) -> Result<(), Fail> {
-    let verdict = check(rt.alloc(), opb, proof);
-    let printed = verdict_text(rt.alloc(), opb, &verdict)?;
-    assert_eq!(rt;
-        printed.as_slice(),
-        text.as_bytes(),
-        "for {opb:?} and {proof:?}"
-    );
-    Ok(())
-}
 
 /// The line on which a text ends: 1 and its LF bytes.
 fn end_line(text: &[u8]) -> usize {

@@ -1,8 +1,10 @@
-//! A proof from its file to its conclusion, with ample memory. What is expected follows from the format: the constraints
-//! of a file have the ids 1, 2, .. in order, an equality two of them, and what a step adds has the next one.
+//! Proofs by the kernel's own calls, with ample memory: what it answers to each step, refused ones in the middle among them, and
+//! to each conclusion. What is expected follows from the format: the constraints of a file have the ids 1, 2, .. in order, an
+//! equality two of them, and what a step adds has the next one.
 
 ghost use Rattle.std.specs.Prelude.{IfOk};
 ghost use Rattle.linear.specs.Limits.{IsConstraintWithin};
+ghost use Rattle.kernel.specs.Held.{HasAtLeast};
 
 use kernel::Kernel;
 use linear::{Lit, Names, Problem, Relation, Seq, Signed, Var};
@@ -31,144 +33,202 @@ fn problem(alloc: Global, least: i8) -> Result<Problem, AllocError> {
     Ok(Problem::new(Names::new(alloc), None, constraints))
 }
 
-/// The kernel of a problem, over the plain propagator.
-fn kernel<'a, R: Abort + AllocGlobal>(rt: &R, problem: &'a Problem) -> Kernel<'a, ScanPropagator> {
-    Kernel::new(rt.alloc(), problem).expect(rt, "a kernel")
+/// A step of a table. The listings of solutions are empty: the file has no variable.
+#[derive(Clone, Copy)]
+enum Line {
+    Pol(&'static [Item]),
+    Sol,
+    Soli,
+    Del(&'static [i128]),
 }
 
-/// What a `pol` step of these items answers: the id of what it adds.
-fn pol<R: Abort + AllocGlobal>(
-    rt: &R,
+/// A step, what the kernel answers to it, and the id that was given last behind it.
+#[derive(Clone, Copy)]
+struct Row {
+    line: Line,
+    answer: Result<Option<u32>, StepFault>,
+    last_id: u64,
+}
+
+fn step(alloc: Global, line: Line) -> Result<Step, AllocError>
+    ensures { IfOk result HasAtLeast }
+{
+    Ok(match line {
+        Line::Pol(items) => Step::Pol(Seq::from_vec(Vec::from_slice(alloc, items)?)),
+        Line::Sol => Step::Sol(Seq::from_vec(Vec::new(alloc))),
+        Line::Soli => Step::Soli(Seq::from_vec(Vec::new(alloc))),
+        Line::Del(ids) => Step::Del(Seq::from_vec(Vec::from_slice(alloc, ids)?)),
+    })
+}
+
+/// What the kernel answers to a step.
+fn applied(
+    alloc: Global,
     kernel: &mut Kernel<'_, ScanPropagator>,
-    items: &[Item],
+    line: Line,
 ) -> Result<Option<u32>, StepFault> {
-    let written = Vec::from_slice(rt.alloc(), items).expect(rt, "memory");
-    let applied = kernel.apply(&Step::Pol(Seq::from_vec(written)))?;
+    let step = step(alloc, line)?;
+    let applied = kernel.apply(&step)?;
     Ok(applied.id)
 }
 
-#[test]
-fn numbers_what_steps_add(rt: HostRuntime) {
-    let problem = problem(rt.alloc(), 0).expect(&rt, "memory");
-    let mut kernel = kernel(&rt, &problem);
-    assert_eq!(&rt; kernel.last_id(), 3);
-    let literal = Lit {
-        var: Var(0),
-        negated: true,
-    };
-    let made = [Item::Axiom(literal), Item::Id(3), Item::Add];
-    assert!(&rt; pol(&rt, &mut kernel, &made) == Ok(Some(4)));
-    let cited = [Item::Id(-1)];
-    assert!(&rt; pol(&rt, &mut kernel, &cited) == Ok(Some(5)));
-    assert_eq!(&rt; kernel.last_id(), 5);
-}
-
-#[test]
-fn stays_as_it_was_where_a_step_is_refused(rt: HostRuntime) {
-    let problem = problem(rt.alloc(), 0).expect(&rt, "memory");
-    let mut kernel = kernel(&rt, &problem);
-    let never_given = [Item::Id(1), Item::Id(4), Item::Add];
-    assert!(&rt; pol(&rt, &mut kernel, &never_given) == Err(StepFault::DeadId));
-    let two_left = [Item::Id(1), Item::Id(2)];
-    assert!(&rt; pol(&rt, &mut kernel, &two_left) == Err(StepFault::StackShape));
-    assert_eq!(&rt; kernel.last_id(), 3);
-    assert!(&rt; pol(&rt, &mut kernel, &[Item::Id(3)]) == Ok(Some(4)));
-}
-
-/// What a `del` step of these ids answers: no id is given.
-fn del<R: Abort + AllocGlobal>(
-    rt: &R,
-    kernel: &mut Kernel<'_, ScanPropagator>,
-    ids: &[i128],
-) -> Result<Option<u32>, StepFault> {
-    let ids = Vec::from_slice(rt.alloc(), ids).expect(rt, "memory");
-    let applied = kernel.apply(&Step::Del(Seq::from_vec(ids)))?;
-    Ok(applied.id)
-}
-
-#[test]
-fn deletes_all_ids_of_a_line_or_none(rt: HostRuntime) {
-    let problem = problem(rt.alloc(), 0).expect(&rt, "memory");
-    let mut kernel = kernel(&rt, &problem);
-    assert!(&rt; pol(&rt, &mut kernel, &[Item::Id(3)]) == Ok(Some(4)));
-    assert!(&rt; del(&rt, &mut kernel, &[4, 9]) == Err(StepFault::DeadId));
-    assert!(&rt; del(&rt, &mut kernel, &[4, 1]) == Err(StepFault::FileConstraint));
-    assert!(&rt; del(&rt, &mut kernel, &[4, -1]) == Err(StepFault::DeadId));
-    assert!(&rt; pol(&rt, &mut kernel, &[Item::Id(4)]) == Ok(Some(5)));
-    assert!(&rt; del(&rt, &mut kernel, &[4, -1]) == Ok(None));
-    assert!(&rt; pol(&rt, &mut kernel, &[Item::Id(4)]) == Err(StepFault::DeadId));
-    assert!(&rt; pol(&rt, &mut kernel, &[Item::Id(3)]) == Ok(Some(6)));
-    assert_eq!(&rt; kernel.last_id(), 6);
-}
-
-#[test]
-fn logs_nothing_where_a_solution_is_refused(rt: HostRuntime) {
-    let problem = problem(rt.alloc(), 1).expect(&rt, "memory");
-    let mut kernel = kernel(&rt, &problem);
-    let listing = Seq::from_vec(Vec::new(rt.alloc()));
-    assert!(&rt;
-        matches!(
-            kernel.apply(&Step::Sol(listing)),
-            Err(StepFault::SolutionFalse)
-        )
-    );
-    let listing = Seq::from_vec(Vec::new(rt.alloc()));
-    assert!(&rt;
-        matches!(
-            kernel.apply(&Step::Soli(listing)),
-            Err(StepFault::NoObjective)
-        )
-    );
-    assert!(&rt;
-        matches!(
-            kernel.conclude(&Conclusion::Sat(None)),
-            Err(StepFault::UpperNotLogged)
-        )
-    );
-    assert!(&rt; kernel.conclude(&Conclusion::Unsat).is_ok());
-    assert_eq!(&rt; kernel.last_id(), 3);
-}
-
-#[test]
-fn hands_out_the_solution_that_was_logged(rt: HostRuntime) {
-    let problem = problem(rt.alloc(), 0).expect(&rt, "memory");
-    let mut kernel = kernel(&rt, &problem);
-    let listing = Seq::from_vec(Vec::new(rt.alloc()));
-    let applied = kernel.apply(&Step::Sol(listing)).expect(&rt, "a solution");
-    assert!(&rt; applied.id == None);
-    let accepted = kernel
-        .conclude(&Conclusion::Sat(None))
-        .expect(&rt, "a conclusion");
-    assert!(&rt; matches!(accepted.best(), Some(_)));
-    assert!(&rt;
-        matches!(
-            kernel.conclude(&Conclusion::Unsat),
-            Err(StepFault::SolutionLogged)
-        )
-    );
-}
-
-#[test]
-fn concludes_nothing_at_any_time(rt: HostRuntime) {
-    let problem = problem(rt.alloc(), 0).expect(&rt, "memory");
-    let mut kernel = kernel(&rt, &problem);
-    let accepted = kernel
-        .conclude(&Conclusion::Nothing)
-        .expect(&rt, "a conclusion");
-    assert!(&rt; matches!(accepted.conclusion(), Conclusion::Nothing));
-    assert!(&rt; accepted.best().is_none());
-}
-
-/// Whether `UNSAT` is concluded from the file alone, and without an assignment.
-fn is_unsat(alloc: Global, least: i8) -> Result<bool, StepFault> {
+/// Whether the kernel of the file answers to each step as its row says.
+fn answers_are(alloc: Global, least: i8, rows: &[Row]) -> Result<bool, StepFault> {
     let problem = problem(alloc, least)?;
     let mut kernel: Kernel<'_, ScanPropagator> = Kernel::new(alloc, &problem)?;
-    let accepted = kernel.conclude(&Conclusion::Unsat)?;
-    Ok(matches!(accepted.conclusion(), Conclusion::Unsat) && accepted.best().is_none())
+    for row in rows {
+        if applied(alloc, &mut kernel, row.line) != row.answer || kernel.last_id() != row.last_id {
+            return Ok(false);
+        }
+    }
+    Ok(true)
+}
+
+const NOT_FIRST: Lit = Lit {
+    var: Var(0),
+    negated: true,
+};
+
+const NUMBERS: [Row; 2] = [
+    Row {
+        line: Line::Pol(&[Item::Axiom(NOT_FIRST), Item::Id(3), Item::Add]),
+        answer: Ok(Some(4)),
+        last_id: 4,
+    },
+    Row {
+        line: Line::Pol(&[Item::Id(-1)]),
+        answer: Ok(Some(5)),
+        last_id: 5,
+    },
+];
+
+const REFUSED_IN_THE_MIDDLE: [Row; 3] = [
+    Row {
+        line: Line::Pol(&[Item::Id(1), Item::Id(4), Item::Add]),
+        answer: Err(StepFault::DeadId),
+        last_id: 3,
+    },
+    Row {
+        line: Line::Pol(&[Item::Id(1), Item::Id(2)]),
+        answer: Err(StepFault::StackShape),
+        last_id: 3,
+    },
+    Row {
+        line: Line::Pol(&[Item::Id(3)]),
+        answer: Ok(Some(4)),
+        last_id: 4,
+    },
+];
+
+const DELETED: [Row; 8] = [
+    Row {
+        line: Line::Pol(&[Item::Id(3)]),
+        answer: Ok(Some(4)),
+        last_id: 4,
+    },
+    Row {
+        line: Line::Del(&[4, 9]),
+        answer: Err(StepFault::DeadId),
+        last_id: 4,
+    },
+    Row {
+        line: Line::Del(&[4, 1]),
+        answer: Err(StepFault::FileConstraint),
+        last_id: 4,
+    },
+    Row {
+        line: Line::Del(&[4, -1]),
+        answer: Err(StepFault::DeadId),
+        last_id: 4,
+    },
+    Row {
+        line: Line::Pol(&[Item::Id(4)]),
+        answer: Ok(Some(5)),
+        last_id: 5,
+    },
+    Row {
+        line: Line::Del(&[4, -1]),
+        answer: Ok(None),
+        last_id: 5,
+    },
+    Row {
+        line: Line::Pol(&[Item::Id(4)]),
+        answer: Err(StepFault::DeadId),
+        last_id: 5,
+    },
+    Row {
+        line: Line::Pol(&[Item::Id(3)]),
+        answer: Ok(Some(6)),
+        last_id: 6,
+    },
+];
+
+const SOLUTION: [Row; 2] = [
+    Row {
+        line: Line::Soli,
+        answer: Err(StepFault::NoObjective),
+        last_id: 3,
+    },
+    Row {
+        line: Line::Sol,
+        answer: Ok(None),
+        last_id: 3,
+    },
+];
+
+const NO_SOLUTION: [Row; 1] = [Row {
+    line: Line::Sol,
+    answer: Err(StepFault::SolutionFalse),
+    last_id: 3,
+}];
+
+#[test]
+fn answers_to_steps(rt: HostRuntime) {
+    assert!(&rt; answers_are(rt.alloc(), 0, &NUMBERS) == Ok(true));
+    assert!(&rt; answers_are(rt.alloc(), 0, &REFUSED_IN_THE_MIDDLE) == Ok(true));
+    assert!(&rt; answers_are(rt.alloc(), 0, &DELETED) == Ok(true));
+    assert!(&rt; answers_are(rt.alloc(), 0, &SOLUTION) == Ok(true));
+    assert!(&rt; answers_are(rt.alloc(), 1, &NO_SOLUTION) == Ok(true));
+}
+
+/// A conclusion without a hint.
+#[derive(Clone, Copy)]
+enum Concluded {
+    Nothing,
+    Sat,
+    Unsat,
+}
+
+/// Whether a conclusion is handed out behind these steps with a best solution.
+fn has_best(
+    alloc: Global,
+    least: i8,
+    steps: &[Row],
+    concluded: Concluded,
+) -> Result<bool, StepFault> {
+    let problem = problem(alloc, least)?;
+    let mut kernel: Kernel<'_, ScanPropagator> = Kernel::new(alloc, &problem)?;
+    for row in steps {
+        let _answer = applied(alloc, &mut kernel, row.line);
+    }
+    let conclusion = match concluded {
+        Concluded::Nothing => Conclusion::Nothing,
+        Concluded::Sat => Conclusion::Sat(None),
+        Concluded::Unsat => Conclusion::Unsat,
+    };
+    let accepted = kernel.conclude(&conclusion)?;
+    Ok(accepted.best().is_some())
 }
 
 #[test]
-fn concludes_unsat_from_a_contradiction_alone(rt: HostRuntime) {
-    assert!(&rt; is_unsat(rt.alloc(), 0) == Err(StepFault::LowerNotShown));
-    assert!(&rt; is_unsat(rt.alloc(), 1) == Ok(true));
+fn answers_to_conclusions(rt: HostRuntime) {
+    let alloc = rt.alloc();
+    assert!(&rt; has_best(alloc, 0, &NUMBERS, Concluded::Nothing) == Ok(false));
+    assert!(&rt; has_best(alloc, 0, &SOLUTION, Concluded::Sat) == Ok(true));
+    assert!(&rt;
+        has_best(alloc, 1, &NO_SOLUTION, Concluded::Sat) == Err(StepFault::UpperNotLogged)
+    );
+    assert!(&rt; has_best(alloc, 1, &NO_SOLUTION, Concluded::Unsat) == Ok(false));
+    assert!(&rt; has_best(alloc, 0, &SOLUTION, Concluded::Unsat) == Err(StepFault::SolutionLogged));
+    assert!(&rt; has_best(alloc, 0, &NUMBERS, Concluded::Unsat) == Err(StepFault::LowerNotShown));
 }

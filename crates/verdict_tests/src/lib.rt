@@ -4,9 +4,17 @@
 #![tactic(auto)]
 
 #[cfg(test)]
+mod answers;
+#[cfg(test)]
+mod claims;
+#[cfg(test)]
 mod damaged;
 #[cfg(test)]
 mod kernels;
+#[cfg(test)]
+mod redundance;
+#[cfg(test)]
+mod rows;
 #[cfg(test)]
 mod solutions;
 #[cfg(test)]

@@ -1,84 +1,8 @@
 //! Solutions, deletion and conclusions, from bytes to the printed verdict. What is expected follows from the rules and from
 //! the order in which they are judged.
 
-use checker::{check, verdict_text};
-use std::process::Abort;
+use super::rows::{Problem, Row, rows_answer};
 use std::test::Fail;
-
-/// A problem, the steps of a proof, each ended by LF, what it concludes, and what is printed.
-#[derive(Clone, Copy)]
-struct Row {
-    problem: Problem,
-    steps: &'static str,
-    conclusion: &'static str,
-    printed: &'static str,
-}
-
-/// The problems of the rows. A row names its problem: a table of names is quick to prove, and one of texts is not.
-#[derive(Clone, Copy)]
-enum Problem {
-    Either,
-    SecondAlone,
-    Cheaper,
-    Equal,
-    Reward,
-    Contradiction,
-    Triangle,
-    Pigeons,
-}
-
-impl Problem {
-    fn text(self) -> &'static str {
-        match self {
-            Problem::Either => "1 x1 1 x2 >= 1 ;",
-            Problem::SecondAlone => "1 x1 1 x2 >= 1 ; 1 ~x1 >= 1 ;",
-            Problem::Cheaper => "min: 2 x1 3 x2 ; 1 x1 1 x2 >= 1 ;",
-            Problem::Equal => "min: 1 x1 1 x2 ; 1 x1 1 x2 >= 1 ;",
-            Problem::Reward => "min: -1 x1 ;",
-            Problem::Contradiction => "min: 1 x1 ; 1 x1 >= 2 ;",
-            Problem::Triangle => {
-                "min: 2 x1 3 x2 4 x3 ; 1 x1 1 x2 >= 1 ; 1 x2 1 x3 >= 1 ; 1 x1 1 x3 >= 1 ;"
-            }
-            Problem::Pigeons => {
-                "1 x1 1 x2 >= 1 ; 1 x3 1 x4 >= 1 ; 1 x5 1 x6 >= 1 ; -1 x1 -1 x3 -1 x5 >= -1 ; -1 x2 -1 x4 -1 x6 >= -1 ;"
-            }
-        }
-    }
-
-    /// How many ids its constraints take.
-    fn count(self) -> u64 {
-        match self {
-            Problem::Reward => 0,
-            Problem::Either | Problem::Cheaper | Problem::Equal | Problem::Contradiction => 1,
-            Problem::SecondAlone => 2,
-            Problem::Triangle => 3,
-            Problem::Pigeons => 5,
-        }
-    }
-}
-
-/// Checks what is printed for each row.
-fn answers<R: Abort + AllocGlobal>(rt: &R, rows: &[Row]) -> Result<(), Fail> {
-    for row in rows {
-        let problem = row.problem.text().as_bytes();
-        let proof = format!(in rt.alloc();
-            "pseudo-Boolean proof version 2.0\nf {}\n{}output NONE\nconclusion {}\nend pseudo-Boolean proof\n",
-            row.problem.count(),
-            row.steps,
-            row.conclusion
-        )?;
-        let verdict = check(rt.alloc(), problem, proof.as_bytes());
-        let printed = verdict_text(rt.alloc(), problem, &verdict)?;
-        assert_eq!(rt;
-            printed.as_slice(),
-            row.printed.as_bytes(),
-            "for {} and {}",
-            row.steps,
-            row.conclusion
-        );
-    }
-    Ok(())
-}
 
 /// A listing is completed by propagation over the live constraints; it is judged by those of the file.
 const A_LOGGED_SOLUTION_IS_COMPLETED_AND_MEETS_THE_FILE: [Row; 6] = [
@@ -122,7 +46,7 @@ const A_LOGGED_SOLUTION_IS_COMPLETED_AND_MEETS_THE_FILE: [Row; 6] = [
 
 #[test]
 fn a_logged_solution_is_completed_and_meets_the_file(rt: HostRuntime) -> Result<(), Fail> {
-    answers(&rt, &A_LOGGED_SOLUTION_IS_COMPLETED_AND_MEETS_THE_FILE)
+    rows_answer(&rt, &A_LOGGED_SOLUTION_IS_COMPLETED_AND_MEETS_THE_FILE)
 }
 
 /// `soli`: an objective first, then as `sol`, then a value below the least one so far.
@@ -173,7 +97,7 @@ const AN_IMPROVING_SOLUTION_HAS_AN_OBJECTIVE_AND_IS_BETTER: [Row; 7] = [
 
 #[test]
 fn an_improving_solution_has_an_objective_and_is_better(rt: HostRuntime) -> Result<(), Fail> {
-    answers(&rt, &AN_IMPROVING_SOLUTION_HAS_AN_OBJECTIVE_AND_IS_BETTER)
+    rows_answer(&rt, &AN_IMPROVING_SOLUTION_HAS_AN_OBJECTIVE_AND_IS_BETTER)
 }
 
 /// `del id`: each id in its turn, a dead one before one of the file or of an improving solution.
@@ -260,7 +184,7 @@ const WHAT_IS_DELETED_IS_GONE: [Row; 13] = [
 
 #[test]
 fn what_is_deleted_is_gone(rt: HostRuntime) -> Result<(), Fail> {
-    answers(&rt, &WHAT_IS_DELETED_IS_GONE)
+    rows_answer(&rt, &WHAT_IS_DELETED_IS_GONE)
 }
 
 /// `SAT` and its hint, which is one more `sol`.
@@ -311,7 +235,7 @@ const SATISFIABLE_BY_WHAT_WAS_LOGGED: [Row; 7] = [
 
 #[test]
 fn satisfiable_by_what_was_logged(rt: HostRuntime) -> Result<(), Fail> {
-    answers(&rt, &SATISFIABLE_BY_WHAT_WAS_LOGGED)
+    rows_answer(&rt, &SATISFIABLE_BY_WHAT_WAS_LOGGED)
 }
 
 /// `UNSAT`: a logged solution first, then what is not shown.
@@ -338,7 +262,7 @@ const UNSATISFIABLE_ONLY_WHERE_NOTHING_WAS_LOGGED: [Row; 3] = [
 
 #[test]
 fn unsatisfiable_only_where_nothing_was_logged(rt: HostRuntime) -> Result<(), Fail> {
-    answers(&rt, &UNSATISFIABLE_ONLY_WHERE_NOTHING_WAS_LOGGED)
+    rows_answer(&rt, &UNSATISFIABLE_ONLY_WHERE_NOTHING_WAS_LOGGED)
 }
 
 /// The lower bound of `BOUNDS`: an objective, the hint, a bound above the best, its size, then what is not shown.
@@ -431,7 +355,7 @@ const LOWER_BOUNDS_ARE_SHOWN: [Row; 14] = [
 
 #[test]
 fn lower_bounds_are_shown(rt: HostRuntime) -> Result<(), Fail> {
-    answers(&rt, &LOWER_BOUNDS_ARE_SHOWN)
+    rows_answer(&rt, &LOWER_BOUNDS_ARE_SHOWN)
 }
 
 /// The upper bound of `BOUNDS`, judged last; the best is of the least value, the earliest among equals.
@@ -506,7 +430,7 @@ const UPPER_BOUNDS_ARE_LOGGED: [Row; 11] = [
 
 #[test]
 fn upper_bounds_are_logged(rt: HostRuntime) -> Result<(), Fail> {
-    answers(&rt, &UPPER_BOUNDS_ARE_LOGGED)
+    rows_answer(&rt, &UPPER_BOUNDS_ARE_LOGGED)
 }
 
 /// The corners of a triangle with one on each side, at the least price: every kind of step that is judged.
@@ -533,5 +457,5 @@ const AN_OPTIMUM_WITH_ITS_PROOF: [Row; 3] = [
 
 #[test]
 fn an_optimum_with_its_proof(rt: HostRuntime) -> Result<(), Fail> {
-    answers(&rt, &AN_OPTIMUM_WITH_ITS_PROOF)
+    rows_answer(&rt, &AN_OPTIMUM_WITH_ITS_PROOF)
 }

@@ -2,36 +2,17 @@
 //!
 //! The cases stand in tables that the tests walk: a table of constants costs the prover nothing, a call for each case much.
 
-use checker::{check, verdict_status, verdict_text};
-use std::process::Abort;
+use super::answers::answers;
+use super::rows::{PIGEONS_IN_HOLES, Problem, Row, line_is_refused, proof_answers, rows_answer};
 use std::test::Fail;
 
-/// Checks what is printed for a problem and a proof, and the exit status.
-fn answers<R: Abort + AllocGlobal>(
-    rt: &R,
-    opb: &str,
-    proof: &str,
-    text: &str,
-    status: u8,
-) -> Result<(), Fail> {
-    let verdict = check(rt.alloc(), opb.as_bytes(), proof.as_bytes());
-    let printed = verdict_text(rt.alloc(), opb.as_bytes(), &verdict)?;
-    assert_eq!(rt; printed.as_slice(), text.as_bytes(), "for {proof}");
-    assert_eq!(rt; verdict_status(&verdict), status);
-    Ok(())
-}
-
-/// A problem, a whole proof, what is printed, and the exit status.
+/// A problem, a whole proof, and what is printed.
 #[derive(Clone, Copy)]
 struct Whole {
     opb: &'static str,
     proof: &'static str,
     text: &'static str,
-    status: u8,
 }
-
-const PIGEONS_IN_HOLES: &str =
-    "1 x1 1 x2 >= 1 ; 1 x3 1 x4 >= 1 ; 1 x5 1 x6 >= 1 ; -1 x1 -1 x3 -1 x5 >= -1 ; -1 x2 -1 x4 -1 x6 >= -1 ;";
 
 const WHOLE_PROOFS: [Whole; 12] = [
     // three pigeons in two holes
@@ -39,141 +20,73 @@ const WHOLE_PROOFS: [Whole; 12] = [
         opb: PIGEONS_IN_HOLES,
         proof: "pseudo-Boolean proof version 2.0\nf 5\npol 1 2 + 3 + 4 + 5 +\noutput NONE\nconclusion UNSAT\nend pseudo-Boolean proof\n",
         text: "accepted UNSAT\n",
-        status: 0,
     },
     Whole {
         opb: PIGEONS_IN_HOLES,
         proof: "pseudo-Boolean proof version 2.0\nf 5\npol 1 2 +\noutput NONE\nconclusion UNSAT\nend pseudo-Boolean proof\n",
         text: "refused line 5 code 24 LowerNotShown\n",
-        status: 1,
     },
     Whole {
         opb: PIGEONS_IN_HOLES,
         proof: "pseudo-Boolean proof version 2.0\nf 5\npol 1 2 + 3 + 4 + 5 +\noutput NONE\n",
         text: "refused line 5 code 6 Truncated\n",
-        status: 1,
     },
     Whole {
         opb: PIGEONS_IN_HOLES,
         proof: "pseudo-Boolean proof version 2.0\nf 4\npol 1 2 + 3 + 4 + 5 +\n",
         text: "refused line 2 code 2 BadCount\n",
-        status: 1,
     },
     // all rules, and an equality
     Whole {
         opb: "5 x1 2 x2 >= 3 ; -1 x1 >= 0 ;",
         proof: "pseudo-Boolean proof version 2.0\nf 2\npol 1 s x2 w 3 d 2 +\noutput NONE\nconclusion UNSAT\nend pseudo-Boolean proof",
         text: "accepted UNSAT\n",
-        status: 0,
     },
     Whole {
         opb: "2 x1 2 x2 = 1 ;",
         proof: "pseudo-Boolean proof version 2.0\nf 2\npol 1 2 d 2 2 d +\noutput NONE\nconclusion UNSAT\nend pseudo-Boolean proof\n",
         text: "accepted UNSAT\n",
-        status: 0,
     },
     Whole {
         opb: "1 x1 1 x2 >= 1",
         proof: "",
         text: "bad problem line 1 code 3 NoSemicolon\n",
-        status: 2,
     },
     // an equality takes two ids, the `>=` direction first, and is counted twice
     Whole {
         opb: "1 x1 1 x2 1 x3 = 1 ; 1 x1 1 x2 1 x3 >= 2 ;",
         proof: "pseudo-Boolean proof version 2.0\nf 3\npol 2 3 +\noutput NONE\nconclusion UNSAT\nend pseudo-Boolean proof\n",
         text: "accepted UNSAT\n",
-        status: 0,
     },
     Whole {
         opb: "1 x1 1 x2 1 x3 = 1 ; 1 x1 1 x2 1 x3 >= 2 ;",
         proof: "pseudo-Boolean proof version 2.0\nf 3\npol 1 3 +\noutput NONE\nconclusion UNSAT\nend pseudo-Boolean proof\n",
         text: "refused line 5 code 24 LowerNotShown\n",
-        status: 1,
     },
     Whole {
         opb: "1 x1 1 x2 1 x3 = 1 ; 1 x1 1 x2 1 x3 >= 2 ;",
         proof: "pseudo-Boolean proof version 2.0\nf 2\n",
         text: "refused line 2 code 2 BadCount\n",
-        status: 1,
     },
     // a line that counts behind the end line is refused there; comments and blank lines are passed over
     Whole {
         opb: "2 x1 2 x2 = 1 ;",
         proof: "pseudo-Boolean proof version 2.0\nf 2\noutput NONE\nconclusion NONE\nend pseudo-Boolean proof\n* done\n\nf 2",
         text: "refused line 8 code 7 TextAfterEnd\n",
-        status: 1,
     },
     Whole {
         opb: "2 x1 2 x2 = 1 ;",
         proof: "pseudo-Boolean proof version 2.0\nf 1\n",
         text: "refused line 2 code 2 BadCount\n",
-        status: 1,
     },
 ];
 
 #[test]
 fn whole_proofs(rt: HostRuntime) -> Result<(), Fail> {
     for case in &WHOLE_PROOFS {
-        answers(&rt, case.opb, case.proof, case.text, case.status)?;
+        answers(&rt, case.opb.as_bytes(), case.proof.as_bytes(), case.text)?;
     }
     Ok(())
-}
-
-/// The problems of the tables: a name in each row is cheaper to prove than the text.
-#[derive(Clone, Copy)]
-enum Problem {
-    Pigeons,
-    One,
-    NotBoth,
-    SecondEitherWay,
-    Weighted,
-    TwoOfThree,
-    /// Its literals are forced against the order of its constraints.
-    Chain,
-    /// It has an objective, and a contradiction.
-    Optimising,
-}
-
-impl Problem {
-    fn opb(self) -> &'static str {
-        match self {
-            Problem::Pigeons => PIGEONS_IN_HOLES,
-            Problem::One => "1 x1 1 x2 >= 1 ;",
-            Problem::NotBoth => "1 x1 1 x2 >= 1 ; 1 ~x1 1 ~x2 >= 1 ;",
-            Problem::SecondEitherWay => "1 x1 1 x2 >= 1 ; 1 ~x1 1 x2 >= 1 ;",
-            Problem::Weighted => "3 x1 2 x2 1 x3 >= 4 ;",
-            Problem::TwoOfThree => "1 x1 1 x2 1 x3 >= 2 ;",
-            Problem::Chain => "1 ~x2 1 x3 >= 1 ; 1 ~x1 1 x2 >= 1 ; 1 x1 >= 1 ; 1 ~x3 >= 1 ;",
-            Problem::Optimising => "min: 1 x1 ; 1 x1 >= 2 ; >= 0 ;",
-        }
-    }
-
-    /// How many ids its constraints take.
-    fn count(self) -> u64 {
-        match self {
-            Problem::Pigeons => 5,
-            Problem::One | Problem::Weighted | Problem::TwoOfThree => 1,
-            Problem::NotBoth | Problem::SecondEitherWay | Problem::Optimising => 2,
-            Problem::Chain => 4,
-        }
-    }
-}
-
-/// Checks what is printed for these steps, each with its LF, and this conclusion, and the exit status.
-fn proof_answers<R: Abort + AllocGlobal>(
-    rt: &R,
-    problem: Problem,
-    steps: &str,
-    conclusion: &str,
-    text: &str,
-    status: u8,
-) -> Result<(), Fail> {
-    let proof = format!(in rt.alloc();
-        "pseudo-Boolean proof version 2.0\nf {}\n{steps}output NONE\nconclusion {conclusion}\nend pseudo-Boolean proof\n",
-        problem.count()
-    )?;
-    answers(rt, problem.opb(), proof.as_str(), text, status)
 }
 
 /// Third lines of proofs that are legal there.
@@ -185,12 +98,15 @@ const ACCEPTED: [(Problem, &str); 10] = [
     ),
     (Problem::NotBoth, "pol 1 3 * 2 d"),
     (Problem::NotBoth, "p 1 ~x1 + ;"),
-    (Problem::One, "pol 1 -1 +"),
-    (Problem::One, "pol 1 664613997892457936451903530140172288 *"),
-    // what a live constraint covers is shown, and what propagation refutes the negation of; hints count for nothing
-    (Problem::One, "rup 1 x1 1 x2 >= 1 ; 7 ~ 99"),
+    (Problem::Either, "pol 1 -1 +"),
     (
-        Problem::One,
+        Problem::Either,
+        "pol 1 664613997892457936451903530140172288 *",
+    ),
+    // what a live constraint covers is shown, and what propagation refutes the negation of; hints count for nothing
+    (Problem::Either, "rup 1 x1 1 x2 >= 1 ; 7 ~ 99"),
+    (
+        Problem::Either,
         "rup 1329227995784915872903807060280344576 ~x1 >= 0 ;",
     ),
     (Problem::SecondEitherWay, "rup 1 x2 >= 1 ;"),
@@ -202,13 +118,13 @@ const ACCEPTED: [(Problem, &str); 10] = [
 fn legal_lines_are_accepted(rt: HostRuntime) -> Result<(), Fail> {
     for (problem, line) in &ACCEPTED {
         let steps = format!(in rt.alloc(); "{line}\n")?;
-        proof_answers(&rt, *problem, steps.as_str(), "NONE", "accepted NONE\n", 0)?;
+        proof_answers(&rt, *problem, steps.as_str(), "NONE", "accepted NONE\n")?;
     }
     Ok(())
 }
 
 /// Third lines of proofs that are refused, and with what.
-const REFUSED: [(Problem, &str, &str); 29] = [
+const REFUSED: [(Problem, &str, &str); 28] = [
     // half of 2^120, twice
     (
         Problem::NotBoth,
@@ -226,32 +142,31 @@ const REFUSED: [(Problem, &str, &str); 29] = [
     (Problem::NotBoth, "pol -3", "10 DeadId"),
     (Problem::NotBoth, "pol", "11 StackShape"),
     // one constraint alone
-    (Problem::One, "pol 2", "10 DeadId"),
-    (Problem::One, "pol 0", "10 DeadId"),
-    (Problem::One, "pol 1 +", "11 StackShape"),
-    (Problem::One, "pol 1 1", "11 StackShape"),
-    (Problem::One, "pol 1 d", "11 StackShape"),
-    (Problem::One, "pol 1 0 d", "12 BadFactor"),
+    (Problem::Either, "pol 2", "10 DeadId"),
+    (Problem::Either, "pol 0", "10 DeadId"),
+    (Problem::Either, "pol 1 +", "11 StackShape"),
+    (Problem::Either, "pol 1 1", "11 StackShape"),
+    (Problem::Either, "pol 1 d", "11 StackShape"),
+    (Problem::Either, "pol 1 0 d", "12 BadFactor"),
     (
-        Problem::One,
+        Problem::Either,
         "pol 1 664613997892457936451903530140172289 *",
         "13 TooLarge",
     ),
     // lines that are not read
     (
-        Problem::One,
+        Problem::Either,
         "pol 1 1329227995784915872903807060280344577 *",
         "8 IntegerTooLarge",
     ),
-    (Problem::One, "pol s d", "5 BadLine"),
-    (Problem::One, "foo 1", "3 UnknownRule"),
-    (Problem::One, "solx x1", "4 RuleLeftOut"),
-    (Problem::One, "f 1", "5 BadLine"),
-    // what the format has and is not judged yet, and what this profile leaves out, are answered alike
-    (Problem::One, "red 1 x1 >= 1 ; x1 1", "4 RuleLeftOut"),
-    (Problem::One, "rup 1 x1 = 1 ;", "4 RuleLeftOut"),
-    (Problem::One, "del range 1 2", "4 RuleLeftOut"),
-    (Problem::One, "output ALL", "4 RuleLeftOut"),
+    (Problem::Either, "pol s d", "5 BadLine"),
+    (Problem::Either, "foo 1", "3 UnknownRule"),
+    (Problem::Either, "solx x1", "4 RuleLeftOut"),
+    (Problem::Either, "f 1", "5 BadLine"),
+    // what this profile leaves out
+    (Problem::Either, "rup 1 x1 = 1 ;", "4 RuleLeftOut"),
+    (Problem::Either, "del range 1 2", "4 RuleLeftOut"),
+    (Problem::Either, "output ALL", "4 RuleLeftOut"),
     // nothing is forced by the negation, or what is forced meets all constraints
     (Problem::Weighted, "rup 1 x2 >= 1 ;", "14 NotShown"),
     (Problem::Pigeons, "rup >= 1 ;", "14 NotShown"),
@@ -262,18 +177,6 @@ const REFUSED: [(Problem, &str, &str); 29] = [
     ),
 ];
 
-/// Checks that a third line is refused with this number and name.
-fn line_is_refused<R: Abort + AllocGlobal>(
-    rt: &R,
-    problem: Problem,
-    line: &str,
-    code: &str,
-) -> Result<(), Fail> {
-    let steps = format!(in rt.alloc(); "{line}\n")?;
-    let text = format!(in rt.alloc(); "refused line 3 code {code}\n")?;
-    proof_answers(rt, problem, steps.as_str(), "NONE", text.as_str(), 1)
-}
-
 #[test]
 fn wrong_lines_are_refused(rt: HostRuntime) -> Result<(), Fail> {
     for (problem, line, code) in &REFUSED {
@@ -282,81 +185,55 @@ fn wrong_lines_are_refused(rt: HostRuntime) -> Result<(), Fail> {
     Ok(())
 }
 
-/// A problem, the steps of a proof, each with its LF, the conclusion, what is printed, and the exit status.
-#[derive(Clone, Copy)]
-struct Concluded {
-    problem: Problem,
-    steps: &'static str,
-    conclusion: &'static str,
-    text: &'static str,
-    status: u8,
-}
-
-const CONCLUDED: [Concluded; 7] = [
+/// Conclusions, and what is printed.
+const CONCLUDED: [Row; 7] = [
     // by propagation alone, behind a blank line
-    Concluded {
+    Row {
         problem: Problem::Chain,
         steps: "\n",
         conclusion: "UNSAT",
-        text: "accepted UNSAT\n",
-        status: 0,
+        printed: "accepted UNSAT\n",
     },
-    Concluded {
+    Row {
         problem: Problem::Pigeons,
         steps: "\n",
         conclusion: "UNSAT",
-        text: "refused line 5 code 24 LowerNotShown\n",
-        status: 1,
+        printed: "refused line 5 code 24 LowerNotShown\n",
     },
     // an objective changes nothing for `NONE` and `UNSAT`; what propagation refutes shows every lower bound
-    Concluded {
+    Row {
         problem: Problem::Optimising,
         steps: "",
         conclusion: "UNSAT : 1",
-        text: "accepted UNSAT\n",
-        status: 0,
+        printed: "accepted UNSAT\n",
     },
-    Concluded {
+    Row {
         problem: Problem::Optimising,
         steps: "",
         conclusion: "NONE",
-        text: "accepted NONE\n",
-        status: 0,
+        printed: "accepted NONE\n",
     },
-    Concluded {
+    Row {
         problem: Problem::Optimising,
         steps: "",
         conclusion: "SAT",
-        text: "refused line 4 code 26 UpperNotLogged\n",
-        status: 1,
+        printed: "refused line 4 code 26 UpperNotLogged\n",
     },
-    Concluded {
+    Row {
         problem: Problem::Optimising,
         steps: "",
         conclusion: "BOUNDS 1 INF",
-        text: "accepted BOUNDS 1 INF\n",
-        status: 0,
+        printed: "accepted BOUNDS 1 INF\n",
     },
-    Concluded {
+    Row {
         problem: Problem::Optimising,
         steps: "",
         conclusion: "MAYBE",
-        text: "refused line 4 code 5 BadLine\n",
-        status: 1,
+        printed: "refused line 4 code 5 BadLine\n",
     },
 ];
 
 #[test]
 fn conclusions_are_judged(rt: HostRuntime) -> Result<(), Fail> {
-    for case in &CONCLUDED {
-        proof_answers(
-            &rt,
-            case.problem,
-            case.steps,
-            case.conclusion,
-            case.text,
-            case.status,
-        )?;
-    }
-    Ok(())
+    rows_answer(&rt, &CONCLUDED)
 }

@@ -10,9 +10,10 @@ use Rattle.proof_rules.specs.Claim.{ClaimsUpper}
 use Rattle.proof_rules.specs.Fault.{OrMemory, IsBoundsFault, IsConclusionFault, IsHintFault, IsLowerFault}
 use Rattle.proof_rules.specs.Justified.{EntitlesLower, EntitlesUpper, IsBest}
 use Rattle.proof_rules.specs.State.{State}
+use Rattle.proof_rules.proofs.ConclusionJudged.{bounds_fault}
 use Rattle.proof_rules.proofs.Faults.{or_memory}
 use Rattle.kernel.specs.Held.{Held, with_extra}
-use Rattle.kernel.proofs.Concluded.{behind, bounds_fault, upper_claimed, upper_entitled}
+use Rattle.kernel.proofs.Concluded.{behind, upper_claimed, upper_entitled}
 use Rattle.kernel.proofs.kernel.Kernel.judge_bounds.Goals as goal
 
 pub returns-in_err-extra-clause-fault : goal.returns-in_err-extra-clause-fault

@@ -1,0 +1,63 @@
+//! What is asked of each case of these tests: what is printed, and that what is claimed is so.
+
+use super::claims::is_claim_true;
+use checker::{Verdict, check, verdict_status, verdict_text};
+use std::alloc::Global;
+use std::process::Abort;
+use std::test::Fail;
+
+/// What is answered to a problem and a proof.
+#[derive(Drop)]
+struct Answer {
+    printed: Vec<u8>,
+    status: u8,
+    is_true: bool,
+}
+
+/// Judges a proof, and, where it is accepted, the claim by all assignments.
+fn judge(alloc: Global, opb: &[u8], proof: &[u8]) -> Result<Answer, Fail> {
+    let verdict = check(alloc, opb, proof);
+    Ok(Answer {
+        printed: verdict_text(alloc, opb, &verdict)?,
+        status: verdict_status(&verdict),
+        is_true: is_true(alloc, opb, &verdict)?,
+    })
+}
+
+/// Checks what is printed for a problem and a proof, the exit status, and that what is claimed is so.
+pub(crate) fn answers<R: Abort + AllocGlobal>(
+    rt: &R,
+    opb: &[u8],
+    proof: &[u8],
+    text: &str,
+) -> Result<(), Fail> {
+    let answer = judge(rt.alloc(), opb, proof)?;
+    assert_eq!(rt;
+        answer.printed.as_slice(),
+        text.as_bytes(),
+        "for {opb:?} and {proof:?}"
+    );
+    assert!(rt;
+        answer.status == status(text) && answer.is_true,
+        "for {opb:?} and {proof:?}"
+    );
+    Ok(())
+}
+
+/// The exit status that belongs to a printed text.
+fn status(text: &str) -> u8 {
+    match text.as_bytes() {
+        [b'a', ..] => 0,
+        [b'r', ..] => 1,
+        [b'b', ..] => 2,
+        _ => 4,
+    }
+}
+
+/// Whether an answer claims nothing, or what is so.
+fn is_true(alloc: Global, opb: &[u8], verdict: &Verdict) -> Result<bool, Fail> {
+    match verdict {
+        Verdict::Accepted(accepted) => is_claim_true(alloc, opb, accepted),
+        _ => Ok(true),
+    }
+}
