@@ -1,3 +1,4 @@
 pub mod Tables
 pub mod NumbersOfNames
 pub mod TermByTerm
+mod ShortPlaces

@@ -4,3 +4,4 @@ pub mod Largest
 pub mod Table
 pub mod Opb
 pub mod Limits
+pub mod ShortNames

@@ -8,6 +8,7 @@ mod limits;
 mod names;
 mod problem;
 mod seq;
+mod short_names;
 mod sums;
 mod term;
 

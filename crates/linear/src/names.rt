@@ -1,8 +1,9 @@
 //! Names of variables, numbered in order of first occurrence.
 //!
 //! Below the texts a variable is a number, and this table is all that knows its name; so the order is part of what a problem
-//! is, and the table is a list in the contracts and a hash set in the code. A name is kept once. A new one is hashed twice, to
-//! look it up and to put it in: the set takes a name only as one that is owned, and a copy for each occurrence would cost more.
+//! is, and the table is a list in the contracts and a hash set in the code, with a short cut for names that are `x` and digits. A name
+//! is kept once. A new one is hashed twice, to look it up and to put it in: the set takes a name only as one that is owned, and a
+//! copy for each occurrence would cost more.
 
 ghost use Rattle.std.specs.Prelude.{◌≡◌, ◌<◌, ◌≤◌, ◌↔◌, true, false, [], Some, None, length, ◌+◌, take, slice_get, MatchOption, IfOk, IfSome, OnOk, OnErr, IsTrue};
 ghost use Rattle.std.specs.Option.{option_copied};
@@ -10,6 +11,7 @@ ghost use Rattle.linear.specs.Largest.{most_names};
 ghost use Rattle.linear.specs.Table.{has_name, place_of, with_name, IsFullFor, IsTable};
 ghost use Rattle.pb_text.specs.Name.{is_name};
 
+use super::short_names::ShortNames;
 use super::term::Var;
 use indexmap::IndexSet;
 use std::alloc::{AllocError, Global};
@@ -20,17 +22,19 @@ use std::marker::Model;
 #[derive(Drop)]
 pub struct Names {
     set: IndexSet<Vec<u8>>,
+    short: ShortNames,
 }
 
 impl Model for Names {
     ghost use Rattle.std.specs.Prelude.{ℕ, List, map};
     ghost use Rattle.linear.specs.Table.{IsTable};
+    ghost use Rattle.linear.specs.ShortNames.{AreShortPlaces};
 
     ghost Value = { List (List ℕ) };
 
     ghost view = { λ n. map (λ v. v.items) n.set.keys };
 
-    ghost invariant = { λ n. IsTable (map (λ v. v.items) n.set.keys) };
+    ghost invariant = { λ n. IsTable (map (λ v. v.items) n.set.keys) × AreShortPlaces (map (λ v. v.items) n.set.keys) n.short };
 }
 
 impl Names {
@@ -40,6 +44,7 @@ impl Names {
     {
         Names {
             set: IndexSet::new(alloc),
+            short: ShortNames::new(alloc),
         }
     }
 
@@ -80,6 +85,9 @@ impl Names {
             (has_name self.now name.now ≡ false)
             (λ v. (has_name self.now name.now ≡ true) × (v.0 ≡ place_of self.now name.now)) }
     {
+        if let Some(place) = self.short.find(name) {
+            return Some(Var(place));
+        }
         match self.set.get_index_of(name) {
             Some(place) => Some(Var(place as u32)),
             None => None,
@@ -138,6 +146,7 @@ impl Names {
         let number = self.set.len();
         let own = Vec::from_slice(*self.set.allocator(), name)?;
         self.set.insert(own)?;
+        self.short.keep(name, number as u32);
         Ok(Var(number as u32))
     }
 
@@ -145,6 +154,7 @@ impl Names {
     pub fn truncate(&mut self, len: usize)
         ensures { self.new ≡ take len self.old }
     {
+        self.short.clear();
         self.set.truncate(len);
     }
 

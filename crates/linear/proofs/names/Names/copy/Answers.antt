@@ -7,7 +7,7 @@ use Rattle.linear.proofs.names.Names.copy.Goals as goal
 
 pub intern-requires-clause-spelled : goal.intern-requires-clause-spelled
 intern-requires-clause-spelled c =
-    let table = subst IsTable c.self.view_is c.self.invariant in
+    let table = subst IsTable c.self.view_is c.self.invariant.0 in
     let name = c.as_slice.result.now in
     let here = name_at (λ v. v.items) c.self.inside.set.keys c.as_slice-name-items.result.now c.args.self.now c.name-item.result name c.loop-name.name-index
     c.self.view_is c.as_slice-name-items.ensures.keys c.loop-name-test.true c.name-item.is c.as_slice.ensures.value in
@@ -15,7 +15,7 @@ intern-requires-clause-spelled c =
 
 pub loop-name-preserved : goal.loop-name-preserved
 loop-name-preserved c =
-    let table = subst IsTable c.self.view_is c.self.invariant in
+    let table = subst IsTable c.self.view_is c.self.invariant.0 in
     let name = c.as_slice.result.now in
     let here = name_at (λ v. v.items) c.self.inside.set.keys c.as_slice-name-items.result.now c.args.self.now c.name-item.result name c.loop-name.name-index
     c.self.view_is c.as_slice-name-items.ensures.keys c.loop-name-test.true c.name-item.is c.as_slice.ensures.value in
