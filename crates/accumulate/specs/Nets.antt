@@ -1,0 +1,60 @@
+-- A constraint as an array: at each place the net coefficient of the variable of that number.
+use Rattle.std.specs.Prelude.{ℕ, zero, suc, ◌+◌, ◌<◌, ◌≤◌, ◌≡◌, All, Contains, length, slice_index_or, ℤ, pos, negsuc, neg_ℤ, ◌+ℤ◌, unsigned_abs, Bool, true, false, List, [], ◌∷◌, ◌++◌, if◌then◌else◌}
+use Rattle.normal_form.specs.Normal.{NormalConstraint, largest_sum}
+use Rattle.normal_form.specs.declared.term.NormalTerm.{NormalTerm}
+use Rattle.accumulate.specs.declared.cells.Change.{Change}
+use Rattle.accumulate.specs.declared.cells.Change.TheVariants as changes
+
+-- the term of a net coefficient, or none where that is 0
+abbrev pub net_term : ℕ → ℤ → List NormalTerm
+net_term v (pos zero) = []
+net_term v (pos (suc n)) = (record { coef = suc n; var = record { 0 = v }; negated = false }) ∷ []
+net_term v (negsuc n) = (record { coef = suc n; var = record { 0 = v }; negated = true }) ∷ []
+
+-- the terms of the variables from v on
+abbrev pub terms_from : ℕ → List ℤ → List NormalTerm
+terms_from v [] = []
+terms_from v (net ∷ nets) = net_term v net ++ terms_from (v + 1) nets
+
+-- what the variables from v on give a set of variables
+abbrev pub nets_of : (ℕ → Bool) → ℕ → List ℤ → ℤ
+nets_of set v [] = pos 0
+nets_of set v (net ∷ nets) = (if set v then net else pos 0) +ℤ nets_of set (v + 1) nets
+
+-- the sizes of the net coefficients, added up
+abbrev pub sizes : List ℤ → ℕ
+sizes [] = 0
+sizes (net ∷ nets) = unsigned_abs net + sizes nets
+
+-- what a number adds, or what takes it back
+abbrev pub turned : Change → ℤ → ℤ
+turned changes.Add z = z
+turned changes.TakeBack z = neg_ℤ z
+
+-- the marks name every variable with a net coefficient, and none past the array
+pub record IsMarked (marks : List ℕ) (nets : List ℤ) : Type 0 where
+  pub covers : (v : ℕ) → 0 < unsigned_abs (slice_index_or nets v (pos 0)) → Contains marks v
+  pub room : All (λ v. v < length nets) marks
+
+-- the marks name every variable of the terms
+abbrev pub NamesAll : List ℕ → List NormalTerm → Type 0
+NamesAll marks ts = All (λ t. Contains marks (t.var.0)) ts
+
+-- the constraint of an array and a degree
+abbrev pub constraint_of : List ℤ → ℕ → NormalConstraint
+constraint_of nets degree = record { terms = terms_from 0 nets; degree = degree }
+
+-- the constraint without terms, of degree 0
+abbrev pub nothing : NormalConstraint
+nothing = record { terms = []; degree = 0 }
+
+-- what is kept beside the array is right, and all is within the limits
+pub record IsKept (nets : List ℤ) (marks : List ℕ) (sum degree : ℕ) : Type 0 where
+  pub marked : IsMarked marks nets
+  pub summed : sum ≡ sizes nets
+  pub small : sum ≤ largest_sum
+  pub low : degree ≤ largest_sum
+
+-- a number stands at this place of the list or after it
+abbrev pub IsAhead : ℕ → List ℕ → ℕ → Type 0
+IsAhead i xs v = (k : ℕ) × (i ≤ k) × (k < length xs) × (slice_index_or xs k v ≡ v)

@@ -1,0 +1,136 @@
+//! A sum of constraints, to which another is added at the price of that one alone.
+//!
+//! The coefficients stand in an array with a cell for each variable. A literal and its opposite share a cell, with
+//! coefficients of two signs, so cancelling is an addition of signed numbers. Beside it stand the coefficient sum, by
+//! which the degree falls with what cancels, and a list of marks: every variable with a coefficient is in it, so
+//! reading the sum off, and putting the array back to 0, costs what was added and not the number of all variables. A
+//! variable may be marked twice; that is found out when the marks are put in order, and costs less than to keep it
+//! from happening.
+//!
+//! A constraint is added first, and taken back where the result is too large: so one pass is enough where it is not.
+
+ghost use Rattle.std.specs.Prelude.{◌≡◌, [], IfOk, OnOk, OnErr, IsErrOf};
+ghost use Rattle.linear.specs.Valuation.{Valuation};
+ghost use Rattle.normal_form.specs.Normal.{NormalConstraint, IsNormal, Fits, Holds};
+ghost use Rattle.cut_rules.specs.Rules.{IsSum, IsTooLarge, IsWeakening};
+ghost use Rattle.accumulate.specs.Nets.{nothing};
+
+use super::cells::{Change, apply, degree_after, fits, prepare};
+use super::reading::{clear, collect, finished};
+use linear::Var;
+use normal_form::{CutFault, Normal};
+use std::alloc::{AllocError, Global};
+use std::marker::Model;
+
+/// A normal constraint that is kept by variable: the net coefficient of each, above 0 for the variable and below 0
+/// for its negation. Its coefficient sum and its degree are at most `2^120`. It takes sixteen bytes for each variable
+/// up to the greatest one that was ever in it.
+#[derive(Debug, Drop)]
+pub struct Accumulator {
+    nets: Vec<i128>,
+    touched: Vec<u32>,
+    sum: u128,
+    bound: u128,
+}
+
+impl Model for Accumulator {
+    ghost use Rattle.normal_form.specs.Normal.{NormalConstraint};
+    ghost use Rattle.accumulate.specs.Nets.{constraint_of, IsKept};
+
+    ghost Value = { NormalConstraint };
+
+    ghost view = { λ a. constraint_of a.nets.items a.bound };
+
+    ghost invariant = { λ a. IsKept a.nets.items a.touched.items a.sum a.bound };
+}
+
+impl Accumulator {
+    /// The constraint without terms, of degree 0.
+    pub fn new(alloc: Global) -> Self
+        ensures { result ≡ nothing }
+    {
+        Accumulator {
+            nets: Vec::new(alloc),
+            touched: Vec::new(alloc),
+            sum: 0,
+            bound: 0,
+        }
+    }
+
+    /// Becomes the sum with another constraint, by the equations of `cut_rules::add`. `TooLarge` comes exactly where
+    /// the coefficient sum or the degree of the result is above `2^120`; what cancels does not count. After an error
+    /// it is as before.
+    pub fn add(&mut self, other: &Normal) -> Result<(), CutFault>
+        ensures sum { OnOk result (IsSum self.old other.now self.new) }
+        ensures normal { OnOk result (IsNormal self.new) }
+        ensures keeps { OnOk result ((a : Valuation) → Holds a self.old → Holds a other.now → Holds a self.new) }
+        ensures unchanged { OnErr result (self.new ≡ self.old) }
+        ensures too_large { IsErrOf result CutFault.TooLarge → (r : NormalConstraint) × IsTooLarge (IsSum self.old other.now) r }
+        ensures within { OnOk result ((r : NormalConstraint) → IsSum self.old other.now r → Fits r) }
+        ensures factor { IsErrOf result CutFault.BadFactor → ⊥ }
+    {
+        prepare(&mut self.nets, &mut self.touched, other)?;
+        let sum = apply(&mut self.nets, self.sum, other, Change::Add);
+        let degree = degree_after(self.sum, self.bound, other, sum);
+        if !fits(sum, degree) {
+            apply(&mut self.nets, sum, other, Change::TakeBack);
+            return Err(CutFault::TooLarge);
+        }
+        self.sum = sum;
+        self.bound = degree;
+        Ok(())
+    }
+
+    /// Becomes this constraint, whatever it was. After an error it is empty: without terms, of degree 0.
+    pub fn load(&mut self, other: &Normal) -> Result<(), AllocError>
+        ensures value { OnOk result (self.new ≡ other.now) }
+        ensures empty { OnErr result (self.new ≡ nothing) }
+    {
+        self.clear();
+        prepare(&mut self.nets, &mut self.touched, other)?;
+        self.sum = apply(&mut self.nets, 0, other, Change::Add);
+        self.bound = other.degree();
+        Ok(())
+    }
+
+    /// The term of a variable goes, and the degree falls by its coefficient, not below 0; a constraint without the
+    /// variable stays as it is.
+    pub fn weaken(&mut self, var: Var)
+        ensures weakening { IsWeakening (var.0) self.old self.new }
+        ensures keeps { (a : Valuation) → Holds a self.old → Holds a self.new }
+    {
+        let place = var.0 as usize;
+        if place >= self.nets.len() {
+            return;
+        }
+        let size = self.nets[place].unsigned_abs();
+        self.nets[place] = 0;
+        self.sum -= size;
+        self.bound = self.bound.saturating_sub(size);
+    }
+
+    /// Hands over the constraint, and is empty then: without terms, of degree 0. After an error, which is want of
+    /// memory, it is as before.
+    pub fn take(&mut self, alloc: Global) -> Result<Normal, CutFault>
+        ensures value { IfOk result (λ n. n ≡ self.old) }
+        ensures empty { OnOk result (self.new ≡ nothing) }
+        ensures unchanged { OnErr result (self.new ≡ self.old) }
+        ensures others { OnErr result (IsErrOf result CutFault.OutOfMemory) }
+    {
+        self.touched.sort()?;
+        let terms = collect(alloc, &self.nets, &self.touched)?;
+        let taken = finished(terms, self.bound)?;
+        self.clear();
+        Ok(taken)
+    }
+
+    /// Becomes empty: without terms, of degree 0. No memory is taken, and none is given back.
+    pub fn clear(&mut self)
+        ensures { self.new ≡ nothing }
+    {
+        clear(&mut self.nets, &self.touched);
+        self.touched.clear();
+        self.sum = 0;
+        self.bound = 0;
+    }
+}
