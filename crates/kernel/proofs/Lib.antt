@@ -10,3 +10,4 @@ pub mod GoalsShown
 pub mod Showing
 pub mod Tables
 pub mod TakenBack
+pub mod RunningSums

@@ -7,6 +7,7 @@ use super::database::Database;
 use super::file::constraints_of_file;
 use super::log::Log;
 use super::shown::is_shown;
+use accumulate::Accumulator;
 use linear::Problem;
 use normal_form::Normal;
 use proof_rules::StepFault;
@@ -30,6 +31,9 @@ pub struct Kernel<'a, P: Propagator> {
     pub(crate) database: Database<P>,
     pub(crate) log: Log,
     pub(crate) file_ids: u64,
+    // What `pol` steps add up in. What it holds between them is of no account: it is kept for its memory, a cell for
+    // each variable, which would else be taken and cleared for each step.
+    pub(crate) sum: Accumulator,
 }
 
 impl<'a, P: Propagator> Model for Kernel<'a, P> {
@@ -68,6 +72,7 @@ impl<'a, P: Propagator> Kernel<'a, P> {
             database,
             log: Log::empty(alloc),
             file_ids,
+            sum: Accumulator::new(alloc),
         })
     }
 

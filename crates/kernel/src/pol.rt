@@ -1,22 +1,25 @@
 //! `pol`: cutting planes in postfix (Cook, Coullard and Turán's rules on the normal form; the VeriPB proof format). The
-//! items are run from left to right over a stack; what a whole line adds is copied only where it is one cited constraint.
+//! items are run from left to right over a stack; what a whole line adds is copied only where it is one cited
+//! constraint. The kernel lends its accumulator to the stack for the time of a step.
 
 ghost use Rattle.std.specs.Prelude.{◌≡◌, ◌≢◌, ◌∷◌, [], IfOk, IfErr, OnOk, OnErr, Some, length};
 ghost use Rattle.proof_rules.specs.Expression.{Given, IsPostfixOf, AppliesItem};
-ghost use Rattle.proof_rules.specs.Fault.{OrMemory, IsItemFault, IsIdFault, IsAddFault, IsMultiplyFault, IsFactorFault, IsShapeFault, IsWritingFault, IsPolFault};
+ghost use Rattle.proof_rules.specs.Fault.{OrMemory, IsItemFault, IsIdFault, IsMultiplyFault, IsFactorFault, IsShapeFault, IsWritingFault, IsPolFault};
 ghost use Rattle.proof_rules.specs.Legal.{LegalPol};
 ghost use Rattle.kernel.specs.Database.{found};
 
 use super::database::Database;
 use super::kernel::{Applied, Kernel};
 use super::stack::{Operand, Stack};
-use cut_rules::{add, axiom, divide, multiply, saturate, weaken};
-use linear::{Lit, Var};
+use accumulate::Accumulator;
+use cut_rules::{axiom, divide, multiply, saturate};
+use linear::Lit;
 use normal_form::Normal;
 use proof_rules::StepFault;
 use proof_steps::Item;
 use propagate::Propagator;
 use std::alloc::Global;
+use std::mem::replace;
 
 impl<'a, P: Propagator> Kernel<'a, P> {
     /// Adds the value of the expression that the items write.
@@ -27,7 +30,7 @@ impl<'a, P: Propagator> Kernel<'a, P> {
         ensures fault { IfErr result (λ f. OrMemory f (IsPolFault self.old.state items.now f)) }
         ensures err { OnErr result (self.new ≡ self.old) }
     {
-        let value = evaluate(self.allocator, &self.database, items)?;
+        let value = evaluate(self.allocator, &self.database, &mut self.sum, items)?;
         if !self.database.has_room() {
             return Err(StepFault::TooManyIds);
         }
@@ -41,16 +44,33 @@ impl<'a, P: Propagator> Kernel<'a, P> {
 fn evaluate<P: Propagator>(
     alloc: Global,
     database: &Database<P>,
+    sum: &mut Accumulator,
     items: &[Item],
 ) -> Result<Normal, StepFault>
     ensures value { IfOk result (IsPostfixOf (found database.now) items.now) }
     ensures fault { IfErr result (λ f. OrMemory f (IsWritingFault (found database.now) items.now f)) }
 {
-    let mut stack = Stack::new(alloc);
+    let mut stack = Stack::new(alloc, replace(sum, Accumulator::new(alloc)));
+    let value = run(alloc, database, &mut stack, items);
+    *sum = stack.into_accumulator();
+    value
+}
+
+/// Runs the items over an empty stack.
+fn run<'a, P: Propagator>(
+    alloc: Global,
+    database: &'a Database<P>,
+    stack: &mut Stack<'a>,
+    items: &[Item],
+) -> Result<Normal, StepFault>
+    requires { stack.old ≡ [] }
+    ensures value { IfOk result (IsPostfixOf (found database.now) items.now) }
+    ensures fault { IfErr result (λ f. OrMemory f (IsWritingFault (found database.now) items.now f)) }
+{
     for item in items {
-        apply_item(alloc, database, &mut stack, *item)?;
+        apply_item(alloc, database, stack, *item)?;
     }
-    only(alloc, &mut stack)
+    only(alloc, stack)
 }
 
 /// The one constraint on the stack.
@@ -58,10 +78,10 @@ fn only(alloc: Global, stack: &mut Stack<'_>) -> Result<Normal, StepFault>
     ensures one { IfOk result (λ n. stack.old ≡ n ∷ []) }
     ensures fault { IfErr result (λ f. OrMemory f ((f ≡ StepFault.StackShape) × (length stack.old ≢ 1))) }
 {
-    let Some(top) = stack.pop() else {
+    let Some(top) = stack.pop(alloc)? else {
         return Err(StepFault::StackShape);
     };
-    if stack.pop().is_some() {
+    if stack.pop(alloc)?.is_some() {
         return Err(StepFault::StackShape);
     }
     Ok(top.into_constraint(alloc)?)
@@ -80,11 +100,11 @@ fn apply_item<'a, P: Propagator>(
     match item {
         Item::Id(id) => cite(database, stack, id),
         Item::Axiom(literal) => push_axiom(alloc, stack, literal),
-        Item::Add => add_top_two(alloc, stack),
+        Item::Add => stack.add_top_two(alloc),
         Item::Multiply(factor) => multiply_top(alloc, stack, factor),
         Item::Divide(divisor) => divide_top(alloc, stack, divisor),
         Item::Saturate => saturate_top(alloc, stack),
-        Item::Weaken(var) => weaken_top(alloc, stack, var),
+        Item::Weaken(var) => stack.weaken_top(alloc, var),
     }
 }
 
@@ -112,26 +132,11 @@ fn push_axiom(alloc: Global, stack: &mut Stack<'_>, literal: Lit) -> Result<(), 
     Ok(())
 }
 
-fn add_top_two(alloc: Global, stack: &mut Stack<'_>) -> Result<(), StepFault>
-    ensures ok { (given : Given) → OnOk result (AppliesItem given Item.Add stack.old stack.new) }
-    ensures fault { IfErr result (λ f. OrMemory f (IsAddFault stack.old f)) }
-{
-    let Some(right) = stack.pop() else {
-        return Err(StepFault::StackShape);
-    };
-    let Some(left) = stack.pop() else {
-        return Err(StepFault::StackShape);
-    };
-    let made = add(alloc, left.constraint(), right.constraint())?;
-    stack.push(Operand::Made(made))?;
-    Ok(())
-}
-
 fn multiply_top(alloc: Global, stack: &mut Stack<'_>, factor: i128) -> Result<(), StepFault>
     ensures ok { (given : Given) → OnOk result (AppliesItem given (Item.Multiply factor) stack.old stack.new) }
     ensures fault { IfErr result (λ f. OrMemory f (IsMultiplyFault factor stack.old f)) }
 {
-    let Some(top) = stack.pop() else {
+    let Some(top) = stack.pop(alloc)? else {
         return Err(StepFault::StackShape);
     };
     let made = multiply(alloc, top.constraint(), factor)?;
@@ -143,7 +148,7 @@ fn divide_top(alloc: Global, stack: &mut Stack<'_>, divisor: i128) -> Result<(),
     ensures ok { (given : Given) → OnOk result (AppliesItem given (Item.Divide divisor) stack.old stack.new) }
     ensures fault { IfErr result (λ f. OrMemory f (IsFactorFault divisor stack.old f)) }
 {
-    let Some(top) = stack.pop() else {
+    let Some(top) = stack.pop(alloc)? else {
         return Err(StepFault::StackShape);
     };
     let made = divide(alloc, top.constraint(), divisor)?;
@@ -155,22 +160,10 @@ fn saturate_top(alloc: Global, stack: &mut Stack<'_>) -> Result<(), StepFault>
     ensures ok { (given : Given) → OnOk result (AppliesItem given Item.Saturate stack.old stack.new) }
     ensures fault { IfErr result (λ f. OrMemory f (IsShapeFault stack.old f)) }
 {
-    let Some(top) = stack.pop() else {
+    let Some(top) = stack.pop(alloc)? else {
         return Err(StepFault::StackShape);
     };
     let made = saturate(alloc, top.constraint())?;
-    stack.push(Operand::Made(made))?;
-    Ok(())
-}
-
-fn weaken_top(alloc: Global, stack: &mut Stack<'_>, var: Var) -> Result<(), StepFault>
-    ensures ok { (given : Given) → OnOk result (AppliesItem given (Item.Weaken var) stack.old stack.new) }
-    ensures fault { IfErr result (λ f. OrMemory f (IsShapeFault stack.old f)) }
-{
-    let Some(top) = stack.pop() else {
-        return Err(StepFault::StackShape);
-    };
-    let made = weaken(alloc, top.constraint(), var)?;
     stack.push(Operand::Made(made))?;
     Ok(())
 }

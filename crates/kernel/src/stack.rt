@@ -1,7 +1,24 @@
 //! The stack of a `pol` step. An operand is a live constraint that is lent, or a result that the step made: citing a
 //! constraint copies nothing, and a result is handed over as it is.
+//!
+//! A sum to which more is added stands in an accumulator: so an addition costs what is added, and not what was summed
+//! up before. There is one accumulator, and it holds the sum that is nearest to the top; the other operands stand above
+//! and below it. Where two operands above it are to become such a sum themselves, it is read off first. Which of its
+//! ways an addition takes says nothing of what it gives, and is chosen by what it costs.
 
-use normal_form::Normal;
+ghost use Rattle.std.specs.Prelude.{◌≡◌, ◌<◌, ◌∷◌, [], length, IfErr, OnOk, OnErr, IsErrOf};
+ghost use Rattle.normal_form.specs.Normal.{Fits};
+ghost use Rattle.cut_rules.specs.Rules.{IsSum};
+ghost use Rattle.proof_rules.specs.Expression.{Given, AppliesItem};
+ghost use Rattle.proof_steps.specs.declared.step.Item.TheVariants as items;
+ghost use Rattle.proof_rules.specs.Fault.{OrMemory, IsAddFault};
+ghost use Rattle.kernel.specs.Stack.{operand_value, stack_of, with_sum, stacked, IsSumFault};
+
+use accumulate::Accumulator;
+use cut_rules::{add, weaken};
+use linear::Var;
+use normal_form::{CutFault, Normal};
+use proof_rules::StepFault;
 use smallvec::SmallVec;
 use std::alloc::{AllocError, Global};
 use std::default::MadeWith;
@@ -14,6 +31,8 @@ pub(crate) enum Operand<'a> {
     Live(&'a Normal),
     /// A result of an earlier item.
     Made(Normal),
+    /// A sum that an earlier item made, to which more may be added.
+    Sum(Normal),
 }
 
 impl<'a> MadeWith<Global> for Operand<'a> {
@@ -35,6 +54,7 @@ impl<'a> Operand<'a> {
         match self {
             Operand::Live(constraint) => constraint,
             Operand::Made(constraint) => constraint,
+            Operand::Sum(constraint) => constraint,
         }
     }
 
@@ -45,51 +65,290 @@ impl<'a> Operand<'a> {
         match self {
             Operand::Live(constraint) => constraint.copy(alloc),
             Operand::Made(constraint) => Ok(constraint),
+            Operand::Sum(constraint) => Ok(constraint),
         }
     }
+
+    // Whether more may be added to it.
+    fn is_sum(&self) -> bool {
+        match self {
+            Operand::Sum(_) => true,
+            _ => false,
+        }
+    }
+
+    // What it becomes by weakening: a sum stays one.
+    fn weakened(&self, made: Normal) -> Operand<'a>
+        ensures { operand_value result ≡ made }
+    {
+        match self {
+            Operand::Sum(_) => Operand::Sum(made),
+            _ => Operand::Made(made),
+        }
+    }
+}
+
+/// What the accumulator of a stack holds.
+#[derive(Clone, Copy, Debug)]
+pub(crate) enum Held {
+    /// Nothing that stands on the stack.
+    Nothing,
+    /// The sum that stands between the operands above and those below.
+    RunningSum,
 }
 
 /// The operands of a `pol` step.
 #[derive(Drop)]
 pub(crate) struct Stack<'a> {
-    operands: SmallVec<Operand<'a>, 8>,
+    below: SmallVec<Operand<'a>, 2>,
+    held: Held,
+    sum: Accumulator,
+    above: SmallVec<Operand<'a>, 8>,
+    // How many terms were added to the running sum. Only speed depends on it.
+    added: usize,
 }
 
 impl<'a> Model for Stack<'a> {
     ghost use Rattle.std.specs.Prelude.{List};
     ghost use Rattle.normal_form.specs.Normal.{NormalConstraint};
-    ghost use Rattle.kernel.specs.Stack.{stack_of};
+    ghost use Rattle.kernel.specs.Stack.{stacked};
 
     ghost Value = { List NormalConstraint };
 
-    ghost view = { λ s. stack_of s.operands.items };
+    ghost view = { λ s. stacked s.above.items s.held s.sum s.below.items };
 }
 
 impl<'a> Stack<'a> {
-    ghost use Rattle.std.specs.Prelude.{◌≡◌, [], ◌∷◌, MatchOption, OnOk};
-    ghost use Rattle.kernel.specs.Stack.{operand_value};
+    ghost use Rattle.std.specs.Prelude.{◌≡◌, [], ◌∷◌, MatchOption, IfOk, IfErr, OnOk, OnErr, IsErrOf};
+    ghost use Rattle.kernel.specs.Stack.{operand_value, IsSumOnTop, IsSumFault};
+    ghost use Rattle.proof_rules.specs.Expression.{Given, AppliesItem};
+    ghost use Rattle.proof_steps.specs.declared.step.Item.TheVariants as items;
+    ghost use Rattle.proof_rules.specs.Fault.{OrMemory, IsAddFault, IsShapeFault};
 
-    /// An empty stack.
-    pub(crate) fn new(alloc: Global) -> Self
+    /// An empty stack, with an accumulator to add up in, whatever that holds.
+    pub(crate) fn new(alloc: Global, sum: Accumulator) -> Self
         ensures { result ≡ [] }
     {
         Stack {
-            operands: SmallVec::new(alloc),
+            below: SmallVec::new(alloc),
+            held: Held::Nothing,
+            sum,
+            above: SmallVec::new(alloc),
+            added: 0,
         }
+    }
+
+    /// Gives the accumulator back.
+    pub(crate) fn into_accumulator(self) -> Accumulator {
+        self.sum
     }
 
     /// Puts an operand on top.
     pub(crate) fn push(&mut self, operand: Operand<'a>) -> Result<(), AllocError>
         ensures { OnOk result (self.new ≡ operand_value operand.entry ∷ self.old) }
     {
-        self.operands.push(operand)?;
+        self.above.push(operand)?;
         Ok(())
     }
 
-    /// Takes the operand on top.
-    pub(crate) fn pop(&mut self) -> Option<Operand<'a>>
-        ensures { MatchOption result (self.old ≡ []) (λ o. self.old ≡ operand_value o ∷ self.new) }
+    /// Takes the operand on top. A running sum there is read off; want of memory for that is the only fault.
+    pub(crate) fn pop(&mut self, alloc: Global) -> Result<Option<Operand<'a>>, CutFault>
+        ensures top { IfOk result (λ top. MatchOption top (self.old ≡ []) (λ o. self.old ≡ operand_value o ∷ self.new)) }
+        ensures memory { OnErr result (IsErrOf result CutFault.OutOfMemory) }
     {
-        self.operands.pop()
+        if let Some(operand) = self.above.pop() {
+            return Ok(Some(operand));
+        }
+        match self.held {
+            Held::Nothing => Ok(self.below.pop()),
+            Held::RunningSum => {
+                let taken = self.sum.take(alloc)?;
+                self.held = Held::Nothing;
+                Ok(Some(Operand::Sum(taken)))
+            }
+        }
     }
+
+    /// Adds the two on top: to the running sum, where it is one of them.
+    pub(crate) fn add_top_two(&mut self, alloc: Global) -> Result<(), StepFault>
+        ensures ok { (given : Given) → OnOk result (AppliesItem given items.Add self.old self.new) }
+        ensures fault { IfErr result (λ f. OrMemory f (IsAddFault self.old f)) }
+    {
+        match self.held {
+            Held::Nothing => self.add_apart(alloc),
+            Held::RunningSum => {
+                if self.above.len() > 1 {
+                    return self.add_apart(alloc);
+                }
+                let count = add_beside(&mut self.above, &mut self.sum, &mut self.below)?;
+                self.added = self.added.saturating_add(count);
+                Ok(())
+            }
+        }
+    }
+
+    // Adds the two on top, neither of which is the running sum.
+    fn add_apart(&mut self, alloc: Global) -> Result<(), StepFault>
+        ensures ok { (given : Given) → OnOk result (AppliesItem given items.Add self.old self.new) }
+        ensures fault { IfErr result (λ f. OrMemory f (IsAddFault self.old f)) }
+    {
+        let Some(right) = self.pop(alloc)? else {
+            return Err(StepFault::StackShape);
+        };
+        let Some(left) = self.pop(alloc)? else {
+            return Err(StepFault::StackShape);
+        };
+        if self.is_cheap_to_copy(&left, &right) {
+            let made = add(alloc, left.constraint(), right.constraint())?;
+            self.push(Operand::Sum(made))?;
+            return Ok(());
+        }
+        self.push_running_sum(alloc, left.constraint(), right.constraint())
+    }
+
+    // Whether the sum of two operands is made as a constraint of its own. Two that are no sums themselves may be all
+    // that the line adds, and one copy is cheaper than the accumulator. Above a running sum a copy is cheaper than to
+    // read that off, as long as it has no more terms than were added there.
+    fn is_cheap_to_copy(&self, left: &Operand<'a>, right: &Operand<'a>) -> bool {
+        match self.held {
+            Held::Nothing => !left.is_sum() && !right.is_sum(),
+            Held::RunningSum => {
+                left.constraint()
+                    .len()
+                    .saturating_add(right.constraint().len())
+                    <= self.added
+            }
+        }
+    }
+
+    // Puts a sum on top, as the running one. If there was one, it is read off.
+    fn push_running_sum(
+        &mut self,
+        alloc: Global,
+        left: &Normal,
+        right: &Normal,
+    ) -> Result<(), StepFault>
+        ensures ok { OnOk result (IsSumOnTop left.now right.now self.old self.new) }
+        ensures fault { IfErr result (λ f. OrMemory f (IsSumFault left.now right.now f)) }
+    {
+        put_away(
+            alloc,
+            self.held,
+            &mut self.sum,
+            &mut self.above,
+            &mut self.below,
+        )?;
+        self.sum.load(left)?;
+        self.sum.add(right)?;
+        self.held = Held::RunningSum;
+        self.added = left.len().saturating_add(right.len());
+        Ok(())
+    }
+
+    /// Weakens the one on top.
+    pub(crate) fn weaken_top(&mut self, alloc: Global, var: Var) -> Result<(), StepFault>
+        ensures ok { (given : Given) → OnOk result (AppliesItem given (items.Weaken var) self.old self.new) }
+        ensures fault { IfErr result (λ f. OrMemory f (IsShapeFault self.old f)) }
+    {
+        match self.held {
+            Held::Nothing => self.weaken_operand(alloc, var),
+            Held::RunningSum => {
+                if !self.above.is_empty() {
+                    return self.weaken_operand(alloc, var);
+                }
+                self.sum.weaken(var);
+                Ok(())
+            }
+        }
+    }
+
+    // Weakens the operand on top.
+    fn weaken_operand(&mut self, alloc: Global, var: Var) -> Result<(), StepFault>
+        ensures ok { (given : Given) → OnOk result (AppliesItem given (items.Weaken var) self.old self.new) }
+        ensures fault { IfErr result (λ f. OrMemory f (IsShapeFault self.old f)) }
+    {
+        let Some(top) = self.pop(alloc)? else {
+            return Err(StepFault::StackShape);
+        };
+        let made = weaken(alloc, top.constraint(), var)?;
+        self.push(top.weakened(made))?;
+        Ok(())
+    }
+}
+
+// Adds an operand to a running sum. How many terms it has.
+fn add_operand(sum: &mut Accumulator, operand: &Operand<'_>) -> Result<usize, StepFault>
+    ensures sum { OnOk result (IsSum sum.old (operand_value operand.now) sum.new) }
+    ensures fits { OnOk result (Fits sum.new) }
+    ensures fault { IfErr result (λ f. OrMemory f (IsSumFault sum.old (operand_value operand.now) f)) }
+{
+    sum.add(operand.constraint())?;
+    Ok(operand.constraint().len())
+}
+
+// Adds the last operand below a running sum to it. How many terms it has.
+fn add_from_below(
+    sum: &mut Accumulator,
+    below: &mut SmallVec<Operand<'_>, 2>,
+) -> Result<usize, StepFault>
+    ensures ok { (given : Given) → OnOk result (AppliesItem given items.Add (sum.old ∷ stack_of below.old.items) (sum.new ∷ stack_of below.new.items)) }
+    ensures fault { IfErr result (λ f. OrMemory f (IsAddFault (sum.old ∷ stack_of below.old.items) f)) }
+{
+    match below.pop() {
+        Some(left) => add_operand(sum, &left),
+        None => Err(StepFault::StackShape),
+    }
+}
+
+// Adds to a running sum what stands on it, or else the operand below. How many terms that has.
+fn add_beside<'a>(
+    above: &mut SmallVec<Operand<'a>, 8>,
+    sum: &mut Accumulator,
+    below: &mut SmallVec<Operand<'a>, 2>,
+) -> Result<usize, StepFault>
+    requires { length above.old.items < 2 }
+    ensures ok { (given : Given) → OnOk result (AppliesItem given items.Add (stacked above.old.items Held.RunningSum sum.old below.old.items) (stacked above.new.items Held.RunningSum sum.new below.new.items)) }
+    ensures fault { IfErr result (λ f. OrMemory f (IsAddFault (stacked above.old.items Held.RunningSum sum.old below.old.items) f)) }
+{
+    match above.pop() {
+        Some(right) => add_operand(sum, &right),
+        None => add_from_below(sum, below),
+    }
+}
+
+// Reads a running sum off, and puts it on the operands below.
+fn read_off(
+    alloc: Global,
+    held: Held,
+    sum: &mut Accumulator,
+    below: &mut SmallVec<Operand<'_>, 2>,
+) -> Result<(), CutFault>
+    ensures below { OnOk result (stack_of below.new.items ≡ with_sum held sum.old (stack_of below.old.items)) }
+    ensures memory { OnErr result (IsErrOf result CutFault.OutOfMemory) }
+{
+    match held {
+        Held::Nothing => Ok(()),
+        Held::RunningSum => {
+            let taken = sum.take(alloc)?;
+            below.push(Operand::Sum(taken))?;
+            Ok(())
+        }
+    }
+}
+
+// Puts a running sum, and what stands above it, on the operands below.
+fn put_away<'a>(
+    alloc: Global,
+    held: Held,
+    sum: &mut Accumulator,
+    above: &mut SmallVec<Operand<'a>, 8>,
+    below: &mut SmallVec<Operand<'a>, 2>,
+) -> Result<(), CutFault>
+    ensures below { OnOk result (stack_of below.new.items ≡ stacked above.old.items held sum.old below.old.items) }
+    ensures above { OnOk result (above.new.items ≡ []) }
+    ensures memory { OnErr result (IsErrOf result CutFault.OutOfMemory) }
+{
+    read_off(alloc, held, sum, below)?;
+    below.append(above)?;
+    Ok(())
 }

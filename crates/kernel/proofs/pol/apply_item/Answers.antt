@@ -14,7 +14,7 @@ returns-in-Axiom-clause-ok g c =
 pub returns-in-Add-clause-ok : goal.returns-in-Add-clause-ok
 returns-in-Add-clause-ok g c =
     let given = found c.args.database.now in
-    subst (λ i. OnOk c.add_top_two.result (AppliesItem given i c.args.stack.now c.add_top_two.new.stack)) (sym c.in-Add.is) (c.add_top_two.ensures.ok given)
+    subst (λ i. OnOk c.add_top_two.result (AppliesItem given i c.args.stack.now c.add_top_two.new.self)) (sym c.in-Add.is) (c.add_top_two.ensures.ok given)
 
 pub returns-in-Saturate-clause-ok : goal.returns-in-Saturate-clause-ok
 returns-in-Saturate-clause-ok g c =
@@ -24,7 +24,7 @@ returns-in-Saturate-clause-ok g c =
 pub returns-in-Weaken-clause-ok : goal.returns-in-Weaken-clause-ok
 returns-in-Weaken-clause-ok g c =
     let given = found c.args.database.now in
-    subst (λ i. OnOk c.weaken_top.result (AppliesItem given i c.args.stack.now c.weaken_top.new.stack)) (sym c.in-Weaken.is) (c.weaken_top.ensures.ok given)
+    subst (λ i. OnOk c.weaken_top.result (AppliesItem given i c.args.stack.now c.weaken_top.new.self)) (sym c.in-Weaken.is) (c.weaken_top.ensures.ok given)
 
 pub returns-in-Multiply-clause-ok : goal.returns-in-Multiply-clause-ok
 returns-in-Multiply-clause-ok g c =

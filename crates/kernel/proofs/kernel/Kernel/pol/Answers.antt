@@ -1,11 +1,10 @@
-use Rattle.std.proofs.Common.{refl, ap, subst}
+use Rattle.std.proofs.Common.{refl, subst}
 use Rattle.std.proofs.lemmas.Result.{err_from_is_err_and}
 use Rattle.proof_steps.specs.declared.step.Step.TheVariants as steps
-use Rattle.proof_rules.specs.Expression.{IsPostfixOf}
 use Rattle.proof_rules.specs.Fault.{OrMemory, IsWritingFault, IsPolFault}
 use Rattle.proof_rules.specs.State.{State, HasRoom, constraint_of, with_constraint}
 use Rattle.proof_rules.proofs.Faults.{or_memory, writing_pol}
-use Rattle.kernel.specs.Held.{Held, IsKept, state_with}
+use Rattle.kernel.specs.Held.{Held, state_with}
 use Rattle.kernel.proofs.Keeping.{kept_step}
 use Rattle.kernel.proofs.kernel.Kernel.pol.Goals as goal
 
@@ -20,10 +19,8 @@ returns-in_err-value-clause-fault g c =
 
 pub add-requires-clause-kept : goal.add-requires-clause-kept
 add-requires-clause-kept g c =
-    let k = c.args.self.now in
+    let h = c.self.inside in
+    let s : State = state_with h.database h.log in
     let n = c.in_ok-value.value in
-    let state = ap (λ (x : Held). x.state) c.self.view_is in
-    let kept : IsKept k = subst IsKept c.self.view_is c.self.invariant.kept in
-    let written : IsPostfixOf (constraint_of k.state) c.args.items.now n = subst (λ (s : State). IsPostfixOf (constraint_of s) c.args.items.now n) state c.in_ok-value.ensures.value in
-    let room : HasRoom k.state = subst HasRoom state (c.if-not-has_room.ensures.0 refl) in
-    kept_step k.problem k.state (with_constraint n k.state) (steps.Pol c.args.items.now) kept (n, written, (room, refl))
+    let room : HasRoom s = c.if-not-has_room.ensures.0 refl in
+    kept_step h.source.now s (with_constraint n s) (steps.Pol c.args.items.now) c.self.invariant.kept (n, c.in_ok-value.ensures.value, (room, refl))

@@ -8,7 +8,7 @@ use Rattle.proof_rules.specs.Running.{Runs}
 use Rattle.proof_rules.proofs.Faults.{Runs-take, or_memory, stops_here, leaves_writing}
 use Rattle.proof_rules.proofs.Postfix.{IsWritten-take}
 use Rattle.kernel.specs.Database.{found}
-use Rattle.kernel.proofs.pol.evaluate.Goals as goal
+use Rattle.kernel.proofs.pol.run.Goals as goal
 
 pub loop-item-preserved : goal.loop-item-preserved
 loop-item-preserved g c =

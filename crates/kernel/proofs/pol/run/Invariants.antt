@@ -2,7 +2,7 @@ use Rattle.std.proofs.Common.{[], take}
 use Rattle.proof_rules.specs.Expression.{IsWritten}
 use Rattle.proof_rules.specs.Running.{Runs}
 use Rattle.kernel.specs.Database.{found}
-use Rattle.kernel.proofs.pol.evaluate.Given as goal
+use Rattle.kernel.proofs.pol.run.Given as goal
 
 -- the items so far write what stands on the stack, and run to it
 abbrev pub invariant-loop-item : goal.invariant-loop-item
