@@ -6,7 +6,7 @@ ghost use Rattle.proof_rules.specs.State.{id_limit, id_of};
 
 use linear::Lit;
 use normal_form::Normal;
-use propagate::{Id, Propagator, Reach};
+use propagate::{Id, Propagator, Reach, Trace};
 use std::alloc::{AllocError, Global};
 use std::marker::Model;
 use substitution::{Substitution, apply, covers};
@@ -40,7 +40,8 @@ impl<P: Propagator> Database<P> {
     ghost use Rattle.std.specs.Prelude.{◌≡◌, ◌↔◌, ◌<◌, ◌++◌, IfOk, IsSome, IsSomeAnd, MatchOption, None, IsTrue, OnErr, OnOk};
     ghost use Rattle.normal_form.specs.Normal.{NormalConstraint};
     ghost use Rattle.propagate.specs.Chain.{IsRefuted};
-    ghost use Rattle.propagate.specs.Content.{IsLeastAbove};
+    ghost use Rattle.propagate.specs.Content.{IsLeastAbove, IsTrace};
+    ghost use Rattle.propagate.specs.Literals.{IsConsistent};
     ghost use Rattle.propagate.specs.Reach.{IsReach};
     ghost use Rattle.substitution.specs.Covering.{Covers};
     ghost use Rattle.std.specs.FinMap as map;
@@ -158,6 +159,15 @@ impl<P: Propagator> Database<P> {
         ensures reach { IfOk result (IsReach (map.values self.old.live) listing.now) }
     {
         self.constraints.extend(listing)
+    }
+
+    /// A chain from a listing without opposites over the live constraints, with its reasons.
+    pub(crate) fn trace(&mut self, listing: &[Lit]) -> Result<Trace, AllocError>
+        requires { IsConsistent listing.now }
+        ensures same { self.new ≡ self.old }
+        ensures trace { IfOk result (IsTrace self.old.live listing.now) }
+    {
+        self.constraints.trace(listing)
     }
 
     /// The live constraint that a number in a step means, if there is one: `-k` is the next id less `k`.

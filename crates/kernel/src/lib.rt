@@ -12,6 +12,7 @@ mod kernel;
 mod log;
 mod objective;
 mod pol;
+mod propagation;
 mod redundancy;
 mod rup;
 mod shown;

@@ -1,0 +1,47 @@
+//! What follows from the live constraints by propagation, lent to whoever writes a proof.
+//!
+//! No step is judged by these calls, and none changes the kernel. A solver that keeps its proof's steps in a kernel needs
+//! no second copy of the constraints, and what it derives from these answers is derived from just the constraints that
+//! its next step is judged by.
+
+ghost use Rattle.std.specs.Prelude.{◌≡◌, IfOk};
+ghost use Rattle.std.specs.FinMap as map;
+ghost use Rattle.std.specs.Option.{option_copied};
+ghost use Rattle.propagate.specs.Content.{IsTrace};
+ghost use Rattle.propagate.specs.Literals.{IsConsistent};
+ghost use Rattle.propagate.specs.Reach.{IsReach};
+ghost use Rattle.proof_rules.specs.State.{constraints};
+
+use super::kernel::Kernel;
+use linear::Lit;
+use normal_form::Normal;
+use propagate::{Id, Propagator, Reach, Trace};
+use std::alloc::AllocError;
+
+impl<'a, P: Propagator> Kernel<'a, P> {
+    /// The live constraint of an id, if there is one.
+    pub fn constraint(&self, id: Id) -> Option<&Normal>
+        ensures { option_copied result ≡ map.get self.now.state.live id }
+    {
+        self.database.find(i128::from(id))
+    }
+
+    /// What a listing extends to by propagation over the live constraints: `Conflict` exactly where it has a literal and its
+    /// opposite or a chain from it leads to negative slack, else exactly the given and forced literals, each once.
+    pub fn extend(&mut self, given: &[Lit]) -> Result<Reach, AllocError>
+        ensures same { self.new ≡ self.old }
+        ensures value { IfOk result (IsReach (constraints self.old.state) given.now) }
+    {
+        self.database.extend(given)
+    }
+
+    /// A chain from a listing without opposites over the live constraints, with its reasons, to a constraint with negative
+    /// slack or to the end: a conflict is named exactly where `extend` answers one.
+    pub fn trace(&mut self, given: &[Lit]) -> Result<Trace, AllocError>
+        requires { IsConsistent given.now }
+        ensures same { self.new ≡ self.old }
+        ensures value { IfOk result (IsTrace self.old.state.live given.now) }
+    {
+        self.database.trace(given)
+    }
+}
