@@ -1,0 +1,4 @@
+pub mod Ledgers
+pub mod Occurrences
+pub mod Trails
+pub mod Waiting

@@ -1,0 +1,35 @@
+//! Where literals stand, and the numbers by which literals are looked up.
+//!
+//! A constraint changes its slack exactly where the opposite of a new literal stands in it, so each literal has a list
+//! of the places where it stands, with its coefficient there: what is touched is found without a look at the rest, and
+//! without a look at the constraint.
+
+ghost use Rattle.std.specs.Prelude.{◌≡◌};
+ghost use Rattle.propagate.specs.Literals.{opposite};
+ghost use Rattle.watch.specs.Occurrences.{code};
+
+use linear::Lit;
+
+/// A place of a constraint, and the coefficient that a literal has there.
+#[derive(Clone, Copy, Debug, PartialEq, Eq)]
+pub(crate) struct Occurrence {
+    pub(crate) place: usize,
+    pub(crate) coef: u128,
+}
+
+/// The number of a literal in tables by literal.
+pub(crate) fn code_of(literal: Lit) -> usize
+    ensures { result ≡ code literal }
+{
+    literal.var.0 as usize * 2 + literal.negated as usize
+}
+
+/// The opposite literal.
+pub(crate) fn opposite_of(literal: Lit) -> Lit
+    ensures { result ≡ opposite literal }
+{
+    Lit {
+        var: literal.var,
+        negated: !literal.negated,
+    }
+}

@@ -1,0 +1,94 @@
+//! Places of constraints that are still to be looked at.
+//!
+//! There is room for all places at once, so that a place is added without memory: a walk cannot fail midway, and what it
+//! changed is undone by the same steps backwards.
+
+ghost use Rattle.std.specs.Prelude.{◌≡◌, ◌+◌, ◌^◌, ◌<◌, ◌≤◌, ◌∷◌, [], ℕ, IfOk, IfSome, OnOk, OnErr, MatchOption, Contains, length};
+
+use std::alloc::{AllocError, Global};
+use std::collections::VecDeque;
+use std::marker::Model;
+
+/// Places below a number, first come, first served, each once.
+#[derive(Drop)]
+pub(crate) struct Queue {
+    places: VecDeque<usize>,
+    waiting: Vec<bool>,
+}
+
+impl Model for Queue {
+    ghost use Rattle.std.specs.Prelude.{◌≤◌, ◌<◌, ℕ, List, All, length};
+    ghost use Rattle.std.specs.VecDeque.{deque_capacity};
+    ghost use Rattle.watch.specs.Waiting.{IsQueue};
+
+    ghost Value = { List ℕ × ℕ };
+
+    ghost view = { λ q. (q.places.items, length q.waiting.items) };
+
+    ghost invariant = { λ q. IsQueue q.places.items q.waiting.items × (length q.waiting.items ≤ deque_capacity q.places) };
+}
+
+impl Queue {
+    /// Nothing waits.
+    pub(crate) fn new(alloc: Global, count: usize) -> Result<Self, AllocError>
+        ensures { IfOk result (λ q. q ≡ ([], count)) }
+    {
+        Ok(Queue {
+            places: VecDeque::with_capacity(alloc, count)?,
+            waiting: vec![in alloc; false; count]?,
+        })
+    }
+
+    /// No more places wait than there are.
+    pub(crate) fn len(&self) -> usize
+        ensures value { result ≡ length self.now.0 }
+        ensures few { length self.now.0 ≤ self.now.1 }
+    {
+        self.places.len()
+    }
+
+    /// Adds a place, unless it waits already.
+    pub(crate) fn add(&mut self, place: usize)
+        requires { place < self.old.1 }
+        ensures count { self.new.1 ≡ self.old.1 }
+        ensures there { Contains self.new.0 place }
+        ensures kept { (k : ℕ) → Contains self.old.0 k → Contains self.new.0 k }
+    {
+        if !self.waiting[place] {
+            self.places.push_back_reserved(place);
+            self.waiting[place] = true;
+        }
+    }
+
+    /// Takes the first place away.
+    pub(crate) fn take(&mut self) -> Option<usize>
+        ensures count { self.new.1 ≡ self.old.1 }
+        ensures value { MatchOption result ((self.old.0 ≡ []) × (self.new.0 ≡ [])) (λ k. self.old.0 ≡ k ∷ self.new.0) }
+        ensures below { IfSome result (λ k. k < self.old.1) }
+        ensures few { length self.old.0 ≤ self.old.1 }
+    {
+        let place = self.places.pop_front()?;
+        self.waiting[place] = false;
+        Some(place)
+    }
+
+    /// Makes room for one place more, which does not wait.
+    pub(crate) fn grow(&mut self) -> Result<(), AllocError>
+        ensures ok { OnOk result (self.new ≡ (self.old.0, self.old.1 + 1)) }
+        ensures err { OnErr result (self.new ≡ self.old) }
+    {
+        let more = self.waiting.len() + 1 - self.places.len();
+        self.places.reserve(more)?;
+        self.waiting.push(false)?;
+        Ok(())
+    }
+
+    /// Nothing waits, and there are this many places.
+    pub(crate) fn clear(&mut self, count: usize)
+        requires { count ≤ self.old.1 }
+        ensures { self.new ≡ ([], count) }
+    {
+        while let Some(_) = self.take() {}
+        self.waiting.truncate(count);
+    }
+}

@@ -1,0 +1,73 @@
+//! Lists of occurrences, by the numbers of literals.
+
+ghost use Rattle.std.specs.Prelude.{◌≡◌, ◌-◌, ◌<◌, ◌≤◌, ◌++◌, ◌∷◌, [], ℕ, OnOk, OnErr, length, take, slice_index_or, slice_set};
+
+use super::occurrence::Occurrence;
+use std::alloc::{AllocError, Global};
+use std::marker::Model;
+
+/// A list of occurrences for each number below a bound.
+#[derive(Drop)]
+pub(crate) struct Table {
+    rows: Vec<Vec<Occurrence>>,
+}
+
+impl Model for Table {
+    ghost use Rattle.std.specs.Prelude.{List, map};
+    ghost use Rattle.watch.specs.declared.occurrence.Occurrence.{Occurrence};
+
+    ghost Value = { List (List Occurrence) };
+
+    ghost view = { λ t. map (λ v. v.items) t.rows.items };
+}
+
+impl Table {
+    /// No lists.
+    pub(crate) fn new(alloc: Global) -> Self
+        ensures { result ≡ [] }
+    {
+        Table {
+            rows: Vec::new(alloc),
+        }
+    }
+
+    /// Empty lists for the numbers below a bound that have none.
+    pub(crate) fn widen(&mut self, alloc: Global, bound: usize) -> Result<(), AllocError>
+        ensures kept { (k : ℕ) → slice_index_or self.new k [] ≡ slice_index_or self.old k [] }
+        ensures longer { length self.old ≤ length self.new }
+        ensures ok { OnOk result (bound ≤ length self.new) }
+    {
+        for _ in self.rows.len()..bound {
+            self.rows.push(Vec::new(alloc))?;
+        }
+        Ok(())
+    }
+
+    /// The list of a number.
+    pub(crate) fn row(&self, number: usize) -> &[Occurrence]
+        requires { number < length self.now }
+        ensures { result.now ≡ slice_index_or self.now number [] }
+    {
+        self.rows[number].as_slice()
+    }
+
+    /// One entry more at the end of a list.
+    pub(crate) fn push(&mut self, number: usize, entry: Occurrence) -> Result<(), AllocError>
+        requires { number < length self.old }
+        ensures ok { OnOk result (self.new ≡ slice_set self.old number (slice_index_or self.old number [] ++ entry ∷ [])) }
+        ensures err { OnErr result (self.new ≡ self.old) }
+    {
+        match self.rows[number].push(entry) {
+            Err(_) => return Err(AllocError),
+            Ok(()) => return Ok(()),
+        }
+    }
+
+    /// A list without its last entry.
+    pub(crate) fn pop(&mut self, number: usize)
+        requires { number < length self.old }
+        ensures { self.new ≡ slice_set self.old number (take (length (slice_index_or self.old number []) - 1) (slice_index_or self.old number [])) }
+    {
+        self.rows[number].pop();
+    }
+}

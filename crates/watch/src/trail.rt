@@ -1,0 +1,101 @@
+//! The literals that are taken as true, in the order in which they were, and the values that they give variables.
+//!
+//! No variable stands in it twice, so it has room for all variables from the start, and a literal is added without
+//! memory. Taken off, a literal leaves its variable without a value, since nothing else gave it one.
+
+ghost use Rattle.std.specs.Prelude.{◌≡◌, ◌<◌, ◌≤◌, ◌++◌, ◌∷◌, [], ℕ, false, IfOk, IsTrue, ◌↔◌, None, length, MatchOption, IfSome};
+ghost use Rattle.propagate.specs.Literals.{lists, opposite};
+
+use linear::Lit;
+use std::alloc::{AllocError, Global};
+use std::marker::Model;
+
+/// A listing of literals of the variables below a number, no variable twice. It has room for all.
+#[derive(Debug, Drop)]
+pub(crate) struct Trail {
+    listing: Vec<Lit>,
+    values: Vec<Option<bool>>,
+}
+
+impl Model for Trail {
+    ghost use Rattle.std.specs.Prelude.{ℕ, ◌≤◌, List, length, vec_capacity};
+    ghost use Rattle.linear.specs.declared.term.Lit.{Lit};
+    ghost use Rattle.watch.specs.Trails.{IsTrail};
+
+    ghost Value = { List Lit × ℕ };
+
+    ghost view = { λ t. (t.listing.items, length t.values.items) };
+
+    ghost invariant = { λ t. IsTrail t.listing.items t.values.items × (length t.values.items ≤ vec_capacity t.listing) };
+}
+
+impl Trail {
+    /// No literal yet, of this many variables.
+    pub(crate) fn new(alloc: Global, count: usize) -> Result<Self, AllocError>
+        ensures { IfOk result (λ t. t ≡ ([], count)) }
+    {
+        Ok(Trail {
+            listing: Vec::with_capacity(alloc, count)?,
+            values: vec![in alloc; None; count]?,
+        })
+    }
+
+    /// The literals, in the order in which they were listed.
+    pub(crate) fn listing(&self) -> &[Lit]
+        ensures { result.now ≡ self.now.0 }
+    {
+        self.listing.as_slice()
+    }
+
+    /// How many literals there are: no more than variables.
+    pub(crate) fn len(&self) -> usize
+        ensures value { result ≡ length self.now.0 }
+        ensures few { length self.now.0 ≤ self.now.1 }
+    {
+        self.listing.len()
+    }
+
+    /// Whether neither a literal nor its opposite is listed.
+    pub(crate) fn leaves_free(&self, literal: Lit) -> bool
+        requires { literal.var.0 < self.now.1 }
+        ensures { IsTrue result ↔ (lists self.now.0 literal ≡ false) × (lists self.now.0 (opposite literal) ≡ false) }
+    {
+        self.values[literal.var.0 as usize].is_none()
+    }
+
+    /// Whether a literal is listed.
+    pub(crate) fn has(&self, literal: Lit) -> bool
+        requires { literal.var.0 < self.now.1 }
+        ensures { result ≡ lists self.now.0 literal }
+    {
+        match self.values[literal.var.0 as usize] {
+            Some(value) => value != literal.negated,
+            None => false,
+        }
+    }
+
+    /// Lists a literal that is free.
+    pub(crate) fn push(&mut self, literal: Lit)
+        requires variable { literal.var.0 < self.old.1 }
+        requires unset { lists self.old.0 literal ≡ false }
+        requires opposite_unset { lists self.old.0 (opposite literal) ≡ false }
+        ensures value { self.new ≡ (self.old.0 ++ literal ∷ [], self.old.1) }
+        ensures room { length self.old.0 < self.old.1 }
+    {
+        self.listing.push_reserved(literal);
+        self.values[literal.var.0 as usize] = Some(!literal.negated);
+    }
+
+    /// Takes the last literal away.
+    pub(crate) fn pop(&mut self) -> Option<Lit>
+        ensures count { self.new.1 ≡ self.old.1 }
+        ensures value { MatchOption result ((self.old.0 ≡ []) × (self.new ≡ self.old)) (λ l. self.old.0 ≡ self.new.0 ++ l ∷ []) }
+        ensures unset { IfSome result (λ l. lists self.new.0 l ≡ false) }
+        ensures opposite_unset { IfSome result (λ l. lists self.new.0 (opposite l) ≡ false) }
+        ensures variable { IfSome result (λ l. l.var.0 < self.old.1) }
+    {
+        let literal = self.listing.pop()?;
+        self.values[literal.var.0 as usize] = None;
+        Some(literal)
+    }
+}
