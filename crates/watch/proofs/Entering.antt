@@ -1,6 +1,6 @@
 -- The entries of one term more at the end, and of one term fewer.
-use Rattle.std.proofs.Common.{◌≡◌, ℕ, zero, suc, ◌+◌, ◌-◌, ◌*◌, ◌<◌, ◌≤◌, ◌⊎◌, inl, inr, Bool, true, false, cond, ◌==◌, List, [], ◌∷◌, ◌++◌, length, get_or, set, take, drop, refl, ap, sym, subst, ◌∙◌, append-nil, length-append, drop-cons, arith}
-use Rattle.std.proofs.lemmas.Bool.{cases_eq, false≢true}
+use Rattle.std.proofs.Common.{◌≡◌, ℕ, zero, suc, ◌+◌, ◌-◌, ◌*◌, ◌<◌, ◌≤◌, inl, inr, Bool, true, false, cond, ◌==◌, List, [], ◌∷◌, ◌++◌, length, get_or, set, take, drop, refl, ap, sym, subst, ◌∙◌, append-nil, length-append, drop-cons, arith}
+use Rattle.std.proofs.lemmas.Bool.{cases_eq}
 use Rattle.std.proofs.lemmas.Bool.Decides.{nat_tests}
 use Rattle.std.proofs.lemmas.List.{get_or-set_same, get_or-set_other, get_or-take, length-take-le}
 use Rattle.std.proofs.Math.ListN.{drop_of_length-le}
@@ -14,7 +14,7 @@ use Rattle.normal_form.proofs.Sums.{counted, sum_over_more, bound_at, bound_take
 use Rattle.normal_form.proofs.SumsByVariable.{absent_above}
 use Rattle.propagate.specs.Passes.{literal_of}
 use Rattle.watch.specs.declared.occurrence.Occurrence.{Occurrence}
-use Rattle.watch.specs.Occurrences.{code, entries_of, entry_with, entry_of, HasMore}
+use Rattle.watch.specs.Occurrences.{code, entries_of, entry_with, HasMore}
 
 -- two literals with one number are the same
 same_bits : (v w : ℕ) (s t : Bool) → 2 * v + cond s 1 0 ≡ 2 * w + cond t 1 0 → (v ≡ w) × (s ≡ t)
@@ -72,7 +72,7 @@ code_of_term ts i number size t h is fits named =
     omega (arith, named, code_below (literal_of t) (variable_bound ts) size (omega (arith, bound_at ts i t h, ap (λ (u : NormalTerm). u.var.0) is)) fits)
 
 -- one term more
-pub entered_more : (old mid new : List (List Occurrence)) (place : ℕ) (ts : List NormalTerm) (i number : ℕ) (t : NormalTerm) → Rises 0 ts → i < length ts → t ≡ get_or ts i t → 2 * variable_bound ts ≤ length mid
+pub entered_more : (old : Lit → List Occurrence) (mid new : List (List Occurrence)) (place : ℕ) (ts : List NormalTerm) (i number : ℕ) (t : NormalTerm) → Rises 0 ts → i < length ts → t ≡ get_or ts i t → 2 * variable_bound ts ≤ length mid
     → number ≡ code (literal_of t)
     → HasMore old mid place (take i ts) → new ≡ set mid number (get_or mid number [] ++ made place t.coef ∷ [])
     → HasMore old new place (take (i + 1) ts)
@@ -88,19 +88,19 @@ entered_more old mid new place ts i number t rises h is size named m e l =
           let full : sum_over own (take (i + 1) ts) ≡ t.coef = omega (arith, more, zero_before, own_term l t (same ∙ named)) in
           let some : 0 < t.coef = omega (arith, positive_at 0 ts i t rises h, ap (λ (u : NormalTerm). u.coef) is) in
           let here : entries_of new l ≡ row = ap (λ (xs : List (List Occurrence)). get_or xs (code l) []) e ∙ ap (λ (k : ℕ). get_or (set mid number row) k []) same ∙ get_or-set_same mid number row [] low in
-          let was : get_or mid number [] ≡ entries_of old l = ap (λ (k : ℕ). get_or mid k []) (sym same) ∙ m l ∙ ap (λ (c : ℕ). entries_of old l ++ entry_with place c) zero_before ∙ append-nil (entries_of old l) in
-          here ∙ ap (λ (os : List Occurrence). os ++ made place t.coef ∷ []) was ∙ ap (λ (os : List Occurrence). entries_of old l ++ os) (sym (ap (entry_with place) full ∙ entry_there place t.coef some))
+          let was : get_or mid number [] ≡ old l = ap (λ (k : ℕ). get_or mid k []) (sym same) ∙ m l ∙ ap (λ (c : ℕ). old l ++ entry_with place c) zero_before ∙ append-nil (old l) in
+          here ∙ ap (λ (os : List Occurrence). os ++ made place t.coef ∷ []) was ∙ ap (λ (os : List Occurrence). old l ++ os) (sym (ap (entry_with place) full ∙ entry_there place t.coef some))
       | inr n ↦
           let here : entries_of new l ≡ entries_of mid l = ap (λ (xs : List (List Occurrence)). get_or xs (code l) []) e ∙ get_or-set_other mid number (code l) row [] n in
           let same : sum_over own (take (i + 1) ts) ≡ sum_over own (take i ts) = omega (arith, more, other_term l t (λ f. n (f ∙ sym named))) in
-          here ∙ m l ∙ ap (λ (c : ℕ). entries_of old l ++ entry_with place c) (sym same)
+          here ∙ m l ∙ ap (λ (c : ℕ). old l ++ entry_with place c) (sym same)
     ]
 
 without_last : (zs : List Occurrence) (x : Occurrence) → take (length (zs ++ x ∷ []) - 1) (zs ++ x ∷ []) ≡ zs
 without_last zs x = ap (λ (n : ℕ). take n (zs ++ x ∷ [])) (omega (arith, length-append zs (x ∷ []))) ∙ take-append_seam zs (x ∷ [])
 
 -- the first of some terms is taken off
-pub left_more : (old mid new : List (List Occurrence)) (place low bound number : ℕ) (t : NormalTerm) (ts : List NormalTerm) → Rises low (t ∷ ts) → t.var.0 + 1 ≤ bound → 2 * bound ≤ length mid
+pub left_more : (old : Lit → List Occurrence) (mid new : List (List Occurrence)) (place low bound number : ℕ) (t : NormalTerm) (ts : List NormalTerm) → Rises low (t ∷ ts) → t.var.0 + 1 ≤ bound → 2 * bound ≤ length mid
     → number ≡ code (literal_of t)
     → HasMore old mid place (t ∷ ts) → new ≡ set mid number (take (length (get_or mid number []) - 1) (get_or mid number []))
     → HasMore old new place ts
@@ -112,14 +112,14 @@ left_more old mid new place low bound number t ts rises within size named m e l 
       | inl same ↦
           let zero_after : sum_over own ts ≡ 0 = absent (t.var.0 + 1) ts rises.2 (l.var.0) l.negated (omega (arith, (same_code l (literal_of t) (same ∙ named)).0)) in
           let full : sum_over own (t ∷ ts) ≡ t.coef = omega (arith, zero_after, own_term l t (same ∙ named)) in
-          let was : get_or mid number [] ≡ entries_of old l ++ made place t.coef ∷ [] = ap (λ (k : ℕ). get_or mid k []) (sym same) ∙ m l ∙ ap (λ (os : List Occurrence). entries_of old l ++ os) (ap (entry_with place) full ∙ entry_there place t.coef rises.1) in
+          let was : get_or mid number [] ≡ old l ++ made place t.coef ∷ [] = ap (λ (k : ℕ). get_or mid k []) (sym same) ∙ m l ∙ ap (λ (os : List Occurrence). old l ++ os) (ap (entry_with place) full ∙ entry_there place t.coef rises.1) in
           let here : entries_of new l ≡ row = ap (λ (xs : List (List Occurrence)). get_or xs (code l) []) e ∙ ap (λ (k : ℕ). get_or (set mid number row) k []) same ∙ get_or-set_same mid number row [] below in
-          here ∙ ap (λ (os : List Occurrence). take (length os - 1) os) was ∙ without_last (entries_of old l) (made place t.coef)
-          ∙ sym (ap (λ (c : ℕ). entries_of old l ++ entry_with place c) zero_after ∙ append-nil (entries_of old l))
+          here ∙ ap (λ (os : List Occurrence). take (length os - 1) os) was ∙ without_last (old l) (made place t.coef)
+          ∙ sym (ap (λ (c : ℕ). old l ++ entry_with place c) zero_after ∙ append-nil (old l))
       | inr n ↦
           let here : entries_of new l ≡ entries_of mid l = ap (λ (xs : List (List Occurrence)). get_or xs (code l) []) e ∙ get_or-set_other mid number (code l) row [] n in
           let same : sum_over own (t ∷ ts) ≡ sum_over own ts = omega (arith, other_term l t (λ f. n (f ∙ sym named))) in
-          here ∙ m l ∙ ap (λ (c : ℕ). entries_of old l ++ entry_with place c) same
+          here ∙ m l ∙ ap (λ (c : ℕ). old l ++ entry_with place c) same
     ]
 
 -- rising terms, from some on and up to some
@@ -141,7 +141,7 @@ pub none_left : (count : ℕ) (ts : List NormalTerm) → count ≤ length ts →
 none_left count ts k = drop_of_length-le (take count ts) (omega (arith, length-take-le count ts k))
 
 -- the next of the terms that are still there is taken off
-pub left_next : (old mid new : List (List Occurrence)) (place count i number : ℕ) (t : NormalTerm) (ts : List NormalTerm) → Rises 0 ts → i < count → count ≤ length ts → t ≡ get_or ts i t → 2 * variable_bound ts ≤ length mid
+pub left_next : (old : Lit → List Occurrence) (mid new : List (List Occurrence)) (place count i number : ℕ) (t : NormalTerm) (ts : List NormalTerm) → Rises 0 ts → i < count → count ≤ length ts → t ≡ get_or ts i t → 2 * variable_bound ts ≤ length mid
     → number ≡ code (literal_of t)
     → HasMore old mid place (drop i (take count ts)) → new ≡ set mid number (take (length (get_or mid number []) - 1) (get_or mid number []))
     → HasMore old new place (drop (i + 1) (take count ts))

@@ -1,7 +1,7 @@
 -- The entries of a literal, as constraints say them.
-use Rattle.std.proofs.Common.{◌≡◌, ℕ, zero, suc, ◌+◌, ◌<◌, ◌≤◌, ◌⊎◌, inl, inr, Bool, true, false, cond, ◌==◌, All, List, [], ◌∷◌, ◌++◌, length, get_or, refl, ap, sym, subst, ◌∙◌, append_assoc, append-nil, arith}
+use Rattle.std.proofs.Common.{◌≡◌, ℕ, zero, suc, ◌+◌, ◌<◌, ◌≤◌, Bool, true, false, cond, ◌==◌, All, List, [], ◌∷◌, ◌++◌, length, refl, ap, sym, ◌∙◌, append_assoc, append-nil, arith}
 use Rattle.std.proofs.lemmas.Bool.Decides.{nat_tests}
-use Rattle.std.proofs.lemmas.List.Elements.{All-nil, All-cons, All-append, All-weaker}
+use Rattle.std.proofs.lemmas.List.Elements.{All-nil, All-cons, All-append}
 use Rattle.std.proofs.lemmas.List.Sums.{sum_by-append}
 use Rattle.linear.specs.declared.term.Lit.{Lit}
 use Rattle.normal_form.specs.Normal.{NormalConstraint}
@@ -9,9 +9,6 @@ use Rattle.propagate.specs.Literals.{coefficient_of}
 use Rattle.watch.specs.declared.occurrence.Occurrence.{Occurrence}
 use Rattle.watch.specs.Occurrences.{share, share_of, entry_of, occurrences_of}
 use Rattle.watch.specs.Ledgers.{constraint_at}
-
-one : ℕ → ℕ → List Occurrence
-one p c = cond (c == 0) [] (record { place = p; coef = c } ∷ [])
 
 by_test : (b : Bool) (k p c : ℕ) → (c == 0) ≡ b → k ≡ p → share_of k (cond b [] (record { place = p; coef = c } ∷ [])) ≡ c
 by_test true k p c e h = grind (arith, nat_tests)
@@ -43,3 +40,18 @@ occurrences_push l p [] n = append-nil (entry_of l p n.terms) ∙ ap (λ (k : �
 occurrences_push l p (m ∷ ns) n =
     ap (λ (os : List Occurrence). entry_of l p m.terms ++ os) (occurrences_push l (p + 1) ns n) ∙ sym (append_assoc (entry_of l p m.terms) (occurrences_of l (p + 1) ns) (entry_of l ((p + 1) + length ns) n.terms))
     ∙ ap (λ (k : ℕ). (entry_of l p m.terms ++ occurrences_of l (p + 1) ns) ++ entry_of l k n.terms) (omega arith)
+
+-- the entries' places are those of the constraints
+abbrev made : ℕ → ℕ → Occurrence
+made p c = record { place = p; coef = c }
+
+places_of : (p bound c : ℕ) (b : Bool) → p < bound → All (λ (o : Occurrence). o.place < bound) (cond b [] (made p c ∷ []))
+places_of p bound c true h = All-nil (λ (o : Occurrence). o.place < bound)
+places_of p bound c false h = All-cons (λ (o : Occurrence). o.place < bound) (made p c) [] h (All-nil (λ (o : Occurrence). o.place < bound))
+
+pub places_from : (l : Lit) (p bound : ℕ) (ns : List NormalConstraint) → p + length ns ≤ bound → All (λ (o : Occurrence). o.place < bound) (occurrences_of l p ns)
+places_from l p bound [] h = All-nil (λ (o : Occurrence). o.place < bound)
+places_from l p bound (n ∷ ns) h =
+    All-append (λ (o : Occurrence). o.place < bound) (entry_of l p n.terms) (occurrences_of l (p + 1) ns)
+    (places_of p bound (coefficient_of n l) (coefficient_of n l == 0) (omega (arith, h)))
+    (places_from l (p + 1) bound ns (omega (arith, h)))

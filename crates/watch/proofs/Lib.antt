@@ -5,3 +5,7 @@ pub mod Opening
 pub mod Rows
 pub mod Entries
 pub mod Entering
+pub mod Coefficients
+pub mod Standing
+pub mod Reasons
+pub mod Attaching

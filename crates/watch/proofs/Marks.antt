@@ -1,13 +1,13 @@
 -- Trails, one literal longer and one shorter.
-use Rattle.std.proofs.Common.{◌≡◌, ℕ, ◌+◌, ◌<◌, ◌≤◌, ◌⊎◌, inl, inr, Bool, true, false, not, cond, ◌||◌, Option, Some, None, is_some, List, [], ◌∷◌, ◌++◌, length, get_or, set, take, refl, ap, sym, subst, ◌∙◌, arith, length-append}
+use Rattle.std.proofs.Common.{◌≡◌, ℕ, ◌+◌, ◌<◌, ◌≤◌, inl, inr, Bool, true, false, not, cond, ◌||◌, Option, Some, None, is_some, List, [], ◌∷◌, ◌++◌, length, get_or, set, take, refl, ap, sym, ◌∙◌, arith, length-append}
 use Rattle.std.specs.List.{count_by}
 use Rattle.std.proofs.lemmas.Bool.{false≢true, cases_eq}
 use Rattle.std.proofs.lemmas.Bool.Decides.{nat_tests}
-use Rattle.std.proofs.lemmas.List.{length-set, get_or-set_same, get_or-set_other, take-append-le, get_or_append_left}
-use Rattle.std.proofs.lemmas.List.Sums.{sum_by-set, count_by-le-length}
+use Rattle.std.proofs.lemmas.List.{length-set, get_or-set_same, get_or-set_other, take-append-le, get_or_append_left, get_or_push}
+use Rattle.std.proofs.lemmas.List.Sums.{sum_by-set, sum_by_push, count_by-le-length}
 use Rattle.linear.specs.declared.term.Lit.{Lit}
 use Rattle.normal_form.specs.Normal.{only}
-use Rattle.propagate.specs.Literals.{opposite, among, lists}
+use Rattle.propagate.specs.Literals.{among}
 use Rattle.propagate.specs.Values.{is_value, Agrees}
 use Rattle.propagate.proofs.Listings.{among_append, among_left, among_right, among_head}
 use Rattle.propagate.proofs.ValueTable.{agrees_push}
@@ -122,3 +122,29 @@ popped xs l values t =
       };
       few = omega (arith, t.few, marked_set values v None (get_or values v None) h refl, at_most_one (get_or values v None), length-append xs (l ∷ []));
     }
+
+-- one variable more, which has no value
+value_of_none : (b : Bool) → is_value b None ≡ false
+value_of_none true = refl
+value_of_none false = refl
+
+not_inside : (listing : List Lit) (values : List (Option Bool)) (v : ℕ) (s b : Bool) → Agrees listing values → among listing v s ≡ b → length values ≤ v → b ≡ false
+not_inside listing values v s false a e h = refl
+not_inside listing values v s true a e h = absurd (omega (arith, a.inside v s e, h))
+
+pub wider : (listing : List Lit) (values : List (Option Bool)) → IsTrail listing values → IsTrail listing (values ++ None ∷ [])
+wider listing values t = record {
+  fresh = t.fresh;
+  agrees = record {
+    listed = λ v s h. elim (cases_eq v (length values)) [
+      | inl e ↦
+          let here : get_or (values ++ None ∷ []) v None ≡ None = get_or_push values None None v (sym e) in
+          not_inside listing values v s (among listing v s) t.agrees refl (omega (arith, e)) ∙ sym (ap (is_value (not s)) here ∙ value_of_none (not s))
+      | inr n ↦
+          let low : v < length values = omega (arith, h, n, length-append values (None ∷ [])) in
+          t.agrees.listed v s low ∙ sym (ap (is_value (not s)) (get_or_append_left values (None ∷ []) None v low))
+    ];
+    inside = λ v s e. omega (arith, t.agrees.inside v s e, length-append values (None ∷ []));
+  };
+  few = omega (arith, t.few, sum_by_push mark values None);
+}

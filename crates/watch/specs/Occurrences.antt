@@ -35,6 +35,6 @@ abbrev pub occurrences_of : Lit → ℕ → List NormalConstraint → List Occur
 occurrences_of l place [] = []
 occurrences_of l place (n ∷ ns) = entry_of l place n.terms ++ occurrences_of l (place + 1) ns
 
--- a table has these entries of terms at a place more, behind those that it had
-abbrev pub HasMore : List (List Occurrence) → List (List Occurrence) → ℕ → List NormalTerm → Type 0
-HasMore old new place ts = (l : Lit) → entries_of new l ≡ entries_of old l ++ entry_of l place ts
+-- a table has these entries of terms at a place more, behind what each literal had
+abbrev pub HasMore : (Lit → List Occurrence) → List (List Occurrence) → ℕ → List NormalTerm → Type 0
+HasMore before table place ts = (l : Lit) → entries_of table l ≡ before l ++ entry_of l place ts

@@ -5,9 +5,10 @@
 //! taking it off looks at nothing else. Where memory ends midway, the entries so far are taken off by the same way.
 
 ghost use Rattle.std.specs.Prelude.{◌≡◌, ◌*◌, ◌≤◌, ℕ, List, [], OnOk, OnErr, length, take};
+ghost use Rattle.linear.specs.declared.term.Lit.{Lit};
 ghost use Rattle.normal_form.specs.Normal.{IsNormal, variable_bound};
 ghost use Rattle.watch.specs.declared.occurrence.Occurrence.{Occurrence};
-ghost use Rattle.watch.specs.Occurrences.{HasMore};
+ghost use Rattle.watch.specs.Occurrences.{HasMore, entries_of};
 
 use super::occurrence::{Occurrence, code_of};
 use super::table::Table;
@@ -19,7 +20,7 @@ fn enter_some(table: &mut Table, place: usize, constraint: &Normal) -> usize
     requires { 2 * variable_bound constraint.now.terms ≤ length table.old }
     ensures length { length table.new ≡ length table.old }
     ensures count { result ≤ length constraint.now.terms }
-    ensures more { HasMore table.old table.new place (take result constraint.now.terms) }
+    ensures more { HasMore (entries_of table.old) table.new place (take result constraint.now.terms) }
 {
     let count = constraint.len();
     for index in 0..count {
@@ -40,8 +41,8 @@ fn enter_some(table: &mut Table, place: usize, constraint: &Normal) -> usize
 pub(crate) fn enter(table: &mut Table, place: usize, constraint: &Normal) -> Result<(), AllocError>
     requires { 2 * variable_bound constraint.now.terms ≤ length table.old }
     ensures length { length table.new ≡ length table.old }
-    ensures ok { OnOk result (HasMore table.old table.new place constraint.now.terms) }
-    ensures err { OnErr result (HasMore table.old table.new place []) }
+    ensures ok { OnOk result (HasMore (entries_of table.old) table.new place constraint.now.terms) }
+    ensures err { OnErr result (HasMore (entries_of table.old) table.new place []) }
 {
     let count = enter_some(table, place, constraint);
     if count < constraint.len() {
@@ -57,7 +58,7 @@ pub(crate) fn leave(table: &mut Table, constraint: &Normal, count: usize)
     requires count { count ≤ length constraint.now.terms }
     requires normal { IsNormal constraint.now }
     ensures length { length table.new ≡ length table.old }
-    ensures fewer { (before : List (List Occurrence)) (place : ℕ) → HasMore before table.old place (take count constraint.now.terms)
+    ensures fewer { (before : Lit → List Occurrence) (place : ℕ) → HasMore before table.old place (take count constraint.now.terms)
         → HasMore before table.new place [] }
 {
     for index in 0..count {

@@ -2,7 +2,9 @@
 #![tactic(auto)]
 
 mod entry_lists;
+mod ledger;
 mod lowering;
+mod measures;
 mod occurrence;
 mod queue;
 mod table;

@@ -3,7 +3,7 @@
 //! There is room for all places at once, so that a place is added without memory: a walk cannot fail midway, and what it
 //! changed is undone by the same steps backwards.
 
-ghost use Rattle.std.specs.Prelude.{◌≡◌, ◌+◌, ◌^◌, ◌<◌, ◌≤◌, ◌∷◌, [], ℕ, IfOk, IfSome, OnOk, OnErr, MatchOption, Contains, length};
+ghost use Rattle.std.specs.Prelude.{◌≡◌, ◌+◌, ◌^◌, ◌<◌, ◌≤◌, ◌∷◌, [], ℕ, IfSome, OnOk, OnErr, MatchOption, Contains, length};
 
 use std::alloc::{AllocError, Global};
 use std::collections::VecDeque;
@@ -29,14 +29,14 @@ impl Model for Queue {
 }
 
 impl Queue {
-    /// Nothing waits.
-    pub(crate) fn new(alloc: Global, count: usize) -> Result<Self, AllocError>
-        ensures { IfOk result (λ q. q ≡ ([], count)) }
+    /// Nothing waits, and there is no place.
+    pub(crate) fn new(alloc: Global) -> Self
+        ensures { result ≡ ([], 0) }
     {
-        Ok(Queue {
-            places: VecDeque::with_capacity(alloc, count)?,
-            waiting: vec![in alloc; false; count]?,
-        })
+        Queue {
+            places: VecDeque::new(alloc),
+            waiting: Vec::new(alloc),
+        }
     }
 
     /// No more places wait than there are.

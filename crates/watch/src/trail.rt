@@ -3,7 +3,7 @@
 //! No variable stands in it twice, so it has room for all variables from the start, and a literal is added without
 //! memory. Taken off, a literal leaves its variable without a value, since nothing else gave it one.
 
-ghost use Rattle.std.specs.Prelude.{◌≡◌, ◌<◌, ◌≤◌, ◌++◌, ◌∷◌, [], ℕ, false, IfOk, IsTrue, ◌↔◌, None, length, MatchOption, IfSome};
+ghost use Rattle.std.specs.Prelude.{◌≡◌, ◌+◌, ◌<◌, ◌≤◌, ◌++◌, ◌∷◌, ◌⊎◌, [], ℕ, false, OnOk, OnErr, IsTrue, ◌↔◌, None, length, MatchOption, IfSome};
 ghost use Rattle.propagate.specs.Literals.{lists, opposite};
 
 use linear::Lit;
@@ -30,14 +30,45 @@ impl Model for Trail {
 }
 
 impl Trail {
-    /// No literal yet, of this many variables.
-    pub(crate) fn new(alloc: Global, count: usize) -> Result<Self, AllocError>
-        ensures { IfOk result (λ t. t ≡ ([], count)) }
+    /// No literal yet, and no variables.
+    pub(crate) fn new(alloc: Global) -> Self
+        ensures { result ≡ ([], 0) }
     {
-        Ok(Trail {
-            listing: Vec::with_capacity(alloc, count)?,
-            values: vec![in alloc; None; count]?,
-        })
+        Trail {
+            listing: Vec::new(alloc),
+            values: Vec::new(alloc),
+        }
+    }
+
+    // Makes room for one variable more.
+    fn grow(&mut self) -> Result<(), AllocError>
+        ensures ok { OnOk result (self.new ≡ (self.old.0, self.old.1 + 1)) }
+        ensures err { OnErr result (self.new ≡ self.old) }
+    {
+        let more = self.values.len() + 1 - self.listing.len();
+        self.listing.reserve(more)?;
+        self.values.push(None)?;
+        Ok(())
+    }
+
+    /// How many variables there are.
+    pub(crate) fn count(&self) -> usize
+        ensures { result ≡ self.now.1 }
+    {
+        self.values.len()
+    }
+
+    /// Makes room for the variables below a number.
+    pub(crate) fn widen(&mut self, count: usize) -> Result<(), AllocError>
+        ensures listing { self.new.0 ≡ self.old.0 }
+        ensures more { self.old.1 ≤ self.new.1 }
+        ensures most { (self.new.1 ≡ self.old.1) ⊎ (self.new.1 ≤ count) }
+        ensures ok { OnOk result (count ≤ self.new.1) }
+    {
+        for _ in self.count()..count {
+            self.grow()?;
+        }
+        Ok(())
     }
 
     /// The literals, in the order in which they were listed.

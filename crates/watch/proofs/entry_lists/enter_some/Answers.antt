@@ -1,9 +1,8 @@
 -- The entry of one term more.
-use Rattle.std.proofs.Common.{◌≡◌, ◌*◌, ◌≤◌, ◌<◌, ◌++◌, ◌∷◌, ℕ, List, [], length, get_or, set, ap, ◌∙◌, arith}
+use Rattle.std.proofs.Common.{List, length, ap, ◌∙◌, arith}
 use Rattle.std.proofs.lemmas.List.{length-set}
-use Rattle.normal_form.specs.declared.term.NormalTerm.{NormalTerm}
 use Rattle.watch.specs.declared.occurrence.Occurrence.{Occurrence}
-use Rattle.watch.specs.Occurrences.{code}
+use Rattle.watch.specs.Occurrences.{code, entries_of}
 use Rattle.watch.proofs.Entering.{code_of_term, entered_more}
 use Rattle.watch.proofs.entry_lists.enter_some.Goals as goal
 
@@ -15,7 +14,7 @@ push-requires c =
 pub loop-index-preserved : goal.loop-index-preserved
 loop-index-preserved c = record {
   same_length = ap (length {A = List Occurrence}) c.in-Ok.ensures.ok ∙ length-set c.loop-index.table c.code_of.result _ ∙ c.loop-index.invariant.same_length;
-  more = entered_more c.args.table.now c.loop-index.table c.push.new.self c.args.place c.args.constraint.now.terms c.loop-index.index c.code_of.result c.term-term.result c.len-count.ensures.normal.rises
+  more = entered_more (entries_of c.args.table.now) c.loop-index.table c.push.new.self c.args.place c.args.constraint.now.terms c.loop-index.index c.code_of.result c.term-term.result c.len-count.ensures.normal.rises
       (omega (arith, c.loop-index-test.true, c.len-count.ensures.value)) c.term-term.ensures.value (omega (arith, c.requires, c.loop-index.invariant.same_length)) (c.code_of.ensures ∙ ap code c.literal.ensures)
       c.loop-index.invariant.more c.in-Ok.ensures.ok;
 }

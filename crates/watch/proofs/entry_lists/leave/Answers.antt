@@ -1,9 +1,8 @@
 -- The entry of one term is taken off.
-use Rattle.std.proofs.Common.{◌≡◌, ◌*◌, ◌≤◌, ◌<◌, ◌++◌, ℕ, List, [], length, take, drop, ap, sym, ◌∙◌, arith, subst}
+use Rattle.std.proofs.Common.{◌≡◌, ℕ, List, [], length, take, drop, ap, ◌∙◌, arith, subst}
 use Rattle.std.proofs.lemmas.List.{length-set}
 use Rattle.watch.specs.declared.occurrence.Occurrence.{Occurrence}
 use Rattle.normal_form.specs.declared.term.NormalTerm.{NormalTerm}
-use Rattle.normal_form.specs.Normal.{variable_bound}
 use Rattle.watch.specs.Occurrences.{code, HasMore}
 use Rattle.watch.proofs.Entering.{code_of_term, left_next, none_left}
 use Rattle.watch.proofs.entry_lists.leave.Goals as goal

@@ -1,5 +1,5 @@
 -- One entry more.
-use Rattle.std.proofs.Common.{ℕ, arith, get_or, length, ◌<◌, ◌≤◌, ◌+◌, ◌^◌}
+use Rattle.std.proofs.Common.{arith, get_or, length, ◌<◌, ◌^◌}
 use Rattle.std.proofs.lemmas.List.Elements.{All-get_or}
 use Rattle.watch.specs.declared.occurrence.Occurrence.{Occurrence}
 use Rattle.watch.proofs.Counters.{raised_more, room_at}

@@ -1,8 +1,8 @@
 -- The list of the number is changed.
-use Rattle.std.proofs.Common.{◌≡◌, ℕ, ◌<◌, List, [], ◌∷◌, ◌++◌, length, ap, ◌∙◌, arith}
+use Rattle.std.proofs.Common.{◌<◌, List, [], ◌∷◌, ◌++◌, length, ap, ◌∙◌, arith}
 use Rattle.std.proofs.lemmas.List.{length-map}
 use Rattle.watch.specs.declared.occurrence.Occurrence.{Occurrence}
-use Rattle.watch.proofs.Rows.{Row, rows_of, row_kept, row_changed}
+use Rattle.watch.proofs.Rows.{Row, row_kept, row_changed}
 use Rattle.watch.proofs.table.Table.push.Goals as goal
 
 pub returns-in-Err-clause-err : goal.returns-in-Err-clause-err

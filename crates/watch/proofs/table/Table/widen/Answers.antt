@@ -1,7 +1,7 @@
 -- One empty list more.
-use Rattle.std.proofs.Common.{◌≡◌, ◌≤◌, ℕ, List, [], ◌∷◌, length, length-append, ap, arith}
+use Rattle.std.proofs.Common.{[], ◌∷◌, length, length-append, ap, arith}
 use Rattle.std.proofs.lemmas.List.{length-map}
-use Rattle.watch.proofs.Rows.{Row, rows_of, wider_more, wider_same, wide_itself}
+use Rattle.watch.proofs.Rows.{Row, wider_more, wider_same, wide_itself}
 use Rattle.watch.proofs.table.Table.widen.Goals as goal
 
 pub loop-init : goal.loop-init

@@ -1,5 +1,5 @@
 -- The literal's variable gets the value that makes it true.
-use Rattle.std.proofs.Common.{ℕ, ◌<◌, List, Option, Bool, None, length, ap, arith, Some, not, ◌∷◌, []}
+use Rattle.std.proofs.Common.{ℕ, ◌<◌, List, length, ap, arith, Some, not}
 use Rattle.std.proofs.lemmas.List.{length-set}
 use Rattle.linear.specs.declared.term.Lit.{Lit}
 use Rattle.watch.specs.Trails.{IsFree}

@@ -1,0 +1,10 @@
+-- No coefficient so far is larger.
+use Rattle.std.proofs.Common.{ℕ, ◌<◌, ◌≤◌, ◌^◌, get_or}
+use Rattle.normal_form.specs.declared.term.NormalTerm.{NormalTerm}
+use Rattle.watch.proofs.measures.largest.Given as goal
+
+abbrev pub invariant-loop-place : goal.invariant-loop-place
+invariant-loop-place l = record {
+  each : (k : ℕ) (d : NormalTerm) → k < l.place → (get_or l.constraint.terms k d).coef ≤ l.largest;
+  limit : l.largest ≤ 2 ^ 120;
+}

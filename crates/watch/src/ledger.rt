@@ -1,0 +1,245 @@
+//! Constraints by place, the places of their literals, the literals that are taken as true, and what these leave open.
+//!
+//! A literal that comes or goes changes a counter exactly where its opposite stands, so what a step costs is the length of
+//! one list. A constraint that is taken out leaves its place and its entries behind: counted on, they cost little until
+//! the places are made anew, and searching the lists for them would cost more. What a place says then is nothing.
+//!
+//! That constraints which do not wait force nothing is no fact of this type: taking literals back breaks it midway. It is
+//! stated between the functions of a walk.
+
+ghost use Rattle.std.specs.Prelude.{◌≡◌, ◌+◌, ◌-◌, ◌^◌, ◌<◌, ◌≤◌, ◌++◌, ◌∷◌, ◌⊎◌, [], ℕ, false, Contains, IsSome, Some, None, IsTrue, MatchOption, OnOk, OnErr, ◌↔◌, length, take, slice_index_or, vec_capacity, vec_len};
+ghost use Rattle.normal_form.specs.Normal.{Rises, variable_bound};
+ghost use Rattle.propagate.specs.Literals.{lists, opposite, coefficient_of};
+ghost use Rattle.propagate.specs.Slack.{IsBroken};
+ghost use Rattle.propagate.specs.Walk.{IsQuiet};
+ghost use Rattle.watch.specs.Ledgers.{AreReasons, IsReason, constraint_at, open_sum, shown};
+
+use super::entry_lists::{enter, leave};
+use super::lowering::{lower, raise};
+use super::measures::{largest, open_sum};
+use super::occurrence::{code_of, opposite_of};
+use super::queue::Queue;
+use super::table::Table;
+use super::trail::Trail;
+use linear::Lit;
+use normal_form::{Normal, NormalTerm};
+use std::alloc::{AllocError, Global};
+use std::marker::Model;
+
+/// Constraints by place, and a trail with the place of the constraint that forced each literal.
+#[derive(Drop)]
+pub(crate) struct Ledger {
+    slots: Vec<Option<Normal>>,
+    table: Table,
+    counters: Vec<u128>,
+    limits: Vec<u128>,
+    trail: Trail,
+    reasons: Vec<Option<usize>>,
+}
+
+impl Model for Ledger {
+    ghost use Rattle.std.specs.Prelude.{◌≤◌, vec_capacity};
+    ghost use Rattle.watch.specs.Ledgers.{State, IsLedger, AreReasons, shown};
+
+    ghost Value = { State };
+
+    ghost view = { λ e. record { slots = e.slots.items; listing = e.trail.0; reasons = e.reasons.items; variables = e.trail.1 } };
+
+    ghost invariant = { λ e. IsLedger e.slots.items e.trail.0 e.trail.1 e.table e.counters.items e.limits.items
+        × AreReasons (shown e.slots.items) e.trail.0 e.reasons.items × (e.trail.1 ≤ vec_capacity e.reasons) };
+}
+
+impl Ledger {
+    /// No constraint, and no variables.
+    pub(crate) fn new(alloc: Global) -> Ledger
+        ensures { result ≡ record { slots = []; listing = []; reasons = []; variables = 0 } }
+    {
+        Ledger {
+            slots: Vec::new(alloc),
+            table: Table::new(alloc),
+            counters: Vec::new(alloc),
+            limits: Vec::new(alloc),
+            trail: Trail::new(alloc),
+            reasons: Vec::new(alloc),
+        }
+    }
+
+    /// Takes a free literal as true, forced by the constraint of a place or given, and queues what may now be broken or
+    /// force.
+    pub(crate) fn set_true(&mut self, literal: Lit, reason: Option<usize>, queue: &mut Queue)
+        requires variable { literal.var.0 < self.old.variables }
+        requires unset { lists self.old.listing literal ≡ false }
+        requires opposite_unset { lists self.old.listing (opposite literal) ≡ false }
+        requires reason { IsReason (shown self.old.slots) self.old.listing literal reason }
+        requires queue { queue.old.1 ≡ length self.old.slots }
+        ensures slots { self.new.slots ≡ self.old.slots }
+        ensures variables { self.new.variables ≡ self.old.variables }
+        ensures listing { self.new.listing ≡ self.old.listing ++ literal ∷ [] }
+        ensures reasons { self.new.reasons ≡ self.old.reasons ++ reason ∷ [] }
+        ensures count { queue.new.1 ≡ queue.old.1 }
+        ensures kept { (k : ℕ) → Contains queue.old.0 k → Contains queue.new.0 k }
+        ensures queued { (k : ℕ) → 0 < coefficient_of (constraint_at (shown self.old.slots) k) (opposite literal)
+            → IsQuiet self.new.listing (constraint_at (shown self.old.slots) k) ⊎ Contains queue.new.0 k }
+    {
+        self.trail.push(literal);
+        self.reasons.push_reserved(reason);
+        lower(
+            &mut self.counters,
+            self.limits.as_slice(),
+            queue,
+            self.table.row(code_of(opposite_of(literal))),
+        );
+    }
+
+    /// Takes the last literal back, if there is one.
+    pub(crate) fn take_back(&mut self) -> Option<Lit>
+        ensures slots { self.new.slots ≡ self.old.slots }
+        ensures variables { self.new.variables ≡ self.old.variables }
+        ensures listing { MatchOption result ((self.old.listing ≡ []) × (self.new.listing ≡ [])) (λ l. self.old.listing ≡ self.new.listing ++ l ∷ []) }
+        ensures reasons { self.new.reasons ≡ take (length self.new.listing) self.old.reasons }
+    {
+        match self.trail.pop() {
+            None => None,
+            Some(literal) => {
+                self.reasons.pop();
+                raise(
+                    &mut self.counters,
+                    self.table.row(code_of(opposite_of(literal))),
+                );
+                Some(literal)
+            }
+        }
+    }
+
+    /// What the literals of the constraint at a place that are not made false have more than its degree, or `None` where
+    /// it is broken. Nothing is added up.
+    pub(crate) fn slack(&self, place: usize) -> Option<u128>
+        requires { place < length self.now.slots }
+        ensures { MatchOption result (IsBroken self.now.listing (constraint_at (shown self.now.slots) place))
+            (λ slack. open_sum self.now.listing (constraint_at (shown self.now.slots) place) ≡ (constraint_at (shown self.now.slots) place).degree + slack) }
+    {
+        match &self.slots[place] {
+            None => Some(0),
+            Some(constraint) => self.counters[place].checked_sub(constraint.degree()),
+        }
+    }
+
+    /// How many terms the constraint at a place has.
+    pub(crate) fn term_count(&self, place: usize) -> usize
+        requires { place < length self.now.slots }
+        ensures value { result ≡ length (constraint_at (shown self.now.slots) place).terms }
+        ensures rises { Rises 0 (constraint_at (shown self.now.slots) place).terms }
+    {
+        match &self.slots[place] {
+            None => 0,
+            Some(constraint) => constraint.len(),
+        }
+    }
+
+    /// A term of the constraint at a place.
+    pub(crate) fn term(&self, place: usize, index: usize) -> NormalTerm
+        requires place { place < length self.now.slots }
+        requires index { index < length (constraint_at (shown self.now.slots) place).terms }
+        ensures value { result ≡ slice_index_or (constraint_at (shown self.now.slots) place).terms index result }
+        ensures rises { Rises 0 (constraint_at (shown self.now.slots) place).terms }
+        ensures variable { result.var.0 < self.now.variables }
+    {
+        match &self.slots[place] {
+            None => unreachable!(),
+            Some(constraint) => {
+                let _count = constraint.len();
+                constraint.term(index)
+            }
+        }
+    }
+
+    /// How many literals are taken as true: no more than variables.
+    pub(crate) fn len(&self) -> usize
+        ensures value { result ≡ length self.now.listing }
+        ensures few { length self.now.listing ≤ self.now.variables }
+        ensures reasons { AreReasons (shown self.now.slots) self.now.listing self.now.reasons }
+    {
+        self.trail.len()
+    }
+
+    /// Whether neither a literal nor its opposite is taken as true.
+    pub(crate) fn leaves_free(&self, literal: Lit) -> bool
+        requires { literal.var.0 < self.now.variables }
+        ensures { IsTrue result ↔ (lists self.now.listing literal ≡ false) × (lists self.now.listing (opposite literal) ≡ false) }
+    {
+        self.trail.leaves_free(literal)
+    }
+
+    /// How many places there are.
+    pub(crate) fn count(&self) -> usize
+        ensures { result ≡ length self.now.slots }
+    {
+        self.slots.len()
+    }
+
+    /// Makes room for the variables below a number.
+    pub(crate) fn widen(&mut self, alloc: Global, variables: usize) -> Result<(), AllocError>
+        requires { variables ≤ 2 ^ 32 }
+        ensures slots { self.new.slots ≡ self.old.slots }
+        ensures listing { self.new.listing ≡ self.old.listing }
+        ensures reasons { self.new.reasons ≡ self.old.reasons }
+        ensures more { self.old.variables ≤ self.new.variables }
+        ensures ok { OnOk result (variables ≤ self.new.variables) }
+    {
+        self.table.widen(alloc, variables * 2)?;
+        self.reasons
+            .reserve(variables.saturating_sub(self.reasons.len()))?;
+        self.trail.widen(variables)
+    }
+
+    /// Adds a constraint at the next place.
+    pub(crate) fn attach(&mut self, constraint: Normal) -> Result<(), AllocError>
+        requires { variable_bound constraint.terms ≤ self.old.variables }
+        ensures ok { OnOk result (self.new ≡ record self.old { slots = self.old.slots ++ Some constraint ∷ [] }) }
+        ensures err { OnErr result (self.new ≡ self.old) }
+    {
+        make_room(&mut self.slots, &mut self.counters, &mut self.limits)?;
+        let open = open_sum(&constraint, &self.trail);
+        let limit = constraint.degree() + largest(&constraint);
+        enter(&mut self.table, self.slots.len(), &constraint)?;
+        self.counters.push_reserved(open);
+        self.limits.push_reserved(limit);
+        self.slots.push_reserved(Some(constraint));
+        Ok(())
+    }
+
+    /// Takes the constraint of the last place off, and the place.
+    pub(crate) fn detach(&mut self)
+        requires live { IsSome (slice_index_or self.old.slots (length self.old.slots - 1) None) }
+        requires reasons { (k place : ℕ) → k < length self.old.listing → slice_index_or self.old.reasons k None ≡ Some place → place + 1 < length self.old.slots }
+        ensures { self.new ≡ record self.old { slots = take (length self.old.slots - 1) self.old.slots } }
+    {
+        match self.slots.pop() {
+            Some(Some(constraint)) => {
+                let count = constraint.len();
+                leave(&mut self.table, &constraint, count);
+                self.counters.pop();
+                self.limits.pop();
+            }
+            _ => unreachable!(),
+        }
+    }
+}
+
+// Makes room for one place more.
+fn make_room(
+    slots: &mut Vec<Option<Normal>>,
+    counters: &mut Vec<u128>,
+    limits: &mut Vec<u128>,
+) -> Result<(), AllocError>
+    ensures slots { slots.new.items ≡ slots.old.items }
+    ensures counters { counters.new.items ≡ counters.old.items }
+    ensures limits { limits.new.items ≡ limits.old.items }
+    ensures slot { OnOk result (vec_len slots.new < vec_capacity slots.new) }
+    ensures counter { OnOk result (vec_len counters.new < vec_capacity counters.new) }
+    ensures limit { OnOk result (vec_len limits.new < vec_capacity limits.new) }
+{
+    slots.reserve(1)?;
+    counters.reserve(1)?;
+    limits.reserve(1)
+}
