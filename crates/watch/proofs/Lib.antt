@@ -9,3 +9,5 @@ pub mod Coefficients
 pub mod Standing
 pub mod Reasons
 pub mod Attaching
+pub mod Walking
+pub mod Forcing

@@ -9,3 +9,4 @@ mod occurrence;
 mod queue;
 mod table;
 mod trail;
+mod walk;

@@ -1,0 +1,15 @@
+-- What does not wait is looked at; each turn takes a place away or adds a literal.
+use Rattle.std.proofs.Common.{◌≡◌, ◌+◌, ◌-◌, ◌*◌, length}
+use Rattle.watch.specs.Ledgers.{shown}
+use Rattle.watch.specs.Looking.{AreLookedAt, GoesOn}
+use Rattle.watch.proofs.walk.settle.Given as goal
+
+abbrev pub invariant-loop-place : goal.invariant-loop-place
+invariant-loop-place l = record {
+  goes_on : GoesOn l.initial.ledger l.ledger;
+  count : l.queue.1 ≡ l.initial.queue.1;
+  looked_at : AreLookedAt (shown l.initial.ledger.slots) l.ledger.listing l.queue.0;
+}
+
+abbrev pub decreases-loop-place : goal.decreases-loop-place
+decreases-loop-place l = (l.ledger.variables - length l.ledger.listing) * (l.queue.1 + 1) + length l.queue.0

@@ -1,0 +1,89 @@
+//! Chains of forced literals, as long as they go, and back again.
+//!
+//! A constraint that does not wait in the queue is not broken and forces nothing: that is so before a walk and after it,
+//! so that an empty queue says that all is settled, and no pass over the constraints ends a walk. What a constraint forces
+//! does not change its own slack, so all that it forces is listed at once.
+
+ghost use Rattle.std.specs.Prelude.{◌≡◌, ◌<◌, ◌≤◌, ◌∷◌, ◌⊎◌, [], MatchOption, length, take};
+ghost use Rattle.propagate.specs.Chain.{IsSettled};
+ghost use Rattle.propagate.specs.Walk.{IsBrokenAt};
+ghost use Rattle.watch.specs.Ledgers.{constraint_at, shown};
+ghost use Rattle.watch.specs.Looking.{AreLookedAt, GoesOn, CanForce, HasSlack, term_at};
+
+use super::ledger::Ledger;
+use super::queue::Queue;
+
+// Forces the literal of a term, where its coefficient is above the slack and it is free.
+fn force_term(ledger: &mut Ledger, queue: &mut Queue, place: usize, index: usize, slack: u128)
+    requires place { place < length ledger.old.slots }
+    requires index { index < length (constraint_at (shown ledger.old.slots) place).terms }
+    requires slack { HasSlack (shown ledger.old.slots) ledger.old.listing place slack }
+    requires count { queue.old.1 ≡ length ledger.old.slots }
+    requires looked_at { AreLookedAt (shown ledger.old.slots) ledger.old.listing (place ∷ queue.old.0) }
+    ensures goes_on { GoesOn ledger.old ledger.new }
+    ensures count { queue.new.1 ≡ queue.old.1 }
+    ensures progress { (queue.new.0 ≡ queue.old.0) ⊎ (length ledger.old.listing < length ledger.new.listing) }
+    ensures slack { HasSlack (shown ledger.old.slots) ledger.new.listing place slack }
+    ensures looked_at { AreLookedAt (shown ledger.old.slots) ledger.new.listing (place ∷ queue.new.0) }
+    ensures done { CanForce ledger.new.listing slack (term_at (shown ledger.old.slots) place index) → ⊥ }
+{
+    let term = ledger.term(place, index);
+    let literal = term.literal();
+    if term.coef <= slack || !ledger.leaves_free(literal) {
+        return;
+    }
+    ledger.set_true(literal, Some(place), queue);
+}
+
+// Forces all that the constraint at a place forces, where its slack is this.
+fn force(ledger: &mut Ledger, queue: &mut Queue, place: usize, slack: u128)
+    requires place { place < length ledger.old.slots }
+    requires slack { HasSlack (shown ledger.old.slots) ledger.old.listing place slack }
+    requires count { queue.old.1 ≡ length ledger.old.slots }
+    requires looked_at { AreLookedAt (shown ledger.old.slots) ledger.old.listing (place ∷ queue.old.0) }
+    ensures goes_on { GoesOn ledger.old ledger.new }
+    ensures count { queue.new.1 ≡ queue.old.1 }
+    ensures progress { (queue.new.0 ≡ queue.old.0) ⊎ (length ledger.old.listing < length ledger.new.listing) }
+    ensures looked_at { AreLookedAt (shown ledger.old.slots) ledger.new.listing queue.new.0 }
+{
+    let end = ledger.term_count(place);
+    for index in 0..end {
+        force_term(ledger, queue, place, index, slack);
+    }
+}
+
+/// Adds forced literals until a constraint is broken, whose place is returned and waits again, or nothing waits and
+/// nothing more is forced.
+pub(crate) fn settle(ledger: &mut Ledger, queue: &mut Queue) -> Option<usize>
+    requires count { queue.old.1 ≡ length ledger.old.slots }
+    requires looked_at { AreLookedAt (shown ledger.old.slots) ledger.old.listing queue.old.0 }
+    ensures goes_on { GoesOn ledger.old ledger.new }
+    ensures count { queue.new.1 ≡ queue.old.1 }
+    ensures looked_at { AreLookedAt (shown ledger.old.slots) ledger.new.listing queue.new.0 }
+    ensures end { MatchOption result ((queue.new.0 ≡ []) × IsSettled (shown ledger.old.slots) ledger.new.listing)
+        (IsBrokenAt (shown ledger.old.slots) ledger.new.listing) }
+{
+    while let Some(place) = queue.take() {
+        let Some(slack) = ledger.slack(place) else {
+            queue.add(place);
+            return Some(place);
+        };
+        force(ledger, queue, place, slack);
+        let _waiting = queue.len();
+        let _taken = ledger.len();
+    }
+    None
+}
+
+/// Takes back all literals but the first ones.
+pub(crate) fn undo(ledger: &mut Ledger, count: usize)
+    requires { count ≤ length ledger.old.listing }
+    ensures slots { ledger.new.slots ≡ ledger.old.slots }
+    ensures variables { ledger.new.variables ≡ ledger.old.variables }
+    ensures listing { ledger.new.listing ≡ take count ledger.old.listing }
+    ensures reasons { ledger.new.reasons ≡ take count ledger.old.reasons }
+{
+    while ledger.len() > count {
+        ledger.take_back();
+    }
+}
