@@ -11,3 +11,4 @@ pub mod Reasons
 pub mod Attaching
 pub mod Walking
 pub mod Forcing
+pub mod Deciding

@@ -1,15 +1,14 @@
 -- One forced literal more.
-use Rattle.std.proofs.Common.{◌≡◌, ℕ, zero, suc, ◌+◌, ◌<◌, ◌≤◌, ◌⊎◌, inl, inr, Bool, true, false, not, cond, ◌&&◌, ◌==◌, All, Contains, Option, Some, List, [], ◌∷◌, ◌++◌, length, get_or, map, refl, ap, sym, subst, ◌∙◌, append-nil, append_assoc, arith}
+use Rattle.std.proofs.Common.{◌≡◌, ℕ, zero, suc, ◌+◌, ◌<◌, ◌⊎◌, inl, inr, Bool, true, false, not, cond, Contains, Option, Some, List, [], ◌∷◌, ◌++◌, length, get_or, map, refl, ap, sym, subst, ◌∙◌, append-nil, append_assoc, arith}
 use Rattle.std.proofs.lemmas.Bool.{false≢true}
 use Rattle.std.proofs.lemmas.Bool.Decides.{nat_tests}
 use Rattle.std.proofs.lemmas.List.{get_or_default, map-append}
 use Rattle.linear.specs.declared.term.Lit.{Lit}
 use Rattle.normal_form.specs.declared.term.NormalTerm.{NormalTerm}
-use Rattle.normal_form.specs.Normal.{NormalConstraint, sum_over, only, same_sign, Rises, variable_bound}
-use Rattle.normal_form.proofs.Sums.{bound_at}
+use Rattle.normal_form.specs.Normal.{NormalConstraint, sum_over, only, Rises}
 use Rattle.normal_form.proofs.OneList.{absent}
 use Rattle.normal_form.proofs.SetSums.{only_is}
-use Rattle.propagate.specs.Literals.{opposite, coefficient_of, lists, among}
+use Rattle.propagate.specs.Literals.{opposite, coefficient_of, lists}
 use Rattle.propagate.specs.Slack.{IsForced}
 use Rattle.propagate.specs.Chain.{IsForcedByOne, IsChain}
 use Rattle.propagate.specs.Walk.{IsQuiet}

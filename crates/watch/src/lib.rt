@@ -1,12 +1,15 @@
 //! A propagator that is fast: it keeps what it has found between calls, and a call costs what it touches.
 #![tactic(auto)]
 
+mod closure;
 mod entry_lists;
+mod extras;
 mod ledger;
 mod lowering;
 mod measures;
 mod occurrence;
 mod queue;
+mod refutation;
 mod table;
 mod trail;
 mod walk;

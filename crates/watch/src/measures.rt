@@ -49,3 +49,15 @@ pub(crate) fn largest(constraint: &Normal) -> u128
     }
     largest
 }
+
+/// The least number above all variables: that of the last term is the greatest.
+pub(crate) fn variable_count(constraint: &Normal) -> usize
+    ensures value { result ≡ variable_bound constraint.now.terms }
+    ensures limit { result ≤ 2 ^ 32 }
+{
+    let count = constraint.len();
+    if count == 0 {
+        return 0;
+    }
+    constraint.term(count - 1).var.0 as usize + 1
+}

@@ -1,10 +1,10 @@
 -- A free literal whose coefficient is above the slack is forced.
-use Rattle.std.proofs.Common.{◌≡◌, ◌<◌, ℕ, List, Option, sym, ap, subst, ◌∙◌, arith, inr, length, length-append, ◌∷◌, []}
+use Rattle.std.proofs.Common.{◌<◌, List, ap, arith, inr, length, length-append, ◌∷◌, []}
 use Rattle.std.proofs.lemmas.List.{length-map}
 use Rattle.linear.specs.declared.term.Lit.{Lit}
 use Rattle.normal_form.specs.Normal.{NormalConstraint}
 use Rattle.propagate.specs.Passes.{literal_of}
-use Rattle.watch.specs.Ledgers.{constraint_at, constraint_in, shown, IsReason}
+use Rattle.watch.specs.Ledgers.{constraint_in, shown}
 use Rattle.watch.proofs.Walking.{IsStep, step, forced_by_term, goes_by_one}
 use Rattle.watch.proofs.walk.force_term.Goals as goal
 

@@ -1,10 +1,9 @@
 -- The place that was taken is quiet again.
-use Rattle.std.proofs.Common.{◌≡◌, List, ℕ, sym, ap, subst, ◌∙◌, length, arith}
+use Rattle.std.proofs.Common.{List, ap, subst, ◌∙◌}
 use Rattle.normal_form.specs.Normal.{NormalConstraint}
 use Rattle.watch.specs.Ledgers.{shown}
 use Rattle.watch.specs.Looking.{AreLookedAt}
-use Rattle.watch.proofs.Walking.{goes_both, goes_nowhere}
-use Rattle.watch.proofs.Forcing.{settled_when_empty, broken_there, readded}
+use Rattle.watch.proofs.Walking.{goes_both}
 use Rattle.watch.proofs.walk.settle.Goals as goal
 
 pub loop-place-preserved : goal.loop-place-preserved

@@ -1,0 +1,14 @@
+-- The extra constraints so far are there.
+use Rattle.std.proofs.Common.{◌≡◌, ◌++◌, Some, length, map, take}
+use Rattle.watch.specs.Ledgers.{shown}
+use Rattle.watch.specs.Looking.{AreLookedAt}
+use Rattle.watch.proofs.extras.attach_all.Given as goal
+
+abbrev pub invariant-loop-extra : goal.invariant-loop-extra
+invariant-loop-extra l = record {
+  listing : l.ledger.listing ≡ l.initial.ledger.listing;
+  reasons : l.ledger.reasons ≡ l.initial.ledger.reasons;
+  count : l.queue.1 ≡ length l.ledger.slots;
+  looked_at : AreLookedAt (shown l.ledger.slots) l.ledger.listing l.queue.0;
+  slots : l.ledger.slots ≡ l.initial.ledger.slots ++ map Some (take l.extra-index l.extras);
+}

@@ -1,0 +1,68 @@
+//! Constraints by place, with what they force from nothing kept between calls.
+//!
+//! A closure from nothing only grows as constraints come in, and a question beside extra constraints goes on from it. It
+//! is found when something is asked: a constraint that comes in only waits, so that reading a database costs no walk.
+
+ghost use Rattle.std.specs.Prelude.{◌≡◌, ◌↔◌, ◌++◌, ◌∷◌, [], IfOk, IsTrue, OnErr, OnOk, Some};
+ghost use Rattle.propagate.specs.Chain.{IsRefuted};
+ghost use Rattle.watch.specs.Ledgers.{shown};
+
+use super::extras::attach_waiting;
+use super::ledger::Ledger;
+use super::queue::Queue;
+use super::refutation::{decide, refute_beside};
+use normal_form::Normal;
+use std::alloc::{AllocError, Global};
+use std::marker::Model;
+
+/// Constraints by place. What is kept of them between calls does not show.
+#[derive(Drop)]
+pub(crate) struct Closure {
+    ledger: Ledger,
+    queue: Queue,
+    alloc: Global,
+}
+
+impl Model for Closure {
+    ghost use Rattle.std.specs.Prelude.{List, Option};
+    ghost use Rattle.normal_form.specs.Normal.{NormalConstraint};
+    ghost use Rattle.watch.specs.Roots.{IsRoot};
+
+    ghost Value = { List (Option NormalConstraint) };
+
+    ghost view = { λ c. c.ledger.slots };
+
+    ghost invariant = { λ c. IsRoot c.ledger c.queue.0 c.queue.1 };
+}
+
+impl Closure {
+    /// No place.
+    pub(crate) fn new(alloc: Global) -> Self
+        ensures { result ≡ [] }
+    {
+        Closure {
+            ledger: Ledger::new(alloc),
+            queue: Queue::new(alloc),
+            alloc,
+        }
+    }
+
+    /// Adds a constraint at the next place.
+    pub(crate) fn attach(&mut self, constraint: Normal) -> Result<(), AllocError>
+        ensures ok { OnOk result (self.new ≡ self.old ++ Some constraint ∷ []) }
+        ensures err { OnErr result (self.new ≡ self.old) }
+    {
+        attach_waiting(self.alloc, &mut self.ledger, &mut self.queue, constraint)
+    }
+
+    /// Whether the constraints are refuted together with some extra ones.
+    pub(crate) fn refute(&mut self, extras: &[Normal]) -> Result<bool, AllocError>
+        ensures slots { self.new ≡ self.old }
+        ensures value { IfOk result (λ yes. IsTrue yes ↔ IsRefuted (shown self.old ++ extras.now)) }
+    {
+        if decide(&mut self.ledger, &mut self.queue) {
+            return Ok(true);
+        }
+        refute_beside(self.alloc, &mut self.ledger, &mut self.queue, extras)
+    }
+}

@@ -1,0 +1,73 @@
+//! Whether constraints are refuted, by themselves and beside others.
+//!
+//! What the constraints force from nothing stands at the bottom of the trail. Extra constraints are attached at the end as
+//! any others, and the walk goes on from there: so it costs what they touch. Afterwards the literals above the bottom are
+//! taken back and the extra constraints taken off, and nothing of them is left.
+
+ghost use Rattle.std.specs.Prelude.{◌≡◌, ◌↔◌, ◌≤◌, ◌++◌, IfOk, IsTrue, Some, List, length, map, take};
+ghost use Rattle.normal_form.specs.Normal.{NormalConstraint};
+ghost use Rattle.propagate.specs.Chain.{IsRefuted, IsSettled};
+ghost use Rattle.watch.specs.Ledgers.{shown};
+ghost use Rattle.watch.specs.Looking.{AreLookedAt, GoesOn};
+ghost use Rattle.watch.specs.Roots.{AllForced, IsRoot};
+
+use super::extras::{attach_all, detach_from};
+use super::ledger::Ledger;
+use super::queue::Queue;
+use super::walk::{settle, undo};
+use normal_form::Normal;
+use std::alloc::{AllocError, Global};
+
+/// Whether the constraints are refuted. What they force from nothing is then found.
+pub(crate) fn decide(ledger: &mut Ledger, queue: &mut Queue) -> bool
+    requires { IsRoot ledger.old queue.old.0 queue.old.1 }
+    ensures value { IsTrue result ↔ IsRefuted (shown ledger.old.slots) }
+    ensures goes_on { GoesOn ledger.old ledger.new }
+    ensures root { IsRoot ledger.new queue.new.0 queue.new.1 }
+    ensures settled { (IsTrue result → ⊥) → IsSettled (shown ledger.new.slots) ledger.new.listing }
+{
+    let _literals = ledger.len();
+    settle(ledger, queue).is_some()
+}
+
+// Attaches constraints, and decides whether all are refuted. What stood before comes first.
+fn decide_beside(
+    alloc: Global,
+    ledger: &mut Ledger,
+    queue: &mut Queue,
+    extras: &[Normal],
+) -> Result<bool, AllocError>
+    requires { IsRoot ledger.old queue.old.0 queue.old.1 }
+    ensures value { IfOk result (λ yes. IsTrue yes ↔ IsRefuted (shown ledger.old.slots ++ extras.now)) }
+    ensures literals { take (length ledger.old.listing) ledger.new.listing ≡ ledger.old.listing }
+    ensures more_literals { length ledger.old.listing ≤ length ledger.new.listing }
+    ensures reasons { take (length ledger.old.listing) ledger.new.reasons ≡ ledger.old.reasons }
+    ensures slots { (added : List NormalConstraint) × (ledger.new.slots ≡ ledger.old.slots ++ map Some added) }
+    ensures count { queue.new.1 ≡ length ledger.new.slots }
+{
+    let _literals = ledger.len();
+    attach_all(alloc, ledger, queue, extras)?;
+    Ok(decide(ledger, queue))
+}
+
+/// Whether settled constraints are refuted beside others. What stood before stands again.
+pub(crate) fn refute_beside(
+    alloc: Global,
+    ledger: &mut Ledger,
+    queue: &mut Queue,
+    extras: &[Normal],
+) -> Result<bool, AllocError>
+    requires root { IsRoot ledger.old queue.old.0 queue.old.1 }
+    requires settled { IsSettled (shown ledger.old.slots) ledger.old.listing }
+    ensures slots { ledger.new.slots ≡ ledger.old.slots }
+    ensures root { IsRoot ledger.new queue.new.0 queue.new.1 }
+    ensures value { IfOk result (λ yes. IsTrue yes ↔ IsRefuted (shown ledger.old.slots ++ extras.now)) }
+{
+    let root = ledger.len();
+    let count = ledger.count();
+    let answer = decide_beside(alloc, ledger, queue, extras);
+    undo(ledger, root);
+    detach_from(ledger, count);
+    queue.clear(count);
+    answer
+}
