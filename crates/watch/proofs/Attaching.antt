@@ -1,7 +1,7 @@
 -- A ledger with a constraint more at the end, and with one fewer.
-use Rattle.std.proofs.Common.{◌≡◌, ℕ, ◌+◌, ◌-◌, ◌*◌, ◌<◌, ◌≤◌, ◌⊎◌, inl, inr, Option, None, Some, List, [], ◌∷◌, ◌++◌, length, get_or, take, refl, ap, sym, ◌∙◌, append-nil, length-append, arith}
+use Rattle.std.proofs.Common.{◌≡◌, ℕ, ◌+◌, ◌-◌, ◌*◌, ◌<◌, ◌≤◌, ◌⊎◌, inl, inr, Option, None, Some, List, [], ◌∷◌, ◌++◌, length, get_or, set, take, refl, ap, sym, ◌∙◌, append-nil, length-append, arith}
 use Rattle.std.proofs.lemmas.Bool.{cases_eq, cases_lt}
-use Rattle.std.proofs.lemmas.List.{get_or_push, get_or_append_left, get_or-take, length-take-le, length-map, take_more, map_push, get_or_past}
+use Rattle.std.proofs.lemmas.List.{get_or_push, get_or_append_left, get_or-set_same, get_or-set_other, length-set, get_or-take, length-take-le, length-map, take_more, map_push, get_or_past}
 use Rattle.std.proofs.lemmas.List.Elements.{All-push, All-take, All-weaker}
 use Rattle.std.proofs.Math.Seq.{take-length}
 use Rattle.linear.specs.declared.term.Lit.{Lit}
@@ -12,7 +12,7 @@ use Rattle.watch.specs.Occurrences.{entries_of, entry_of, occurrences_of, HasMor
 use Rattle.watch.specs.Ledgers.{constraint_at, constraint_in, shown, nothing, open_sum, IsLedger, AreCounters, AreIndexed, AreLimits, AreReasons}
 use Rattle.watch.proofs.Entries.{occurrences_push}
 use Rattle.watch.proofs.Reasons.{reasons_moved}
-use Rattle.watch.proofs.Standing.{variables_there}
+use Rattle.watch.proofs.Standing.{shown_at, variables_there}
 
 none_is_not_some : (n : NormalConstraint) → None ≡ Some n → ⊥
 none_is_not_some n e = cc
@@ -188,3 +188,46 @@ reasons_without slots rest n xs rs e a h = reasons_moved (shown slots) (shown re
       under,
       sym (ap (λ (cs : List NormalConstraint). constraint_at cs place) (fewer_shown slots rest n e) ∙ earlier_is (shown rest) n place under),
     ))
+
+-- one constraint is taken out of its place
+none_there : (slots : List (Option NormalConstraint)) (place k : ℕ) → place < length slots → k ≡ place → get_or (set slots place None) k None ≡ None
+none_there slots place k low e = ap (λ (j : ℕ). get_or (set slots place None) j None) e ∙ get_or-set_same slots place None None low
+
+same_there : (slots : List (Option NormalConstraint)) (place k : ℕ) → (k ≡ place → ⊥) → constraint_at (shown (set slots place None)) k ≡ constraint_at (shown slots) k
+same_there slots place k other = shown_at (set slots place None) k ∙ ap constraint_in (get_or-set_other slots place k None None other) ∙ sym (shown_at slots k)
+
+pub taken_out : (slots : List (Option NormalConstraint)) (place : ℕ) (listing : List Lit) (variables : ℕ) (table : List (List Occurrence)) (counters limits : List ℕ) → IsLedger slots listing variables table counters limits → place < length slots
+    → IsLedger (set slots place None) listing variables table counters (set limits place 0)
+taken_out slots place listing variables table counters limits i low =
+    let many : length limits ≡ length slots = i.limits_are.limited ∙ length-map slots constraint_in in
+    record {
+      indexed = i.indexed;
+      index = i.index;
+      counters_are = i.counters_are;
+      known = i.known;
+      slots_are = record {
+        count = length-set slots place None ∙ i.slots_are.count;
+        same = λ k n e. elim (cases_eq k place) [
+          | inl here ↦ absurd (none_is_not_some n (sym (none_there slots place k low here) ∙ e))
+          | inr other ↦ i.slots_are.same k n (sym (get_or-set_other slots place k None None other) ∙ e)
+        ];
+      };
+      limits_are = record {
+        limited = length-set limits place 0 ∙ many ∙ sym (length-map (set slots place None) constraint_in ∙ length-set slots place None);
+        enough = λ k l h. elim (cases_eq k place) [
+          | inl here ↦
+              let says : constraint_at (shown (set slots place None)) k ≡ nothing = shown_at (set slots place None) k ∙ ap constraint_in (none_there slots place k low here) in
+              omega (arith, ap (λ (n : NormalConstraint). n.degree + coefficient_of n l) says)
+          | inr other ↦
+              let below : k < length (shown slots) = omega (arith, h, length-map (set slots place None) constraint_in, length-set slots place None, length-map slots constraint_in) in
+              omega (arith, get_or-set_other limits place k 0 0 other, i.limits_are.enough k l below, ap (λ (n : NormalConstraint). n.degree + coefficient_of n l) (same_there slots place k other))
+        ];
+      };
+    }
+
+pub reasons_apart : (slots : List (Option NormalConstraint)) (place : ℕ) (xs : List Lit) (rs : List (Option ℕ)) → AreReasons (shown slots) xs rs → ((k : ℕ) → k < length xs → get_or rs k None ≡ Some place → ⊥)
+    → AreReasons (shown (set slots place None)) xs rs
+reasons_apart slots place xs rs a free = reasons_moved (shown slots) (shown (set slots place None)) xs rs a (λ k p low is below. (
+  omega (arith, below, length-map slots constraint_in, length-map (set slots place None) constraint_in, length-set slots place None),
+  same_there slots place p (λ e. free k low (is ∙ ap (λ (j : ℕ). Some j) e)),
+))

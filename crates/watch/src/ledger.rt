@@ -7,7 +7,8 @@
 //! That constraints which do not wait force nothing is no fact of this type: taking literals back breaks it midway. It is
 //! stated between the functions of a walk.
 
-ghost use Rattle.std.specs.Prelude.{◌≡◌, ◌+◌, ◌-◌, ◌^◌, ◌<◌, ◌≤◌, ◌++◌, ◌∷◌, ◌⊎◌, [], ℕ, false, Contains, IsSome, Some, None, IsTrue, MatchOption, OnOk, OnErr, ◌↔◌, length, take, slice_index_or, vec_capacity, vec_len};
+ghost use Rattle.std.specs.Prelude.{◌≡◌, ◌+◌, ◌-◌, ◌^◌, ◌<◌, ◌≤◌, ◌++◌, ◌∷◌, ◌⊎◌, [], ℕ, false, Contains, IsSome, Some, None, IsTrue, MatchOption, OnOk, OnErr, ◌↔◌, length, take, slice_index_or, slice_set, vec_capacity, vec_len};
+ghost use Rattle.std.specs.Option.{option_copied};
 ghost use Rattle.normal_form.specs.Normal.{Rises, variable_bound};
 ghost use Rattle.propagate.specs.Literals.{lists, opposite, coefficient_of};
 ghost use Rattle.propagate.specs.Slack.{IsBroken};
@@ -168,6 +169,25 @@ impl Ledger {
         ensures { IsTrue result ↔ (lists self.now.listing literal ≡ false) × (lists self.now.listing (opposite literal) ≡ false) }
     {
         self.trail.leaves_free(literal)
+    }
+
+    /// The constraint of a place, if there is one.
+    pub(crate) fn get(&self, place: usize) -> Option<&Normal>
+        requires { place < length self.now.slots }
+        ensures { option_copied result ≡ slice_index_or self.now.slots place None }
+    {
+        self.slots[place].as_ref()
+    }
+
+    /// Takes the constraint of a place out, if there is one, where it is no literal's reason. The place stays.
+    pub(crate) fn take_out(&mut self, place: usize) -> Option<Normal>
+        requires place { place < length self.old.slots }
+        requires reasons { (k : ℕ) → k < length self.old.listing → slice_index_or self.old.reasons k None ≡ Some place → ⊥ }
+        ensures value { result ≡ slice_index_or self.old.slots place None }
+        ensures slots { self.new ≡ record self.old { slots = slice_set self.old.slots place None } }
+    {
+        self.limits[place] = 0;
+        self.slots[place].take()
     }
 
     /// How many places there are.
