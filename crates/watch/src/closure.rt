@@ -1,9 +1,11 @@
 //! Constraints by place, with what they force from nothing kept between calls.
 //!
-//! A closure from nothing only grows as constraints come in, and a question beside extra constraints goes on from it. It
-//! is found when something is asked: a constraint that comes in only waits, so that reading a database costs no walk.
+//! A closure from nothing only grows as constraints come in, and a question beside extra constraints goes on from it.
+//! It is found when something is asked: a constraint that comes in only waits, so that reading a database costs no
+//! walk.
 
-ghost use Rattle.std.specs.Prelude.{◌≡◌, ◌↔◌, ◌++◌, ◌∷◌, [], IfOk, IsTrue, OnErr, OnOk, Some};
+ghost use Rattle.std.specs.Prelude.{◌≡◌, ◌↔◌, ◌<◌, ◌++◌, ◌∷◌, [], IfOk, IsTrue, None, OnErr, OnOk, Some, length, slice_index_or};
+ghost use Rattle.std.specs.Option.{option_copied};
 ghost use Rattle.propagate.specs.Chain.{IsRefuted};
 ghost use Rattle.watch.specs.Ledgers.{shown};
 
@@ -53,6 +55,14 @@ impl Closure {
         ensures err { OnErr result (self.new ≡ self.old) }
     {
         attach_waiting(self.alloc, &mut self.ledger, &mut self.queue, constraint)
+    }
+
+    /// The constraint of a place, if there is one.
+    pub(crate) fn get(&self, place: usize) -> Option<&Normal>
+        requires { place < length self.now }
+        ensures { option_copied result ≡ slice_index_or self.now place None }
+    {
+        self.ledger.get(place)
     }
 
     /// Whether the constraints are refuted together with some extra ones.

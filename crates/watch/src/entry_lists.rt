@@ -1,8 +1,9 @@
-//! The entries of one constraint in a table of occurrences: put in at the end of each literal's list, or not at all, and
-//! taken off again.
+//! The entries of one constraint in a table of occurrences: put in at the end of each literal's list, or not at all,
+//! and taken off again.
 //!
-//! Constraints come and go at the end alone, as a stack, so the entries of the last one are the last of their lists, and
-//! taking it off looks at nothing else. Where memory ends midway, the entries so far are taken off by the same way.
+//! Constraints come and go at the end alone, as a stack, so the entries of the last one are the last of their lists,
+//! and taking it off looks at nothing else. Where memory ends midway, the entries so far are taken off by the same
+//! way.
 
 ghost use Rattle.std.specs.Prelude.{◌≡◌, ◌*◌, ◌≤◌, ℕ, List, [], OnOk, OnErr, length, take};
 ghost use Rattle.linear.specs.declared.term.Lit.{Lit};
@@ -58,7 +59,8 @@ pub(crate) fn leave(table: &mut Table, constraint: &Normal, count: usize)
     requires count { count ≤ length constraint.now.terms }
     requires normal { IsNormal constraint.now }
     ensures length { length table.new ≡ length table.old }
-    ensures fewer { (before : Lit → List Occurrence) (place : ℕ) → HasMore before table.old place (take count constraint.now.terms)
+    ensures fewer { (before : Lit → List Occurrence) (place : ℕ)
+        → HasMore before table.old place (take count constraint.now.terms)
         → HasMore before table.new place [] }
 {
     for index in 0..count {

@@ -1,9 +1,10 @@
 //! Constraints that come and go at the end, and wait in the queue as they come.
 //!
-//! A constraint that comes in is only queued: what it forces is found when something is asked. Where memory ends, all is
-//! as before, but that there may be room for more variables.
+//! A constraint that comes in is only queued: what it forces is found when something is asked. Where memory ends, all
+//! is as before, but that there may be room for more variables.
 
-ghost use Rattle.std.specs.Prelude.{◌≡◌, ◌<◌, ◌≤◌, ◌++◌, ◌∷◌, [], ℕ, List, Some, None, IsSome, OnOk, OnErr, length, map, slice_index_or, take};
+ghost use Rattle.std.specs.Prelude.{◌≡◌, ◌<◌, ◌≤◌, ◌++◌, ◌∷◌, [], ℕ, List, Some, None, IsSome, OnOk, OnErr, length};
+ghost use Rattle.std.specs.Prelude.{map, slice_index_or, take};
 ghost use Rattle.normal_form.specs.Normal.{NormalConstraint};
 ghost use Rattle.watch.specs.Ledgers.{shown};
 ghost use Rattle.watch.specs.Looking.{AreLookedAt};
@@ -70,8 +71,10 @@ pub(crate) fn attach_all(
 /// Takes off the places from a number on, which all have constraints, none of them a reason.
 pub(crate) fn detach_from(ledger: &mut Ledger, count: usize)
     requires count { count ≤ length ledger.old.slots }
-    requires live { (k : ℕ) → count ≤ k → k < length ledger.old.slots → IsSome (slice_index_or ledger.old.slots k None) }
-    requires reasons { (k place : ℕ) → k < length ledger.old.listing → slice_index_or ledger.old.reasons k None ≡ Some place → place < count }
+    requires live { (k : ℕ) → count ≤ k → k < length ledger.old.slots
+        → IsSome (slice_index_or ledger.old.slots k None) }
+    requires reasons { (k place : ℕ) → k < length ledger.old.listing
+        → slice_index_or ledger.old.reasons k None ≡ Some place → place < count }
     ensures { ledger.new ≡ record ledger.old { slots = take count ledger.old.slots } }
 {
     while ledger.count() > count {

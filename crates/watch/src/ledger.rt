@@ -1,13 +1,17 @@
-//! Constraints by place, the places of their literals, the literals that are taken as true, and what these leave open.
+//! Constraints by place, the places of their literals, the literals that are taken as true, and what these leave
+//! open.
 //!
-//! A literal that comes or goes changes a counter exactly where its opposite stands, so what a step costs is the length of
-//! one list. A constraint that is taken out leaves its place and its entries behind: counted on, they cost little until
-//! the places are made anew, and searching the lists for them would cost more. What a place says then is nothing.
+//! A literal that comes or goes changes a counter exactly where its opposite stands, so what a step costs is the
+//! length of one list. A constraint that is taken out leaves its place and its entries behind: counted on, they cost
+//! little until the places are made anew, and searching the lists for them would cost more. What a place says then is
+//! nothing.
 //!
-//! That constraints which do not wait force nothing is no fact of this type: taking literals back breaks it midway. It is
-//! stated between the functions of a walk.
+//! That constraints which do not wait force nothing is no fact of this type: taking literals back breaks it midway.
+//! It is stated between the functions of a walk.
 
-ghost use Rattle.std.specs.Prelude.{◌≡◌, ◌+◌, ◌-◌, ◌^◌, ◌<◌, ◌≤◌, ◌++◌, ◌∷◌, ◌⊎◌, [], ℕ, false, Contains, IsSome, Some, None, IsTrue, MatchOption, OnOk, OnErr, ◌↔◌, length, take, slice_index_or, slice_set, vec_capacity, vec_len};
+ghost use Rattle.std.specs.Prelude.{◌≡◌, ◌+◌, ◌-◌, ◌^◌, ◌<◌, ◌≤◌, ◌++◌, ◌∷◌, ◌⊎◌, [], ℕ, false, Contains, IsSome};
+ghost use Rattle.std.specs.Prelude.{Some, None, IsTrue, MatchOption, OnOk, OnErr, ◌↔◌, length, take, slice_index_or};
+ghost use Rattle.std.specs.Prelude.{slice_set, vec_capacity, vec_len};
 ghost use Rattle.std.specs.Option.{option_copied};
 ghost use Rattle.normal_form.specs.Normal.{Rises, variable_bound};
 ghost use Rattle.propagate.specs.Literals.{lists, opposite, coefficient_of};
@@ -44,7 +48,12 @@ impl Model for Ledger {
 
     ghost Value = { State };
 
-    ghost view = { λ e. record { slots = e.slots.items; listing = e.trail.0; reasons = e.reasons.items; variables = e.trail.1 } };
+    ghost view = { λ e. record {
+      slots = e.slots.items;
+      listing = e.trail.0;
+      reasons = e.reasons.items;
+      variables = e.trail.1;
+    } };
 
     ghost invariant = { λ e. IsLedger e.slots.items e.trail.0 e.trail.1 e.table e.counters.items e.limits.items
         × AreReasons (shown e.slots.items) e.trail.0 e.reasons.items × (e.trail.1 ≤ vec_capacity e.reasons) };
@@ -65,8 +74,8 @@ impl Ledger {
         }
     }
 
-    /// Takes a free literal as true, forced by the constraint of a place or given, and queues what may now be broken or
-    /// force.
+    /// Takes a free literal as true, forced by the constraint of a place or given, and queues what may now be broken
+    /// or force.
     pub(crate) fn set_true(&mut self, literal: Lit, reason: Option<usize>, queue: &mut Queue)
         requires variable { literal.var.0 < self.old.variables }
         requires unset { lists self.old.listing literal ≡ false }
@@ -96,7 +105,8 @@ impl Ledger {
     pub(crate) fn take_back(&mut self) -> Option<Lit>
         ensures slots { self.new.slots ≡ self.old.slots }
         ensures variables { self.new.variables ≡ self.old.variables }
-        ensures listing { MatchOption result ((self.old.listing ≡ []) × (self.new.listing ≡ [])) (λ l. self.old.listing ≡ self.new.listing ++ l ∷ []) }
+        ensures listing { MatchOption result ((self.old.listing ≡ []) × (self.new.listing ≡ []))
+            (λ l. self.old.listing ≡ self.new.listing ++ l ∷ []) }
         ensures reasons { self.new.reasons ≡ take (length self.new.listing) self.old.reasons }
     {
         match self.trail.pop() {
@@ -112,12 +122,13 @@ impl Ledger {
         }
     }
 
-    /// What the literals of the constraint at a place that are not made false have more than its degree, or `None` where
-    /// it is broken. Nothing is added up.
+    /// What the literals of the constraint at a place that are not made false have more than its degree, or `None`
+    /// where it is broken. Nothing is added up.
     pub(crate) fn slack(&self, place: usize) -> Option<u128>
         requires { place < length self.now.slots }
         ensures { MatchOption result (IsBroken self.now.listing (constraint_at (shown self.now.slots) place))
-            (λ slack. open_sum self.now.listing (constraint_at (shown self.now.slots) place) ≡ (constraint_at (shown self.now.slots) place).degree + slack) }
+            (λ slack. open_sum self.now.listing (constraint_at (shown self.now.slots) place)
+            ≡ (constraint_at (shown self.now.slots) place).degree + slack) }
     {
         match &self.slots[place] {
             None => Some(0),
@@ -166,7 +177,8 @@ impl Ledger {
     /// Whether neither a literal nor its opposite is taken as true.
     pub(crate) fn leaves_free(&self, literal: Lit) -> bool
         requires { literal.var.0 < self.now.variables }
-        ensures { IsTrue result ↔ (lists self.now.listing literal ≡ false) × (lists self.now.listing (opposite literal) ≡ false) }
+        ensures { IsTrue result ↔ (lists self.now.listing literal ≡ false)
+            × (lists self.now.listing (opposite literal) ≡ false) }
     {
         self.trail.leaves_free(literal)
     }
@@ -182,7 +194,8 @@ impl Ledger {
     /// Takes the constraint of a place out, if there is one, where it is no literal's reason. The place stays.
     pub(crate) fn take_out(&mut self, place: usize) -> Option<Normal>
         requires place { place < length self.old.slots }
-        requires reasons { (k : ℕ) → k < length self.old.listing → slice_index_or self.old.reasons k None ≡ Some place → ⊥ }
+        requires reasons { (k : ℕ) → k < length self.old.listing → slice_index_or self.old.reasons k None ≡ Some place
+            → ⊥ }
         ensures value { result ≡ slice_index_or self.old.slots place None }
         ensures slots { self.new ≡ record self.old { slots = slice_set self.old.slots place None } }
     {
@@ -231,7 +244,8 @@ impl Ledger {
     /// Takes the constraint of the last place off, and the place.
     pub(crate) fn detach(&mut self)
         requires live { IsSome (slice_index_or self.old.slots (length self.old.slots - 1) None) }
-        requires reasons { (k place : ℕ) → k < length self.old.listing → slice_index_or self.old.reasons k None ≡ Some place → place + 1 < length self.old.slots }
+        requires reasons { (k place : ℕ) → k < length self.old.listing
+            → slice_index_or self.old.reasons k None ≡ Some place → place + 1 < length self.old.slots }
         ensures { self.new ≡ record self.old { slots = take (length self.old.slots - 1) self.old.slots } }
     {
         match self.slots.pop() {

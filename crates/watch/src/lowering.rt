@@ -1,8 +1,8 @@
 //! Counters of constraints, lowered and raised along a list of occurrences.
 //!
-//! A counter is the open sum of its constraint: what the literals that are not made false add up to. It is a number from
-//! 0 on, so no sign is kept; and whether a constraint may be broken or force something is one comparison with a limit
-//! that is made when it comes in, its degree and its largest coefficient.
+//! A counter is the open sum of its constraint: what the literals that are not made false add up to. It is a number
+//! from 0 on, so no sign is kept; and whether a constraint may be broken or force something is one comparison with a
+//! limit that is made when it comes in, its degree and its largest coefficient.
 
 ghost use Rattle.std.specs.Prelude.{◌≡◌, ◌+◌, ◌^◌, ◌<◌, ◌≤◌, ◌⊎◌, ℕ, All, Contains, length, slice_index_or};
 ghost use Rattle.watch.specs.Occurrences.{share_of};
@@ -20,7 +20,8 @@ pub(crate) fn lower(
     requires places { All (λ o. o.place < length counters.old.items) list.now }
     requires limits { length limits.now ≡ length counters.old.items }
     requires queue { queue.old.1 ≡ length counters.old.items }
-    requires enough { (k : ℕ) → k < length counters.old.items → share_of k list.now ≤ slice_index_or counters.old.items k 0 }
+    requires enough { (k : ℕ) → k < length counters.old.items
+        → share_of k list.now ≤ slice_index_or counters.old.items k 0 }
     ensures length { length counters.new.items ≡ length counters.old.items }
     ensures lowered { (k : ℕ) → k < length counters.old.items
         → slice_index_or counters.new.items k 0 + share_of k list.now ≡ slice_index_or counters.old.items k 0 }
@@ -52,7 +53,8 @@ fn add_below(queue: &mut Queue, place: usize, number: u128, limit: u128)
 /// Raises the counter at each place of a list.
 pub(crate) fn raise(counters: &mut Vec<u128>, list: &[Occurrence])
     requires places { All (λ o. o.place < length counters.old.items) list.now }
-    requires room { (k : ℕ) → k < length counters.old.items → slice_index_or counters.old.items k 0 + share_of k list.now ≤ 2 ^ 120 }
+    requires room { (k : ℕ) → k < length counters.old.items
+        → slice_index_or counters.old.items k 0 + share_of k list.now ≤ 2 ^ 120 }
     ensures length { length counters.new.items ≡ length counters.old.items }
     ensures raised { (k : ℕ) → k < length counters.old.items
         → slice_index_or counters.new.items k 0 ≡ slice_index_or counters.old.items k 0 + share_of k list.now }

@@ -1,8 +1,8 @@
 //! Where literals stand, and the numbers by which literals are looked up.
 //!
-//! A constraint changes its slack exactly where the opposite of a new literal stands in it, so each literal has a list
-//! of the places where it stands, with its coefficient there: what is touched is found without a look at the rest, and
-//! without a look at the constraint.
+//! A constraint changes its slack exactly where the opposite of a new literal stands in it, so each literal has a
+//! list of the places where it stands, with its coefficient there: what is touched is found without a look at the
+//! rest, and without a look at the constraint.
 
 ghost use Rattle.std.specs.Prelude.{◌≡◌};
 ghost use Rattle.propagate.specs.Literals.{opposite};

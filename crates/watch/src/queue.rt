@@ -1,9 +1,9 @@
 //! Places of constraints that are still to be looked at.
 //!
-//! There is room for all places at once, so that a place is added without memory: a walk cannot fail midway, and what it
-//! changed is undone by the same steps backwards.
+//! There is room for all places at once, so that a place is added without memory: a walk cannot fail midway, and what
+//! it changed is undone by the same steps backwards.
 
-ghost use Rattle.std.specs.Prelude.{◌≡◌, ◌+◌, ◌^◌, ◌<◌, ◌≤◌, ◌∷◌, [], ℕ, IfSome, OnOk, OnErr, MatchOption, Contains, length};
+ghost use Rattle.std.specs.Prelude.{◌≡◌, ◌+◌, ◌<◌, ◌≤◌, ◌∷◌, [], ℕ, IfSome, OnOk, OnErr, MatchOption, Contains, length};
 
 use std::alloc::{AllocError, Global};
 use std::collections::VecDeque;
@@ -25,7 +25,8 @@ impl Model for Queue {
 
     ghost view = { λ q. (q.places.items, length q.waiting.items) };
 
-    ghost invariant = { λ q. IsQueue q.places.items q.waiting.items × (length q.waiting.items ≤ deque_capacity q.places) };
+    ghost invariant = { λ q. IsQueue q.places.items q.waiting.items
+        × (length q.waiting.items ≤ deque_capacity q.places) };
 }
 
 impl Queue {

@@ -1,8 +1,8 @@
 //! Whether constraints are refuted, by themselves and beside others.
 //!
-//! What the constraints force from nothing stands at the bottom of the trail. Extra constraints are attached at the end as
-//! any others, and the walk goes on from there: so it costs what they touch. Afterwards the literals above the bottom are
-//! taken back and the extra constraints taken off, and nothing of them is left.
+//! What the constraints force from nothing stands at the bottom of the trail. Extra constraints are attached at the
+//! end as any others, and the walk goes on from there: so it costs what they touch. Afterwards the literals above the
+//! bottom are taken back and the extra constraints taken off, and nothing of them is left.
 
 ghost use Rattle.std.specs.Prelude.{◌≡◌, ◌↔◌, ◌≤◌, ◌++◌, IfOk, IsTrue, Some, List, length, map, take};
 ghost use Rattle.normal_form.specs.Normal.{NormalConstraint};

@@ -1,6 +1,7 @@
 //! Lists of occurrences, by the numbers of literals.
 
-ghost use Rattle.std.specs.Prelude.{◌≡◌, ◌-◌, ◌<◌, ◌≤◌, ◌++◌, ◌∷◌, [], ℕ, OnOk, OnErr, length, take, slice_index_or, slice_set};
+ghost use Rattle.std.specs.Prelude.{◌≡◌, ◌-◌, ◌<◌, ◌≤◌, ◌++◌, ◌∷◌, [], ℕ, OnOk, OnErr, length, take, slice_index_or};
+ghost use Rattle.std.specs.Prelude.{slice_set};
 
 use super::occurrence::Occurrence;
 use std::alloc::{AllocError, Global};
@@ -54,7 +55,8 @@ impl Table {
     /// One entry more at the end of a list.
     pub(crate) fn push(&mut self, number: usize, entry: Occurrence) -> Result<(), AllocError>
         requires { number < length self.old }
-        ensures ok { OnOk result (self.new ≡ slice_set self.old number (slice_index_or self.old number [] ++ entry ∷ [])) }
+        ensures ok { OnOk result (self.new ≡ slice_set self.old number
+            (slice_index_or self.old number [] ++ entry ∷ [])) }
         ensures err { OnErr result (self.new ≡ self.old) }
     {
         match self.rows[number].push(entry) {
@@ -66,7 +68,8 @@ impl Table {
     /// A list without its last entry.
     pub(crate) fn pop(&mut self, number: usize)
         requires { number < length self.old }
-        ensures { self.new ≡ slice_set self.old number (take (length (slice_index_or self.old number []) - 1) (slice_index_or self.old number [])) }
+        ensures { self.new ≡ slice_set self.old number
+            (take (length (slice_index_or self.old number []) - 1) (slice_index_or self.old number [])) }
     {
         self.rows[number].pop();
     }

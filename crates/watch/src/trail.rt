@@ -3,7 +3,8 @@
 //! No variable stands in it twice, so it has room for all variables from the start, and a literal is added without
 //! memory. Taken off, a literal leaves its variable without a value, since nothing else gave it one.
 
-ghost use Rattle.std.specs.Prelude.{◌≡◌, ◌+◌, ◌<◌, ◌≤◌, ◌++◌, ◌∷◌, ◌⊎◌, [], ℕ, false, OnOk, OnErr, IsTrue, ◌↔◌, None, length, MatchOption, IfSome};
+ghost use Rattle.std.specs.Prelude.{◌≡◌, ◌+◌, ◌<◌, ◌≤◌, ◌++◌, ◌∷◌, ◌⊎◌, [], ℕ, false, OnOk, OnErr, IsTrue, ◌↔◌, None};
+ghost use Rattle.std.specs.Prelude.{length, MatchOption, IfSome};
 ghost use Rattle.propagate.specs.Literals.{lists, opposite};
 
 use linear::Lit;
@@ -26,7 +27,8 @@ impl Model for Trail {
 
     ghost view = { λ t. (t.listing.items, length t.values.items) };
 
-    ghost invariant = { λ t. IsTrail t.listing.items t.values.items × (length t.values.items ≤ vec_capacity t.listing) };
+    ghost invariant = { λ t. IsTrail t.listing.items t.values.items
+        × (length t.values.items ≤ vec_capacity t.listing) };
 }
 
 impl Trail {
@@ -120,7 +122,8 @@ impl Trail {
     /// Takes the last literal away.
     pub(crate) fn pop(&mut self) -> Option<Lit>
         ensures count { self.new.1 ≡ self.old.1 }
-        ensures value { MatchOption result ((self.old.0 ≡ []) × (self.new ≡ self.old)) (λ l. self.old.0 ≡ self.new.0 ++ l ∷ []) }
+        ensures value { MatchOption result ((self.old.0 ≡ []) × (self.new ≡ self.old))
+            (λ l. self.old.0 ≡ self.new.0 ++ l ∷ []) }
         ensures unset { IfSome result (λ l. lists self.new.0 l ≡ false) }
         ensures opposite_unset { IfSome result (λ l. lists self.new.0 (opposite l) ≡ false) }
         ensures variable { IfSome result (λ l. l.var.0 < self.old.1) }

@@ -1,8 +1,8 @@
 //! Chains of forced literals, as long as they go, and back again.
 //!
-//! A constraint that does not wait in the queue is not broken and forces nothing: that is so before a walk and after it,
-//! so that an empty queue says that all is settled, and no pass over the constraints ends a walk. What a constraint forces
-//! does not change its own slack, so all that it forces is listed at once.
+//! A constraint that does not wait in the queue is not broken and forces nothing: that is so before a walk and after
+//! it, so that an empty queue says that all is settled, and no pass over the constraints ends a walk. What a
+//! constraint forces does not change its own slack, so all that it forces is listed at once.
 
 ghost use Rattle.std.specs.Prelude.{◌≡◌, ◌<◌, ◌≤◌, ◌∷◌, ◌⊎◌, [], MatchOption, length, take};
 ghost use Rattle.propagate.specs.Chain.{IsSettled};
