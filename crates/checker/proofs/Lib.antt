@@ -7,3 +7,4 @@ pub mod Walking
 pub mod Claimed
 pub mod OneProof
 pub mod PrintedClaim
+mod ProvedAccepted

@@ -1,12 +1,12 @@
 -- A text is one proof of a problem: it spells one list of steps and one conclusion, and legal steps lead to one state.
-use Rattle.std.proofs.Common.{◌≡◌, ℕ, pos, Bool, Option, List, [], ◌∷◌, refl, sym, ap, subst, ◌∙◌}
+use Rattle.std.proofs.Common.{◌≡◌, ℕ, pos, Bool, Option, List, [], ◌∷◌, sym, ap, subst, ◌∙◌}
 use Rattle.linear.specs.Opb.{Opb}
 use Rattle.kernel.specs.Accepted.{Judgement}
 use Rattle.proof_rules.proofs.OneStart.{one_start}
 use Rattle.proof_rules.proofs.OneState.{one_state, one_justified}
 use Rattle.proof_rules.specs.Forms.{problem_ids}
 use Rattle.proof_rules.specs.Justified.{IsJustified}
-use Rattle.proof_rules.specs.Legal.{Legal, Leads}
+use Rattle.proof_rules.specs.Legal.{Leads}
 use Rattle.proof_rules.specs.State.{State}
 use Rattle.proof_steps.specs.declared.conclusion.Conclusion.{Conclusion}
 use Rattle.proof_steps.specs.declared.step.Step.{Step}

@@ -1,16 +1,15 @@
 -- There is one walk: lines say one thing, legal steps lead to one state, and what has a fault is not legal. So where a walk
--- stops, none comes to the end, and all walks stop on one line.
-use Rattle.std.proofs.Common.{◌≡◌, ◌≢◌, ◌⊎◌, ℕ, ℤ, pos, inl, inr, Option, Some, None, List, [], ◌∷◌, length, refl, sym, ap, subst, ◌∙◌, arith}
+-- stops, none comes to the end, and all walks stop at one position: on one line, and with one code of judging.
+use Rattle.std.proofs.Common.{◌≡◌, ◌≢◌, ℕ, Option, Some, None, List, [], ◌∷◌, length, refl, sym, ap, subst, ◌∙◌, arith}
 use Rattle.linear.specs.Opb.{Opb}
 use Rattle.kernel.specs.Accepted.{Judgement}
-use Rattle.proof_rules.specs.Fault.{IsStepFault, IsConclusionFault}
-use Rattle.proof_rules.specs.Forms.{problem_ids}
 use Rattle.proof_rules.specs.State.{State}
 use Rattle.proof_rules.proofs.NotLegal.{step_never, conclusion_never}
+use Rattle.proof_rules.specs.declared.fault.StepFault.{StepFault}
+use Rattle.proof_rules.proofs.OneConclusionFault.{one_conclusion_fault}
 use Rattle.proof_rules.proofs.OneStart.{one_start}
+use Rattle.proof_rules.proofs.OneStepFault.{one_step_fault}
 use Rattle.proof_rules.proofs.OneState.{one_state, one_justified}
-use Rattle.proof_steps.specs.declared.conclusion.Conclusion.{Conclusion}
-use Rattle.proof_steps.specs.declared.step.Step.{Step}
 use Rattle.proof_text.proofs.OneReading.{one_line}
 use Rattle.proof_text.specs.Faults.{DeniesLine, DeniesPlaced}
 use Rattle.proof_text.specs.Lines.{Numbered, lines_of}
@@ -23,10 +22,11 @@ use Rattle.proof_text.specs.declared.line.Line.{Line}
 use Rattle.proof_text.specs.declared.line.Line.TheVariants as lines
 use Rattle.proof_text.specs.declared.line.Place.{Place}
 use Rattle.proof_text.specs.declared.line.Place.TheVariants as places
-use Rattle.checker.specs.Stopped.{IsFaulty, IsStopped, IsTruncated, IsUnread, IsRefused, Refuses, Stops}
+use Rattle.checker.specs.Stopped.{IsStopped, Refuses, Stops}
 use Rattle.checker.specs.Stopped.{truncated, unread, refused}
 use Rattle.checker.specs.Walk.{Accepts, Advances, IsOver, Next, Position, Reaches, Walks, beginning}
 use Rattle.checker.specs.declared.verdict.Code.{Code}
+use Rattle.checker.specs.declared.verdict.Code.TheVariants.{Reading, Judging}
 
 -- two names of the line that stands next
 same_first : (l k : Numbered) (ls ks : List Numbered) → (l ∷ ls) ≡ (k ∷ ks) → (l ≡ k) × (ls ≡ ks)
@@ -159,19 +159,50 @@ stop_line p at last line other code why (refused x) (truncated y) = absurd (none
 stop_line p at last line other code why (refused x) (unread y) = x.line_is ∙ ap (λ (k : Numbered). k.number) (same_first x.next.line y.next x.next.behind y.behind (sym x.next.in_order ∙ y.in_order)).0 ∙ sym y.line_is
 stop_line p at last line other code why (refused x) (refused y) = x.line_is ∙ ap (λ (k : Numbered). k.number) (one_next at x.next y.next).0 ∙ sym y.line_is
 
--- two walks that stop
-one_stop : (p : Opb) (at a b : Position) (path more : List Position) (last line other : ℕ) (code why : Code) → Walks p at path a → Stops p a last line code → Walks p at more b → Stops p b last other why → line ≡ other
-one_stop p at a b [] [] last line other code why x stops y ends =
-    stop_line p at last line other code why (subst (λ q. Stops p q last line code) x stops) (subst (λ q. Stops p q last other why) y ends)
+-- what is refused by judging has one fault
+refused_code : (p : Opb) (s : State) (said : Line) (f : StepFault) (code : Code) → Refuses p s said (Judging f) → Refuses p s said code → code ≡ Judging f
+refused_code p s lines.Header f code x y = absurd x
+refused_code p s (lines.Count count) f code x y = let other : Judging f ≡ Reading readings.BadCount = x.1 in absurd (cc)
+refused_code p s (lines.Step step) f code (g, is, sure, fault) (h, also, certain, other) = also ∙ ap Judging (one_step_fault p s step h g other fault) ∙ sym is
+refused_code p s lines.Output f code x y = absurd x
+refused_code p s (lines.Conclusion c) f code (g, is, sure, fault) (h, also, certain, other) = also ∙ ap Judging (one_conclusion_fault p s c h g other fault) ∙ sym is
+refused_code p s lines.End f code x y = absurd x
+
+-- at one position judging stops with one code, where it is that of a fault of judging
+stop_code : (p : Opb) (at : Position) (last line other : ℕ) (f : StepFault) (code : Code) → Stops p at last line (Judging f) → Stops p at last other code → code ≡ Judging f
+stop_code p at last line other f code (truncated x) y = let not : Judging f ≡ Reading readings.Truncated = x.code_is in absurd (cc)
+stop_code p at last line other f code (unread x) y = let not : Judging f ≡ Reading x.fault = x.code_is in absurd (cc)
+stop_code p at last line other f code (refused x) (truncated y) = absurd (none_first x.next.line x.next.behind (sym y.left ∙ x.next.in_order))
+stop_code p at last line other f code (refused x) (unread y) =
+    let same = same_first y.next x.next.line y.behind x.next.behind (sym y.in_order ∙ x.next.in_order) in
+    let there = subst (λ (k : Numbered). IsLine at.section at.names (words k.text) x.next.said x.next.names) (sym same.0) x.next.is in
+    absurd (denied_never y.fault at.section at.names (words y.next.text) x.next.said x.next.names y.denied y.no_memory there)
+stop_code p at last line other f code (refused x) (refused y) =
+    refused_code p at.state x.next.said f code x.refuses (subst (λ said. Refuses p at.state said code) (sym (one_next at x.next y.next).1) y.refuses)
+
+-- two walks that stop, stop at one position
+one_stop : (p : Opb) (at a b : Position) (path more : List Position) (last line other : ℕ) (code why : Code) → Walks p at path a → Stops p a last line code → Walks p at more b → Stops p b last other why → a ≡ b
+one_stop p at a b [] [] last line other code why x stops y ends = x ∙ sym y
 one_stop p at a b [] (n ∷ ns) last line other code why x stops y ends = absurd (stops_never p at n last line code y.0 (subst (λ q. Stops p q last line code) x stops))
 one_stop p at a b (n ∷ ns) [] last line other code why x stops y ends = absurd (stops_never p at n last other why x.0 (subst (λ q. Stops p q last other why) y ends))
 one_stop p at a b (n ∷ ns) (m ∷ ms) last line other code why x stops y ends =
     let same = one_advance p at n m x.0 y.0 in
     one_stop p n a b ns ms last line other code why x.1 stops (subst (λ q. Walks p q ms b) (sym same) y.1) ends
 
--- judging stops on one line
-pub one_line_of_stop : (p : Opb) (proof : List ℕ) (line other : ℕ) (code why : Code) → IsStopped p proof line code → IsStopped p proof other why → line ≡ other
-one_line_of_stop p proof line other code why x y =
+one_place : (p : Opb) (proof : List ℕ) (line other : ℕ) (code why : Code) (x : IsStopped p proof line code) (y : IsStopped p proof other why) → x.at ≡ y.at
+one_place p proof line other code why x y =
     let same = one_start p y.reached.start x.reached.start y.reached.starts x.reached.starts in
     let walks = subst (λ s. Walks p (beginning p proof s) y.reached.path y.at) same y.reached.walks in
     one_stop p (beginning p proof x.reached.start) x.at y.at x.reached.path y.reached.path (lines_of proof).last line other code why x.reached.walks x.stops walks y.stops
+
+-- judging stops on one line
+pub one_line_of_stop : (p : Opb) (proof : List ℕ) (line other : ℕ) (code why : Code) → IsStopped p proof line code → IsStopped p proof other why → line ≡ other
+one_line_of_stop p proof line other code why x y =
+    let last = (lines_of proof).last in
+    stop_line p y.at last line other code why (subst (λ q. Stops p q last line code) (one_place p proof line other code why x y) x.stops) y.stops
+
+-- and with one code, where it is that of a fault of judging
+pub one_code_of_stop : (p : Opb) (proof : List ℕ) (line other : ℕ) (f : StepFault) (code : Code) → IsStopped p proof line (Judging f) → IsStopped p proof other code → code ≡ Judging f
+one_code_of_stop p proof line other f code x y =
+    let last = (lines_of proof).last in
+    stop_code p y.at last line other f code (subst (λ q. Stops p q last line (Judging f)) (one_place p proof line other (Judging f) code x y) x.stops) y.stops

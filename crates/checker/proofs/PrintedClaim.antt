@@ -1,10 +1,10 @@
 -- The `v` line names the very assignment that is claimed: the text spells one problem, and its names are the ones printed.
-use Rattle.std.proofs.Common.{◌≡◌, ◌⊎◌, inl, inr, ℕ, Bool, Option, Some, MatchOption, IfSome, List, sym, subst, ◌∙◌}
+use Rattle.std.proofs.Common.{◌≡◌, inl, inr, ℕ, Bool, Some, MatchOption, IfSome, List, sym, subst}
 use Rattle.linear.specs.Opb.{Opb}
 use Rattle.kernel.specs.Accepted.{Judgement}
 use Rattle.proof_rules.specs.Claim.{IsSolution}
 use Rattle.checker.specs.Headline.{IsTrueOf}
-use Rattle.checker.specs.Printed.{IsAcceptedText, IsPrinted, IsWithBest, Names, accepted_line, with_assignment}
+use Rattle.checker.specs.Printed.{IsPrinted, IsWithBest, accepted_line, with_assignment}
 use Rattle.checker.specs.declared.verdict.Verdict.TheVariants as verdicts
 
 pub printed_claim : (opb proof : List ℕ) (a : Judgement) (t : IsTrueOf opb proof a) (values : List Bool) (text : List ℕ) → a.best ≡ Some values → IsPrinted opb (verdicts.Accepted a) text

@@ -1,15 +1,14 @@
 -- A walk that comes to the end has read a legal proof of the kinds that are judged: what is left of a proof is gathered section by
 -- section, from the last position back to the first.
-use Rattle.std.proofs.Common.{◌≡◌, ◌⊎◌, All, ℕ, ℤ, pos, inl, inr, Option, Some, None, List, [], ◌∷◌, ◌++◌, refl, sym, ap, subst, ◌∙◌}
+use Rattle.std.proofs.Common.{◌≡◌, ℕ, pos, inl, inr, Option, Some, None, List, [], ◌∷◌, ◌++◌, refl, sym, ap, subst, ◌∙◌}
 use Rattle.linear.specs.Opb.{Opb}
 use Rattle.kernel.specs.Accepted.{Judgement}
 use Rattle.proof_rules.specs.Forms.{problem_ids}
 use Rattle.proof_rules.specs.Justified.{IsJustified}
-use Rattle.proof_rules.specs.Legal.{Legal, Leads}
+use Rattle.proof_rules.specs.Legal.{Leads}
 use Rattle.proof_rules.specs.State.{State, IsStart}
-use Rattle.proof_steps.specs.declared.conclusion.Conclusion.{Conclusion}
 use Rattle.proof_steps.specs.declared.step.Step.{Step}
-use Rattle.proof_text.specs.Lines.{Numbered, lines_of}
+use Rattle.proof_text.specs.Lines.{Numbered}
 use Rattle.proof_text.specs.ProofSpells.{AreSteps}
 use Rattle.proof_text.specs.Spells.{IsLine}
 use Rattle.proof_text.specs.Words.{words}

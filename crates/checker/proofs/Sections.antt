@@ -1,5 +1,5 @@
 -- What a line can say at each section of a proof.
-use Rattle.std.proofs.Common.{◌≡◌, ◌⊎◌, ℕ, ℤ, inl, inr, Bool, true, false, if◌then◌else◌, Option, Some, None, List, refl}
+use Rattle.std.proofs.Common.{◌≡◌, ◌⊎◌, ℕ, ℤ, inl, inr, Bool, true, false, if◌then◌else◌, Option, Some, None, List}
 use Rattle.std.specs.Option.{option_map}
 use Rattle.proof_steps.specs.declared.conclusion.Conclusion.{Conclusion}
 use Rattle.proof_steps.specs.declared.step.Step.{Step}

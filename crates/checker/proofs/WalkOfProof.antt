@@ -1,13 +1,13 @@
 -- A legal proof of the kinds that are judged is a walk that comes to the end.
-use Rattle.std.proofs.Common.{◌≡◌, ℕ, pos, All, Option, Some, None, List, [], ◌∷◌, ◌++◌, Bool, refl, sym, subst}
+use Rattle.std.proofs.Common.{ℕ, pos, Option, Some, None, List, [], ◌∷◌, ◌++◌, refl, subst}
 use Rattle.linear.specs.Opb.{Opb}
 use Rattle.kernel.specs.Accepted.{Judgement}
 use Rattle.proof_rules.specs.Forms.{problem_ids}
 use Rattle.proof_rules.specs.Justified.{IsJustified}
-use Rattle.proof_rules.specs.Legal.{Legal, Leads}
+use Rattle.proof_rules.specs.Legal.{Leads}
 use Rattle.proof_rules.specs.State.{State}
 use Rattle.proof_steps.specs.declared.step.Step.{Step}
-use Rattle.proof_text.specs.Lines.{Numbered, lines_of}
+use Rattle.proof_text.specs.Lines.{Numbered}
 use Rattle.proof_text.specs.ProofSpells.{AreSteps}
 use Rattle.proof_text.specs.Spells.{IsLine}
 use Rattle.proof_text.specs.Words.{words}

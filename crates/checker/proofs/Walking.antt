@@ -1,13 +1,11 @@
 -- The walk of the code: what is read and accepted is one position further, and what is refused is where judging stops.
-use Rattle.std.proofs.Common.{◌≡◌, ◌≢◌, ◌<◌, ◌+◌, ℕ, Option, None, List, [], ◌∷◌, length, arith, refl, sym, ap, subst, ◌∙◌}
+use Rattle.std.proofs.Common.{◌≡◌, ◌≢◌, ◌<◌, ◌+◌, ℕ, None, List, [], ◌∷◌, length, arith, refl, sym, ap, subst, ◌∙◌}
 use Rattle.linear.specs.Opb.{Opb}
 use Rattle.proof_rules.specs.Justified.{IsJustified}
 use Rattle.proof_rules.specs.Legal.{Legal}
 use Rattle.proof_rules.specs.Forms.{problem_ids}
 use Rattle.proof_rules.specs.State.{State, IsStart}
 use Rattle.proof_rules.proofs.FileForms.{all_count}
-use Rattle.proof_rules.specs.declared.fault.StepFault.{StepFault}
-use Rattle.proof_rules.specs.declared.fault.StepFault.TheVariants as judgings
 use Rattle.proof_text.specs.Faults.{DeniesLine}
 use Rattle.proof_text.specs.Lines.{Numbered, lines_of}
 use Rattle.proof_text.specs.declared.fault.ProofFault.{ProofFault}
@@ -17,13 +15,13 @@ use Rattle.proof_text.specs.declared.line.Line.TheVariants as lines
 use Rattle.proof_text.specs.declared.line.Place.TheVariants as places
 use Rattle.checker.specs.Stopped.{IsStopped, Refuses, Stops}
 use Rattle.checker.specs.Stopped.{refused}
-use Rattle.checker.specs.StopsBy.{StopsBy, reading_stop, judging_stop}
+use Rattle.checker.specs.StopsBy.{StopsBy, reading_stop}
 use Rattle.checker.specs.Walk.{Accepts, Advances, Position, Reaches, Walks, beginning}
 use Rattle.checker.specs.WalkOf.{Reads}
 use Rattle.checker.specs.declared.stop.Stop.{Stop}
 use Rattle.checker.specs.declared.stop.Stop.TheVariants as stops
 use Rattle.checker.specs.declared.verdict.Code.{Code}
-use Rattle.checker.specs.declared.verdict.Code.TheVariants.{Reading, Judging}
+use Rattle.checker.specs.declared.verdict.Code.TheVariants.{Reading}
 
 -- a fault that is no want of memory stops at its line
 pub stops_reading : (why : ℕ → Code → Type 0) (line : ℕ) (fault : ProofFault) → (fault ≢ readings.OutOfMemory → why line (Reading fault)) → StopsBy why (reading_stop line fault)

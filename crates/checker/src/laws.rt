@@ -1,18 +1,21 @@
 //! Laws of verdicts, as contracts of functions that do nothing.
 
-ghost use Rattle.std.specs.Prelude.{◌≡◌, ℕ, Bool, List, Some};
+ghost use Rattle.std.specs.Prelude.{◌≡◌, ℕ, Bool, List, Some, ◌⊎◌};
 ghost use Rattle.linear.specs.Opb.{Opb};
+ghost use Rattle.linear.specs.Limits.{IsWithin};
+ghost use Rattle.opb_read.specs.Spells.{Spells};
 ghost use Rattle.kernel.specs.Accepted.{Judgement};
 ghost use Rattle.proof_rules.specs.Claim.{IsSolution};
-ghost use Rattle.checker.specs.Headline.{IsProved, IsTrueOf};
+ghost use Rattle.checker.specs.Headline.{IsProved, IsTrueOf, IsVerdictOf};
 ghost use Rattle.checker.specs.Stopped.{IsStopped};
 ghost use Rattle.checker.specs.Printed.{IsPrinted, accepted_line, with_assignment};
-ghost use Rattle.checker.specs.declared.verdict.Verdict.TheVariants.{Accepted};
+ghost use Rattle.checker.specs.declared.verdict.Code.TheVariants.{Judging};
+ghost use Rattle.checker.specs.declared.verdict.Verdict.TheVariants.{Accepted, NoMemory};
 
-use super::verdict::Code;
+use super::verdict::{Code, Verdict};
+use proof_rules::StepFault;
 
-/// Where judging stops at a line, the text is no legal proof: so
-/// `check` refuses only what it must.
+/// Where judging stops at a line, the text is no legal proof: so `check` refuses only what it must.
 pub fn refused_is_not_proved()
     ensures { (p : Opb) → (proof : List ℕ) → (line : ℕ) → (code : Code) → IsStopped p proof line code
         → (a : Judgement) → IsProved p proof a → ⊥ }
@@ -22,6 +25,18 @@ pub fn refused_is_not_proved()
 pub fn one_line_where_judging_stops()
     ensures { (p : Opb) → (proof : List ℕ) → (line other : ℕ) → (code why : Code)
         → IsStopped p proof line code → IsStopped p proof other why → line ≡ other }
+{}
+
+/// Where judging stops since a step or a conclusion has a fault, that fault is the only code with which it stops.
+pub fn one_code_of_judging()
+    ensures { (p : Opb) → (proof : List ℕ) → (line other : ℕ) → (f : StepFault) → (code : Code)
+        → IsStopped p proof line (Judging f) → IsStopped p proof other code → code ≡ Judging f }
+{}
+
+/// What a text proves of the problem is answered: accepted with just that conclusion and its best solution, or want of memory.
+pub fn what_is_proved_is_accepted()
+    ensures { (opb proof : List ℕ) → (p : Opb) → Spells opb p → IsWithin p → (a : Judgement) → IsProved p proof a
+        → (v : Verdict) → IsVerdictOf opb proof v → (v ≡ Accepted a) ⊎ (v ≡ NoMemory) }
 {}
 
 /// A text is one proof of a problem: its steps, its conclusion and its best solution are those of any reading of it.

@@ -1,4 +1,4 @@
-use Rattle.std.proofs.Common.{◌≡◌, None, Some, ◌∙◌, rules, subst, sym}
+use Rattle.std.proofs.Common.{◌≡◌, ◌∙◌, rules, subst, sym}
 use Rattle.std.proofs.lemmas.Result.{err_from_is_err_and}
 use Rattle.proof_text.specs.declared.line.Place.TheVariants as places
 use Rattle.checker.specs.Walk.{Advances}
