@@ -1,7 +1,7 @@
 # The door for people. `make` proves every crate and builds the program into bin/, from nothing too; `make test` runs the
 # gate: every proof from nothing, the edits that must fail, and the tests; `make demo` runs the checker on three pigeons in
 # two holes, an optimum, a symmetry and a new name.
-.PHONY: all test demo check layout refused-growths statuses figures differential wrong-edits wrong-bodies gate-minutes
+.PHONY: all test demo check layout refused-growths statuses bench differential wrong-edits wrong-bodies gate-minutes
 
 # How many crates are proved side by side.
 JOBS ?= $(shell nproc)
@@ -53,8 +53,8 @@ differential: bin/pbcheck
 	scripts/differential
 
 # Times the checker on large problems and proofs.
-figures: bin/pbcheck
-	scripts/figures
+bench: bin/pbcheck
+	scripts/bench
 
 # Tries the edits beside the gate, of crates/NAME/wrong-bodies and crates/NAME/wrong-definitions: a body that is turned must break
 # the contract of its crate, a definition that is turned a law or a worked case. `scripts/wrong-edits CRATE` tries those of one crate.
