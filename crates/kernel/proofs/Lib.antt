@@ -10,4 +10,3 @@ pub mod GoalsShown
 pub mod Showing
 pub mod Tables
 pub mod TakenBack
-pub mod RunningSums

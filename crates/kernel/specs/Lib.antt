@@ -5,5 +5,4 @@ pub mod File
 pub mod Held
 pub mod Logged
 pub mod Redundancy
-pub mod Stack
 pub mod Table

@@ -17,7 +17,6 @@ mod redundancy;
 mod rup;
 mod shown;
 mod solution;
-mod stack;
 mod values;
 
 pub use accepted::Accepted;

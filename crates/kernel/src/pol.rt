@@ -2,19 +2,16 @@
 //! items are run from left to right over a stack; what a whole line adds is copied only where it is one cited
 //! constraint. The kernel lends its accumulator to the stack for the time of a step.
 
-ghost use Rattle.std.specs.Prelude.{◌≡◌, ◌≢◌, ◌∷◌, [], IfOk, IfErr, OnOk, OnErr, Some, length};
-ghost use Rattle.proof_rules.specs.Expression.{Given, IsPostfixOf, AppliesItem};
-ghost use Rattle.proof_rules.specs.Fault.{OrMemory, IsItemFault, IsIdFault, IsMultiplyFault, IsFactorFault, IsShapeFault, IsWritingFault, IsPolFault};
+ghost use Rattle.std.specs.Prelude.{◌≡◌, [], IfOk, IfErr, OnOk, OnErr, Some};
+ghost use Rattle.proof_rules.specs.Expression.{IsPostfixOf, AppliesItem};
+ghost use Rattle.proof_rules.specs.Fault.{OrMemory, IsItemFault, IsIdFault, IsWritingFault, IsPolFault};
 ghost use Rattle.proof_rules.specs.Legal.{LegalPol};
 ghost use Rattle.kernel.specs.Database.{found};
 
 use super::database::Database;
 use super::kernel::{Applied, Kernel};
-use super::stack::{Operand, Stack};
-use accumulate::Accumulator;
-use cut_rules::{axiom, divide, multiply, saturate};
-use linear::Lit;
 use normal_form::Normal;
+use pol_stack::{Accumulator, Operand, Stack};
 use proof_rules::StepFault;
 use proof_steps::Item;
 use propagate::Propagator;
@@ -70,21 +67,7 @@ fn run<'a, P: Propagator>(
     for item in items {
         apply_item(alloc, database, stack, *item)?;
     }
-    only(alloc, stack)
-}
-
-/// The one constraint on the stack.
-fn only(alloc: Global, stack: &mut Stack<'_>) -> Result<Normal, StepFault>
-    ensures one { IfOk result (λ n. stack.old ≡ n ∷ []) }
-    ensures fault { IfErr result (λ f. OrMemory f ((f ≡ StepFault.StackShape) × (length stack.old ≢ 1))) }
-{
-    let Some(top) = stack.pop(alloc)? else {
-        return Err(StepFault::StackShape);
-    };
-    if stack.pop(alloc)?.is_some() {
-        return Err(StepFault::StackShape);
-    }
-    Ok(top.into_constraint(alloc)?)
+    stack.only(alloc)
 }
 
 /// What one item does to the stack.
@@ -99,11 +82,11 @@ fn apply_item<'a, P: Propagator>(
 {
     match item {
         Item::Id(id) => cite(database, stack, id),
-        Item::Axiom(literal) => push_axiom(alloc, stack, literal),
+        Item::Axiom(literal) => stack.push_axiom(alloc, literal),
         Item::Add => stack.add_top_two(alloc),
-        Item::Multiply(factor) => multiply_top(alloc, stack, factor),
-        Item::Divide(divisor) => divide_top(alloc, stack, divisor),
-        Item::Saturate => saturate_top(alloc, stack),
+        Item::Multiply(factor) => stack.multiply_top(alloc, factor),
+        Item::Divide(divisor) => stack.divide_top(alloc, divisor),
+        Item::Saturate => stack.saturate_top(alloc),
         Item::Weaken(var) => stack.weaken_top(alloc, var),
     }
 }
@@ -120,50 +103,5 @@ fn cite<'a, P: Propagator>(
         return Err(StepFault::DeadId);
     };
     stack.push(Operand::Live(constraint))?;
-    Ok(())
-}
-
-fn push_axiom(alloc: Global, stack: &mut Stack<'_>, literal: Lit) -> Result<(), StepFault>
-    ensures ok { (given : Given) → OnOk result (AppliesItem given (Item.Axiom literal) stack.old stack.new) }
-    ensures fault { IfErr result (λ f. OrMemory f ⊥) }
-{
-    let made = axiom(alloc, literal)?;
-    stack.push(Operand::Made(made))?;
-    Ok(())
-}
-
-fn multiply_top(alloc: Global, stack: &mut Stack<'_>, factor: i128) -> Result<(), StepFault>
-    ensures ok { (given : Given) → OnOk result (AppliesItem given (Item.Multiply factor) stack.old stack.new) }
-    ensures fault { IfErr result (λ f. OrMemory f (IsMultiplyFault factor stack.old f)) }
-{
-    let Some(top) = stack.pop(alloc)? else {
-        return Err(StepFault::StackShape);
-    };
-    let made = multiply(alloc, top.constraint(), factor)?;
-    stack.push(Operand::Made(made))?;
-    Ok(())
-}
-
-fn divide_top(alloc: Global, stack: &mut Stack<'_>, divisor: i128) -> Result<(), StepFault>
-    ensures ok { (given : Given) → OnOk result (AppliesItem given (Item.Divide divisor) stack.old stack.new) }
-    ensures fault { IfErr result (λ f. OrMemory f (IsFactorFault divisor stack.old f)) }
-{
-    let Some(top) = stack.pop(alloc)? else {
-        return Err(StepFault::StackShape);
-    };
-    let made = divide(alloc, top.constraint(), divisor)?;
-    stack.push(Operand::Made(made))?;
-    Ok(())
-}
-
-fn saturate_top(alloc: Global, stack: &mut Stack<'_>) -> Result<(), StepFault>
-    ensures ok { (given : Given) → OnOk result (AppliesItem given Item.Saturate stack.old stack.new) }
-    ensures fault { IfErr result (λ f. OrMemory f (IsShapeFault stack.old f)) }
-{
-    let Some(top) = stack.pop(alloc)? else {
-        return Err(StepFault::StackShape);
-    };
-    let made = saturate(alloc, top.constraint())?;
-    stack.push(Operand::Made(made))?;
     Ok(())
 }

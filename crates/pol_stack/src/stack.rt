@@ -12,7 +12,7 @@ ghost use Rattle.cut_rules.specs.Rules.{IsSum};
 ghost use Rattle.proof_rules.specs.Expression.{Given, AppliesItem};
 ghost use Rattle.proof_steps.specs.declared.step.Item.TheVariants as items;
 ghost use Rattle.proof_rules.specs.Fault.{OrMemory, IsAddFault};
-ghost use Rattle.kernel.specs.Stack.{operand_value, stack_of, with_sum, stacked, IsSumFault};
+ghost use Rattle.pol_stack.specs.Stack.{operand_value, stack_of, with_sum, stacked, IsSumFault};
 
 use accumulate::Accumulator;
 use cut_rules::{add, weaken};
@@ -26,7 +26,7 @@ use std::marker::Model;
 
 /// A constraint on the stack.
 #[derive(Debug, Drop)]
-pub(crate) enum Operand<'a> {
+pub enum Operand<'a> {
     /// A live constraint.
     Live(&'a Normal),
     /// A result of an earlier item.
@@ -45,7 +45,7 @@ impl<'a> MadeWith<Global> for Operand<'a> {
 
 impl<'a> Operand<'a> {
     ghost use Rattle.std.specs.Prelude.{◌≡◌, IfOk};
-    ghost use Rattle.kernel.specs.Stack.{operand_value};
+    ghost use Rattle.pol_stack.specs.Stack.{operand_value};
 
     /// The constraint that the operand stands for.
     pub(crate) fn constraint(&self) -> &Normal
@@ -97,9 +97,9 @@ pub(crate) enum Held {
     RunningSum,
 }
 
-/// The operands of a `pol` step.
+/// The operands of a `pol` step. After a fault, want of memory included, nothing is said of what stands on it.
 #[derive(Drop)]
-pub(crate) struct Stack<'a> {
+pub struct Stack<'a> {
     below: SmallVec<Operand<'a>, 2>,
     held: Held,
     sum: Accumulator,
@@ -111,7 +111,7 @@ pub(crate) struct Stack<'a> {
 impl<'a> Model for Stack<'a> {
     ghost use Rattle.std.specs.Prelude.{List};
     ghost use Rattle.normal_form.specs.Normal.{NormalConstraint};
-    ghost use Rattle.kernel.specs.Stack.{stacked};
+    ghost use Rattle.pol_stack.specs.Stack.{stacked};
 
     ghost Value = { List NormalConstraint };
 
@@ -120,13 +120,13 @@ impl<'a> Model for Stack<'a> {
 
 impl<'a> Stack<'a> {
     ghost use Rattle.std.specs.Prelude.{◌≡◌, [], ◌∷◌, MatchOption, IfOk, IfErr, OnOk, OnErr, IsErrOf};
-    ghost use Rattle.kernel.specs.Stack.{operand_value, IsSumOnTop, IsSumFault};
+    ghost use Rattle.pol_stack.specs.Stack.{operand_value, IsSumOnTop, IsSumFault};
     ghost use Rattle.proof_rules.specs.Expression.{Given, AppliesItem};
     ghost use Rattle.proof_steps.specs.declared.step.Item.TheVariants as items;
     ghost use Rattle.proof_rules.specs.Fault.{OrMemory, IsAddFault, IsShapeFault};
 
     /// An empty stack, with an accumulator to add up in, whatever that holds.
-    pub(crate) fn new(alloc: Global, sum: Accumulator) -> Self
+    pub fn new(alloc: Global, sum: Accumulator) -> Self
         ensures { result ≡ [] }
     {
         Stack {
@@ -138,13 +138,13 @@ impl<'a> Stack<'a> {
         }
     }
 
-    /// Gives the accumulator back.
-    pub(crate) fn into_accumulator(self) -> Accumulator {
+    /// Gives the accumulator back. What it holds is of no account, and nothing is said of it.
+    pub fn into_accumulator(self) -> Accumulator {
         self.sum
     }
 
-    /// Puts an operand on top.
-    pub(crate) fn push(&mut self, operand: Operand<'a>) -> Result<(), AllocError>
+    /// Puts an operand on top. Want of memory is the only fault.
+    pub fn push(&mut self, operand: Operand<'a>) -> Result<(), AllocError>
         ensures { OnOk result (self.new ≡ operand_value operand.entry ∷ self.old) }
     {
         self.above.push(operand)?;
@@ -169,8 +169,9 @@ impl<'a> Stack<'a> {
         }
     }
 
-    /// Adds the two on top: to the running sum, where it is one of them.
-    pub(crate) fn add_top_two(&mut self, alloc: Global) -> Result<(), StepFault>
+    /// Adds the two on top: to the running sum, where it is one of them. `StackShape` where there are fewer than two;
+    /// else `TooLarge` where the sum is not within the limits.
+    pub fn add_top_two(&mut self, alloc: Global) -> Result<(), StepFault>
         ensures ok { (given : Given) → OnOk result (AppliesItem given items.Add self.old self.new) }
         ensures fault { IfErr result (λ f. OrMemory f (IsAddFault self.old f)) }
     {
@@ -245,8 +246,8 @@ impl<'a> Stack<'a> {
         Ok(())
     }
 
-    /// Weakens the one on top.
-    pub(crate) fn weaken_top(&mut self, alloc: Global, var: Var) -> Result<(), StepFault>
+    /// Weakens the one on top by a variable. `StackShape` where there is none.
+    pub fn weaken_top(&mut self, alloc: Global, var: Var) -> Result<(), StepFault>
         ensures ok { (given : Given) → OnOk result (AppliesItem given (items.Weaken var) self.old self.new) }
         ensures fault { IfErr result (λ f. OrMemory f (IsShapeFault self.old f)) }
     {

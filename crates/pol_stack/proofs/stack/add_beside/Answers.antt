@@ -3,10 +3,10 @@ use Rattle.std.proofs.Common.{rules, ◌≡◌, [], true, false}
 use Rattle.std.proofs.lemmas.Result.{IfErr-weaker, on_ok_weaker}
 use Rattle.proof_rules.specs.Fault.{OrMemory, IsAddFault}
 use Rattle.proof_rules.proofs.Faults.{or_memory}
-use Rattle.kernel.specs.declared.stack.Held.TheVariants as held
-use Rattle.kernel.specs.Stack.{operand_value, stacked, IsSumFault}
-use Rattle.kernel.proofs.RunningSums.{both_ok, added_above, fault_above, nothing_above, below_on_top}
-use Rattle.kernel.proofs.stack.add_beside.Goals as goal
+use Rattle.pol_stack.specs.declared.stack.Held.TheVariants as held
+use Rattle.pol_stack.specs.Stack.{operand_value, stacked, IsSumFault}
+use Rattle.pol_stack.proofs.RunningSums.{both_ok, added_above, fault_above, nothing_above, below_on_top}
+use Rattle.pol_stack.proofs.stack.add_beside.Goals as goal
 
 pub returns-in-Some-clause-ok : goal.returns-in-Some-clause-ok
 returns-in-Some-clause-ok c given = both_ok c.add_operand.result (λ g f. added_above c.args.above.now.items c.pop.new.self.items c.args.below.now.items c.in-Some.right c.args.sum.now c.add_operand.new.sum given c.in-Some.ensures.items c.requires g f) c.add_operand.ensures.sum c.add_operand.ensures.fits

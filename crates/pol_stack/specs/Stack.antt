@@ -4,10 +4,10 @@ use Rattle.normal_form.specs.Normal.{NormalConstraint, Fits}
 use Rattle.cut_rules.specs.Rules.{IsSum, IsTooLarge}
 use Rattle.proof_rules.specs.declared.fault.StepFault.{StepFault}
 use Rattle.proof_rules.specs.declared.fault.StepFault.TheVariants as faults
-use Rattle.kernel.specs.declared.stack.Held.{Held}
-use Rattle.kernel.specs.declared.stack.Held.TheVariants as held
-use Rattle.kernel.specs.declared.stack.Operand.{Operand}
-use Rattle.kernel.specs.declared.stack.Operand.TheVariants as operands
+use Rattle.pol_stack.specs.declared.stack.Held.{Held}
+use Rattle.pol_stack.specs.declared.stack.Held.TheVariants as held
+use Rattle.pol_stack.specs.declared.stack.Operand.{Operand}
+use Rattle.pol_stack.specs.declared.stack.Operand.TheVariants as operands
 
 -- the constraint that an operand stands for
 abbrev pub operand_value : Operand → NormalConstraint

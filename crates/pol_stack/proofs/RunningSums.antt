@@ -8,10 +8,10 @@ use Rattle.proof_rules.specs.declared.fault.StepFault.TheVariants as faults
 use Rattle.proof_steps.specs.declared.step.Item.TheVariants as items
 use Rattle.proof_rules.specs.Expression.{Given, AppliesItem}
 use Rattle.proof_rules.specs.Fault.{IsAddFault}
-use Rattle.kernel.specs.declared.stack.Operand.{Operand}
-use Rattle.kernel.specs.declared.stack.Held.{Held}
-use Rattle.kernel.specs.declared.stack.Held.TheVariants as held
-use Rattle.kernel.specs.Stack.{operand_value, stack_of, stacked, IsSumFault}
+use Rattle.pol_stack.specs.declared.stack.Operand.{Operand}
+use Rattle.pol_stack.specs.declared.stack.Held.{Held}
+use Rattle.pol_stack.specs.declared.stack.Held.TheVariants as held
+use Rattle.pol_stack.specs.Stack.{operand_value, stack_of, stacked, IsSumFault}
 
 same_below : (n : ℕ) (f g : ℕ → ℕ) → ((v : ℕ) → f v ≡ g v) → sum_below n f ≡ sum_below n g
 same_below zero f g e = refl
