@@ -7,5 +7,7 @@
 #![tactic(auto)]
 
 mod brancher;
+mod log;
 
 pub use brancher::{Brancher, First, Value};
+pub use log::Log;

@@ -1,0 +1,103 @@
+-- A proof grows by a legal step, and then nothing is concluded from it yet.
+use Rattle.std.proofs.Common.{◌≡◌, inl, inr, ℕ, ◌+◌, ◌-◌, ◌≤◌, List, [], ◌∷◌, ◌++◌, length, take, true, Result, Ok, Err, OnOk, refl, sym, ap, subst, ◌∙◌, arith}
+use Rattle.std.specs.Result.{is_ok}
+use Rattle.std.proofs.Math.Seq.{take-append_seam}
+use Rattle.std.proofs.lemmas.List.{length-append}
+use Rattle.std.proofs.lemmas.Bool.{false≢true}
+use Rattle.linear.specs.Opb.{Opb}
+use Rattle.proof_steps.specs.declared.conclusion.Conclusion.{Conclusion}
+use Rattle.proof_steps.specs.declared.conclusion.Conclusion.TheVariants.{Nothing}
+use Rattle.proof_steps.specs.declared.step.Step.{Step}
+use Rattle.proof_rules.specs.Legal.{Legal, Leads}
+use Rattle.proof_rules.specs.State.{State, IsStart}
+use Rattle.proof_rules.proofs.ConclusionJudged.{conclusion_judged}
+use Rattle.search.specs.Log.{Logbook, StepBites, LeadsBiting, IsEntitled, IsProof}
+
+-- what a value says of what was done
+pub of_ok : {T E : Type 0} (P : Type 0) (r : Result T E) → true ≡ is_ok r → OnOk r P → P
+of_ok P (Ok x) h p = p
+of_ok P (Err e) h p = absurd (false≢true (sym h))
+
+-- what was put at the end is taken off again
+pub taken_off : {T : Type 0} (xs ys zs : List T) (x : T) (n : ℕ) → ys ≡ xs ++ x ∷ [] → n ≡ length ys → zs ≡ take (n - 1) ys → zs ≡ xs
+taken_off xs ys zs x n is long rest =
+    let count : n - 1 ≡ length xs = omega (arith, long, ap length is, length-append xs (x ∷ [])) in
+    rest ∙ ap (λ k. take k ys) count ∙ ap (take (length xs)) is ∙ take-append_seam xs (x ∷ [])
+
+-- `NONE` is always justified
+pub nothing_justified : (p : Opb) (s : State) → IsEntitled p s Nothing
+nothing_justified p s = elim (conclusion_judged p s Nothing) as (λ _. IsEntitled p s Nothing) [
+  | inl justified ↦ justified
+  | inr fault ↦ absurd fault.1
+]
+
+-- one more legal step
+pub leads_push : (p : Opb) (a b c : State) (before : List Step) (step : Step) → Leads p a before b → Legal p b step c → Leads p a (before ++ step ∷ []) c
+leads_push p a b c [] step same legal = (c, subst (λ s. Legal p s step c) same legal, refl)
+leads_push p a b c (x ∷ xs) step (between, first, rest) legal = (between, first, leads_push p between b c xs step rest legal)
+
+pub bites_push : (p : Opb) (a b c : State) (before : List Step) (step : Step) (count : ℕ) → LeadsBiting p a before b count → Legal p b step c
+    → LeadsBiting p a (before ++ step ∷ []) c count
+bites_push p a b c [] step count (same, none) legal = (c, subst (λ s. Legal p s step c) same legal, inl (refl, none))
+bites_push p a b c (x ∷ xs) step count (between, first, inl rest) legal = (between, first, inl (bites_push p between b c xs step count rest legal))
+bites_push p a b c (x ∷ xs) step count (between, first, inr (fewer, is, here, rest)) legal =
+    (between, first, inr (fewer, is, here, bites_push p between b c xs step fewer rest legal))
+
+-- one more that bites
+pub bites_push_one : (p : Opb) (a b c : State) (before : List Step) (step : Step) (count : ℕ) → LeadsBiting p a before b count → Legal p b step c → StepBites b step
+    → LeadsBiting p a (before ++ step ∷ []) c (count + 1)
+bites_push_one p a b c [] step count (same, none) legal here =
+    (c, subst (λ s. Legal p s step c) same legal, inr (count, refl, subst (λ s. StepBites s step) same here, (refl, none)))
+bites_push_one p a b c (x ∷ xs) step count (between, first, inl rest) legal here = (between, first, inl (bites_push_one p between b c xs step count rest legal here))
+bites_push_one p a b c (x ∷ xs) step count (between, first, inr (fewer, is, there, rest)) legal here =
+    (between, first, inr (fewer + 1, omega (arith, is), there, bites_push_one p between b c xs step fewer rest legal here))
+
+-- no more steps bite than there are
+pub no_more_bites : (p : Opb) (a b : State) (all : List Step) (count : ℕ) → LeadsBiting p a all b count → count ≤ length all
+no_more_bites p a b [] count (same, none) = omega (arith, none)
+no_more_bites p a b (x ∷ xs) count (between, first, inl rest) = omega (arith, no_more_bites p between b xs count rest)
+no_more_bites p a b (x ∷ xs) count (between, first, inr (fewer, is, here, rest)) = omega (arith, is, no_more_bites p between b xs fewer rest)
+
+-- a log with this conclusion
+abbrev pub logbook : Opb → List Step → State → ℕ → Conclusion → Logbook
+logbook p steps state count conclusion = record { problem = p; steps = steps; state = state; biting = count; conclusion = conclusion }
+
+pub starts : (p : Opb) (s : State) (none : List Step) → none ≡ [] → IsStart p s → IsProof (logbook p none s 0 Nothing)
+starts p s none empty start = subst (λ xs. IsProof (logbook p xs s 0 Nothing)) (sym empty) (record {
+  start = s;
+  starts = start;
+  leads = refl;
+  bites = (refl, refl);
+  entitled = nothing_justified p s;
+})
+
+pub grows : (p : Opb) (before : List Step) (s t : State) (count : ℕ) (conclusion : Conclusion) (step : Step) → IsProof (logbook p before s count conclusion) → Legal p s step t
+    → IsProof (logbook p (before ++ step ∷ []) t count Nothing)
+grows p before s t count conclusion step proof legal = record {
+  start = proof.start;
+  starts = proof.starts;
+  leads = leads_push p proof.start s t before step proof.leads legal;
+  bites = bites_push p proof.start s t before step count proof.bites legal;
+  entitled = nothing_justified p t;
+}
+
+pub grows_biting : (p : Opb) (before : List Step) (s t : State) (count : ℕ) (conclusion : Conclusion) (step : Step) → IsProof (logbook p before s count conclusion) → Legal p s step t
+    → StepBites s step → IsProof (logbook p (before ++ step ∷ []) t (count + 1) Nothing)
+grows_biting p before s t count conclusion step proof legal here = record {
+  start = proof.start;
+  starts = proof.starts;
+  leads = leads_push p proof.start s t before step proof.leads legal;
+  bites = bites_push_one p proof.start s t before step count proof.bites legal here;
+  entitled = nothing_justified p t;
+}
+
+-- a conclusion that the state entitles to
+pub concluded : (p : Opb) (before : List Step) (s : State) (count : ℕ) (old new : Conclusion) → IsProof (logbook p before s count old) → IsEntitled p s new
+    → IsProof (logbook p before s count new)
+concluded p before s count old new proof entitled = record {
+  start = proof.start;
+  starts = proof.starts;
+  leads = proof.leads;
+  bites = proof.bites;
+  entitled = entitled;
+}

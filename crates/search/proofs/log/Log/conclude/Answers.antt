@@ -1,0 +1,27 @@
+use Rattle.std.proofs.Common.{◌≡◌, sym, ap, subst, ◌∙◌}
+use Rattle.linear.specs.Opb.{Opb}
+use Rattle.kernel.specs.Held.{Held}
+use Rattle.search.specs.Log.{Logbook, IsEntitled, IsProof}
+use Rattle.search.proofs.Growing.{concluded, logbook}
+use Rattle.search.proofs.log.Log.conclude.Goals as goal
+
+pub invariant_of-self-2 : goal.invariant_of-self-2
+invariant_of-self-2 g c =
+    let log = c.self.inside in
+    let p : Opb = log.source.now in
+    let same : c.conclude.new.self ≡ log.kernel = c.conclude.ensures.same in
+    let judged : IsEntitled log.kernel.problem log.kernel.state c.args.conclusion = (c.in_ok-conclude.field-0.best, c.in_ok-conclude.ensures.justified) in
+    let entitled : IsEntitled p log.kernel.state c.args.conclusion = subst (λ q. IsEntitled q log.kernel.state c.args.conclusion) c.self.invariant.0 judged in
+    let proof : IsProof (logbook p log.steps.items log.kernel.state log.biting c.args.conclusion) =
+    concluded p log.steps.items log.kernel.state log.biting log.conclusion c.args.conclusion c.self.invariant.1 entitled in (
+      ap (λ (k : Held). k.problem) same ∙ c.self.invariant.0,
+      subst (λ x. IsProof (logbook p log.steps.items c.conclude.new.self.state log.biting x)) (sym c.replace.ensures.after)
+          (subst (λ (k : Held). IsProof (logbook p log.steps.items k.state log.biting c.args.conclusion)) (sym same) proof),
+    )
+
+pub returns-clause-justified : goal.returns-clause-justified
+returns-clause-justified g c =
+    let log = c.self.inside in
+    let judged : IsEntitled log.kernel.problem log.kernel.state c.args.conclusion = (c.in_ok-conclude.field-0.best, c.in_ok-conclude.ensures.justified) in
+    subst (λ (l : Logbook). IsEntitled l.problem l.state c.args.conclusion) c.self.view_is
+    (subst (λ q. IsEntitled q log.kernel.state c.args.conclusion) c.self.invariant.0 judged)

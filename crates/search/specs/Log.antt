@@ -1,0 +1,53 @@
+-- A solver's log: a proof that grows, and how much of it says something new.
+use Rattle.std.specs.Prelude.{◌≡◌, ℕ, ◌+◌, ◌⊎◌, Bool, List, [], ◌∷◌, Option}
+use Rattle.linear.specs.Opb.{Opb}
+use Rattle.normal_form.specs.Normal.{NormalConstraint}
+use Rattle.normal_form.specs.NormalOf.{IsNormalOf}
+use Rattle.propagate.specs.Biting.{Bites}
+use Rattle.proof_rules.specs.Expression.{IsPostfixOf}
+use Rattle.proof_rules.specs.Justified.{IsJustified}
+use Rattle.proof_rules.specs.Legal.{Legal, Leads}
+use Rattle.proof_rules.specs.State.{State, constraints, constraint_of, IsStart}
+use Rattle.proof_steps.specs.declared.conclusion.Conclusion.{Conclusion}
+use Rattle.proof_steps.specs.declared.step.Step.{Step}
+use Rattle.proof_steps.specs.declared.step.Step.TheVariants as kinds
+
+pub record Logbook : Type 0 where
+  pub problem : Opb
+  -- the steps so far
+  pub steps : List Step
+  -- the state that they lead to
+  pub state : State
+  -- so many steps are known to bite
+  pub biting : ℕ
+  -- what was concluded from the state
+  pub conclusion : Conclusion
+
+-- a `pol` or `rup` step, whose constraint bites on the live ones before it
+abbrev pub StepBites : State → Step → Type 0
+StepBites old (kinds.Pol items) = (n : NormalConstraint) × IsPostfixOf (constraint_of old) items n × Bites (constraints old) n
+StepBites old (kinds.Rup c) = (n : NormalConstraint) × IsNormalOf c n × Bites (constraints old) n
+StepBites old _ = ⊥
+
+-- legal steps lead from one state to another, and at least so many of them bite
+abbrev pub LeadsBiting : Opb → State → List Step → State → ℕ → Type 0
+LeadsBiting p old [] new count = (new ≡ old) × (count ≡ 0)
+LeadsBiting p old (step ∷ rest) new count =
+    (between : State) × Legal p old step between
+    × (LeadsBiting p between rest new count ⊎ ((fewer : ℕ) × (count ≡ fewer + 1) × StepBites old step × LeadsBiting p between rest new fewer))
+
+-- the state entitles to the conclusion
+abbrev pub IsEntitled : Opb → State → Conclusion → Type 0
+IsEntitled p s c = (best : Option (List Bool)) × IsJustified p s c best
+
+-- what every log is: its steps lead from the file to its state, which entitles to its conclusion
+pub record IsProof (l : Logbook) : Type 0 where
+  pub start : State
+  pub starts : IsStart l.problem start
+  pub leads : Leads l.problem start l.steps l.state
+  pub bites : LeadsBiting l.problem start l.steps l.state l.biting
+  pub entitled : IsEntitled l.problem l.state l.conclusion
+
+-- the same with another conclusion
+abbrev pub with_conclusion : Conclusion → Logbook → Logbook
+with_conclusion c l = record l { conclusion = c }
