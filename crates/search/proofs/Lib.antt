@@ -1,1 +1,3 @@
+pub mod Clauses
+pub mod Ending
 pub mod Growing

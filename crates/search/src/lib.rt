@@ -7,6 +7,7 @@
 #![tactic(auto)]
 
 mod brancher;
+pub mod laws;
 mod log;
 
 pub use brancher::{Brancher, First, Value};

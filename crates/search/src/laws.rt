@@ -1,0 +1,42 @@
+//! What a search needs is never refused: laws of the definitions, each the contract of a function that does nothing.
+//!
+//! A log cannot hold a wrong step, so the only way in which a search could fail is that a step which it needs is not legal,
+//! or that its conclusion is not accepted. These laws say of each of them that it is.
+
+ghost use Rattle.std.specs.Prelude.{◌≡◌, ◌<◌, ℤ, [], List, None, Option, Some, length};
+ghost use Rattle.linear.specs.Limits.{IsWithin};
+ghost use Rattle.linear.specs.Opb.{Opb};
+ghost use Rattle.linear.specs.declared.term.Lit.{Lit};
+ghost use Rattle.linear.specs.declared.term.Term.{Term};
+ghost use Rattle.normal_form.specs.Normal.{NormalConstraint, Rises, largest_sum};
+ghost use Rattle.normal_form.specs.NormalOf.{IsNormalOf};
+ghost use Rattle.propagate.specs.Chain.{IsRefuted, LeadsToConflict};
+ghost use Rattle.propagate.specs.Literals.{IsConsistent};
+ghost use Rattle.proof_rules.specs.Legal.{LegalRup};
+ghost use Rattle.proof_rules.specs.Preserved.{IsPreserved};
+ghost use Rattle.proof_rules.specs.Shown.{IsShown};
+ghost use Rattle.proof_rules.specs.State.{State, HasRoom, constraints};
+ghost use Rattle.proof_steps.specs.declared.conclusion.Conclusion.TheVariants.{Unsat, Bounds};
+ghost use Rattle.proof_steps.specs.declared.conclusion.Lower.TheVariants as lowers;
+ghost use Rattle.proof_steps.specs.declared.conclusion.Upper.TheVariants as uppers;
+ghost use Rattle.search.specs.Clause.{negated_clause};
+ghost use Rattle.search.specs.Log.{IsEntitled};
+
+/// Where literals lead to a conflict, the clause that one of them is false is shown; so it may be logged by `rup`, as long as
+/// an id is left.
+pub fn clause_is_shown()
+    ensures shown { (live : List NormalConstraint) → (listing : List Lit) → (n : NormalConstraint) → IsConsistent listing
+        → IsNormalOf (negated_clause listing) n → LeadsToConflict live listing → IsShown live n }
+    ensures legal { (s : State) → (listing : List Lit) → IsConsistent listing → length listing < largest_sum
+        → LeadsToConflict (constraints s) listing → HasRoom s → (t : State) × LegalRup s (negated_clause listing) t }
+{}
+
+/// A conflict with nothing listed shows every constraint. So without a logged solution the problem has none, and with an
+/// improving one its value is the least.
+pub fn conflict_ends()
+    ensures shown { (live : List NormalConstraint) → (n : NormalConstraint) → Rises 0 n.terms → IsRefuted live → IsShown live n }
+    ensures unsatisfiable { (p : Opb) → (s : State) → s.logged ≡ [] → IsRefuted (constraints s) → IsEntitled p s Unsat }
+    ensures optimum { (p : Opb) → (s : State) → (objective : List Term) → (best : ℤ) → IsWithin p → IsPreserved p s
+        → p.objective ≡ Some objective → s.improve ≡ Some best → IsRefuted (constraints s)
+        → IsEntitled p s (Bounds (lowers.At best) (uppers.At best) None) }
+{}
