@@ -1,3 +1,4 @@
 pub mod Clauses
 pub mod Ending
 pub mod Growing
+pub mod Solutions

@@ -10,17 +10,19 @@ ghost use Rattle.linear.specs.declared.term.Lit.{Lit};
 ghost use Rattle.linear.specs.declared.term.Term.{Term};
 ghost use Rattle.normal_form.specs.Normal.{NormalConstraint, Rises, largest_sum};
 ghost use Rattle.normal_form.specs.NormalOf.{IsNormalOf};
-ghost use Rattle.propagate.specs.Chain.{IsRefuted, LeadsToConflict};
+ghost use Rattle.propagate.specs.Chain.{IsRefuted, IsSettled, LeadsToConflict};
 ghost use Rattle.propagate.specs.Literals.{IsConsistent};
-ghost use Rattle.proof_rules.specs.Legal.{LegalRup};
+ghost use Rattle.proof_rules.specs.Legal.{LegalRup, LegalSol, LegalSoli};
 ghost use Rattle.proof_rules.specs.Preserved.{IsPreserved};
 ghost use Rattle.proof_rules.specs.Shown.{IsShown};
+ghost use Rattle.proof_rules.specs.Solution.{NamesAll};
 ghost use Rattle.proof_rules.specs.State.{State, HasRoom, constraints};
 ghost use Rattle.proof_steps.specs.declared.conclusion.Conclusion.TheVariants.{Unsat, Bounds};
 ghost use Rattle.proof_steps.specs.declared.conclusion.Lower.TheVariants as lowers;
 ghost use Rattle.proof_steps.specs.declared.conclusion.Upper.TheVariants as uppers;
 ghost use Rattle.search.specs.Clause.{negated_clause};
 ghost use Rattle.search.specs.Log.{IsEntitled};
+ghost use Rattle.search.specs.Solving.{FileIsLive, ImprovementIsLive};
 
 /// Where literals lead to a conflict, the clause that one of them is false is shown; so it may be logged by `rup`, as long as
 /// an id is left.
@@ -39,4 +41,17 @@ pub fn conflict_ends()
     ensures optimum { (p : Opb) → (s : State) → (objective : List Term) → (best : ℤ) → IsWithin p → IsPreserved p s
         → p.objective ≡ Some objective → s.improve ≡ Some best → IsRefuted (constraints s)
         → IsEntitled p s (Bounds (lowers.At best) (uppers.At best) None) }
+{}
+
+/// A listing that has no literal beside its opposite, names all variables of the file and is settled, as the closure of
+/// decisions is, satisfies the file as long as the file's constraints are live; so it may be logged by `sol`. Where the
+/// constraint that asks for better than the least improving value is live too, it is better, and may be logged by `soli`.
+pub fn settled_listing_solves()
+    ensures solution { (p : Opb) → (s : State) → (listing : List Lit) → IsWithin p → IsConsistent listing
+        → NamesAll (length p.names) listing → FileIsLive p (constraints s) → IsSettled (constraints s) listing
+        → (t : State) × LegalSol p s listing t }
+    ensures improving { (p : Opb) → (s : State) → (objective : List Term) → (listing : List Lit) → IsWithin p
+        → p.objective ≡ Some objective → IsConsistent listing → NamesAll (length p.names) listing
+        → FileIsLive p (constraints s) → ImprovementIsLive objective s → IsSettled (constraints s) listing → HasRoom s
+        → (t : State) × LegalSoli p s listing t }
 {}
