@@ -2,3 +2,4 @@ pub mod Clauses
 pub mod Ending
 pub mod Growing
 pub mod Solutions
+pub mod StaysLive

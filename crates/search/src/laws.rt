@@ -12,14 +12,15 @@ ghost use Rattle.normal_form.specs.Normal.{NormalConstraint, Rises, largest_sum}
 ghost use Rattle.normal_form.specs.NormalOf.{IsNormalOf};
 ghost use Rattle.propagate.specs.Chain.{IsRefuted, IsSettled, LeadsToConflict};
 ghost use Rattle.propagate.specs.Literals.{IsConsistent};
-ghost use Rattle.proof_rules.specs.Legal.{LegalRup, LegalSol, LegalSoli};
+ghost use Rattle.proof_rules.specs.Legal.{Leads, LegalRup, LegalSol, LegalSoli};
 ghost use Rattle.proof_rules.specs.Preserved.{IsPreserved};
 ghost use Rattle.proof_rules.specs.Shown.{IsShown};
 ghost use Rattle.proof_rules.specs.Solution.{NamesAll};
-ghost use Rattle.proof_rules.specs.State.{State, HasRoom, constraints};
+ghost use Rattle.proof_rules.specs.State.{State, HasRoom, IsStart, constraints};
 ghost use Rattle.proof_steps.specs.declared.conclusion.Conclusion.TheVariants.{Unsat, Bounds};
 ghost use Rattle.proof_steps.specs.declared.conclusion.Lower.TheVariants as lowers;
 ghost use Rattle.proof_steps.specs.declared.conclusion.Upper.TheVariants as uppers;
+ghost use Rattle.proof_steps.specs.declared.step.Step.{Step};
 ghost use Rattle.search.specs.Clause.{negated_clause};
 ghost use Rattle.search.specs.Log.{IsEntitled};
 ghost use Rattle.search.specs.Solving.{FileIsLive, ImprovementIsLive};
@@ -54,4 +55,11 @@ pub fn settled_listing_solves()
         → p.objective ≡ Some objective → IsConsistent listing → NamesAll (length p.names) listing
         → FileIsLive p (constraints s) → ImprovementIsLive objective s → IsSettled (constraints s) listing → HasRoom s
         → (t : State) × LegalSoli p s listing t }
+{}
+
+/// No legal step takes a normal constraint of the file away: a deletion asks for an id behind those of the file. So the
+/// file's constraints are live in the state of every log.
+pub fn file_stays_live()
+    ensures { (p : Opb) → (s t : State) → (steps : List Step) → IsStart p s → Leads p s steps t
+        → FileIsLive p (constraints t) }
 {}
