@@ -1,5 +1,5 @@
 -- A proof grows by a legal step, and then nothing is concluded from it yet.
-use Rattle.std.proofs.Common.{◌≡◌, inl, inr, ℕ, ◌+◌, ◌-◌, ◌≤◌, List, [], ◌∷◌, ◌++◌, length, take, true, Result, Ok, Err, OnOk, refl, sym, ap, subst, ◌∙◌, arith}
+use Rattle.std.proofs.Common.{◌≡◌, inl, inr, ℕ, ◌+◌, ◌-◌, ◌≤◌, List, [], ◌∷◌, ◌++◌, Bool, length, take, true, Option, Result, Ok, Err, OnOk, refl, sym, ap, subst, ◌∙◌, arith}
 use Rattle.std.specs.Result.{is_ok}
 use Rattle.std.proofs.Math.Seq.{take-append_seam}
 use Rattle.std.proofs.lemmas.List.{length-append}
@@ -8,6 +8,11 @@ use Rattle.linear.specs.Opb.{Opb}
 use Rattle.proof_steps.specs.declared.conclusion.Conclusion.{Conclusion}
 use Rattle.proof_steps.specs.declared.conclusion.Conclusion.TheVariants.{Nothing}
 use Rattle.proof_steps.specs.declared.step.Step.{Step}
+use Rattle.proof_rules.specs.Claim.{Claim}
+use Rattle.proof_rules.specs.Justified.{IsLegalProof}
+use Rattle.proof_rules.proofs.Concluding.{justified_claim}
+use Rattle.proof_rules.proofs.FileForms.{start_preserved, start_normal}
+use Rattle.proof_rules.proofs.Preserving.{steps_preserve}
 use Rattle.proof_rules.specs.Legal.{Legal, Leads}
 use Rattle.proof_rules.specs.State.{State, IsStart}
 use Rattle.proof_rules.proofs.ConclusionJudged.{conclusion_judged}
@@ -101,3 +106,19 @@ concluded p before s count old new proof entitled = record {
   bites = proof.bites;
   entitled = entitled;
 }
+
+-- biting or not, the steps lead
+pub leads_of : (p : Opb) (a b : State) (all : List Step) (count : ℕ) → LeadsBiting p a all b count → Leads p a all b
+leads_of p a b [] count (same, none) = same
+leads_of p a b (x ∷ xs) count (between, first, inl rest) = (between, first, leads_of p between b xs count rest)
+leads_of p a b (x ∷ xs) count (between, first, inr (fewer, is, here, rest)) = (between, first, leads_of p between b xs fewer rest)
+
+pub proves : (l : Logbook) → IsProof l → (best : Option (List Bool)) × IsLegalProof l.problem l.steps l.conclusion best
+proves l proof =
+    (proof.entitled.0, record { start = proof.start; end = l.state; starts = proof.starts; leads = proof.leads; justified = proof.entitled.1 })
+
+-- what it concludes is true
+pub proved_true : (l : Logbook) → IsProof l → (best : Option (List Bool)) × Claim l.problem l.conclusion best
+proved_true l proof =
+    let kept = steps_preserve l.problem proof.start l.steps l.state (start_preserved l.problem proof.start proof.starts) (start_normal l.problem proof.start proof.starts) proof.leads in
+    (proof.entitled.0, justified_claim l.problem l.state l.conclusion proof.entitled.0 kept.0 kept.1 proof.entitled.1)

@@ -3,7 +3,7 @@
 //! A log cannot hold a wrong step, so the only way in which a search could fail is that a step which it needs is not legal,
 //! or that its conclusion is not accepted. These laws say of each of them that it is.
 
-ghost use Rattle.std.specs.Prelude.{◌≡◌, ◌<◌, ℤ, [], List, None, Option, Some, length};
+ghost use Rattle.std.specs.Prelude.{◌≡◌, ◌<◌, ◌≤◌, ℕ, ℤ, Bool, [], List, None, Option, Some, length};
 ghost use Rattle.linear.specs.Limits.{IsWithin};
 ghost use Rattle.linear.specs.Opb.{Opb};
 ghost use Rattle.linear.specs.declared.term.Lit.{Lit};
@@ -12,6 +12,8 @@ ghost use Rattle.normal_form.specs.Normal.{NormalConstraint, Rises, largest_sum}
 ghost use Rattle.normal_form.specs.NormalOf.{IsNormalOf};
 ghost use Rattle.propagate.specs.Chain.{IsRefuted, IsSettled, LeadsToConflict};
 ghost use Rattle.propagate.specs.Literals.{IsConsistent};
+ghost use Rattle.proof_rules.specs.Claim.{Claim};
+ghost use Rattle.proof_rules.specs.Justified.{IsLegalProof};
 ghost use Rattle.proof_rules.specs.Legal.{Leads, LegalRup, LegalSol, LegalSoli};
 ghost use Rattle.proof_rules.specs.Preserved.{IsPreserved};
 ghost use Rattle.proof_rules.specs.Shown.{IsShown};
@@ -22,7 +24,7 @@ ghost use Rattle.proof_steps.specs.declared.conclusion.Lower.TheVariants as lowe
 ghost use Rattle.proof_steps.specs.declared.conclusion.Upper.TheVariants as uppers;
 ghost use Rattle.proof_steps.specs.declared.step.Step.{Step};
 ghost use Rattle.search.specs.Clause.{negated_clause};
-ghost use Rattle.search.specs.Log.{IsEntitled};
+ghost use Rattle.search.specs.Log.{Logbook, IsEntitled, IsProof, LeadsBiting};
 ghost use Rattle.search.specs.Solving.{FileIsLive, ImprovementIsLive};
 
 /// Where literals lead to a conflict, the clause that one of them is false is shown; so it may be logged by `rup`, as long as
@@ -62,4 +64,13 @@ pub fn settled_listing_solves()
 pub fn file_stays_live()
     ensures { (p : Opb) → (s t : State) → (steps : List Step) → IsStart p s → Leads p s steps t
         → FileIsLive p (constraints t) }
+{}
+
+/// A log is a legal proof of its conclusion. Its count of biting steps is no more than the steps that bite, and so no more
+/// than there are steps.
+pub fn log_is_legal_proof()
+    ensures legal { (l : Logbook) → IsProof l → (best : Option (List Bool)) × IsLegalProof l.problem l.steps l.conclusion best }
+    ensures true_of_problem { (l : Logbook) → IsProof l → (best : Option (List Bool)) × Claim l.problem l.conclusion best }
+    ensures leads { (p : Opb) → (s t : State) → (steps : List Step) → (count : ℕ) → LeadsBiting p s steps t count → Leads p s steps t }
+    ensures count { (p : Opb) → (s t : State) → (steps : List Step) → (count : ℕ) → LeadsBiting p s steps t count → count ≤ length steps }
 {}

@@ -7,6 +7,7 @@
 #![tactic(auto)]
 
 mod brancher;
+pub mod cases;
 pub mod laws;
 mod log;
 
