@@ -12,3 +12,6 @@ pub mod Attaching
 pub mod Walking
 pub mod Forcing
 pub mod Deciding
+pub mod Apart
+pub mod Kept
+pub mod GivenOnes

@@ -54,7 +54,7 @@ waits_more place q q' kept k (suc i, low, e) = let r = kept k (i, omega (arith, 
 waits_later : (place : ℕ) (q : List ℕ) (k : ℕ) → Contains q k → Contains (place ∷ q) k
 waits_later place q k r = (suc r.0, omega (arith, r.1), r.2)
 
-none_or_some : (n : ℕ) → (n ≡ 0) ⊎ (0 < n)
+pub none_or_some : (n : ℕ) → (n ≡ 0) ⊎ (0 < n)
 none_or_some zero = inl refl
 none_or_some (suc n) = inr (omega arith)
 

@@ -7,13 +7,17 @@
 ghost use Rattle.std.specs.Prelude.{◌≡◌, ◌↔◌, ◌<◌, ◌++◌, ◌∷◌, [], IfOk, IsTrue, None, OnErr, OnOk, Some, length, slice_index_or};
 ghost use Rattle.std.specs.Option.{option_copied};
 ghost use Rattle.propagate.specs.Chain.{IsRefuted};
+ghost use Rattle.propagate.specs.Reach.{IsReach};
 ghost use Rattle.watch.specs.Ledgers.{shown};
 
+use super::extension::reach_beside;
 use super::extras::attach_waiting;
 use super::ledger::Ledger;
 use super::queue::Queue;
 use super::refutation::{decide, refute_beside};
+use linear::Lit;
 use normal_form::Normal;
+use propagate::Reach;
 use std::alloc::{AllocError, Global};
 use std::marker::Model;
 
@@ -74,5 +78,17 @@ impl Closure {
             return Ok(true);
         }
         refute_beside(self.alloc, &mut self.ledger, &mut self.queue, extras)
+    }
+
+    /// What a listing extends to: `Conflict` exactly where it has a literal and its opposite or a chain from it leads to
+    /// a broken constraint, else exactly the given and forced literals, each once.
+    pub(crate) fn extend(&mut self, given: &[Lit]) -> Result<Reach, AllocError>
+        ensures slots { self.new ≡ self.old }
+        ensures value { IfOk result (IsReach (shown self.old) given.now) }
+    {
+        if decide(&mut self.ledger, &mut self.queue) {
+            return Ok(Reach::Conflict);
+        }
+        reach_beside(self.alloc, &mut self.ledger, &mut self.queue, given)
     }
 }

@@ -14,7 +14,7 @@ ghost use Rattle.std.specs.Prelude.{Some, None, IsTrue, MatchOption, OnOk, OnErr
 ghost use Rattle.std.specs.Prelude.{slice_set, vec_capacity, vec_len};
 ghost use Rattle.std.specs.Option.{option_copied};
 ghost use Rattle.normal_form.specs.Normal.{Rises, variable_bound};
-ghost use Rattle.propagate.specs.Literals.{lists, opposite, coefficient_of};
+ghost use Rattle.propagate.specs.Literals.{IsConsistent, IsOnce, lists, opposite, coefficient_of};
 ghost use Rattle.propagate.specs.Slack.{IsBroken};
 ghost use Rattle.propagate.specs.Walk.{IsQuiet};
 ghost use Rattle.watch.specs.Ledgers.{AreReasons, IsReason, constraint_at, open_sum, shown};
@@ -172,6 +172,23 @@ impl Ledger {
         ensures reasons { AreReasons (shown self.now.slots) self.now.listing self.now.reasons }
     {
         self.trail.len()
+    }
+
+    /// The literals that are taken as true, in order: none twice, and none beside its opposite.
+    pub(crate) fn literals(&self) -> &[Lit]
+        ensures listing { result.now ≡ self.now.listing }
+        ensures once { IsOnce self.now.listing }
+        ensures consistent { IsConsistent self.now.listing }
+    {
+        self.trail.listing()
+    }
+
+    /// Whether a literal is taken as true.
+    pub(crate) fn has(&self, literal: Lit) -> bool
+        requires { literal.var.0 < self.now.variables }
+        ensures { result ≡ lists self.now.listing literal }
+    {
+        self.trail.has(literal)
     }
 
     /// Whether neither a literal nor its opposite is taken as true.

@@ -3,7 +3,9 @@
 
 mod closure;
 mod entry_lists;
+mod extension;
 mod extras;
+mod giving;
 mod ledger;
 mod lowering;
 mod measures;

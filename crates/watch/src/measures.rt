@@ -1,6 +1,6 @@
 //! What is measured of a constraint when it comes in.
 
-ghost use Rattle.std.specs.Prelude.{◌≡◌, ◌+◌, ◌≤◌, ◌<◌, ◌^◌, length, take};
+ghost use Rattle.std.specs.Prelude.{All, ◌≡◌, ◌+◌, ◌≤◌, ◌<◌, ◌^◌, length, take};
 ghost use Rattle.linear.specs.declared.term.Lit.{Lit};
 ghost use Rattle.normal_form.specs.Normal.{sum_over, variable_bound};
 ghost use Rattle.propagate.specs.Literals.{coefficient_of};
@@ -9,6 +9,7 @@ ghost use Rattle.watch.specs.Ledgers.{open_sum};
 
 use super::occurrence::opposite_of;
 use super::trail::Trail;
+use linear::Lit;
 use normal_form::Normal;
 
 // What the term at a place adds to the sum of the literals that are not made false.
@@ -60,4 +61,16 @@ pub(crate) fn variable_count(constraint: &Normal) -> usize
         return 0;
     }
     constraint.term(count - 1).var.0 as usize + 1
+}
+
+/// The least number above all variables of some literals.
+pub(crate) fn literal_count(literals: &[Lit]) -> usize
+    ensures each { All (λ l. l.var.0 < result) literals.now }
+    ensures limit { result ≤ 2 ^ 32 }
+{
+    let mut count: usize = 0;
+    for literal in literals {
+        count = count.max(literal.var.0 as usize + 1);
+    }
+    count
 }

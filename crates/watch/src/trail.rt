@@ -5,7 +5,7 @@
 
 ghost use Rattle.std.specs.Prelude.{◌≡◌, ◌+◌, ◌<◌, ◌≤◌, ◌++◌, ◌∷◌, ◌⊎◌, [], ℕ, false, OnOk, OnErr, IsTrue, ◌↔◌, None};
 ghost use Rattle.std.specs.Prelude.{length, MatchOption, IfSome};
-ghost use Rattle.propagate.specs.Literals.{lists, opposite};
+ghost use Rattle.propagate.specs.Literals.{IsConsistent, IsOnce, lists, opposite};
 
 use linear::Lit;
 use std::alloc::{AllocError, Global};
@@ -73,9 +73,11 @@ impl Trail {
         Ok(())
     }
 
-    /// The literals, in the order in which they were listed.
+    /// The literals, in the order in which they were listed: none twice, and none beside its opposite.
     pub(crate) fn listing(&self) -> &[Lit]
-        ensures { result.now ≡ self.now.0 }
+        ensures listing { result.now ≡ self.now.0 }
+        ensures once { IsOnce self.now.0 }
+        ensures consistent { IsConsistent self.now.0 }
     {
         self.listing.as_slice()
     }

@@ -1,0 +1,33 @@
+-- Literals that are given beside those that are there, and what comes of them.
+use Rattle.std.specs.Prelude.{◌≡◌, ℕ, ◌≤◌, Bool, true, List, ◌++◌, Option, length, take}
+use Rattle.linear.specs.declared.term.Lit.{Lit}
+use Rattle.normal_form.specs.Normal.{NormalConstraint}
+use Rattle.propagate.specs.Chain.{IsClosure, IsSettled}
+use Rattle.propagate.specs.Literals.{among, lists}
+use Rattle.watch.specs.Ledgers.{State}
+
+-- some of these literals are added, with whatever reasons; nothing else changes
+pub record IsGiven (old new : State) (given : List Lit) : Type 0 where
+  pub slots : new.slots ≡ old.slots
+  pub variables : new.variables ≡ old.variables
+  pub added : List Lit
+  pub listing : new.listing ≡ old.listing ++ added
+  pub reasons : (rest : List (Option ℕ)) × (new.reasons ≡ old.reasons ++ rest) × (length rest ≡ length added)
+  pub within : (v : ℕ) (s : Bool) → among added v s ≡ true → among given v s ≡ true
+
+-- each literal of the one is in the other
+abbrev pub HasAll : List Lit → List Lit → Type 0
+HasAll given listing = (l : Lit) → lists given l ≡ true → lists listing l ≡ true
+
+-- what was there is there still, below what came
+pub record Overlies (old new : State) : Type 0 where
+  pub slots : new.slots ≡ old.slots
+  pub literals : take (length old.listing) new.listing ≡ old.listing
+  pub long : length old.listing ≤ length new.listing
+  pub reasons : take (length old.listing) new.reasons ≡ old.reasons
+
+-- the listing is where all chains from what is given end, none in a conflict
+pub record IsWholeEnd (constraints : List NormalConstraint) (given listing : List Lit) : Type 0 where
+  pub settled : IsSettled constraints listing
+  pub has_given : HasAll given listing
+  pub closure : IsClosure constraints given listing
