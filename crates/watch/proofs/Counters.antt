@@ -117,3 +117,32 @@ room_at before cs os i d r most short inside h is fits =
     let p = o.place in
     let same : r ≡ get_or cs p 0 = is ∙ get_or_default cs p r 0 (omega (arith, h.same_length, inside)) in
     omega (arith, same, h.raised p inside, fits p inside, sum_by_more (share p) os i d short, share_own p o refl, sum_by-take-le (share p) os (i + 1))
+
+-- the places of the entries so far wait, where they have to
+pub record IsQueuedSoFar (counters limits queue_before queue_after : List ℕ) (os : List Occurrence) (i : ℕ) : Type 0 where
+  pub queued : (k : ℕ) → 0 < share_of k (take i os) → (get_or limits k 0 ≤ get_or counters k 0) ⊎ Contains queue_after k
+  pub kept : (k : ℕ) → Contains queue_before k → Contains queue_after k
+
+pub queued_more : (counters limits q0 q q' : List ℕ) (os : List Occurrence) (i : ℕ) (d : Occurrence) (counter limit : ℕ) → i < length os
+    → IsQueuedSoFar counters limits q0 q os i
+    → counter ≡ get_or counters ((get_or os i d).place) 0
+    → limit ≡ get_or limits ((get_or os i d).place) 0
+    → ((k : ℕ) → Contains q k → Contains q' k)
+    → ((limit ≤ counter) ⊎ Contains q' ((get_or os i d).place))
+    → IsQueuedSoFar counters limits q0 q' os (i + 1)
+queued_more counters limits q0 q q' os i d counter limit short h is its kept new =
+    let o : Occurrence = get_or os i d in
+    let p = o.place in
+    record {
+      queued = λ k some. elim (cases_eq k p) [
+        | inl e ↦ elim new [
+          | inl x ↦ inl (omega (arith, x, is, its, ap (λ (j : ℕ). get_or counters j 0) e, ap (λ (j : ℕ). get_or limits j 0) e))
+          | inr x ↦ inr (subst (λ (y : ℕ). Contains q' y) (sym e) x)
+        ]
+        | inr n ↦ elim (h.queued k (omega (arith, some, sum_by_more (share k) os i d short, share_other k o n))) [
+          | inl x ↦ inl x
+          | inr x ↦ inr (kept k x)
+        ]
+      ];
+      kept = λ k x. kept k (h.kept k x);
+    }

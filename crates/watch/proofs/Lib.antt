@@ -15,3 +15,4 @@ pub mod Deciding
 pub mod Apart
 pub mod Kept
 pub mod GivenOnes
+pub mod TakenBack

@@ -75,7 +75,7 @@ quiet_shown slots ns listing counters limits k x a b low far = elim (shown_or_no
   | inr e ↦ subst (λ (n : NormalConstraint). IsQuiet listing n) (sym e) (quiet_nothing listing)
 ]
 
-nothing_there : (slots : List (Option NormalConstraint)) (k : ℕ) (l : Lit) → 0 < coefficient_of (constraint_at (shown slots) k) l → k < length slots
+pub nothing_there : (slots : List (Option NormalConstraint)) (k : ℕ) (l : Lit) → 0 < coefficient_of (constraint_at (shown slots) k) l → k < length slots
 nothing_there [] k l h = absurd (omega (arith, h))
 nothing_there (o ∷ os) zero l h = omega arith
 nothing_there (o ∷ os) (suc k) l h = omega (arith, nothing_there os k l h)

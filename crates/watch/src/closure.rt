@@ -2,9 +2,11 @@
 //!
 //! A closure from nothing only grows as constraints come in, and a question beside extra constraints goes on from it.
 //! It is found when something is asked: a constraint that comes in only waits, so that reading a database costs no
-//! walk.
+//! walk. A constraint that goes takes with it what was found by way of it and after that, and nothing else. Its place stays
+//! empty, and its entries in the lists of literals stay and cost a little: making the places anew, where half are empty,
+//! belongs to an insertion, which may fail, and is not done yet.
 
-ghost use Rattle.std.specs.Prelude.{◌≡◌, ◌↔◌, ◌<◌, ◌++◌, ◌∷◌, [], IfOk, IsTrue, None, OnErr, OnOk, Some, length, slice_index_or};
+ghost use Rattle.std.specs.Prelude.{◌≡◌, ◌↔◌, ◌<◌, ◌++◌, ◌∷◌, [], IfOk, IsTrue, None, OnErr, OnOk, Some, length, slice_index_or, slice_set};
 ghost use Rattle.std.specs.Option.{option_copied};
 ghost use Rattle.propagate.specs.Chain.{IsRefuted};
 ghost use Rattle.propagate.specs.Reach.{IsReach};
@@ -15,6 +17,7 @@ use super::extras::attach_waiting;
 use super::ledger::Ledger;
 use super::queue::Queue;
 use super::refutation::{decide, refute_beside};
+use super::release::release;
 use linear::Lit;
 use normal_form::Normal;
 use propagate::Reach;
@@ -90,5 +93,15 @@ impl Closure {
             return Ok(Reach::Conflict);
         }
         reach_beside(self.alloc, &mut self.ledger, &mut self.queue, given)
+    }
+
+    /// Takes the constraint of a place out, if there is one. The place stays.
+    pub(crate) fn remove(&mut self, place: usize) -> Option<Normal>
+        requires { place < length self.old }
+        ensures value { result ≡ slice_index_or self.old place None }
+        ensures slots { self.new ≡ slice_set self.old place None }
+    {
+        release(&mut self.ledger, &mut self.queue, place);
+        self.ledger.take_out(place)
     }
 }

@@ -9,7 +9,7 @@
 //! That constraints which do not wait force nothing is no fact of this type: taking literals back breaks it midway.
 //! It is stated between the functions of a walk.
 
-ghost use Rattle.std.specs.Prelude.{◌≡◌, ◌+◌, ◌-◌, ◌^◌, ◌<◌, ◌≤◌, ◌++◌, ◌∷◌, ◌⊎◌, [], ℕ, false, Contains, IsSome};
+ghost use Rattle.std.specs.Prelude.{◌≡◌, ◌+◌, ◌-◌, ◌^◌, ◌<◌, ◌≤◌, ◌++◌, ◌∷◌, ◌⊎◌, [], ℕ, false, Contains, IfSome, IsSome};
 ghost use Rattle.std.specs.Prelude.{Some, None, IsTrue, MatchOption, OnOk, OnErr, ◌↔◌, length, take, slice_index_or};
 ghost use Rattle.std.specs.Prelude.{slice_set, vec_capacity, vec_len};
 ghost use Rattle.std.specs.Option.{option_copied};
@@ -20,7 +20,7 @@ ghost use Rattle.propagate.specs.Walk.{IsQuiet};
 ghost use Rattle.watch.specs.Ledgers.{AreReasons, IsReason, constraint_at, open_sum, shown};
 
 use super::entry_lists::{enter, leave};
-use super::lowering::{lower, raise};
+use super::lowering::{lower, queue_below, raise};
 use super::measures::{largest, open_sum};
 use super::occurrence::{code_of, opposite_of};
 use super::queue::Queue;
@@ -107,6 +107,8 @@ impl Ledger {
         ensures variables { self.new.variables ≡ self.old.variables }
         ensures listing { MatchOption result ((self.old.listing ≡ []) × (self.new.listing ≡ []))
             (λ l. self.old.listing ≡ self.new.listing ++ l ∷ []) }
+        ensures unset { IfSome result (λ l. lists self.new.listing l ≡ false) }
+        ensures variable { IfSome result (λ l. l.var.0 < self.old.variables) }
         ensures reasons { self.new.reasons ≡ take (length self.new.listing) self.old.reasons }
     {
         match self.trail.pop() {
@@ -120,6 +122,23 @@ impl Ledger {
                 Some(literal)
             }
         }
+    }
+
+    /// Queues the constraints with a literal that may be broken or force something.
+    pub(crate) fn queue_places(&self, literal: Lit, queue: &mut Queue)
+        requires variable { literal.var.0 < self.now.variables }
+        requires queue { queue.old.1 ≡ length self.now.slots }
+        ensures count { queue.new.1 ≡ queue.old.1 }
+        ensures kept { (k : ℕ) → Contains queue.old.0 k → Contains queue.new.0 k }
+        ensures queued { (k : ℕ) → 0 < coefficient_of (constraint_at (shown self.now.slots) k) literal
+            → IsQuiet self.now.listing (constraint_at (shown self.now.slots) k) ⊎ Contains queue.new.0 k }
+    {
+        queue_below(
+            self.counters.as_slice(),
+            self.limits.as_slice(),
+            queue,
+            self.table.row(code_of(literal)),
+        );
     }
 
     /// What the literals of the constraint at a place that are not made false have more than its degree, or `None`
@@ -198,6 +217,14 @@ impl Ledger {
             × (lists self.now.listing (opposite literal) ≡ false) }
     {
         self.trail.leaves_free(literal)
+    }
+
+    /// The place of the constraint that forced the literal at an index of the trail.
+    pub(crate) fn reason(&self, index: usize) -> Option<usize>
+        requires { index < length self.now.listing }
+        ensures { result ≡ slice_index_or self.now.reasons index None }
+    {
+        self.reasons[index]
     }
 
     /// The constraint of a place, if there is one.

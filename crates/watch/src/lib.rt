@@ -12,6 +12,7 @@ mod measures;
 mod occurrence;
 mod queue;
 mod refutation;
+mod release;
 mod table;
 mod trail;
 mod walk;

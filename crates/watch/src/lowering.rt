@@ -65,3 +65,24 @@ pub(crate) fn raise(counters: &mut Vec<u128>, list: &[Occurrence])
         counters[place] = sum;
     }
 }
+
+/// Queues the places of a list whose counter is below its limit.
+pub(crate) fn queue_below(
+    counters: &[u128],
+    limits: &[u128],
+    queue: &mut Queue,
+    list: &[Occurrence],
+)
+    requires places { All (λ o. o.place < length counters.now) list.now }
+    requires limits { length limits.now ≡ length counters.now }
+    requires queue { queue.old.1 ≡ length counters.now }
+    ensures queued { (k : ℕ) → 0 < share_of k list.now
+        → (slice_index_or limits.now k 0 ≤ slice_index_or counters.now k 0) ⊎ Contains queue.new.0 k }
+    ensures kept { (k : ℕ) → Contains queue.old.0 k → Contains queue.new.0 k }
+    ensures count { queue.new.1 ≡ queue.old.1 }
+{
+    for occurrence in list {
+        let place = occurrence.place;
+        add_below(queue, place, counters[place], limits[place]);
+    }
+}

@@ -1,0 +1,125 @@
+-- One literal fewer that is true: what stays quiet, and what has to be looked at.
+use Rattle.std.proofs.Common.{◌≡◌, ℕ, zero, suc, ◌<◌, ◌≤◌, ◌⊎◌, inl, inr, Bool, true, false, not, Contains, Option, None, Some, List, [], ◌∷◌, ◌++◌, length, get_or, map, set, take, refl, ap, sym, subst, ◌∙◌, arith}
+use Rattle.std.proofs.lemmas.Bool.{false≢true, cases_eq}
+use Rattle.std.proofs.lemmas.Int.{ints}
+use Rattle.std.proofs.lemmas.List.{get_or-set_same, get_or-set_other, length-map, length-set}
+use Rattle.linear.specs.declared.term.Lit.{Lit}
+use Rattle.normal_form.specs.Normal.{NormalConstraint}
+use Rattle.propagate.specs.Literals.{coefficient_of, lists, opposite}
+use Rattle.propagate.specs.Slack.{IsForced}
+use Rattle.propagate.specs.Walk.{IsQuiet}
+use Rattle.propagate.proofs.Consistency.{only_here}
+use Rattle.propagate.proofs.Listings.{among_cases}
+use Rattle.watch.specs.declared.occurrence.Occurrence.{Occurrence}
+use Rattle.watch.specs.Ledgers.{State, AreCounters, AreIndexed, AreLimits, IsIndex, constraint_at, constraint_in, nothing, shown}
+use Rattle.watch.specs.Looking.{AreLookedAt}
+use Rattle.watch.specs.Occurrences.{code, occurrences_of, share_of}
+use Rattle.watch.specs.Roots.{AllForced, IsRoot}
+use Rattle.watch.proofs.Entering.{code_below}
+use Rattle.watch.proofs.Entries.{places_from, shares_from}
+use Rattle.watch.proofs.Opening.{open_less}
+use Rattle.watch.proofs.Standing.{AreEntries, nothing_there, quiet_nothing, quiet_shown, shown_at, shown_or_nothing}
+use Rattle.watch.proofs.Walking.{none_or_some}
+
+same_coefficient : (n : NormalConstraint) (v w : ℕ) (s b : Bool) → v ≡ w → s ≡ b → coefficient_of n (record { var = record { 0 = v }; negated = s }) ≡ coefficient_of n (record { var = record { 0 = w }; negated = b })
+same_coefficient n v w s b e f = cc
+
+twice : (b : Bool) → not (not b) ≡ b
+twice true = refl
+twice false = refl
+
+-- a literal that could be forced only where the last one is not there
+forced_before : (xs : List Lit) (l m : Lit) (n : NormalConstraint) (b d : Bool) → lists xs l ≡ false → coefficient_of n l ≡ 0 → IsQuiet (xs ++ l ∷ []) n → IsForced xs m n → lists (xs ++ l ∷ []) m ≡ b → lists (xs ++ l ∷ []) (opposite m) ≡ d → ⊥
+forced_before xs l m n true d unset absent q f e g = elim (among_cases xs (l ∷ []) (m.var.0) m.negated e) [
+  | inl before ↦ false≢true (sym f.unset ∙ before)
+  | inr here ↦
+      let is = only_here l (m.var.0) m.negated here in
+      omega (arith, f.occurs, absent, same_coefficient n (m.var.0) (l.var.0) m.negated l.negated is.0 is.1)
+]
+forced_before xs l m n false true unset absent q f e g = elim (among_cases xs (l ∷ []) (m.var.0) (not m.negated) g) [
+  | inl before ↦ false≢true (sym f.opposite_unset ∙ before)
+  | inr here ↦
+      let is = only_here l (m.var.0) (not m.negated) here in
+      let turned : m.negated ≡ not l.negated = sym (twice m.negated) ∙ ap not is.1 in
+      q.0 (omega (arith, ints, f.above, open_less xs l n unset, same_coefficient n (m.var.0) (l.var.0) m.negated (not l.negated) is.0 turned))
+]
+forced_before xs l m n false false unset absent q f e g =
+    q.1 m (record { unset = e; opposite_unset = g; occurs = f.occurs; above = omega (arith, ints, f.above, open_less xs l n unset) })
+
+-- a constraint without a literal that is taken back stays quiet
+pub still_quiet_back : (xs : List Lit) (l : Lit) (n : NormalConstraint) → lists xs l ≡ false → coefficient_of n l ≡ 0 → IsQuiet (xs ++ l ∷ []) n → IsQuiet xs n
+still_quiet_back xs l n unset absent q = (
+  λ b. q.0 (omega (arith, ints, b, open_less xs l n unset)),
+  λ m f. forced_before xs l m n (lists (xs ++ l ∷ []) m) (lists (xs ++ l ∷ []) (opposite m)) unset absent q f refl refl,
+)
+
+pub looked_back : (ns : List NormalConstraint) (longer xs : List Lit) (l : Lit) (q q' : List ℕ) → longer ≡ xs ++ l ∷ [] → lists xs l ≡ false
+    → AreLookedAt ns longer q
+    → ((k : ℕ) → Contains q k → Contains q' k)
+    → ((k : ℕ) → 0 < coefficient_of (constraint_at ns k) l → IsQuiet xs (constraint_at ns k) ⊎ Contains q' k)
+    → AreLookedAt ns xs q'
+looked_back ns longer xs l q q' e unset all kept queued k low = elim (none_or_some (coefficient_of (constraint_at ns k) l)) [
+  | inl z ↦ elim (all k low) [
+    | inl quiet ↦ inl (still_quiet_back xs l (constraint_at ns k) unset z (subst (λ (ys : List Lit). IsQuiet ys (constraint_at ns k)) e quiet))
+    | inr waits ↦ inr (kept k waits)
+  ]
+  | inr some ↦ queued k some
+]
+
+-- the entries of a literal
+pub entries_at : (ns : List NormalConstraint) (count : ℕ) (table : List (List Occurrence)) (l : Lit) (number : ℕ) (os : List Occurrence) → IsIndex ns count table → number ≡ code l → os ≡ get_or table number [] → AreEntries ns l os
+entries_at ns count table l number os x named is =
+    let there : os ≡ occurrences_of l 0 ns = is ∙ ap (λ (k : ℕ). get_or table k []) named ∙ x.entries l in
+    subst (λ (ys : List Occurrence). AreEntries ns l ys) (sym there) (places_from l 0 (length ns) ns (omega arith), λ k low. shares_from l 0 k k ns low (omega arith))
+
+pub inside_at : (ns : List NormalConstraint) (count : ℕ) (table : List (List Occurrence)) (l : Lit) (number : ℕ) → IsIndex ns count table → number ≡ code l → l.var.0 < count → number < length table
+inside_at ns count table l number x named h = omega (arith, named, code_below l count (length table) (omega (arith, h)) x.size)
+
+pub queued_at : (slots : List (Option NormalConstraint)) (ns : List NormalConstraint) (listing : List Lit) (counters limits queue : List ℕ) (l : Lit) (os : List Occurrence) → AreIndexed slots ns → AreCounters ns listing counters → AreLimits (shown slots) limits → AreEntries ns l os
+    → ((k : ℕ) → 0 < share_of k os → (get_or limits k 0 ≤ get_or counters k 0) ⊎ Contains queue k)
+    → (k : ℕ) → 0 < coefficient_of (constraint_at (shown slots) k) l → IsQuiet listing (constraint_at (shown slots) k) ⊎ Contains queue k
+queued_at slots ns listing counters limits queue l os x a b es h k some =
+    let low : k < length slots = nothing_there slots k l some in
+    elim (shown_or_nothing slots ns k x) [
+      | inl e ↦ elim (h k (omega (arith, some, ap (λ (n : NormalConstraint). coefficient_of n l) e, es.1 k (omega (arith, low, x.count))))) [
+        | inl far ↦ inl (quiet_shown slots ns listing counters limits k x a b low far)
+        | inr waits ↦ inr waits
+      ]
+      | inr e ↦ inl (subst (λ (n : NormalConstraint). IsQuiet listing n) (sym e) (quiet_nothing listing))
+    ]
+
+-- literals whose reasons are all there, and the first of them
+some_take : (places : List ℕ) (k : ℕ) → take k (map Some places) ≡ map Some (take k places)
+some_take [] zero = refl
+some_take [] (suc k) = refl
+some_take (p ∷ ps) zero = refl
+some_take (p ∷ ps) (suc k) = ap (λ (rs : List (Option ℕ)). Some p ∷ rs) (some_take ps k)
+
+pub forced_first : (rs new : List (Option ℕ)) (k : ℕ) → new ≡ take k rs → AllForced rs → AllForced new
+forced_first rs new k e a = (take k a.0, e ∙ ap (λ (os : List (Option ℕ)). take k os) a.1 ∙ some_take a.0 k)
+
+-- a constraint that was taken out has nothing to be looked at
+pub looked_without : (slots : List (Option NormalConstraint)) (place : ℕ) (listing : List Lit) (w : List ℕ) → AreLookedAt (shown slots) listing w → AreLookedAt (shown (set slots place None)) listing w
+looked_without slots place listing w all k low =
+    let many : k < length slots = omega (arith, low, length-map (set slots place None) constraint_in, length-set slots place None) in
+    elim (cases_eq k place) [
+      | inl e ↦
+          let gone : get_or (set slots place None) k None ≡ None = ap (λ (j : ℕ). get_or (set slots place None) j None) e ∙ get_or-set_same slots place None None (omega (arith, e, many)) in
+          let says : constraint_at (shown (set slots place None)) k ≡ nothing = shown_at (set slots place None) k ∙ ap constraint_in gone in
+          inl (subst (λ (n : NormalConstraint). IsQuiet listing n) (sym says) (quiet_nothing listing))
+      | inr other ↦
+          let same : constraint_at (shown (set slots place None)) k ≡ constraint_at (shown slots) k = shown_at (set slots place None) k ∙ ap constraint_in (get_or-set_other slots place k None None other) ∙ sym (shown_at slots k) in
+          elim (all k (omega (arith, many, length-map slots constraint_in))) [
+            | inl quiet ↦ inl (subst (λ (n : NormalConstraint). IsQuiet listing n) (sym same) quiet)
+            | inr waits ↦ inr waits
+          ]
+    ]
+
+pub root_without : (old new : State) (place : ℕ) (w : List ℕ) (count : ℕ) → new ≡ record old { slots = set old.slots place None } → IsRoot old w count → IsRoot new w count
+root_without old new place w count e r =
+    let out : IsRoot (record old { slots = set old.slots place None }) w count = record {
+      places = r.places ∙ sym (length-set old.slots place None);
+      looked_at = looked_without old.slots place old.listing w r.looked_at;
+      forced = r.forced;
+    } in
+    subst (λ (s : State). IsRoot s w count) (sym e) out

@@ -1,0 +1,17 @@
+-- The first literals stay, and what does not wait is looked at.
+use Rattle.std.proofs.Common.{◌≡◌, ◌≤◌, length, take}
+use Rattle.watch.specs.Ledgers.{shown}
+use Rattle.watch.specs.Looking.{AreLookedAt}
+use Rattle.watch.proofs.release.release.Given as goal
+
+abbrev pub invariant-loop-ledger : goal.invariant-loop-ledger
+invariant-loop-ledger l = record {
+  slots : l.ledger.slots ≡ l.initial.ledger.slots;
+  count : l.queue.1 ≡ l.initial.queue.1;
+  reasons : l.ledger.reasons ≡ take (length l.ledger.listing) l.initial.ledger.reasons;
+  long : l.count ≤ length l.ledger.listing;
+  looked_at : AreLookedAt (shown l.initial.ledger.slots) l.ledger.listing l.queue.0;
+}
+
+abbrev pub decreases-loop-ledger : goal.decreases-loop-ledger
+decreases-loop-ledger l = length l.ledger.listing

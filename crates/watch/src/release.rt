@@ -1,0 +1,59 @@
+//! Literals that stood on a constraint, taken back before it goes.
+//!
+//! What is forced from nothing is kept between calls, and each literal has the constraint that forced it. Those before
+//! the first that stands on the constraint are a chain without it, so they stay; the first and all after it go, for they may
+//! stand on one another. A constraint that did not wait is still quiet then, unless a literal that goes is one of its own:
+//! it may force that one again. So these are queued, and nothing is made anew. The reasons are looked through in order, which is
+//! quick beside the walk that listed them.
+
+ghost use Rattle.std.specs.Prelude.{◌≡◌, ◌-◌, ◌<◌, ◌≤◌, ℕ, Some, None, length, slice_index_or, take};
+ghost use Rattle.watch.specs.Ledgers.{shown};
+ghost use Rattle.watch.specs.Looking.{AreLookedAt};
+ghost use Rattle.watch.specs.Roots.{IsRoot};
+
+use super::ledger::Ledger;
+use super::queue::Queue;
+
+// Takes the last literal back, if there is one, and queues the constraints that may force it.
+fn take_back_one(ledger: &mut Ledger, queue: &mut Queue)
+    requires count { queue.old.1 ≡ length ledger.old.slots }
+    requires looked_at { AreLookedAt (shown ledger.old.slots) ledger.old.listing queue.old.0 }
+    ensures slots { ledger.new.slots ≡ ledger.old.slots }
+    ensures literals { length ledger.new.listing ≡ length ledger.old.listing - 1 }
+    ensures reasons { ledger.new.reasons ≡ take (length ledger.new.listing) ledger.old.reasons }
+    ensures count { queue.new.1 ≡ queue.old.1 }
+    ensures looked_at { AreLookedAt (shown ledger.old.slots) ledger.new.listing queue.new.0 }
+{
+    if let Some(literal) = ledger.take_back() {
+        ledger.queue_places(literal, queue);
+    }
+}
+
+// How many literals stand before the first whose reason is the constraint of a place.
+fn count_before(ledger: &Ledger, place: usize) -> usize
+    ensures few { result ≤ length ledger.now.listing }
+    ensures as_many { length ledger.now.reasons ≡ length ledger.now.listing }
+    ensures none { (k : ℕ) → k < result → slice_index_or ledger.now.reasons k None ≡ Some place → ⊥ }
+{
+    let end = ledger.len();
+    for index in 0..end {
+        if ledger.reason(index) == Some(place) {
+            return index;
+        }
+    }
+    end
+}
+
+/// Takes literals back, so that the constraint of a place is nobody's reason.
+pub(crate) fn release(ledger: &mut Ledger, queue: &mut Queue, place: usize)
+    requires { IsRoot ledger.old queue.old.0 queue.old.1 }
+    ensures slots { ledger.new.slots ≡ ledger.old.slots }
+    ensures root { IsRoot ledger.new queue.new.0 queue.new.1 }
+    ensures reasons { (k : ℕ) → k < length ledger.new.listing
+        → slice_index_or ledger.new.reasons k None ≡ Some place → ⊥ }
+{
+    let count = count_before(ledger, place);
+    while ledger.len() > count {
+        take_back_one(ledger, queue);
+    }
+}
