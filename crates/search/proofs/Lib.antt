@@ -2,4 +2,5 @@ pub mod Clauses
 pub mod Ending
 pub mod Growing
 pub mod Solutions
+pub mod StaysBetter
 pub mod StaysLive

@@ -96,7 +96,7 @@ stand_steps p ns s t (step ∷ rest) count stand (between, legal, leads) =
     stand_steps p ns between t rest count (stand_step p ns s between step count stand legal) leads
 
 -- what is found under an id is a live constraint
-found_live : (live : Live) (id : ℕ) (n : NormalConstraint) → fin.get live id ≡ Some n → Contains (fin.values live) n
+pub found_live : (live : Live) (id : ℕ) (n : NormalConstraint) → fin.get live id ≡ Some n → Contains (fin.values live) n
 found_live live id n is =
     let a = Any-from_get (λ (x : NormalConstraint). x ≡ n) live id n is refl in
     subst (Contains (fin.values live)) a.4 (a.0, a.2, a.3)

@@ -66,6 +66,12 @@ pub fn file_stays_live()
         → FileIsLive p (constraints t) }
 {}
 
+/// Nor does one take away the constraint that asks for less than the least improving value.
+pub fn improvement_stays_live()
+    ensures { (p : Opb) → (objective : List Term) → (s t : State) → (steps : List Step) → p.objective ≡ Some objective → IsStart p s
+        → Leads p s steps t → ImprovementIsLive objective t }
+{}
+
 /// A log is a legal proof of its conclusion. Its count of biting steps is no more than the steps that bite, and so no more
 /// than there are steps.
 pub fn log_is_legal_proof()
