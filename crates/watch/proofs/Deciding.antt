@@ -76,7 +76,7 @@ some_of (p ∷ ps) (suc k) h = some_of ps k (omega (arith, h))
 one_more : (k : ℕ) → suc k ≡ k + 1
 one_more k = omega arith
 
-reason_at : (places : List ℕ) (rs : List (Option ℕ)) (k : ℕ) → rs ≡ map Some places → k < length rs → get_or rs k None ≡ Some (get_or places k 0)
+pub reason_at : (places : List ℕ) (rs : List (Option ℕ)) (k : ℕ) → rs ≡ map Some places → k < length rs → get_or rs k None ≡ Some (get_or places k 0)
 reason_at places rs k e h =
     let wrap : ℕ → Option ℕ = λ n. Some n in
     let many : length (map wrap places) ≡ length places = length-map places wrap in

@@ -16,3 +16,5 @@ pub mod Apart
 pub mod Kept
 pub mod GivenOnes
 pub mod TakenBack
+pub mod ToldTrail
+pub mod GivenReasons

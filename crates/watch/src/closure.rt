@@ -9,15 +9,19 @@
 ghost use Rattle.std.specs.Prelude.{◌≡◌, ◌↔◌, ◌<◌, ◌++◌, ◌∷◌, [], IfOk, IsTrue, None, OnErr, OnOk, Some, length, slice_index_or, slice_set};
 ghost use Rattle.std.specs.Option.{option_copied};
 ghost use Rattle.propagate.specs.Chain.{IsRefuted};
+ghost use Rattle.propagate.specs.Literals.{IsConsistent};
 ghost use Rattle.propagate.specs.Reach.{IsReach};
 ghost use Rattle.watch.specs.Ledgers.{shown};
+ghost use Rattle.watch.specs.Steps.{IsFound};
 
+use super::chain::Chain;
 use super::extension::reach_beside;
 use super::extras::attach_waiting;
 use super::ledger::Ledger;
 use super::queue::Queue;
 use super::refutation::{decide, refute_beside};
 use super::release::release;
+use super::tracing::chain_beside;
 use linear::Lit;
 use normal_form::Normal;
 use propagate::Reach;
@@ -103,5 +107,14 @@ impl Closure {
     {
         release(&mut self.ledger, &mut self.queue, place);
         self.ledger.take_out(place)
+    }
+
+    /// A chain from a listing without opposites, with the places of its reasons, to a broken constraint or to the end.
+    pub(crate) fn trace(&mut self, given: &[Lit]) -> Result<Chain, AllocError>
+        requires { IsConsistent given.now }
+        ensures slots { self.new ≡ self.old }
+        ensures value { IfOk result (IsFound (shown self.old) given.now) }
+    {
+        chain_beside(self.alloc, &mut self.ledger, &mut self.queue, given)
     }
 }

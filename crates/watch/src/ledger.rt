@@ -9,10 +9,11 @@
 //! That constraints which do not wait force nothing is no fact of this type: taking literals back breaks it midway.
 //! It is stated between the functions of a walk.
 
-ghost use Rattle.std.specs.Prelude.{◌≡◌, ◌+◌, ◌-◌, ◌^◌, ◌<◌, ◌≤◌, ◌++◌, ◌∷◌, ◌⊎◌, [], ℕ, false, Contains, IfSome, IsSome};
+ghost use Rattle.std.specs.Prelude.{◌≡◌, ◌+◌, ◌-◌, ◌^◌, ◌<◌, ◌≤◌, ◌++◌, ◌∷◌, ◌⊎◌, [], ℕ, false, true, Contains, IfSome, IsSome};
 ghost use Rattle.std.specs.Prelude.{Some, None, IsTrue, MatchOption, OnOk, OnErr, ◌↔◌, length, take, slice_index_or};
 ghost use Rattle.std.specs.Prelude.{slice_set, vec_capacity, vec_len};
 ghost use Rattle.std.specs.Option.{option_copied};
+ghost use Rattle.linear.specs.declared.term.Lit.{Lit};
 ghost use Rattle.normal_form.specs.Normal.{Rises, variable_bound};
 ghost use Rattle.propagate.specs.Literals.{IsConsistent, IsOnce, lists, opposite, coefficient_of};
 ghost use Rattle.propagate.specs.Slack.{IsBroken};
@@ -198,8 +199,16 @@ impl Ledger {
         ensures listing { result.now ≡ self.now.listing }
         ensures once { IsOnce self.now.listing }
         ensures consistent { IsConsistent self.now.listing }
+        ensures variables { (l : Lit) → lists self.now.listing l ≡ true → l.var.0 < self.now.variables }
     {
         self.trail.listing()
+    }
+
+    /// How many variables there is room for.
+    pub(crate) fn variable_count(&self) -> usize
+        ensures { result ≡ self.now.variables }
+    {
+        self.trail.count()
     }
 
     /// Whether a literal is taken as true.

@@ -1,6 +1,7 @@
 //! A propagator that is fast: it keeps what it has found between calls, and a call costs what it touches.
 #![tactic(auto)]
 
+mod chain;
 mod closure;
 mod entry_lists;
 mod extension;
@@ -14,5 +15,7 @@ mod queue;
 mod refutation;
 mod release;
 mod table;
+mod telling;
+mod tracing;
 mod trail;
 mod walk;

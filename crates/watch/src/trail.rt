@@ -3,8 +3,9 @@
 //! No variable stands in it twice, so it has room for all variables from the start, and a literal is added without
 //! memory. Taken off, a literal leaves its variable without a value, since nothing else gave it one.
 
-ghost use Rattle.std.specs.Prelude.{◌≡◌, ◌+◌, ◌<◌, ◌≤◌, ◌++◌, ◌∷◌, ◌⊎◌, [], ℕ, false, OnOk, OnErr, IsTrue, ◌↔◌, None};
+ghost use Rattle.std.specs.Prelude.{◌≡◌, ◌+◌, ◌<◌, ◌≤◌, ◌++◌, ◌∷◌, ◌⊎◌, [], ℕ, false, true, OnOk, OnErr, IsTrue, ◌↔◌, None};
 ghost use Rattle.std.specs.Prelude.{length, MatchOption, IfSome};
+ghost use Rattle.linear.specs.declared.term.Lit.{Lit};
 ghost use Rattle.propagate.specs.Literals.{IsConsistent, IsOnce, lists, opposite};
 
 use linear::Lit;
@@ -78,6 +79,7 @@ impl Trail {
         ensures listing { result.now ≡ self.now.0 }
         ensures once { IsOnce self.now.0 }
         ensures consistent { IsConsistent self.now.0 }
+        ensures variables { (l : Lit) → lists self.now.0 l ≡ true → l.var.0 < self.now.1 }
     {
         self.listing.as_slice()
     }

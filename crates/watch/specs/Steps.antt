@@ -1,0 +1,49 @@
+-- Chains with the places of their reasons.
+use Rattle.std.specs.Prelude.{◌≡◌, ℕ, ◌<◌, true, false, List, [], ◌∷◌, ◌++◌, Option, None, Some, MatchOption, length, map, slice_index_or}
+use Rattle.linear.specs.declared.term.Lit.{Lit}
+use Rattle.normal_form.specs.Normal.{NormalConstraint}
+use Rattle.propagate.specs.Chain.{IsSettled}
+use Rattle.propagate.specs.Literals.{lists, opposite}
+use Rattle.propagate.specs.Walk.{IsBrokenAt}
+use Rattle.watch.specs.declared.chain.Step.{Step}
+use Rattle.watch.specs.declared.chain.Chain.{Chain}
+use Rattle.watch.specs.Givens.{HasAll}
+use Rattle.watch.specs.Ledgers.{IsReason}
+
+-- each literal is forced by the constraint at its place under what is given and those before it
+abbrev pub AreSteps : List NormalConstraint → List Lit → List Step → Type 0
+AreSteps constraints given [] = Unit {0}
+AreSteps constraints given (s ∷ ss) = IsReason constraints given s.literal (Some s.place) × AreSteps constraints (given ++ s.literal ∷ []) ss
+
+-- the literals without their places
+abbrev pub literals_of : List Step → List Lit
+literals_of = map (λ s. s.literal)
+
+-- a chain from what is given, to a constraint that is broken, or to the end
+pub record IsFound (constraints : List NormalConstraint) (given : List Lit) (c : Chain) : Type 0 where
+  pub chain : AreSteps constraints given c.steps.items
+  pub end : MatchOption c.broken (IsSettled constraints (given ++ literals_of c.steps.items)) (IsBrokenAt constraints (given ++ literals_of c.steps.items))
+
+-- a literal without a reason is a given one
+abbrev pub AreGiven : List Lit → List (Option ℕ) → List Lit → Type 0
+AreGiven listing reasons given = (k : ℕ) (d : Lit) → k < length listing → slice_index_or reasons k None ≡ None → lists given (slice_index_or listing k d) ≡ true
+
+-- the first literals of a trail, told as steps from what is given: those that are not given themselves
+pub record IsTold (constraints : List NormalConstraint) (given trail : List Lit) (steps : List Step) : Type 0 where
+  pub chain : AreSteps constraints given steps
+  pub inside : HasAll (literals_of steps) trail
+  pub covers : HasAll trail (given ++ literals_of steps)
+  pub free : (l : Lit) → lists trail l ≡ true → lists given (opposite l) ≡ false
+
+-- some steps lead to a constraint that is broken
+pub record LeadsTo (constraints : List NormalConstraint) (given : List Lit) (steps : List Step) (place : ℕ) : Type 0 where
+  pub chain : AreSteps constraints given steps
+  pub broken : IsBrokenAt constraints (given ++ literals_of steps) place
+
+-- what was told of a trail: all of it, or as far as to a broken constraint
+abbrev pub IsToldTo : List NormalConstraint → List Lit → List Lit → Chain → Type 0
+IsToldTo constraints given trail c = MatchOption c.broken (IsTold constraints given trail c.steps.items) (LeadsTo constraints given c.steps.items)
+
+-- a given literal whose opposite is listed
+abbrev pub Clashes : List Lit → List Lit → Type 0
+Clashes given listing = (l : Lit) × (lists given l ≡ true) × (lists listing (opposite l) ≡ true)

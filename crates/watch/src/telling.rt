@@ -1,0 +1,94 @@
+//! The trail told as a chain from what is given.
+//!
+//! What the constraints force from nothing stands below the given literals on the trail, but is told behind them. There each
+//! literal is forced still, by the same constraint; or it is given itself, and is left out; or its opposite is given, and
+//! then its constraint is broken, and the chain ends.
+
+ghost use Rattle.std.specs.Prelude.{◌≡◌, ◌+◌, ◌<◌, ◌≤◌, ◌++◌, ◌∷◌, [], All, IfOk, MatchOption, OnOk, length, take};
+ghost use Rattle.propagate.specs.Literals.{IsConsistent, SameLiterals};
+ghost use Rattle.watch.specs.Ledgers.{shown};
+ghost use Rattle.watch.specs.Steps.{AreGiven, IsTold, IsToldTo, LeadsTo};
+
+use super::chain::{Chain, Step};
+use super::ledger::Ledger;
+use super::occurrence::opposite_of;
+use super::trail::Trail;
+use linear::Lit;
+use std::alloc::{AllocError, Global};
+
+// Lists a literal unless it is listed.
+fn mark(marks: &mut Trail, literal: Lit)
+    requires variable { literal.var.0 < marks.old.1 }
+    requires consistent { IsConsistent (marks.old.0 ++ literal ∷ []) }
+    ensures count { marks.new.1 ≡ marks.old.1 }
+    ensures same { SameLiterals marks.new.0 (marks.old.0 ++ literal ∷ []) }
+{
+    if !marks.has(literal) {
+        marks.push(literal);
+    }
+}
+
+/// Given literals, to be looked up, of the variables below a number.
+pub(crate) fn marks_of(alloc: Global, count: usize, given: &[Lit]) -> Result<Trail, AllocError>
+    requires variables { All (λ l. l.var.0 < count) given.now }
+    requires consistent { IsConsistent given.now }
+    ensures count { IfOk result (λ marks. count ≤ marks.1) }
+    ensures same { IfOk result (λ marks. SameLiterals marks.0 given.now) }
+{
+    let mut marks = Trail::new(alloc);
+    marks.widen(count)?;
+    for literal in given {
+        mark(&mut marks, *literal);
+    }
+    Ok(marks)
+}
+
+// Tells one literal of the trail more; the place of its constraint where that is broken.
+fn tell(
+    ledger: &Ledger,
+    given: &Trail,
+    index: usize,
+    steps: &mut Vec<Step>,
+) -> Result<Option<usize>, AllocError>
+    requires index { index < length ledger.now.listing }
+    requires wide { ledger.now.variables ≤ given.now.1 }
+    requires given { AreGiven ledger.now.listing ledger.now.reasons given.now.0 }
+    requires told { IsTold (shown ledger.now.slots) given.now.0 (take index ledger.now.listing) steps.old.items }
+    ensures { IfOk result (λ broken. MatchOption broken
+        (IsTold (shown ledger.now.slots) given.now.0 (take (index + 1) ledger.now.listing) steps.new.items)
+        (LeadsTo (shown ledger.now.slots) given.now.0 steps.new.items)) }
+{
+    let _literals = ledger.len();
+    let _given = given.listing();
+    let literal = ledger.literals()[index];
+    if given.has(literal) {
+        return Ok(None);
+    }
+    let Some(place) = ledger.reason(index) else {
+        unreachable!()
+    };
+    if given.has(opposite_of(literal)) {
+        return Ok(Some(place));
+    }
+    steps.push(Step { literal, place })?;
+    Ok(None)
+}
+
+/// Tells the trail, as far as to a constraint that is broken.
+pub(crate) fn tell_all(alloc: Global, ledger: &Ledger, given: &Trail) -> Result<Chain, AllocError>
+    requires wide { ledger.now.variables ≤ given.now.1 }
+    requires given { AreGiven ledger.now.listing ledger.now.reasons given.now.0 }
+    ensures { IfOk result (IsToldTo (shown ledger.now.slots) given.now.0 ledger.now.listing) }
+{
+    let mut steps = Vec::new(alloc);
+    for index in 0..ledger.len() {
+        let broken = tell(ledger, given, index, &mut steps)?;
+        if broken.is_some() {
+            return Ok(Chain { steps, broken });
+        }
+    }
+    Ok(Chain {
+        steps,
+        broken: None,
+    })
+}
