@@ -18,3 +18,5 @@ pub mod GivenOnes
 pub mod TakenBack
 pub mod ToldTrail
 pub mod GivenReasons
+pub mod LiveOnes
+pub mod NamedPlaces

@@ -3,6 +3,7 @@
 
 mod chain;
 mod closure;
+mod database;
 mod entry_lists;
 mod extension;
 mod extras;

@@ -1,0 +1,88 @@
+//! Constraints by their ids, over places that are never used twice.
+//!
+//! A place is a number from 0 on, and stays when its constraint goes, so that the lists of literals need no look-up by id; the id
+//! of a place names a reason when a chain is told.
+
+ghost use Rattle.std.specs.Prelude.{◌≡◌, OnErr, OnOk, None};
+ghost use Rattle.std.specs.FinMap as map;
+ghost use Rattle.std.specs.Option.{option_copied};
+
+use super::closure::Closure;
+use normal_form::Normal;
+use propagate::Id;
+use std::alloc::{AllocError, Global};
+use std::collections::BTreeMap;
+use std::marker::Model;
+
+/// A finite map from ids to constraints.
+#[derive(Drop)]
+pub(crate) struct Database {
+    places: BTreeMap<Id, usize>,
+    ids: Vec<Id>,
+    closure: Closure,
+}
+
+impl Model for Database {
+    ghost use Rattle.std.specs.Coded.{coded_ℕ};
+    ghost use Rattle.std.specs.FinMap as map;
+    ghost use Rattle.propagate.specs.Content.{Content};
+    ghost use Rattle.watch.specs.Codes.{constraint_code};
+    ghost use Rattle.watch.specs.Named.{AreNamed, content_at};
+
+    ghost Value = { Content };
+
+    ghost coded = { map.code coded_ℕ constraint_code };
+
+    ghost view = { λ d. content_at d.closure d.places.entries };
+
+    ghost invariant = { λ d. AreNamed d.places.entries d.ids.items d.closure };
+}
+
+impl Database {
+    /// No constraint.
+    pub(crate) fn new(alloc: Global) -> Self
+        ensures { result ≡ map.empty }
+    {
+        Database {
+            places: BTreeMap::new(alloc),
+            ids: Vec::new(alloc),
+            closure: Closure::new(alloc),
+        }
+    }
+
+    /// Puts in a constraint under an id that is not there.
+    pub(crate) fn insert(&mut self, id: Id, constraint: Normal) -> Result<(), AllocError>
+        requires { map.get self.old id ≡ None }
+        ensures ok { OnOk result (self.new ≡ map.insert self.old id constraint) }
+        ensures err { OnErr result (self.new ≡ self.old) }
+    {
+        self.ids.reserve(1)?;
+        self.places.insert(id, self.ids.len())?;
+        match self.closure.attach(constraint) {
+            Err(_) => {
+                self.places.remove(&id);
+                return Err(AllocError);
+            }
+            Ok(()) => {}
+        }
+        self.ids.push_reserved(id);
+        Ok(())
+    }
+
+    /// Takes out the constraint of an id, if there is one.
+    pub(crate) fn remove(&mut self, id: Id) -> Option<Normal>
+        ensures value { result ≡ map.get self.old id }
+        ensures removed { self.new ≡ map.remove self.old id }
+    {
+        let place = self.places.remove(&id)?;
+        self.closure.remove(place)
+    }
+
+    /// The constraint of an id, if there is one.
+    pub(crate) fn get(&self, id: Id) -> Option<&Normal>
+        ensures { option_copied result ≡ map.get self.now id }
+    {
+        let place = *self.places.get(&id)?;
+        self.closure.get(place)
+    }
+}
