@@ -2,11 +2,12 @@
 //!
 //! A closure from nothing only grows as constraints come in, and a question beside extra constraints goes on from it.
 //! It is found when something is asked: a constraint that comes in only waits, so that reading a database costs no
-//! walk. A constraint that goes takes with it what was found by way of it and after that, and nothing else. Its place stays
-//! empty, and its entries in the lists of literals stay and cost a little: making the places anew, where half are empty,
-//! belongs to an insertion, which may fail, and is not done yet.
+//! walk. A constraint that goes takes with it what was found by way of it and after that, and nothing else. Its place
+//! stays empty, and its entries in the lists of literals stay and cost a little: making the places anew, where half
+//! are empty, belongs to an insertion, which may fail, and is not done yet.
 
-ghost use Rattle.std.specs.Prelude.{◌≡◌, ◌↔◌, ◌<◌, ◌++◌, ◌∷◌, [], IfOk, IsTrue, None, OnErr, OnOk, Some, length, slice_index_or, slice_set};
+ghost use Rattle.std.specs.Prelude.{◌≡◌, ◌↔◌, ◌<◌, ◌++◌, ◌∷◌, [], IfOk};
+ghost use Rattle.std.specs.Prelude.{IsTrue, None, OnErr, OnOk, Some, length, slice_index_or, slice_set};
 ghost use Rattle.std.specs.Option.{option_copied};
 ghost use Rattle.propagate.specs.Chain.{IsRefuted};
 ghost use Rattle.propagate.specs.Literals.{IsConsistent};
@@ -87,8 +88,8 @@ impl Closure {
         refute_beside(self.alloc, &mut self.ledger, &mut self.queue, extras)
     }
 
-    /// What a listing extends to: `Conflict` exactly where it has a literal and its opposite or a chain from it leads to
-    /// a broken constraint, else exactly the given and forced literals, each once.
+    /// What a listing extends to: `Conflict` exactly where it has a literal and its opposite or a chain from it leads
+    /// to a broken constraint, else exactly the given and forced literals, each once.
     pub(crate) fn extend(&mut self, given: &[Lit]) -> Result<Reach, AllocError>
         ensures slots { self.new ≡ self.old }
         ensures value { IfOk result (IsReach (shown self.old) given.now) }

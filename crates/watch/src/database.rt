@@ -1,7 +1,7 @@
 //! Constraints by their ids, over places that are never used twice.
 //!
-//! A place is a number from 0 on, and stays when its constraint goes, so that the lists of literals need no look-up by id; the id
-//! of a place names a reason when a chain is told.
+//! A place is a number from 0 on, and stays when its constraint goes, so that the lists of literals need no look-up
+//! by id; the id of a place names a reason when a chain is told.
 
 ghost use Rattle.std.specs.Prelude.{◌≡◌, OnErr, OnOk, None};
 ghost use Rattle.std.specs.FinMap as map;

@@ -1,8 +1,8 @@
 //! What a listing of literals extends to.
 //!
-//! What the constraints force from nothing stands at the bottom of the trail, and the given literals are put on it: each
-//! chain from what is given reaches what is at the bottom, so that the walk ends where a walk from the given literals
-//! alone would. Afterwards all above the bottom is taken back.
+//! What the constraints force from nothing stands at the bottom of the trail, and the given literals are put on it:
+//! each chain from what is given reaches what is at the bottom, so that the walk ends where a walk from the given
+//! literals alone would. Afterwards all above the bottom is taken back.
 
 ghost use Rattle.std.specs.Prelude.{◌≡◌, ◌<◌, ◌↔◌, All, IfOk, IsTrue, length};
 ghost use Rattle.propagate.specs.Chain.{IsImpossible, IsSettled};

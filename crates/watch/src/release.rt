@@ -1,10 +1,10 @@
 //! Literals that stood on a constraint, taken back before it goes.
 //!
-//! What is forced from nothing is kept between calls, and each literal has the constraint that forced it. Those before
-//! the first that stands on the constraint are a chain without it, so they stay; the first and all after it go, for they may
-//! stand on one another. A constraint that did not wait is still quiet then, unless a literal that goes is one of its own:
-//! it may force that one again. So these are queued, and nothing is made anew. The reasons are looked through in order, which is
-//! quick beside the walk that listed them.
+//! What is forced from nothing is kept between calls, and each literal has the constraint that forced it. Those
+//! before the first that stands on the constraint are a chain without it, so they stay; the first and all after it
+//! go, for they may stand on one another. A constraint that did not wait is still quiet then, unless a literal that
+//! goes is one of its own: it may force that one again. So these are queued, and nothing is made anew. The reasons
+//! are looked through in order, which is quick beside the walk that listed them.
 
 ghost use Rattle.std.specs.Prelude.{◌≡◌, ◌-◌, ◌<◌, ◌≤◌, ℕ, Some, None, length, slice_index_or, take};
 ghost use Rattle.watch.specs.Ledgers.{shown};

@@ -1,8 +1,8 @@
 //! The trail told as a chain from what is given.
 //!
-//! What the constraints force from nothing stands below the given literals on the trail, but is told behind them. There each
-//! literal is forced still, by the same constraint; or it is given itself, and is left out; or its opposite is given, and
-//! then its constraint is broken, and the chain ends.
+//! What the constraints force from nothing stands below the given literals on the trail, but is told behind them.
+//! There each literal is forced still, by the same constraint; or it is given itself, and is left out; or its
+//! opposite is given, and then its constraint is broken, and the chain ends.
 
 ghost use Rattle.std.specs.Prelude.{◌≡◌, ◌+◌, ◌<◌, ◌≤◌, ◌++◌, ◌∷◌, [], All, IfOk, MatchOption, OnOk, length, take};
 ghost use Rattle.propagate.specs.Literals.{IsConsistent, SameLiterals};

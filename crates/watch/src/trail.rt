@@ -3,7 +3,8 @@
 //! No variable stands in it twice, so it has room for all variables from the start, and a literal is added without
 //! memory. Taken off, a literal leaves its variable without a value, since nothing else gave it one.
 
-ghost use Rattle.std.specs.Prelude.{◌≡◌, ◌+◌, ◌<◌, ◌≤◌, ◌++◌, ◌∷◌, ◌⊎◌, [], ℕ, false, true, OnOk, OnErr, IsTrue, ◌↔◌, None};
+ghost use Rattle.std.specs.Prelude.{◌≡◌, ◌+◌, ◌<◌, ◌≤◌, ◌++◌, ◌∷◌, ◌⊎◌, []};
+ghost use Rattle.std.specs.Prelude.{ℕ, false, true, OnOk, OnErr, IsTrue, ◌↔◌, None};
 ghost use Rattle.std.specs.Prelude.{length, MatchOption, IfSome};
 ghost use Rattle.linear.specs.declared.term.Lit.{Lit};
 ghost use Rattle.propagate.specs.Literals.{IsConsistent, IsOnce, lists, opposite};
