@@ -20,3 +20,4 @@ pub mod ToldTrail
 pub mod GivenReasons
 pub mod LiveOnes
 pub mod NamedPlaces
+pub mod LiveContent

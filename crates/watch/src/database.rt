@@ -3,16 +3,21 @@
 //! A place is a number from 0 on, and stays when its constraint goes, so that the lists of literals need no look-up
 //! by id; the id of a place names a reason when a chain is told.
 
-ghost use Rattle.std.specs.Prelude.{◌≡◌, OnErr, OnOk, None};
+ghost use Rattle.std.specs.Prelude.{◌≡◌, ◌↔◌, ◌++◌, IfOk, IsTrue, OnErr, OnOk, None};
 ghost use Rattle.std.specs.FinMap as map;
 ghost use Rattle.std.specs.Option.{option_copied};
+ghost use Rattle.propagate.specs.Chain.{IsRefuted};
+ghost use Rattle.propagate.specs.Content.{IsLeastAbove};
+ghost use Rattle.propagate.specs.Reach.{IsReach};
 
 use super::closure::Closure;
+use linear::Lit;
 use normal_form::Normal;
-use propagate::Id;
+use propagate::{Id, Reach};
 use std::alloc::{AllocError, Global};
 use std::collections::BTreeMap;
 use std::marker::Model;
+use std::ops::Bound;
 
 /// A finite map from ids to constraints.
 #[derive(Drop)]
@@ -84,5 +89,36 @@ impl Database {
     {
         let place = *self.places.get(&id)?;
         self.closure.get(place)
+    }
+
+    /// Whether the constraints are refuted together with some extra ones.
+    pub(crate) fn refute(&mut self, extras: &[Normal]) -> Result<bool, AllocError>
+        ensures content { self.new ≡ self.old }
+        ensures value { IfOk result (λ yes. IsTrue yes ↔ IsRefuted (map.values self.old ++ extras.now)) }
+    {
+        self.closure.refute(extras)
+    }
+
+    /// What a listing extends to: `Conflict` exactly where it has a literal and its opposite or a chain from it leads
+    /// to a broken constraint, else exactly the given and forced literals, each once.
+    pub(crate) fn extend(&mut self, given: &[Lit]) -> Result<Reach, AllocError>
+        ensures content { self.new ≡ self.old }
+        ensures value { IfOk result (IsReach (map.values self.old) given.now) }
+    {
+        self.closure.extend(given)
+    }
+
+    /// The least id above another that has a constraint.
+    pub(crate) fn after(&self, id: Id) -> Option<Id>
+        ensures { IsLeastAbove self.now id result }
+    {
+        match self
+            .places
+            .range((Bound::Excluded(id), Bound::Unbounded))
+            .next()
+        {
+            Some((next, _)) => Some(*next),
+            None => None,
+        }
     }
 }
