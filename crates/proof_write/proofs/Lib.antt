@@ -5,3 +5,4 @@ pub mod NamesBack
 pub mod PartsBack
 pub mod StepsBack
 pub mod ConclusionsBack
+pub mod WholeBack

@@ -8,7 +8,9 @@
 #![tactic(auto)]
 
 mod cases;
+mod whole;
 mod write;
 mod writer;
 
+pub use whole::write_proof;
 pub use write::{write_end, write_step};

@@ -16,8 +16,8 @@ use linear::{Lit, Names, Seq, Signed};
 use proof_steps::{Conclusion, Lower, Step, Upper};
 use std::alloc::AllocError;
 
-/// The first word of a line.
-fn begin(out: &mut Vec<u8>, word: &[u8]) -> Result<(), AllocError>
+/// The first word of a line, or a whole one.
+pub(crate) fn begin(out: &mut Vec<u8>, word: &[u8]) -> Result<(), AllocError>
     ensures ok { OnOk result (out.new.items ≡ out.old.items ++ word.now) }
     ensures grows { Extends out.old.items out.new.items }
 {
@@ -88,7 +88,7 @@ pub fn write_step(step: &Step, names: &Names, out: &mut Vec<u8>) -> Result<(), A
     ensures err { OnErr result (out.new.items ≡ out.old.items) }
 {
     let before = out.len();
-    match step_line(step, names, out) {
+    match step_text(step, names, out) {
         Ok(()) => Ok(()),
         Err(refused) => {
             out.truncate(before);
@@ -98,7 +98,7 @@ pub fn write_step(step: &Step, names: &Names, out: &mut Vec<u8>) -> Result<(), A
 }
 
 /// A step's line and its LF.
-fn step_line(step: &Step, names: &Names, out: &mut Vec<u8>) -> Result<(), AllocError>
+pub(crate) fn step_text(step: &Step, names: &Names, out: &mut Vec<u8>) -> Result<(), AllocError>
     requires { writable.IsStepWritable (length names.now) step.now }
     ensures ok { OnOk result (out.new.items ≡ out.old.items ++ writing.line_text (writing.step_words names.now step.now) ++ 10 ∷ []) }
     ensures proper { OnOk result (IsProper step.now) }
@@ -178,7 +178,11 @@ fn conclusion_words(
 }
 
 /// The lines behind the steps.
-fn end_lines(conclusion: &Conclusion, names: &Names, out: &mut Vec<u8>) -> Result<(), AllocError>
+pub(crate) fn end_lines(
+    conclusion: &Conclusion,
+    names: &Names,
+    out: &mut Vec<u8>,
+) -> Result<(), AllocError>
     requires { writable.IsConclusionWritable (length names.now) conclusion.now }
     ensures ok { OnOk result (out.new.items ≡ out.old.items ++ codes "output NONE\n" ++ codes "conclusion" ++ writing.spaced (writing.conclusion_words names.now conclusion.now) ++ codes "\nend pseudo-Boolean proof\n") }
     ensures table { OnOk result (IsTable names.now) }

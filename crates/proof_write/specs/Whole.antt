@@ -1,0 +1,22 @@
+-- The text of a whole proof as it is written.
+use Rattle.std.specs.Prelude.{ℕ, pos, List, [], ◌∷◌, ◌++◌, codes}
+use Rattle.std.specs.List.{flat_map}
+use Rattle.proof_steps.specs.declared.conclusion.Conclusion.{Conclusion}
+use Rattle.proof_steps.specs.declared.step.Step.{Step}
+use Rattle.proof_write.specs.Writing.{spaced, number_words, step_words, conclusion_words, line_text}
+
+-- the header, and the line that says how many constraints the file has
+abbrev pub first_lines : ℕ → List ℕ
+first_lines count = codes "pseudo-Boolean proof version 2.0\n" ++ codes "f" ++ spaced (number_words (pos count)) ++ codes "\n"
+
+-- a step's line and its LF
+abbrev pub step_line : List (List ℕ) → Step → List ℕ
+step_line names step = line_text (step_words names step) ++ 10 ∷ []
+
+-- the lines behind the steps
+abbrev pub last_lines : List (List ℕ) → Conclusion → List ℕ
+last_lines names c = codes "output NONE\n" ++ codes "conclusion" ++ spaced (conclusion_words names c) ++ codes "\nend pseudo-Boolean proof\n"
+
+-- the first lines, a line for each step, and the last lines
+abbrev pub whole_text : List (List ℕ) → ℕ → List Step → Conclusion → List ℕ
+whole_text names count steps c = (first_lines count ++ flat_map (step_line names) steps) ++ last_lines names c
