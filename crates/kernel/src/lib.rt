@@ -7,6 +7,7 @@ mod conclusion;
 mod database;
 mod deletion;
 mod file;
+mod holdings;
 mod ids;
 mod kernel;
 mod log;

@@ -73,6 +73,13 @@ impl Log {
         Ok(())
     }
 
+    /// The least value of the improving solutions, if there is one.
+    pub(crate) fn least(&self) -> Option<i128>
+        ensures { result ≡ self.now.improve }
+    {
+        self.least
+    }
+
     /// Whether a value is below the least one of the improving solutions, if there is one.
     pub(crate) fn improves(&self, value: i128) -> bool
         ensures { IsTrue result ↔ IfSome self.now.improve (λ least. value <ℤ least) }

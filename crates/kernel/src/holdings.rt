@@ -1,0 +1,37 @@
+//! What a kernel holds beside its constraints, lent to whoever writes a proof: none of these calls judges or changes anything.
+//! Whoever searches asks here how good its best solution is and whether another constraint can still be named, and keeps
+//! no count of its own that might differ.
+
+ghost use Rattle.std.specs.Prelude.{◌≡◌, ◌↔◌, IfSome, IsTrue};
+ghost use Rattle.std.specs.Option.{option_copied};
+ghost use Rattle.proof_rules.specs.Claim.{IsSolution};
+ghost use Rattle.proof_rules.specs.Justified.{IsBest};
+ghost use Rattle.proof_rules.specs.State.{HasRoom};
+
+use super::kernel::Kernel;
+use linear::Assignment;
+use propagate::Propagator;
+
+impl<'a, P: Propagator> Kernel<'a, P> {
+    /// The least value of an improving solution, none where there is none.
+    pub fn least_value(&self) -> Option<i128>
+        ensures { result ≡ self.now.state.improve }
+    {
+        self.log.least()
+    }
+
+    /// The logged solution of the least value, the earliest among equals; none where nothing is logged.
+    pub fn best_logged(&self) -> Option<&Assignment>
+        ensures best { IsBest self.now.problem self.now.state.logged (option_copied result) }
+        ensures solution { IfSome (option_copied result) (IsSolution self.now.problem) }
+    {
+        self.log.best(self.source)
+    }
+
+    /// Whether an id is left for one more constraint.
+    pub fn has_room(&self) -> bool
+        ensures { IsTrue result ↔ HasRoom self.now.state }
+    {
+        self.database.has_room()
+    }
+}
