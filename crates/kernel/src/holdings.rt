@@ -5,6 +5,7 @@
 ghost use Rattle.std.specs.Prelude.{◌≡◌, ◌↔◌, IfSome, IsTrue};
 ghost use Rattle.std.specs.Option.{option_copied};
 ghost use Rattle.proof_rules.specs.Claim.{IsSolution};
+ghost use Rattle.proof_rules.specs.Forms.{problem_ids};
 ghost use Rattle.proof_rules.specs.Justified.{IsBest};
 ghost use Rattle.proof_rules.specs.State.{HasRoom};
 
@@ -33,5 +34,12 @@ impl<'a, P: Propagator> Kernel<'a, P> {
         ensures { IsTrue result ↔ HasRoom self.now.state }
     {
         self.database.has_room()
+    }
+
+    /// How many ids the constraints of the file took: the count that stands behind `f` in a proof.
+    pub fn file_ids(&self) -> u64
+        ensures { result ≡ problem_ids self.now.problem.constraints }
+    {
+        self.file_ids
     }
 }
