@@ -7,4 +7,4 @@ pub mod Walking
 pub mod Claimed
 pub mod OneProof
 pub mod PrintedClaim
-mod ProvedAccepted
+pub mod ProvedAccepted

@@ -4,11 +4,13 @@
 mod checking;
 mod judge;
 pub mod laws;
+mod lines;
 mod stop;
 mod text;
 mod verdict;
 mod walk;
 
 pub use checking::check;
+pub use lines::{fault_text, write_value_line};
 pub use text::verdict_text;
 pub use verdict::{Code, Verdict, verdict_status};

@@ -1,13 +1,14 @@
 //! What is printed for a verdict.
 
-ghost use Rattle.std.specs.Prelude.{◌≡◌, ◌<◌, [], IfOk, OnOk, length, slice_index_or};
+ghost use Rattle.std.specs.Prelude.{◌≡◌, IfOk, OnOk, length};
 ghost use Rattle.checker.specs.Printed.{IsPrinted, IsAcceptedText, IsWithBest};
-ghost use Rattle.checker.specs.Printed.{with_fault, with_conclusion, with_lower, with_upper, with_value, with_values};
+ghost use Rattle.checker.specs.Printed.{with_conclusion, with_lower, with_upper};
 
+use super::lines::{fault_text, write_value_line};
 use super::verdict::Verdict;
 use itoa::Buffer;
 use kernel::Accepted;
-use linear::{Assignment, Names, Var};
+use linear::Assignment;
 use opb_read::{OpbCode, read};
 use proof_steps::{Conclusion, Lower, Upper};
 use std::alloc::{AllocError, Global};
@@ -31,28 +32,6 @@ pub fn verdict_text(alloc: Global, opb: &[u8], verdict: &Verdict) -> Result<Vec<
         ),
         Verdict::NoMemory => Vec::from_slice(alloc, b"no memory\n"),
     }
-}
-
-/// A line of what is wrong, and where.
-fn fault_text(
-    alloc: Global,
-    what: &[u8],
-    line: u64,
-    number: u8,
-    name: &str,
-) -> Result<Vec<u8>, AllocError>
-    ensures { IfOk result (λ text. text.items ≡ with_fault what.now line number name.now) }
-{
-    let mut out = Vec::from_slice(alloc, what)?;
-    let mut buffer = Buffer::new();
-    out.extend_from_slice(b" line ")?;
-    out.extend_from_slice(buffer.format(line).as_bytes())?;
-    out.extend_from_slice(b" code ")?;
-    out.extend_from_slice(buffer.format(number).as_bytes())?;
-    out.extend_from_slice(b" ")?;
-    out.extend_from_slice(name.as_bytes())?;
-    out.extend_from_slice(b"\n")?;
-    Ok(out)
 }
 
 /// The conclusion, and the `v` line of the best assignment where there is one.
@@ -128,37 +107,5 @@ fn write_best(
     if names.len() != best.len() {
         return Ok(());
     }
-    out.extend_from_slice(b"v")?;
-    write_values(out, names, best)?;
-    out.extend_from_slice(b"\n")
-}
-
-/// The variables' names, each by its value.
-fn write_values(out: &mut Vec<u8>, names: &Names, best: &Assignment) -> Result<(), AllocError>
-    requires { length names.now ≡ length best.now }
-    ensures { OnOk result (out.new.items ≡ with_values out.old.items names.now best.now) }
-{
-    // That the numbers of a table's names fit into 32 bits is known by its type; this makes it known here.
-    let _count = names.len();
-    for (number, value) in best.as_slice().iter().enumerate() {
-        write_value(out, names, Var(number as u32), *value)?;
-    }
-    Ok(())
-}
-
-/// A variable's name, with `-` before it where the variable is false.
-fn write_value(out: &mut Vec<u8>, names: &Names, var: Var, value: bool) -> Result<(), AllocError>
-    requires { var.0 < length names.now }
-    ensures { OnOk result (out.new.items ≡ with_value out.old.items (slice_index_or names.now (var.0) []) value) }
-{
-    let sign = if value {
-        b" ".as_slice()
-    } else {
-        b" -".as_slice()
-    };
-    out.extend_from_slice(sign)?;
-    match names.get(var) {
-        Some(name) => out.extend_from_slice(name),
-        None => Ok(()),
-    }
+    write_value_line(out, names, best)
 }

@@ -1,6 +1,6 @@
 use Rattle.std.proofs.Common.{◌≡◌, drop}
 use Rattle.checker.specs.Printed.{with_values}
-use Rattle.checker.proofs.text.write_values.Given as goal
+use Rattle.checker.proofs.lines.write_values.Given as goal
 
 -- with the names and values that are left, what was written comes to the whole
 abbrev pub invariant-loop-number : goal.invariant-loop-number

@@ -1,7 +1,7 @@
 use Rattle.std.proofs.Common.{◌+◌, ◌<◌, drop, length, ap, subst, ◌∙◌, slice_index_or, [], false, arith}
 use Rattle.checker.specs.Printed.{with_value, with_values}
 use Rattle.checker.proofs.ValueLine.{value_next}
-use Rattle.checker.proofs.text.write_values.Goals as goal
+use Rattle.checker.proofs.lines.write_values.Goals as goal
 
 pub loop-number-preserved : goal.loop-number-preserved
 loop-number-preserved c =
