@@ -1,13 +1,14 @@
 -- A proof grows by a legal step, and then nothing is concluded from it yet.
-use Rattle.std.proofs.Common.{◌≡◌, inl, inr, ℕ, ◌+◌, ◌-◌, ◌≤◌, List, [], ◌∷◌, ◌++◌, Bool, length, take, true, Option, Result, Ok, Err, OnOk, refl, sym, ap, subst, ◌∙◌, arith}
+use Rattle.std.proofs.Common.{◌≡◌, inl, inr, ℕ, ◌+◌, ◌-◌, ◌≤◌, ℤ, append_assoc, List, [], ◌∷◌, ◌++◌, Bool, length, set, take, true, Option, Result, Ok, Err, OnOk, refl, sym, ap, subst, ◌∙◌, arith}
 use Rattle.std.specs.Result.{is_ok}
-use Rattle.std.proofs.Math.Seq.{take-append_seam}
-use Rattle.std.proofs.lemmas.List.{length-append}
+use Rattle.std.proofs.Math.Seq.{set-append_seam, take-append_seam}
+use Rattle.std.proofs.lemmas.List.{append-nil, length-append}
 use Rattle.std.proofs.lemmas.Bool.{false≢true}
 use Rattle.linear.specs.Opb.{Opb}
 use Rattle.proof_steps.specs.declared.conclusion.Conclusion.{Conclusion}
 use Rattle.proof_steps.specs.declared.conclusion.Conclusion.TheVariants.{Nothing}
 use Rattle.proof_steps.specs.declared.step.Step.{Step}
+use Rattle.proof_steps.specs.declared.step.Step.TheVariants as kinds
 use Rattle.proof_rules.specs.Claim.{Claim}
 use Rattle.proof_rules.specs.Justified.{IsLegalProof}
 use Rattle.proof_rules.proofs.Concluding.{justified_claim}
@@ -16,7 +17,7 @@ use Rattle.proof_rules.proofs.Preserving.{steps_preserve}
 use Rattle.proof_rules.specs.Legal.{Legal, Leads}
 use Rattle.proof_rules.specs.State.{State, IsStart}
 use Rattle.proof_rules.proofs.ConclusionJudged.{conclusion_judged}
-use Rattle.search.specs.Log.{Logbook, StepBites, LeadsBiting, IsEntitled, IsProof}
+use Rattle.search.specs.Log.{Logbook, StepBites, LeadsBiting, LeadsImproving, improvement, ImprovesNothing, IsEntitled, IsProof}
 
 -- what a value says of what was done
 pub of_ok : {T E : Type 0} (P : Type 0) (r : Result T E) → true ≡ is_ok r → OnOk r P → P
@@ -28,6 +29,29 @@ pub taken_off : {T : Type 0} (xs ys zs : List T) (x : T) (n : ℕ) → ys ≡ xs
 taken_off xs ys zs x n is long rest =
     let count : n - 1 ≡ length xs = omega (arith, long, ap length is, length-append xs (x ∷ [])) in
     rest ∙ ap (λ k. take k ys) count ∙ ap (take (length xs)) is ∙ take-append_seam xs (x ∷ [])
+
+-- the last element is changed
+pub put_last : (xs ys : List ℤ) (z v : ℤ) (n : ℕ) → ys ≡ xs ++ z ∷ [] → n ≡ length ys → set ys (n - 1) v ≡ xs ++ v ∷ []
+put_last xs ys z v n is long =
+    let count : n - 1 ≡ length xs = omega (arith, long, ap length is, length-append xs (z ∷ [])) in
+    ap (λ k. set ys k v) count ∙ ap (λ zs. set zs (length xs) v) is ∙ set-append_seam xs z [] v
+
+-- other steps improve nothing
+pub no_improvement : (step : Step) (t : State) (values : List ℤ) → ImprovesNothing step → values ++ improvement step t ≡ values
+no_improvement (kinds.Pol items) t values h = append-nil values
+no_improvement (kinds.Rup c) t values h = append-nil values
+no_improvement (kinds.Red c images) t values h = append-nil values
+no_improvement (kinds.Sol listing) t values h = append-nil values
+no_improvement (kinds.Soli listing) t values h = absurd h
+no_improvement (kinds.Del ids) t values h = append-nil values
+
+pub biting_other : (s : State) (step : Step) → StepBites s step → ImprovesNothing step
+biting_other s (kinds.Pol items) h = tt
+biting_other s (kinds.Rup c) h = tt
+biting_other s (kinds.Red c images) h = absurd h
+biting_other s (kinds.Sol listing) h = absurd h
+biting_other s (kinds.Soli listing) h = absurd h
+biting_other s (kinds.Del ids) h = absurd h
 
 -- `NONE` is always justified
 pub nothing_justified : (p : Opb) (s : State) → IsEntitled p s Nothing
@@ -48,6 +72,14 @@ bites_push p a b c (x ∷ xs) step count (between, first, inl rest) legal = (bet
 bites_push p a b c (x ∷ xs) step count (between, first, inr (fewer, is, here, rest)) legal =
     (between, first, inr (fewer, is, here, bites_push p between b c xs step fewer rest legal))
 
+-- with the value that it improves to, if it does
+pub improves_push : (p : Opb) (a b c : State) (before : List Step) (step : Step) (values : List ℤ) → LeadsImproving p a before b values → Legal p b step c
+    → LeadsImproving p a (before ++ step ∷ []) c (values ++ improvement step c)
+improves_push p a b c [] step values (same, none) legal =
+    (c, subst (λ s. Legal p s step c) same legal, ([], ap (λ vs. vs ++ improvement step c) none ∙ sym (append-nil (improvement step c)), (refl, refl)))
+improves_push p a b c (x ∷ xs) step values (between, first, (later, is, rest)) legal =
+    (between, first, (later ++ improvement step c, ap (λ vs. vs ++ improvement step c) is ∙ append_assoc (improvement x between) later (improvement step c), improves_push p between b c xs step later rest legal))
+
 -- one more that bites
 pub bites_push_one : (p : Opb) (a b c : State) (before : List Step) (step : Step) (count : ℕ) → LeadsBiting p a before b count → Legal p b step c → StepBites b step
     → LeadsBiting p a (before ++ step ∷ []) c (count + 1)
@@ -64,45 +96,49 @@ no_more_bites p a b (x ∷ xs) count (between, first, inl rest) = omega (arith, 
 no_more_bites p a b (x ∷ xs) count (between, first, inr (fewer, is, here, rest)) = omega (arith, is, no_more_bites p between b xs fewer rest)
 
 -- a log with this conclusion
-abbrev pub logbook : Opb → List Step → State → ℕ → Conclusion → Logbook
-logbook p steps state count conclusion = record { problem = p; steps = steps; state = state; biting = count; conclusion = conclusion }
+abbrev pub logbook : Opb → List Step → State → List ℤ → ℕ → Conclusion → Logbook
+logbook p steps state values count conclusion = record { problem = p; steps = steps; state = state; improved = values; biting = count; conclusion = conclusion }
 
-pub starts : (p : Opb) (s : State) (none : List Step) → none ≡ [] → IsStart p s → IsProof (logbook p none s 0 Nothing)
-starts p s none empty start = subst (λ xs. IsProof (logbook p xs s 0 Nothing)) (sym empty) (record {
+pub starts : (p : Opb) (s : State) (none : List Step) (values : List ℤ) → none ≡ [] → values ≡ [] → IsStart p s → IsProof (logbook p none s values 0 Nothing)
+starts p s none values empty nothing start = subst (λ xs. IsProof (logbook p xs s values 0 Nothing)) (sym empty) (record {
   start = s;
   starts = start;
   leads = refl;
+  improves = (refl, nothing);
   bites = (refl, refl);
   entitled = nothing_justified p s;
 })
 
-pub grows : (p : Opb) (before : List Step) (s t : State) (count : ℕ) (conclusion : Conclusion) (step : Step) → IsProof (logbook p before s count conclusion) → Legal p s step t
-    → IsProof (logbook p (before ++ step ∷ []) t count Nothing)
-grows p before s t count conclusion step proof legal = record {
+pub grows : (p : Opb) (before : List Step) (s t : State) (values : List ℤ) (count : ℕ) (conclusion : Conclusion) (step : Step) → IsProof (logbook p before s values count conclusion)
+    → Legal p s step t → IsProof (logbook p (before ++ step ∷ []) t (values ++ improvement step t) count Nothing)
+grows p before s t values count conclusion step proof legal = record {
   start = proof.start;
   starts = proof.starts;
   leads = leads_push p proof.start s t before step proof.leads legal;
+  improves = improves_push p proof.start s t before step values proof.improves legal;
   bites = bites_push p proof.start s t before step count proof.bites legal;
   entitled = nothing_justified p t;
 }
 
-pub grows_biting : (p : Opb) (before : List Step) (s t : State) (count : ℕ) (conclusion : Conclusion) (step : Step) → IsProof (logbook p before s count conclusion) → Legal p s step t
-    → StepBites s step → IsProof (logbook p (before ++ step ∷ []) t (count + 1) Nothing)
-grows_biting p before s t count conclusion step proof legal here = record {
+pub grows_biting : (p : Opb) (before : List Step) (s t : State) (values : List ℤ) (count : ℕ) (conclusion : Conclusion) (step : Step) → IsProof (logbook p before s values count conclusion)
+    → Legal p s step t → StepBites s step → IsProof (logbook p (before ++ step ∷ []) t (values ++ improvement step t) (count + 1) Nothing)
+grows_biting p before s t values count conclusion step proof legal here = record {
   start = proof.start;
   starts = proof.starts;
   leads = leads_push p proof.start s t before step proof.leads legal;
+  improves = improves_push p proof.start s t before step values proof.improves legal;
   bites = bites_push_one p proof.start s t before step count proof.bites legal here;
   entitled = nothing_justified p t;
 }
 
 -- a conclusion that the state entitles to
-pub concluded : (p : Opb) (before : List Step) (s : State) (count : ℕ) (old new : Conclusion) → IsProof (logbook p before s count old) → IsEntitled p s new
-    → IsProof (logbook p before s count new)
-concluded p before s count old new proof entitled = record {
+pub concluded : (p : Opb) (before : List Step) (s : State) (values : List ℤ) (count : ℕ) (old new : Conclusion) → IsProof (logbook p before s values count old) → IsEntitled p s new
+    → IsProof (logbook p before s values count new)
+concluded p before s values count old new proof entitled = record {
   start = proof.start;
   starts = proof.starts;
   leads = proof.leads;
+  improves = proof.improves;
   bites = proof.bites;
   entitled = entitled;
 }

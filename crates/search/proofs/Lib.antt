@@ -1,6 +1,7 @@
 pub mod Clauses
 pub mod Ending
 pub mod Growing
+pub mod Improving
 pub mod Solutions
 pub mod StaysBetter
 pub mod StaysLive

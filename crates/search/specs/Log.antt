@@ -1,5 +1,5 @@
 -- A solver's log: a proof that grows, and how much of it says something new.
-use Rattle.std.specs.Prelude.{◌≡◌, ℕ, ◌+◌, ◌⊎◌, Bool, List, [], ◌∷◌, Option}
+use Rattle.std.specs.Prelude.{◌≡◌, ℕ, ◌+◌, ◌⊎◌, ℤ, ◌<ℤ◌, Bool, List, [], ◌∷◌, ◌++◌, Option, None, Some, All}
 use Rattle.linear.specs.Opb.{Opb}
 use Rattle.normal_form.specs.Normal.{NormalConstraint}
 use Rattle.normal_form.specs.NormalOf.{IsNormalOf}
@@ -18,6 +18,8 @@ pub record Logbook : Type 0 where
   pub steps : List Step
   -- the state that they lead to
   pub state : State
+  -- the values of the improving solutions, the first one first
+  pub improved : List ℤ
   -- so many steps are known to bite
   pub biting : ℕ
   -- what was concluded from the state
@@ -36,6 +38,39 @@ LeadsBiting p old (step ∷ rest) new count =
     (between : State) × Legal p old step between
     × (LeadsBiting p between rest new count ⊎ ((fewer : ℕ) × (count ≡ fewer + 1) × StepBites old step × LeadsBiting p between rest new fewer))
 
+-- the value, if there is one
+abbrev pub value_list : Option ℤ → List ℤ
+value_list None = []
+value_list (Some value) = value ∷ []
+
+-- what a step improves to, where it logs an improving solution and leads to this state
+abbrev pub improvement : Step → State → List ℤ
+improvement (kinds.Soli listing) new = value_list new.improve
+improvement _ new = []
+
+-- legal steps lead from one state to another, and these are the values of their improving solutions, in order
+abbrev pub LeadsImproving : Opb → State → List Step → State → List ℤ → Type 0
+LeadsImproving p old [] new values = (new ≡ old) × (values ≡ [])
+LeadsImproving p old (step ∷ rest) new values =
+    (between : State) × Legal p old step between
+    × ((later : List ℤ) × (values ≡ improvement step between ++ later) × LeadsImproving p between rest new later)
+
+-- each value is above all that come behind it
+abbrev pub IsFalling : List ℤ → Type 0
+IsFalling [] = Unit {0}
+IsFalling (value ∷ later) = All (λ v. v <ℤ value) later × IsFalling later
+
+-- the last value, if there is one
+abbrev pub last_of : List ℤ → Option ℤ
+last_of [] = None
+last_of (value ∷ []) = Some value
+last_of (value ∷ later ∷ more) = last_of (later ∷ more)
+
+-- the step logs no improving solution
+abbrev pub ImprovesNothing : Step → Type 0
+ImprovesNothing (kinds.Soli listing) = ⊥
+ImprovesNothing _ = Unit {0}
+
 -- the state entitles to the conclusion
 abbrev pub IsEntitled : Opb → State → Conclusion → Type 0
 IsEntitled p s c = (best : Option (List Bool)) × IsJustified p s c best
@@ -45,6 +80,7 @@ pub record IsProof (l : Logbook) : Type 0 where
   pub start : State
   pub starts : IsStart l.problem start
   pub leads : Leads l.problem start l.steps l.state
+  pub improves : LeadsImproving l.problem start l.steps l.state l.improved
   pub bites : LeadsBiting l.problem start l.steps l.state l.biting
   pub entitled : IsEntitled l.problem l.state l.conclusion
 

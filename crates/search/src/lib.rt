@@ -8,8 +8,12 @@
 
 mod brancher;
 pub mod cases;
+mod found;
 pub mod laws;
 mod log;
+mod solver;
 
 pub use brancher::{Brancher, First, Value};
+pub use found::{Found, Unfinished};
 pub use log::Log;
+pub use solver::{Solved, Solver};

@@ -5,14 +5,18 @@
 //! its type, and hold whatever the search does. Beside the steps stands a count of those that are known to bite, that is
 //! to say more than propagation over the live constraints before them: a search that learns nothing cannot count up.
 
-ghost use Rattle.std.specs.Prelude.{◌≡◌};
+ghost use Rattle.std.specs.Prelude.{◌≡◌, [], ◌∷◌, ◌++◌, IfOk, IfErr, OnOk, OnErr};
+ghost use Rattle.kernel.specs.Held.{HasAtLeast, given_id};
+ghost use Rattle.proof_rules.specs.Fault.{OrMemory, IsStepFault};
+ghost use Rattle.proof_rules.specs.Legal.{Legal};
 
 use kernel::{Applied, Kernel};
-use linear::{Names, Problem};
+use linear::{Assignment, Lit, Names, Problem, Seq};
+use normal_form::Normal;
 use proof_rules::StepFault;
 use proof_steps::{Conclusion, Step};
-use propagate::Propagator;
-use std::alloc::Global;
+use propagate::{Id, Propagator, Reach, Trace};
+use std::alloc::{AllocError, Global};
 use std::marker::Model;
 use std::mem;
 
@@ -22,6 +26,7 @@ pub struct Log<'a, P: Propagator> {
     source: &'a Problem,
     kernel: Kernel<'a, P>,
     steps: Vec<Step>,
+    improved: Vec<i128>,
     biting: u64,
     conclusion: Conclusion,
 }
@@ -36,19 +41,53 @@ impl<'a, P: Propagator> Model for Log<'a, P> {
 
     ghost coded = { Prim.hlevel (codes, state_code) };
 
-    ghost view = { λ l. record { problem = l.source.now; steps = l.steps.items; state = l.kernel.state; biting = l.biting; conclusion = l.conclusion } };
+    ghost view = { λ l. record { problem = l.source.now; steps = l.steps.items; state = l.kernel.state; improved = l.improved.items; biting = l.biting; conclusion = l.conclusion } };
 
     ghost invariant = { λ l. (l.kernel.problem ≡ l.source.now)
-        × IsProof (record { problem = l.source.now; steps = l.steps.items; state = l.kernel.state; biting = l.biting; conclusion = l.conclusion }) };
+        × IsProof (record { problem = l.source.now; steps = l.steps.items; state = l.kernel.state; improved = l.improved.items; biting = l.biting; conclusion = l.conclusion }) };
+}
+
+/// Applies a step to a kernel and keeps it behind the others, or does neither.
+fn keep<'a, P: Propagator>(
+    steps: &mut Vec<Step>,
+    kernel: &mut Kernel<'a, P>,
+    step: Step,
+) -> Result<Applied, StepFault>
+    requires relation { HasAtLeast step }
+    ensures problem { kernel.new.problem ≡ kernel.old.problem }
+    ensures ok { OnOk result (Legal kernel.old.problem kernel.old.state step kernel.new.state) }
+    ensures kept { OnOk result (steps.new.items ≡ steps.old.items ++ step ∷ []) }
+    ensures id { IfOk result (λ applied. applied.id ≡ given_id step kernel.old.state) }
+    ensures fault { IfErr result (λ f. OrMemory f (IsStepFault kernel.old.problem kernel.old.state step f)) }
+    ensures dropped { OnErr result (steps.new.items ≡ steps.old.items) }
+    ensures err { OnErr result (kernel.new ≡ kernel.old) }
+{
+    // The room is taken before the kernel is asked, so that no step is applied and not kept.
+    steps.push(step)?;
+    let Some(last) = steps.last() else {
+        unreachable!()
+    };
+    let judged = kernel.apply(last);
+    if judged.is_err() {
+        drop(steps.pop());
+    }
+    judged
 }
 
 impl<'a, P: Propagator> Log<'a, P> {
-    ghost use Rattle.std.specs.Prelude.{◌≡◌, [], ◌∷◌, ◌++◌, IfOk, IfErr, OnOk, OnErr, IsErrOf};
+    ghost use Rattle.std.specs.Prelude.{◌≡◌, ◌↔◌, ◌+◌, [], ◌∷◌, ◌++◌, IfOk, IfErr, IfSome, IsTrue, OnOk, OnErr, IsErrOf};
+    ghost use Rattle.std.specs.FinMap as map;
+    ghost use Rattle.std.specs.Option.{option_copied};
     ghost use Rattle.kernel.specs.Held.{HasAtLeast, given_id};
+    ghost use Rattle.propagate.specs.Content.{IsTrace};
+    ghost use Rattle.propagate.specs.Literals.{IsConsistent};
+    ghost use Rattle.propagate.specs.Reach.{IsReach};
+    ghost use Rattle.proof_rules.specs.Claim.{IsSolution};
     ghost use Rattle.proof_rules.specs.Fault.{OrMemory, IsStepFault, IsConclusionFault};
+    ghost use Rattle.proof_rules.specs.Justified.{IsBest};
     ghost use Rattle.proof_rules.specs.Legal.{Legal};
-    ghost use Rattle.proof_rules.specs.State.{IsStart};
-    ghost use Rattle.search.specs.Log.{IsProof, IsEntitled, with_conclusion};
+    ghost use Rattle.proof_rules.specs.State.{HasRoom, IsStart, constraints};
+    ghost use Rattle.search.specs.Log.{IsProof, IsEntitled, IsFalling, ImprovesNothing, StepBites, improvement, last_of, with_conclusion};
 
     /// The log of a problem's file, with no step. Want of memory is the only fault.
     pub fn new(alloc: Global, problem: &'a Problem) -> Result<Self, StepFault>
@@ -64,36 +103,76 @@ impl<'a, P: Propagator> Log<'a, P> {
             source: problem,
             kernel,
             steps: Vec::new(alloc),
+            improved: Vec::new(alloc),
             biting: 0,
             conclusion: Conclusion::Nothing,
         })
     }
 
-    /// Applies a step, whole or not at all, and keeps it. Nothing is concluded from the new state yet. A refusal is the
-    /// kernel's, or want of memory, and leaves the log as before.
+    /// Applies a step that logs no improving solution, whole or not at all, and keeps it. Nothing is concluded from the new
+    /// state yet. A refusal is the kernel's, or want of memory, and leaves the log as before.
     pub fn apply(&mut self, step: Step) -> Result<Applied, StepFault>
         requires relation { HasAtLeast step }
+        requires other { ImprovesNothing step }
         ensures problem { self.new.problem ≡ self.old.problem }
         ensures ok { OnOk result (Legal self.old.problem self.old.state step self.new.state) }
         ensures kept { OnOk result (self.new.steps ≡ self.old.steps ++ step ∷ []) }
+        ensures improved { OnOk result (self.new.improved ≡ self.old.improved) }
         ensures biting { OnOk result (self.new.biting ≡ self.old.biting) }
         ensures conclusion { OnOk result (self.new.conclusion ≡ Conclusion.Nothing) }
         ensures id { IfOk result (λ applied. applied.id ≡ given_id step self.old.state) }
         ensures fault { IfErr result (λ f. OrMemory f (IsStepFault self.old.problem self.old.state step f)) }
         ensures err { OnErr result (self.new ≡ self.old) }
     {
-        // The room is taken before the kernel is asked, so that no step is applied and not kept.
-        self.steps.push(step)?;
-        let Some(last) = self.steps.last() else {
+        let applied = keep(&mut self.steps, &mut self.kernel, step)?;
+        drop(mem::replace(&mut self.conclusion, Conclusion::Nothing));
+        Ok(applied)
+    }
+
+    /// Applies a step whose constraint bites on the live ones, and counts it.
+    pub fn learn(&mut self, step: Step) -> Result<Applied, StepFault>
+        requires relation { HasAtLeast step }
+        requires bites { StepBites self.old.state step }
+        ensures problem { self.new.problem ≡ self.old.problem }
+        ensures ok { OnOk result (Legal self.old.problem self.old.state step self.new.state) }
+        ensures kept { OnOk result (self.new.steps ≡ self.old.steps ++ step ∷ []) }
+        ensures improved { OnOk result (self.new.improved ≡ self.old.improved) }
+        ensures biting { OnOk result (self.new.biting ≡ self.old.biting + 1) }
+        ensures conclusion { OnOk result (self.new.conclusion ≡ Conclusion.Nothing) }
+        ensures id { IfOk result (λ applied. applied.id ≡ given_id step self.old.state) }
+        ensures fault { IfErr result (λ f. OrMemory f (IsStepFault self.old.problem self.old.state step f)) }
+        ensures err { OnErr result (self.new ≡ self.old) }
+    {
+        let applied = keep(&mut self.steps, &mut self.kernel, step)?;
+        self.biting += 1;
+        drop(mem::replace(&mut self.conclusion, Conclusion::Nothing));
+        Ok(applied)
+    }
+
+    /// Logs a solution that is better than all improving ones before, and keeps its value.
+    pub fn improve(&mut self, listing: Seq<Lit>) -> Result<(), StepFault>
+        ensures problem { self.new.problem ≡ self.old.problem }
+        ensures ok { OnOk result (Legal self.old.problem self.old.state (Step.Soli listing) self.new.state) }
+        ensures kept { OnOk result (self.new.steps ≡ self.old.steps ++ Step.Soli listing ∷ []) }
+        ensures improved { OnOk result (self.new.improved ≡ self.old.improved ++ improvement (Step.Soli listing) self.new.state) }
+        ensures biting { OnOk result (self.new.biting ≡ self.old.biting) }
+        ensures conclusion { OnOk result (self.new.conclusion ≡ Conclusion.Nothing) }
+        ensures fault { IfErr result (λ f. OrMemory f (IsStepFault self.old.problem self.old.state (Step.Soli listing) f)) }
+        ensures err { OnErr result (self.new ≡ self.old) }
+    {
+        // The room for the value is taken first, as that for the step is.
+        self.improved.push(0)?;
+        if let Err(fault) = keep(&mut self.steps, &mut self.kernel, Step::Soli(listing)) {
+            self.improved.pop();
+            return Err(fault);
+        }
+        let Some(value) = self.kernel.least_value() else {
             unreachable!()
         };
-        let judged = self.kernel.apply(last);
-        if judged.is_ok() {
-            drop(mem::replace(&mut self.conclusion, Conclusion::Nothing));
-        } else {
-            drop(self.steps.pop());
-        }
-        judged
+        let place = self.improved.len() - 1;
+        self.improved[place] = value;
+        drop(mem::replace(&mut self.conclusion, Conclusion::Nothing));
+        Ok(())
     }
 
     /// Keeps a conclusion that the kernel accepts. A refusal is the kernel's, and leaves the log as before.
@@ -137,5 +216,78 @@ impl<'a, P: Propagator> Log<'a, P> {
         ensures proof { IsProof self.now }
     {
         &self.conclusion
+    }
+
+    /// The problem.
+    pub fn problem(&self) -> &Problem
+        ensures { result.now ≡ self.now.problem }
+    {
+        self.source
+    }
+
+    /// The values of the improving solutions, the first one first. Each is below all before it, and the last one is the least
+    /// value.
+    pub fn improved(&self) -> &[i128]
+        ensures improved { result.now ≡ self.now.improved }
+        ensures falling { IsFalling result.now }
+        ensures last { last_of result.now ≡ self.now.state.improve }
+        ensures proof { IsProof self.now }
+    {
+        self.improved.as_slice()
+    }
+
+    /// The least value of an improving solution, none where there is none.
+    pub fn least_value(&self) -> Option<i128>
+        ensures value { result ≡ self.now.state.improve }
+        ensures proof { IsProof self.now }
+    {
+        self.kernel.least_value()
+    }
+
+    /// The logged solution of the least value, the earliest among equals; none where nothing is logged.
+    pub fn best(&self) -> Option<&Assignment>
+        ensures best { IsBest self.now.problem self.now.state.logged (option_copied result) }
+        ensures solution { IfSome (option_copied result) (IsSolution self.now.problem) }
+    {
+        self.kernel.best_logged()
+    }
+
+    /// Whether an id is left for one more constraint.
+    pub fn has_room(&self) -> bool
+        ensures { IsTrue result ↔ HasRoom self.now.state }
+    {
+        self.kernel.has_room()
+    }
+
+    /// The live constraint of an id, if there is one.
+    pub fn constraint(&self, id: Id) -> Option<&Normal>
+        ensures { option_copied result ≡ map.get self.now.state.live id }
+    {
+        self.kernel.constraint(id)
+    }
+
+    /// What a listing extends to by propagation over the live constraints.
+    pub fn extend(&mut self, given: &[Lit]) -> Result<Reach, AllocError>
+        ensures same { self.new ≡ self.old }
+        ensures value { IfOk result (IsReach (constraints self.old.state) given.now) }
+    {
+        self.kernel.extend(given)
+    }
+
+    /// A chain from a listing without opposites over the live constraints, with its reasons.
+    pub fn trace(&mut self, given: &[Lit]) -> Result<Trace, AllocError>
+        requires { IsConsistent given.now }
+        ensures same { self.new ≡ self.old }
+        ensures value { IfOk result (IsTrace self.old.state.live given.now) }
+    {
+        self.kernel.trace(given)
+    }
+
+    /// The kernel that the steps have led to its state.
+    pub fn kernel(&self) -> &Kernel<'a, P>
+        ensures problem { result.now.problem ≡ self.now.problem }
+        ensures state { result.now.state ≡ self.now.state }
+    {
+        &self.kernel
     }
 }

@@ -1,41 +1,23 @@
-use Rattle.std.proofs.Common.{rules, ◌≡◌, [], ◌∷◌, ◌++◌, sym, subst, ◌∙◌}
-use Rattle.std.specs.Prelude.{vec_len}
+use Rattle.std.proofs.Common.{[], ◌∷◌, ◌++◌, sym, subst, ◌∙◌}
 use Rattle.linear.specs.Opb.{Opb}
 use Rattle.proof_steps.specs.declared.conclusion.Conclusion.TheVariants.{Nothing}
 use Rattle.proof_rules.specs.Legal.{Legal}
 use Rattle.proof_rules.specs.State.{State}
-use Rattle.kernel.specs.Held.{Held}
 use Rattle.search.specs.Log.{IsProof}
-use Rattle.search.proofs.Growing.{of_ok, taken_off, grows, logbook}
+use Rattle.search.proofs.Growing.{grows, logbook, no_improvement}
 use Rattle.search.proofs.log.Log.apply.Goals as goal
 
-pub invariant_of-self-then-is_ok : goal.invariant_of-self-then-is_ok
-invariant_of-self-then-is_ok g c =
+pub invariant_of-self-2 : goal.invariant_of-self-2
+invariant_of-self-2 g c =
     let log = c.self.inside in
     let p : Opb = log.source.now in
-    let old : State = log.kernel.state in
-    let new : State = c.apply-judged.new.self.state in
-    let last : c.in-Some.last.now ≡ c.args.step = search rules in
-    let steps : c.push.new.self.items ≡ log.steps.items ++ c.args.step ∷ [] = search rules in
-    let judged : Legal log.kernel.problem old c.in-Some.last.now new =
-    of_ok (Legal log.kernel.problem old c.in-Some.last.now new) c.apply-judged.result (sym c.if-is_ok.true ∙ c.is_ok.ensures.value) c.apply-judged.ensures.ok in
-    let legal : Legal p old c.args.step new = subst (λ q. Legal q old c.args.step new) c.self.invariant.0 (subst (λ s. Legal log.kernel.problem old s new) last judged) in
-    let proof : IsProof (logbook p c.push.new.self.items new log.biting Nothing) =
-    subst (λ xs. IsProof (logbook p xs new log.biting Nothing)) (sym steps)
-    (grows p log.steps.items old new log.biting log.conclusion c.args.step c.self.invariant.1 legal) in (
-      c.apply-judged.ensures.problem ∙ c.self.invariant.0,
-      subst (λ x. IsProof (logbook p c.push.new.self.items new log.biting x)) (sym c.replace.ensures.after) proof,
-    )
-
-pub invariant_of-self-else-is_ok : goal.invariant_of-self-else-is_ok
-invariant_of-self-else-is_ok g c =
-    let log = c.self.inside in
-    let p : Opb = log.source.now in
-    let same : c.apply-judged.new.self ≡ log.kernel = search rules in
-    let pushed : c.push.new.self.items ≡ log.steps.items ++ c.args.step ∷ [] = search rules in
-    let steps : c.pop.new.self.items ≡ log.steps.items =
-    taken_off log.steps.items c.push.new.self.items c.pop.new.self.items c.args.step (vec_len c.push.new.self) pushed (search rules) c.pop.ensures.rest in (
-      c.apply-judged.ensures.problem ∙ c.self.invariant.0,
-      subst (λ xs. IsProof (logbook p xs c.apply-judged.new.self.state log.biting log.conclusion)) (sym steps)
-          (subst (λ (k : Held). IsProof (logbook p log.steps.items k.state log.biting log.conclusion)) (sym same) c.self.invariant.1),
+    let new : State = c.keep.new.kernel.state in
+    let legal : Legal p log.kernel.state c.args.step new = subst (λ q. Legal q log.kernel.state c.args.step new) c.self.invariant.0 c.in_ok-applied.ensures.ok in
+    let grown = grows p log.steps.items log.kernel.state new log.improved.items log.biting log.conclusion c.args.step c.self.invariant.1 legal in
+    let same = no_improvement c.args.step new log.improved.items c.requires.other in
+    let proof : IsProof (logbook p c.keep.new.steps.items new log.improved.items log.biting Nothing) =
+    subst (λ xs. IsProof (logbook p xs new log.improved.items log.biting Nothing)) (sym c.in_ok-applied.ensures.kept)
+    (subst (λ vs. IsProof (logbook p (log.steps.items ++ c.args.step ∷ []) new vs log.biting Nothing)) same grown) in (
+      c.keep.ensures.problem ∙ c.self.invariant.0,
+      subst (λ x. IsProof (logbook p c.keep.new.steps.items new log.improved.items log.biting x)) (sym c.replace.ensures.after) proof,
     )

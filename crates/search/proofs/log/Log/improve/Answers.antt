@@ -1,0 +1,57 @@
+use Rattle.std.proofs.Common.{◌≡◌, [], ◌∷◌, ◌++◌, Some, length, sym, ap, subst, ◌∙◌, rules}
+use Rattle.linear.specs.Opb.{Opb}
+use Rattle.proof_steps.specs.declared.conclusion.Conclusion.TheVariants.{Nothing}
+use Rattle.proof_steps.specs.declared.step.Step.{Step}
+use Rattle.proof_steps.specs.declared.step.Step.TheVariants as kinds
+use Rattle.proof_rules.specs.Fault.{OrMemory, IsSoliFault}
+use Rattle.proof_rules.specs.Legal.{Legal}
+use Rattle.proof_rules.specs.State.{State}
+use Rattle.search.specs.Log.{Logbook, IsProof, improvement, value_list}
+use Rattle.search.proofs.Growing.{grows, logbook, put_last}
+use Rattle.std.proofs.Common.{◌-◌, ℤ, pos, List, set, FitsSigned, to_z, of_z}
+use Rattle.std.specs.Prelude.{vec_len}
+use Rattle.std.proofs.lemmas.Int.{to_z-of_z}
+use mir.Syntax.{w128}
+use Rattle.search.proofs.log.Log.improve.Given.{Over}
+use Rattle.search.proofs.log.Log.improve.Goals as goal
+
+pub returns-in-Err-clause-fault : goal.returns-in-Err-clause-fault
+returns-in-Err-clause-fault g c =
+    let log = c.self.inside in
+    let f = c.in-Err.fault in
+    subst (λ (l : Logbook). OrMemory f (IsSoliFault l.problem l.state c.args.listing f)) c.self.view_is
+    (subst (λ q. OrMemory f (IsSoliFault q log.kernel.state c.args.listing f)) c.self.invariant.0 c.in-Err.ensures.fault)
+
+-- the value that was kept is the least one now
+value_kept : (g : Over) (c : goal.After-drop g)
+    → set c.push.new.self.items (c.len-place.result - 1) (to_z w128 (of_z w128 c.in-Some.value))
+    ≡ c.self.inside.improved.items ++ improvement (kinds.Soli c.args.listing) c.keep.new.kernel.state
+value_kept g c =
+    let log = c.self.inside in
+    let new : State = c.keep.new.kernel.state in
+    let fits : FitsSigned w128 c.in-Some.value = search rules in
+    let least : new.improve ≡ Some c.in-Some.value = sym c.least_value.ensures ∙ c.in-Some.is in
+    let long : vec_len c.push.new.self ≡ length c.push.new.self.items = search rules in
+    ap (λ v. set c.push.new.self.items (c.len-place.result - 1) v) (to_z-of_z w128 c.in-Some.value fits)
+    ∙ put_last log.improved.items c.push.new.self.items (pos 0) c.in-Some.value c.len-place.result c.in_ok-push.ensures.items (c.len-place.ensures ∙ long)
+    ∙ ap (λ o. log.improved.items ++ value_list o) (sym least)
+
+pub invariant_of-self-2 : goal.invariant_of-self-2
+invariant_of-self-2 g c =
+    let log = c.self.inside in
+    let p : Opb = log.source.now in
+    let new : State = c.keep.new.kernel.state in
+    let step : Step = kinds.Soli c.args.listing in
+    let values : List ℤ = set c.push.new.self.items (c.len-place.result - 1) (to_z w128 (of_z w128 c.in-Some.value)) in
+    let legal : Legal p log.kernel.state step new = subst (λ q. Legal q log.kernel.state step new) c.self.invariant.0 c.in_default.ensures.ok in
+    let grown = grows p log.steps.items log.kernel.state new log.improved.items log.biting log.conclusion step c.self.invariant.1 legal in
+    let proof : IsProof (logbook p c.keep.new.steps.items new values log.biting Nothing) =
+    subst (λ xs. IsProof (logbook p xs new values log.biting Nothing)) (sym c.in_default.ensures.kept)
+    (subst (λ vs. IsProof (logbook p (log.steps.items ++ step ∷ []) new vs log.biting Nothing)) (sym (value_kept g c)) grown) in (
+      c.keep.ensures.problem ∙ c.self.invariant.0,
+      subst (λ x. IsProof (logbook p c.keep.new.steps.items new values log.biting x)) (sym c.replace.ensures.after) proof,
+    )
+
+pub returns-clause-improved : goal.returns-clause-improved
+returns-clause-improved g c =
+    value_kept g c ∙ ap (λ (l : Logbook). l.improved ++ value_list c.keep.new.kernel.state.improve) c.self.view_is
