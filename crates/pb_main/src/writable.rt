@@ -3,11 +3,11 @@
 //! The format bounds integers by 2^120 and names variables by the file's table. Every step of a solver is within these
 //! bounds, but a log is no text and takes steps beyond them, so this is looked at once, before the proof is written.
 
-ghost use Rattle.std.specs.Prelude.{◌↔◌, All, IsTrue};
-ghost use Rattle.proof_text.specs.Writable.{IsConclusionWritable, IsConstraintWritable, IsImageWritable, IsItemWritable};
-ghost use Rattle.proof_text.specs.Writable.{IsLitWritable, IsPairWritable, IsStepWritable, IsTermWritable, IsWritable};
+ghost use Rattle.std.specs.Prelude.{◌↔◌, ◌<◌, All, IsTrue, length};
+ghost use Rattle.proof_text.specs.Writable.{IsConclusionWritable, IsConstraintWritable, IsHintWritable, IsImageWritable, IsItemWritable};
+ghost use Rattle.proof_text.specs.Writable.{IsLitWritable, IsLowerWritable, IsPairWritable, IsStepWritable, IsTermWritable, IsUpperWritable, IsWritable};
 
-use linear::{Lit, Relation, Signed, Term, Var};
+use linear::{Lit, Relation, Seq, Signed, Term, Var};
 use proof_steps::{Conclusion, Item, Lower, Step, Upper};
 use substitution::Image;
 
@@ -20,19 +20,133 @@ fn is_writable(number: i128) -> bool
     number.unsigned_abs() <= LARGEST_INTEGER
 }
 
+fn is_named(count: usize, var: Var) -> bool
+    ensures { IsTrue result ↔ (var.0 < count) }
+{
+    (var.0 as usize) < count
+}
+
 fn is_item_writable(count: usize, item: Item) -> bool
     ensures { IsTrue result ↔ IsItemWritable count item }
 {
     match item {
-        Item::Id(number) | Item::Multiply(number) | Item::Divide(number) => is_writable(number),
-        Item::Axiom(lit) => (lit.var.0 as usize) < count,
-        Item::Weaken(var) => (var.0 as usize) < count,
-        Item::Add | Item::Saturate => true,
+        Item::Id(number) => is_writable(number),
+        Item::Multiply(factor) => is_writable(factor),
+        Item::Divide(factor) => is_writable(factor),
+        Item::Axiom(lit) => is_named(count, lit.var),
+        Item::Weaken(var) => is_named(count, var),
+        Item::Add => true,
+        Item::Saturate => true,
     }
 }
 
-fn are_items_writable(count: usize, items: &[Item]) -> bool
-    ensures { IsTrue result ↔ All (IsItemWritable count) items.now }
+fn is_term_writable(count: usize, term: Term) -> bool
+    ensures { IsTrue result ↔ IsTermWritable count term }
 {
-    items.iter().all(|item| is_item_writable(count, *item))
+    is_writable(term.coef) && is_named(count, term.var)
+}
+
+fn is_constraint_writable(count: usize, constraint: &Signed) -> bool
+    ensures { IsTrue result ↔ IsConstraintWritable count constraint.now }
+{
+    constraint.relation == Relation::AtLeast
+        && is_writable(constraint.right)
+        && constraint
+            .terms
+            .as_slice()
+            .iter()
+            .all(|term| is_term_writable(count, *term))
+}
+
+fn is_image_writable(count: usize, image: Image) -> bool
+    ensures { IsTrue result ↔ IsImageWritable count image }
+{
+    match image {
+        Image::Lit(lit) => is_named(count, lit.var),
+        Image::Zero => true,
+        Image::One => true,
+    }
+}
+
+fn is_pair_writable(count: usize, pair: (Var, Image)) -> bool
+    ensures { IsTrue result ↔ IsPairWritable count pair }
+{
+    is_named(count, pair.0) && is_image_writable(count, pair.1)
+}
+
+fn are_literals_writable(count: usize, literals: &[Lit]) -> bool
+    ensures { IsTrue result ↔ All (IsLitWritable count) literals.now }
+{
+    literals.iter().all(|lit| is_named(count, lit.var))
+}
+
+fn is_step_writable(count: usize, step: &Step) -> bool
+    ensures { IsTrue result ↔ IsStepWritable count step.now }
+{
+    match step {
+        Step::Pol(items) => items
+            .as_slice()
+            .iter()
+            .all(|item| is_item_writable(count, *item)),
+        Step::Rup(constraint) => is_constraint_writable(count, constraint),
+        Step::Red(constraint, witness) => {
+            is_constraint_writable(count, constraint)
+                && witness
+                    .as_slice()
+                    .iter()
+                    .all(|pair| is_pair_writable(count, *pair))
+        }
+        Step::Sol(literals) => are_literals_writable(count, literals.as_slice()),
+        Step::Soli(literals) => are_literals_writable(count, literals.as_slice()),
+        Step::Del(ids) => ids.as_slice().iter().all(|id| is_writable(*id)),
+    }
+}
+
+/// Whether all integers of the steps are at most 2^120 in size, and all their variables below the count.
+pub(crate) fn are_steps_writable(count: usize, steps: &[Step]) -> bool
+    ensures { IsTrue result ↔ All (IsStepWritable count) steps.now }
+{
+    steps.iter().all(|step| is_step_writable(count, step))
+}
+
+fn is_lower_writable(lower: Lower) -> bool
+    ensures { IsTrue result ↔ IsLowerWritable lower }
+{
+    match lower {
+        Lower::MinusInf => true,
+        Lower::At(bound) => is_writable(bound),
+        Lower::Inf => true,
+    }
+}
+
+fn is_upper_writable(upper: Upper) -> bool
+    ensures { IsTrue result ↔ IsUpperWritable upper }
+{
+    match upper {
+        Upper::At(bound) => is_writable(bound),
+        Upper::Inf => true,
+    }
+}
+
+fn is_hint_writable(count: usize, hint: &Option<Seq<Lit>>) -> bool
+    ensures { IsTrue result ↔ IsHintWritable count hint.now }
+{
+    match hint {
+        None => true,
+        Some(literals) => are_literals_writable(count, literals.as_slice()),
+    }
+}
+
+/// The same of a conclusion.
+pub(crate) fn is_conclusion_writable(count: usize, conclusion: &Conclusion) -> bool
+    ensures { IsTrue result ↔ IsConclusionWritable count conclusion.now }
+{
+    match conclusion {
+        Conclusion::Nothing => true,
+        Conclusion::Sat(hint) => is_hint_writable(count, hint),
+        Conclusion::Unsat => true,
+        Conclusion::Bounds(lower, upper, hint) => {
+            is_lower_writable(*lower) && is_upper_writable(*upper) && is_hint_writable(count, hint)
+        }
+    }
 }
