@@ -21,3 +21,4 @@ pub mod GivenReasons
 pub mod LiveOnes
 pub mod NamedPlaces
 pub mod LiveContent
+pub mod NamedChains

@@ -7,13 +7,15 @@ ghost use Rattle.std.specs.Prelude.{◌≡◌, ◌↔◌, ◌++◌, IfOk, IsTrue
 ghost use Rattle.std.specs.FinMap as map;
 ghost use Rattle.std.specs.Option.{option_copied};
 ghost use Rattle.propagate.specs.Chain.{IsRefuted};
-ghost use Rattle.propagate.specs.Content.{IsLeastAbove};
+ghost use Rattle.propagate.specs.Content.{IsLeastAbove, IsTrace};
+ghost use Rattle.propagate.specs.Literals.{IsConsistent};
 ghost use Rattle.propagate.specs.Reach.{IsReach};
 
 use super::closure::Closure;
+use super::naming::trace_of;
 use linear::Lit;
 use normal_form::Normal;
-use propagate::{Id, Reach};
+use propagate::{Id, Reach, Trace};
 use std::alloc::{AllocError, Global};
 use std::collections::BTreeMap;
 use std::marker::Model;
@@ -25,6 +27,7 @@ pub(crate) struct Database {
     places: BTreeMap<Id, usize>,
     ids: Vec<Id>,
     closure: Closure,
+    alloc: Global,
 }
 
 impl Model for Database {
@@ -52,6 +55,7 @@ impl Database {
             places: BTreeMap::new(alloc),
             ids: Vec::new(alloc),
             closure: Closure::new(alloc),
+            alloc,
         }
     }
 
@@ -106,6 +110,16 @@ impl Database {
         ensures value { IfOk result (IsReach (map.values self.old) given.now) }
     {
         self.closure.extend(given)
+    }
+
+    /// A chain from a listing without opposites, with the ids of its reasons, to a broken constraint or to the end.
+    pub(crate) fn trace(&mut self, given: &[Lit]) -> Result<Trace, AllocError>
+        requires { IsConsistent given.now }
+        ensures content { self.new ≡ self.old }
+        ensures value { IfOk result (IsTrace self.old given.now) }
+    {
+        let chain = self.closure.trace(given)?;
+        trace_of(self.alloc, chain, self.ids.as_slice())
     }
 
     /// The least id above another that has a constraint.

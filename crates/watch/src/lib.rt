@@ -11,6 +11,7 @@ mod giving;
 mod ledger;
 mod lowering;
 mod measures;
+mod naming;
 mod occurrence;
 mod queue;
 mod refutation;
@@ -20,3 +21,6 @@ mod telling;
 mod tracing;
 mod trail;
 mod walk;
+mod watch_propagator;
+
+pub use watch_propagator::WatchPropagator;
