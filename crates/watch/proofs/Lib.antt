@@ -22,3 +22,4 @@ pub mod LiveOnes
 pub mod NamedPlaces
 pub mod LiveContent
 pub mod NamedChains
+pub mod MadeAnew

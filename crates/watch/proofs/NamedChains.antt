@@ -8,7 +8,7 @@ use Rattle.linear.specs.declared.term.Lit.{Lit}
 use Rattle.normal_form.specs.Normal.{NormalConstraint}
 use Rattle.propagate.specs.declared.trace.Trace.{Trace}
 use Rattle.propagate.specs.Chain.{IsChain, IsSettled}
-use Rattle.propagate.specs.Content.{AreForcedIn, Content, IsBrokenIn, IsEnd, IsTrace, traced}
+use Rattle.propagate.specs.Content.{AreForcedIn, IsBrokenIn, IsEnd, IsTrace, traced}
 use Rattle.propagate.specs.Slack.{IsBroken, IsForced}
 use Rattle.propagate.specs.Walk.{IsBrokenAt}
 use Rattle.propagate.proofs.ChainEnds.{given_within}
