@@ -23,3 +23,4 @@ pub mod NamedPlaces
 pub mod LiveContent
 pub mod NamedChains
 pub mod MadeAnew
+pub mod LentIds

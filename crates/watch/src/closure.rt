@@ -5,19 +5,21 @@
 //! walk. A constraint that goes takes with it what was found by way of it and after that, and nothing else. Its place
 //! stays empty, and its entries in the lists of literals stay and cost a little, until the places are made anew.
 
-ghost use Rattle.std.specs.Prelude.{◌≡◌, ◌↔◌, ◌<◌, ◌++◌, ◌∷◌, [], IfOk};
+ghost use Rattle.std.specs.Prelude.{◌≡◌, ◌↔◌, ◌<◌, ◌++◌, ◌∷◌, [], All, IfOk};
 ghost use Rattle.std.specs.Prelude.{IsTrue, None, OnErr, OnOk, Some, length, slice_index_or, slice_set};
 ghost use Rattle.std.specs.Option.{option_copied};
 ghost use Rattle.propagate.specs.Chain.{IsRefuted};
 ghost use Rattle.propagate.specs.Literals.{IsConsistent};
 ghost use Rattle.propagate.specs.Reach.{IsReach};
 ghost use Rattle.watch.specs.Ledgers.{constraint_at, shown};
+ghost use Rattle.watch.specs.Lent.{AreEntriesOf};
 ghost use Rattle.watch.specs.Steps.{IsFound};
 
 use super::chain::Chain;
 use super::extension::reach_beside;
 use super::extras::attach_waiting;
 use super::ledger::Ledger;
+use super::occurrence::Occurrence;
 use super::queue::Queue;
 use super::refutation::{decide, refute_beside};
 use super::release::release;
@@ -74,6 +76,14 @@ impl Closure {
         ensures { option_copied result ≡ slice_index_or self.now place None }
     {
         self.ledger.get(place)
+    }
+
+    /// Where a literal stands, places that are empty among them.
+    pub(crate) fn entries(&self, literal: Lit) -> &[Occurrence]
+        ensures value { AreEntriesOf self.now literal result.now }
+        ensures places { All (λ e. e.place < length self.now) result.now }
+    {
+        self.ledger.entries(literal)
     }
 
     /// How many terms the constraint of a place has, 0 where there is none.

@@ -4,15 +4,17 @@
 //! by id; the id of a place names a reason when a chain is told. Where more stands empty than not, an insertion makes
 //! the places anew: it may fail, as a removal may not, and what it copies is paid for by the removals before it.
 
-ghost use Rattle.std.specs.Prelude.{◌≡◌, ◌↔◌, ◌++◌, ℕ, IfOk, IsTrue, OnErr, OnOk, None};
+ghost use Rattle.std.specs.Prelude.{◌≡◌, ◌↔◌, ◌++◌, ℕ, Contains, IfOk, IsTrue, OnErr, OnOk, None};
 ghost use Rattle.std.specs.FinMap as map;
 ghost use Rattle.std.specs.Option.{option_copied};
 ghost use Rattle.propagate.specs.Chain.{IsRefuted};
 ghost use Rattle.propagate.specs.Content.{IsLeastAbove, IsTrace};
 ghost use Rattle.propagate.specs.Literals.{IsConsistent};
 ghost use Rattle.propagate.specs.Reach.{IsReach};
+ghost use Rattle.watch.specs.Lent.{HasLiteral, IsEachOnce};
 
 use super::closure::Closure;
+use super::lending::Occurrences;
 use super::naming::trace_of;
 use linear::Lit;
 use normal_form::Normal;
@@ -150,6 +152,15 @@ impl Database {
     {
         let place = *self.places.get(&id)?;
         self.closure.get(place)
+    }
+
+    /// The ids of the constraints that have a literal.
+    pub(crate) fn occurrences(&self, literal: Lit) -> Occurrences<'_>
+        ensures exactly { (id : ℕ) → Contains result id ↔ HasLiteral self.now literal id }
+        ensures once { IsEachOnce result }
+    {
+        let ids = self.ids.as_slice();
+        Occurrences::of(self.closure.entries(literal), &self.closure, ids)
     }
 
     /// Whether the constraints are refuted together with some extra ones.

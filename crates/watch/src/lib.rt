@@ -9,6 +9,7 @@ mod extension;
 mod extras;
 mod giving;
 mod ledger;
+mod lending;
 mod lowering;
 mod measures;
 mod naming;
@@ -23,4 +24,5 @@ mod trail;
 mod walk;
 mod watch_propagator;
 
+pub use lending::Occurrences;
 pub use watch_propagator::WatchPropagator;

@@ -5,10 +5,12 @@
 //! constraints that its literals touch.
 
 use super::database::Database;
+use super::lending::Occurrences;
 use linear::Lit;
 use normal_form::Normal;
 use propagate::{Id, Propagator, Reach, Trace};
 use std::alloc::{AllocError, Global};
+use std::marker::Model;
 
 /// Constraints by their ids, with what they force kept between calls.
 #[derive(Drop)]
@@ -16,8 +18,34 @@ pub struct WatchPropagator {
     database: Database,
 }
 
+impl Model for WatchPropagator {
+    ghost use Rattle.std.specs.Coded.{coded_ℕ};
+    ghost use Rattle.std.specs.FinMap as map;
+    ghost use Rattle.propagate.specs.Content.{Content};
+    ghost use Rattle.watch.specs.Codes.{constraint_code};
+
+    ghost Value = { Content };
+
+    ghost coded = { map.code coded_ℕ constraint_code };
+
+    ghost view = { λ p. p.database };
+}
+
+impl WatchPropagator {
+    ghost use Rattle.std.specs.Prelude.{◌↔◌, ℕ, Contains};
+    ghost use Rattle.watch.specs.Lent.{HasLiteral, IsEachOnce};
+
+    /// The ids of the constraints that have a literal, each once, from a list that is kept.
+    pub fn occurrences(&self, literal: Lit) -> Occurrences<'_>
+        ensures exactly { (id : ℕ) → Contains result id ↔ HasLiteral self.now literal id }
+        ensures once { IsEachOnce result }
+    {
+        self.database.occurrences(literal)
+    }
+}
+
 impl Propagator for WatchPropagator {
-    ghost content = { λ p. p.database };
+    ghost content = { λ p. p };
 
     fn empty(alloc: Global) -> Self {
         WatchPropagator {
