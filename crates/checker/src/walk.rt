@@ -15,11 +15,11 @@ use kernel::Accepted;
 use linear::{Names, Problem};
 use proof_steps::{Conclusion, Step};
 use proof_text::{Line, Place, ProofFault, ProofReader, read_line};
-use propagate::ScanPropagator;
 use std::alloc::Global;
+use watch::WatchPropagator;
 
-/// The judge of steps, over the plain propagator.
-type Kernel<'a> = kernel::Kernel<'a, ScanPropagator>;
+/// The judge of steps, over the propagator that keeps what it has found.
+type Kernel<'a> = kernel::Kernel<'a, WatchPropagator>;
 
 /// A line that was read, and its number.
 #[derive(Drop)]

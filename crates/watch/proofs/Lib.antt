@@ -21,3 +21,6 @@ pub mod GivenReasons
 pub mod LiveOnes
 pub mod NamedPlaces
 pub mod LiveContent
+pub mod NamedChains
+pub mod MadeAnew
+pub mod LentIds

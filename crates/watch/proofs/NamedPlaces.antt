@@ -33,13 +33,13 @@ found_mapped slots (e ∷ es) q = mapped_first (constraint_at (shown slots)) (is
 pub content_get : (slots : Slots) (es : Places) (q : ℕ) → fin.get (content_at slots es) q ≡ option_map (constraint_at (shown slots)) (place_of es q)
 content_get slots es q = get_is (map (λ e. (e.0, constraint_at (shown slots) e.1)) es) q ∙ found_mapped slots es q
 
-same_id : (k q : ℕ) → is_at (nat_cmp k) q ≡ true → k ≡ q
+pub same_id : (k q : ℕ) → is_at (nat_cmp k) q ≡ true → k ≡ q
 same_id k q h = grind (arith, nat_tests)
 
-own_id : (k : ℕ) → is_at (nat_cmp k) k ≡ true
+pub own_id : (k : ℕ) → is_at (nat_cmp k) k ≡ true
 own_id k = grind (arith, nat_tests)
 
-other_id : (k q : ℕ) → (k ≡ q → ⊥) → is_at (nat_cmp k) q ≡ false
+pub other_id : (k q : ℕ) → (k ≡ q → ⊥) → is_at (nat_cmp k) q ≡ false
 other_id k q h = grind (arith, nat_tests)
 
 none_is_not_some : {X : Type 0} (x : X) (o : Option X) → o ≡ None → o ≡ Some x → ⊥
@@ -52,7 +52,7 @@ below slots k n e = elim (cases_lt k (length slots)) [
   | inr high ↦ absurd (none_is_not_some n (get_or slots k None) (get_or_past slots k None high) e)
 ]
 
-place_there : (slots : Slots) (es : Places) (ids : List ℕ) (id k : ℕ) → AreNamed es ids slots → place_of es id ≡ Some k → k < length slots
+pub place_there : (slots : Slots) (es : Places) (ids : List ℕ) (id k : ℕ) → AreNamed es ids slots → place_of es id ≡ Some k → k < length slots
 place_there slots es ids id k a e = let it = a.live id k e in below slots k it.0 it.1
 
 pub shows : (slots : Slots) (k : ℕ) (n : NormalConstraint) → get_or slots k None ≡ Some n → constraint_at (shown slots) k ≡ n

@@ -1,7 +1,9 @@
 -- Chains with the places of their reasons.
 use Rattle.std.specs.Prelude.{◌≡◌, ℕ, ◌<◌, true, false, List, [], ◌∷◌, ◌++◌, Option, None, Some, MatchOption, length, map, slice_index_or}
+use Rattle.std.specs.Option.{option_map}
 use Rattle.linear.specs.declared.term.Lit.{Lit}
 use Rattle.normal_form.specs.Normal.{NormalConstraint}
+use Rattle.propagate.specs.declared.trace.Trace.{Trace}
 use Rattle.propagate.specs.Chain.{IsSettled}
 use Rattle.propagate.specs.Literals.{lists, opposite}
 use Rattle.propagate.specs.Walk.{IsBrokenAt}
@@ -47,3 +49,12 @@ IsToldTo constraints given trail c = MatchOption c.broken (IsTold constraints gi
 -- a given literal whose opposite is listed
 abbrev pub Clashes : List Lit → List Lit → Type 0
 Clashes given listing = (l : Lit) × (lists given l ≡ true) × (lists listing (opposite l) ≡ true)
+
+-- a step with the id of the constraint at its place
+abbrev pub step_named : List ℕ → Step → Lit × ℕ
+step_named ids s = (s.literal, slice_index_or ids s.place 0)
+
+-- a trace tells a chain, with ids for places
+pub record IsTraceOf (ids : List ℕ) (c : Chain) (t : Trace) : Type 0 where
+  pub forced : t.forced ≡ map (step_named ids) c.steps.items
+  pub conflict : t.conflict ≡ option_map (λ place. slice_index_or ids place 0) c.broken

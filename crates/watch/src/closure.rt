@@ -3,22 +3,23 @@
 //! A closure from nothing only grows as constraints come in, and a question beside extra constraints goes on from it.
 //! It is found when something is asked: a constraint that comes in only waits, so that reading a database costs no
 //! walk. A constraint that goes takes with it what was found by way of it and after that, and nothing else. Its place
-//! stays empty, and its entries in the lists of literals stay and cost a little: making the places anew, where half
-//! are empty, belongs to an insertion, which may fail, and is not done yet.
+//! stays empty, and its entries in the lists of literals stay and cost a little, until the places are made anew.
 
-ghost use Rattle.std.specs.Prelude.{◌≡◌, ◌↔◌, ◌<◌, ◌++◌, ◌∷◌, [], IfOk};
+ghost use Rattle.std.specs.Prelude.{◌≡◌, ◌↔◌, ◌<◌, ◌++◌, ◌∷◌, [], All, IfOk};
 ghost use Rattle.std.specs.Prelude.{IsTrue, None, OnErr, OnOk, Some, length, slice_index_or, slice_set};
 ghost use Rattle.std.specs.Option.{option_copied};
 ghost use Rattle.propagate.specs.Chain.{IsRefuted};
 ghost use Rattle.propagate.specs.Literals.{IsConsistent};
 ghost use Rattle.propagate.specs.Reach.{IsReach};
-ghost use Rattle.watch.specs.Ledgers.{shown};
+ghost use Rattle.watch.specs.Ledgers.{constraint_at, shown};
+ghost use Rattle.watch.specs.Lent.{AreEntriesOf};
 ghost use Rattle.watch.specs.Steps.{IsFound};
 
 use super::chain::Chain;
 use super::extension::reach_beside;
 use super::extras::attach_waiting;
 use super::ledger::Ledger;
+use super::occurrence::Occurrence;
 use super::queue::Queue;
 use super::refutation::{decide, refute_beside};
 use super::release::release;
@@ -75,6 +76,27 @@ impl Closure {
         ensures { option_copied result ≡ slice_index_or self.now place None }
     {
         self.ledger.get(place)
+    }
+
+    /// Where a literal stands, places that are empty among them.
+    pub(crate) fn entries(&self, literal: Lit) -> &[Occurrence]
+        ensures value { AreEntriesOf self.now literal result.now }
+        ensures places { All (λ e. e.place < length self.now) result.now }
+    {
+        self.ledger.entries(literal)
+    }
+
+    /// How many terms the constraint of a place has, 0 where there is none.
+    pub(crate) fn term_count(&self, place: usize) -> usize
+        requires { place < length self.now }
+        ensures { result ≡ length (constraint_at (shown self.now) place).terms }
+    {
+        self.ledger.term_count(place)
+    }
+
+    /// How many variables there is room for.
+    pub(crate) fn variable_count(&self) -> usize {
+        self.ledger.variable_count()
     }
 
     /// Whether the constraints are refuted together with some extra ones.

@@ -1,19 +1,24 @@
 //! Constraints by their ids, over places that are never used twice.
 //!
 //! A place is a number from 0 on, and stays when its constraint goes, so that the lists of literals need no look-up
-//! by id; the id of a place names a reason when a chain is told.
+//! by id; the id of a place names a reason when a chain is told. Where more stands empty than not, an insertion makes
+//! the places anew: it may fail, as a removal may not, and what it copies is paid for by the removals before it.
 
-ghost use Rattle.std.specs.Prelude.{◌≡◌, ◌↔◌, ◌++◌, IfOk, IsTrue, OnErr, OnOk, None};
+ghost use Rattle.std.specs.Prelude.{◌≡◌, ◌↔◌, ◌++◌, ℕ, Contains, IfOk, IsTrue, OnErr, OnOk, None};
 ghost use Rattle.std.specs.FinMap as map;
 ghost use Rattle.std.specs.Option.{option_copied};
 ghost use Rattle.propagate.specs.Chain.{IsRefuted};
-ghost use Rattle.propagate.specs.Content.{IsLeastAbove};
+ghost use Rattle.propagate.specs.Content.{IsLeastAbove, IsTrace};
+ghost use Rattle.propagate.specs.Literals.{IsConsistent};
 ghost use Rattle.propagate.specs.Reach.{IsReach};
+ghost use Rattle.watch.specs.Lent.{HasLiteral, IsEachOnce};
 
 use super::closure::Closure;
+use super::lending::Occurrences;
+use super::naming::trace_of;
 use linear::Lit;
 use normal_form::Normal;
-use propagate::{Id, Reach};
+use propagate::{Id, Reach, Trace};
 use std::alloc::{AllocError, Global};
 use std::collections::BTreeMap;
 use std::marker::Model;
@@ -25,6 +30,11 @@ pub(crate) struct Database {
     places: BTreeMap<Id, usize>,
     ids: Vec<Id>,
     closure: Closure,
+    /// The terms and places of the constraints that are there.
+    occupied: usize,
+    /// The terms and places of those that are gone.
+    vacant: usize,
+    alloc: Global,
 }
 
 impl Model for Database {
@@ -52,17 +62,22 @@ impl Database {
             places: BTreeMap::new(alloc),
             ids: Vec::new(alloc),
             closure: Closure::new(alloc),
+            occupied: 0,
+            vacant: 0,
+            alloc,
         }
     }
 
-    /// Puts in a constraint under an id that is not there.
-    pub(crate) fn insert(&mut self, id: Id, constraint: Normal) -> Result<(), AllocError>
+    // Puts in a constraint at the next place.
+    fn put(&mut self, id: Id, constraint: Normal) -> Result<(), AllocError>
         requires { map.get self.old id ≡ None }
         ensures ok { OnOk result (self.new ≡ map.insert self.old id constraint) }
         ensures err { OnErr result (self.new ≡ self.old) }
     {
+        let size = constraint.len().saturating_add(1);
         self.ids.reserve(1)?;
-        self.places.insert(id, self.ids.len())?;
+        let place = self.ids.len();
+        self.places.insert(id, place)?;
         match self.closure.attach(constraint) {
             Err(_) => {
                 self.places.remove(&id);
@@ -71,7 +86,52 @@ impl Database {
             Ok(()) => {}
         }
         self.ids.push_reserved(id);
+        self.occupied = self.occupied.saturating_add(size);
         Ok(())
+    }
+
+    // Puts in a copy of the constraint that another database has under an id.
+    fn put_from(&mut self, id: Id, other: &Database) -> Result<(), AllocError>
+        requires { map.get self.old id ≡ None }
+        ensures own { OnOk result (map.get self.new id ≡ map.get other.now id) }
+        ensures others { OnOk result ((k : ℕ) → (k ≡ id → ⊥) → map.get self.new k ≡ map.get self.old k) }
+    {
+        let Some(constraint) = other.get(id) else {
+            return Ok(());
+        };
+        self.put(id, constraint.copy(self.alloc)?)?;
+        Ok(())
+    }
+
+    // The same constraints at places without gaps.
+    fn made_anew(&self) -> Result<Database, AllocError>
+        ensures { IfOk result (λ d. d ≡ self.now) }
+    {
+        let mut anew = Database::new(self.alloc);
+        for (id, _) in self.places.iter() {
+            anew.put_from(*id, self)?;
+        }
+        Ok(anew)
+    }
+
+    // Makes the places anew where more stands empty than not, the lists of literals counted in.
+    fn close_gaps(&mut self) -> Result<(), AllocError>
+        ensures { self.new ≡ self.old }
+    {
+        if self.vacant > self.occupied.max(self.closure.variable_count()) {
+            *self = self.made_anew()?;
+        }
+        Ok(())
+    }
+
+    /// Puts in a constraint under an id that is not there.
+    pub(crate) fn insert(&mut self, id: Id, constraint: Normal) -> Result<(), AllocError>
+        requires { map.get self.old id ≡ None }
+        ensures ok { OnOk result (self.new ≡ map.insert self.old id constraint) }
+        ensures err { OnErr result (self.new ≡ self.old) }
+    {
+        self.close_gaps()?;
+        self.put(id, constraint)
     }
 
     /// Takes out the constraint of an id, if there is one.
@@ -80,6 +140,9 @@ impl Database {
         ensures removed { self.new ≡ map.remove self.old id }
     {
         let place = self.places.remove(&id)?;
+        let size = self.closure.term_count(place).saturating_add(1);
+        self.occupied = self.occupied.saturating_sub(size);
+        self.vacant = self.vacant.saturating_add(size);
         self.closure.remove(place)
     }
 
@@ -89,6 +152,15 @@ impl Database {
     {
         let place = *self.places.get(&id)?;
         self.closure.get(place)
+    }
+
+    /// The ids of the constraints that have a literal.
+    pub(crate) fn occurrences(&self, literal: Lit) -> Occurrences<'_>
+        ensures exactly { (id : ℕ) → Contains result id ↔ HasLiteral self.now literal id }
+        ensures once { IsEachOnce result }
+    {
+        let ids = self.ids.as_slice();
+        Occurrences::of(self.closure.entries(literal), &self.closure, ids)
     }
 
     /// Whether the constraints are refuted together with some extra ones.
@@ -106,6 +178,16 @@ impl Database {
         ensures value { IfOk result (IsReach (map.values self.old) given.now) }
     {
         self.closure.extend(given)
+    }
+
+    /// A chain from a listing without opposites, with the ids of its reasons, to a broken constraint or to the end.
+    pub(crate) fn trace(&mut self, given: &[Lit]) -> Result<Trace, AllocError>
+        requires { IsConsistent given.now }
+        ensures content { self.new ≡ self.old }
+        ensures value { IfOk result (IsTrace self.old given.now) }
+    {
+        let chain = self.closure.trace(given)?;
+        trace_of(self.alloc, chain, self.ids.as_slice())
     }
 
     /// The least id above another that has a constraint.

@@ -10,7 +10,7 @@
 //! It is stated between the functions of a walk.
 
 ghost use Rattle.std.specs.Prelude.{◌≡◌, ◌+◌, ◌-◌, ◌^◌, ◌<◌, ◌≤◌, ◌++◌, ◌∷◌};
-ghost use Rattle.std.specs.Prelude.{◌⊎◌, [], ℕ, false, true, Contains, IfSome, IsSome};
+ghost use Rattle.std.specs.Prelude.{◌⊎◌, [], ℕ, false, true, All, Contains, IfSome, IsSome};
 ghost use Rattle.std.specs.Prelude.{Some, None, IsTrue, MatchOption, OnOk, OnErr, ◌↔◌, length, take, slice_index_or};
 ghost use Rattle.std.specs.Prelude.{slice_set, vec_capacity, vec_len};
 ghost use Rattle.std.specs.Option.{option_copied};
@@ -19,12 +19,13 @@ ghost use Rattle.normal_form.specs.Normal.{Rises, variable_bound};
 ghost use Rattle.propagate.specs.Literals.{IsConsistent, IsOnce, lists, opposite, coefficient_of};
 ghost use Rattle.propagate.specs.Slack.{IsBroken};
 ghost use Rattle.propagate.specs.Walk.{IsQuiet};
+ghost use Rattle.watch.specs.Lent.{AreEntriesOf};
 ghost use Rattle.watch.specs.Ledgers.{AreReasons, IsReason, constraint_at, open_sum, shown};
 
 use super::entry_lists::{enter, leave};
 use super::lowering::{lower, queue_below, raise};
 use super::measures::{largest, open_sum};
-use super::occurrence::{code_of, opposite_of};
+use super::occurrence::{Occurrence, code_of, opposite_of};
 use super::queue::Queue;
 use super::table::Table;
 use super::trail::Trail;
@@ -243,6 +244,14 @@ impl Ledger {
         ensures { option_copied result ≡ slice_index_or self.now.slots place None }
     {
         self.slots[place].as_ref()
+    }
+
+    /// Where a literal stands, places that say nothing among them.
+    pub(crate) fn entries(&self, literal: Lit) -> &[Occurrence]
+        ensures value { AreEntriesOf self.now.slots literal result.now }
+        ensures places { All (λ e. e.place < length self.now.slots) result.now }
+    {
+        self.table.row_or_none(code_of(literal))
     }
 
     /// Takes the constraint of a place out, if there is one, where it is no literal's reason. The place stays.

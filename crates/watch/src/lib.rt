@@ -9,8 +9,10 @@ mod extension;
 mod extras;
 mod giving;
 mod ledger;
+mod lending;
 mod lowering;
 mod measures;
+mod naming;
 mod occurrence;
 mod queue;
 mod refutation;
@@ -20,3 +22,7 @@ mod telling;
 mod tracing;
 mod trail;
 mod walk;
+mod watch_propagator;
+
+pub use lending::Occurrences;
+pub use watch_propagator::WatchPropagator;

@@ -52,6 +52,16 @@ impl Table {
         self.rows[number].as_slice()
     }
 
+    /// The list of a number, and none above the bound.
+    pub(crate) fn row_or_none(&self, number: usize) -> &[Occurrence]
+        ensures { result.now ≡ slice_index_or self.now number [] }
+    {
+        match self.rows.get(number) {
+            Some(row) => row.as_slice(),
+            None => &[],
+        }
+    }
+
     /// One entry more at the end of a list.
     pub(crate) fn push(&mut self, number: usize, entry: Occurrence) -> Result<(), AllocError>
         requires { number < length self.old }

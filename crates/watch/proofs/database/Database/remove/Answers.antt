@@ -4,7 +4,7 @@ use Rattle.std.specs.FinMap as map
 use Rattle.normal_form.specs.Normal.{NormalConstraint}
 use Rattle.propagate.specs.Content.{Content}
 use Rattle.watch.specs.Named.{content_at}
-use Rattle.watch.proofs.NamedPlaces.{content_fewer, content_without, got, got_none, named_fewer}
+use Rattle.watch.proofs.NamedPlaces.{content_fewer, content_without, got, got_none, named_fewer, place_there}
 use Rattle.watch.proofs.database.Database.remove.Goals as goal
 
 pub returns-in_err-place-clause-value : goal.returns-in_err-place-clause-value
@@ -17,6 +17,11 @@ pub returns-in_err-place-clause-removed : goal.returns-in_err-place-clause-remov
 returns-in_err-place-clause-removed c =
     let e = c.self.inside in
     content_without e.closure e.places.entries c.remove.new.self.entries c.args.id (c.in_err-place.ensures.updates).0 ∙ ap (λ (m : Content). map.remove m c.args.id) c.self.view_is
+
+pub remove-requires-2 : goal.remove-requires-2
+remove-requires-2 c =
+    let e = c.self.inside in
+    place_there e.closure e.places.entries e.ids.items c.args.id c.in_ok-place.place c.self.invariant (sym c.in_ok-place.ensures.value)
 
 pub invariant_of-self-2 : goal.invariant_of-self-2
 invariant_of-self-2 c =

@@ -1,0 +1,202 @@
+-- Which ids are lent for a literal: those of the live constraints that have it, each once.
+use Rattle.std.proofs.Common.{◌≡◌, ◌↔◌, ℕ, zero, suc, ◌+◌, ◌<◌, ◌==◌, ◌⊎◌, inl, inr, Bool, true, false, cond, is_some, All, Contains, drop, Option, None, Some, List, [], ◌∷◌, ◌++◌, length, get_or, map, refl, ap, sym, subst, ◌∙◌, arith}
+use Rattle.std.proofs.lemmas.Bool.Decides.{nat_tests}
+use Rattle.std.proofs.lemmas.List.{drop_more}
+use Rattle.std.proofs.lemmas.List.Elements.{Contains-append_cases, Contains-push_cases}
+use Rattle.std.specs.FinMap as fin
+use Rattle.linear.specs.declared.term.Lit.{Lit}
+use Rattle.normal_form.specs.Normal.{NormalConstraint}
+use Rattle.propagate.specs.Literals.{coefficient_of}
+use Rattle.watch.specs.declared.occurrence.Occurrence.{Occurrence}
+use Rattle.watch.specs.Ledgers.{IsLedger, constraint_at}
+use Rattle.watch.specs.Lent.{AreEntriesOf, HasLiteral, IsEachOnce, ids_at, live_places}
+use Rattle.watch.specs.Named.{AreNamed, content_at, place_of}
+use Rattle.watch.specs.Occurrences.{code, occurrences_of}
+use Rattle.watch.proofs.Entries.{places_from}
+use Rattle.watch.proofs.NamedPlaces.{below, got, got_none}
+
+abbrev Slots : Type 0
+Slots = List (Option NormalConstraint)
+
+abbrev Places : Type 0
+Places = List (ℕ × ℕ)
+
+first_or_later : (L : List ℕ) (p k : ℕ) → Contains (p ∷ L) k → (p ≡ k) ⊎ Contains L k
+first_or_later L p k c = elim (Contains-append_cases (p ∷ []) L k c) [
+  | inl a ↦ elim (Contains-push_cases [] p k a) [
+    | inl none ↦ absurd (omega (arith, none.1))
+    | inr e ↦ inl e
+  ]
+  | inr r ↦ inr r
+]
+
+later : (L : List ℕ) (p k : ℕ) → Contains L k → Contains (p ∷ L) k
+later L p k c = (suc c.0, omega (arith, c.1), c.2)
+
+contains_mapped : (f : ℕ → ℕ) (L : List ℕ) (x : ℕ) → Contains (map f L) x → (k : ℕ) × Contains L k × (f k ≡ x)
+contains_mapped f [] x c = absurd (omega (arith, c.1))
+contains_mapped f (k ∷ ks) x c = elim (first_or_later (map f ks) (f k) x c) [
+  | inl e ↦ (k, (0, omega arith, refl), e)
+  | inr r ↦ let it = contains_mapped f ks x r in (it.0, later ks k it.0 it.1, it.2)
+]
+
+mapped_contains : (f : ℕ → ℕ) (L : List ℕ) (k : ℕ) → Contains L k → Contains (map f L) (f k)
+mapped_contains f [] k c = absurd (omega (arith, c.1))
+mapped_contains f (p ∷ ps) k c = elim (first_or_later ps p k c) [
+  | inl e ↦ (0, omega arith, ap f e)
+  | inr r ↦ later (map f ps) (f p) (f k) (mapped_contains f ps k r)
+]
+
+some_of : (o : Option NormalConstraint) → is_some o ≡ true → (n : NormalConstraint) × (o ≡ Some n)
+some_of None h = absurd (cc)
+some_of (Some n) h = (n, refl)
+
+-- the places of a literal's entries, one constraint after another
+abbrev with_place : Bool → Bool → ℕ → List ℕ → List ℕ
+with_place b d p L = cond b L (cond d (p ∷ L) L)
+
+entry_live : (slots : Slots) (p c : ℕ) (rest : List Occurrence) (b : Bool) → live_places slots (cond b [] (record { place = p; coef = c } ∷ []) ++ rest) ≡ with_place b (is_some (get_or slots p None)) p (live_places slots rest)
+entry_live slots p c rest true = refl
+entry_live slots p c rest false = refl
+
+place_cases : (b d : Bool) (p k : ℕ) (L : List ℕ) → Contains (with_place b d p L) k → ((b ≡ false) × (d ≡ true) × (p ≡ k)) ⊎ Contains L k
+place_cases true d p k L c = inr c
+place_cases false false p k L c = inr c
+place_cases false true p k L c = elim (first_or_later L p k c) [
+  | inl e ↦ inl (refl, refl, e)
+  | inr r ↦ inr r
+]
+
+place_here : (b d : Bool) (p k : ℕ) (L : List ℕ) → b ≡ false → d ≡ true → p ≡ k → Contains (with_place b d p L) k
+place_here true d p k L e f g = absurd (cc)
+place_here false false p k L e f g = absurd (cc)
+place_here false true p k L e f g = (0, omega arith, g)
+
+place_later : (b d : Bool) (p k : ℕ) (L : List ℕ) → Contains L k → Contains (with_place b d p L) k
+place_later true d p k L c = c
+place_later false false p k L c = c
+place_later false true p k L c = later L p k c
+
+abbrev IsLiveAt : Slots → Lit → List NormalConstraint → ℕ → ℕ → Type 0
+IsLiveAt slots l ns k j = (j < length ns) × (is_some (get_or slots k None) ≡ true) × (0 < coefficient_of (constraint_at ns j) l)
+
+live_there : (slots : Slots) (l : Lit) (p : ℕ) (ns : List NormalConstraint) (k : ℕ) → Contains (live_places slots (occurrences_of l p ns)) k → (j : ℕ) × (k ≡ p + j) × IsLiveAt slots l ns k j
+live_there slots l p [] k c = absurd (omega (arith, c.1))
+live_there slots l p (n ∷ ns) k c =
+    let coef = coefficient_of n l in
+    let L : List ℕ = live_places slots (occurrences_of l (p + 1) ns) in
+    let there = subst (λ (ks : List ℕ). Contains ks k) (entry_live slots p coef (occurrences_of l (p + 1) ns) (coef == 0)) c in
+    elim (place_cases (coef == 0) (is_some (get_or slots p None)) p k L there) [
+      | inl h ↦
+          let some : 0 < coef = positive coef h.0 in
+          (0, omega (arith, h.2), (omega arith, ap (λ (i : ℕ). is_some (get_or slots i None)) (sym h.2) ∙ h.1, some))
+      | inr r ↦
+          let it = live_there slots l (p + 1) ns k r in
+          (suc it.0, omega (arith, it.1), (omega (arith, it.2.0), it.2.1, it.2.2))
+    ]
+  where
+    positive : (c : ℕ) → (c == 0) ≡ false → 0 < c
+    positive c h = grind (arith, nat_tests)
+
+there_live : (slots : Slots) (l : Lit) (p : ℕ) (ns : List NormalConstraint) (k j : ℕ) → k ≡ p + j → IsLiveAt slots l ns k j → Contains (live_places slots (occurrences_of l p ns)) k
+there_live slots l p [] k j e h = absurd (omega (arith, h.0))
+there_live slots l p (n ∷ ns) k zero e h =
+    let coef = coefficient_of n l in
+    let here : p ≡ k = omega (arith, e) in
+    subst (λ (ks : List ℕ). Contains ks k) (sym (entry_live slots p coef (occurrences_of l (p + 1) ns) (coef == 0)))
+    (place_here (coef == 0) (is_some (get_or slots p None)) p k (live_places slots (occurrences_of l (p + 1) ns)) (not_zero coef h.2) (ap (λ (i : ℕ). is_some (get_or slots i None)) here ∙ h.1) here)
+  where
+    not_zero : (c : ℕ) → 0 < c → (c == 0) ≡ false
+    not_zero c h = grind (arith, nat_tests)
+there_live slots l p (n ∷ ns) k (suc j) e h =
+    let coef = coefficient_of n l in
+    subst (λ (ks : List ℕ). Contains ks k) (sym (entry_live slots p coef (occurrences_of l (p + 1) ns) (coef == 0)))
+    (place_later (coef == 0) (is_some (get_or slots p None)) p k (live_places slots (occurrences_of l (p + 1) ns))
+    (there_live slots l (p + 1) ns k j (omega (arith, e)) (omega (arith, h.0), h.1, h.2)))
+
+-- two live places have two ids
+one_live : (slots : Slots) (es : Places) (ids : List ℕ) (i k : ℕ) → AreNamed es ids slots → is_some (get_or slots i None) ≡ true → is_some (get_or slots k None) ≡ true → get_or ids i 0 ≡ get_or ids k 0 → i ≡ k
+one_live slots es ids i k a h g e =
+    let x = some_of (get_or slots i None) h in
+    let y = some_of (get_or slots k None) g in
+    same_some i k (sym (a.named i x.0 x.1) ∙ ap (place_of es) e ∙ a.named k y.0 y.1)
+  where
+    same_some : (i k : ℕ) → Some i ≡ Some k → i ≡ k
+    same_some i k e = cc
+
+once_more : (ids : List ℕ) (b d : Bool) (p : ℕ) (L : List ℕ) → (d ≡ true → Contains (ids_at ids L) (get_or ids p 0) → ⊥) → IsEachOnce (ids_at ids L) → IsEachOnce (ids_at ids (with_place b d p L))
+once_more ids true d p L h once = once
+once_more ids false false p L h once = once
+once_more ids false true p L h once = (h refl, once)
+
+each_once : (slots : Slots) (es : Places) (ids : List ℕ) (l : Lit) (p : ℕ) (ns : List NormalConstraint) → AreNamed es ids slots → IsEachOnce (ids_at ids (live_places slots (occurrences_of l p ns)))
+each_once slots es ids l p [] a = tt
+each_once slots es ids l p (n ∷ ns) a =
+    let coef = coefficient_of n l in
+    let L : List ℕ = live_places slots (occurrences_of l (p + 1) ns) in
+    subst (λ (ks : List ℕ). IsEachOnce (ids_at ids ks)) (sym (entry_live slots p coef (occurrences_of l (p + 1) ns) (coef == 0)))
+    (once_more ids (coef == 0) (is_some (get_or slots p None)) p L
+    (λ live c.
+    let m = contains_mapped (λ k. get_or ids k 0) L (get_or ids p 0) c in
+    let it = live_there slots l (p + 1) ns m.0 m.1 in
+    let same : m.0 ≡ p = one_live slots es ids m.0 p a it.2.1 live m.2 in
+    omega (arith, same, it.1))
+    (each_once slots es ids l (p + 1) ns a))
+
+some_same : (n m : NormalConstraint) (o : Option NormalConstraint) → o ≡ Some n → o ≡ Some m → n ≡ m
+some_same n m o e f = cc
+
+none_is_not_some : {X : Type 0} (x : X) (o : Option X) → o ≡ None → o ≡ Some x → ⊥
+none_is_not_some x o e f = cc
+
+pub lent_has : (slots : Slots) (es : Places) (ids : List ℕ) (l : Lit) (os : List Occurrence) → AreNamed es ids slots → AreEntriesOf slots l os → (id : ℕ) → Contains (ids_at ids (live_places slots os)) id → HasLiteral (content_at slots es) l id
+lent_has slots es ids l os a x id c =
+    let ns = x.0 in
+    let m = contains_mapped (λ k. get_or ids k 0) (live_places slots os) id c in
+    let k = m.0 in
+    let it = live_there slots l 0 ns k (subst (λ (ys : List Occurrence). Contains (live_places slots ys) k) x.2 m.1) in
+    let n = some_of (get_or slots k None) it.2.1 in
+    let here : it.0 ≡ k = omega (arith, it.1) in
+    let same : constraint_at ns it.0 ≡ n.0 = ap (constraint_at ns) here ∙ x.1.same k n.0 n.1 in (
+      n.0,
+      ap (fin.get (content_at slots es)) (sym m.2) ∙ sym (got slots es ids (get_or ids k 0) k a (a.named k n.0 n.1)) ∙ n.1,
+      subst (λ (c : NormalConstraint). 0 < coefficient_of c l) same it.2.2,
+    )
+
+lent_at : (slots : Slots) (es : Places) (ids : List ℕ) (l : Lit) (os : List Occurrence) → AreNamed es ids slots → AreEntriesOf slots l os → (id : ℕ) → HasLiteral (content_at slots es) l id → (o : Option ℕ) → place_of es id ≡ o → Contains (ids_at ids (live_places slots os)) id
+lent_at slots es ids l os a x id h None e = absurd (none_is_not_some h.0 (fin.get (content_at slots es) id) (got_none slots es id e) h.1)
+lent_at slots es ids l os a x id h (Some k) e =
+    let ns = x.0 in
+    let there : get_or slots k None ≡ Some h.0 = got slots es ids id k a e ∙ h.1 in
+    let low : k < length ns = omega (arith, below slots k h.0 there, x.1.count) in
+    let same : constraint_at ns k ≡ h.0 = x.1.same k h.0 there in
+    let live = there_live slots l 0 ns k k (omega arith) (low, ap (λ (o : Option NormalConstraint). is_some o) there, subst (λ (c : NormalConstraint). 0 < coefficient_of c l) (sym same) h.2) in
+    let in_list = subst (λ (ys : List Occurrence). Contains (live_places slots ys) k) (sym x.2) live in
+    subst (λ (i : ℕ). Contains (ids_at ids (live_places slots os)) i) (a.live id k e).2 (mapped_contains (λ k. get_or ids k 0) (live_places slots os) k in_list)
+
+pub lent_exactly : (slots : Slots) (es : Places) (ids : List ℕ) (l : Lit) (os : List Occurrence) → AreNamed es ids slots → AreEntriesOf slots l os → (id : ℕ) → Contains (ids_at ids (live_places slots os)) id ↔ HasLiteral (content_at slots es) l id
+lent_exactly slots es ids l os a x id = (lent_has slots es ids l os a x id, λ h. lent_at slots es ids l os a x id h (place_of es id) refl)
+
+pub lent_once : (slots : Slots) (es : Places) (ids : List ℕ) (l : Lit) (os : List Occurrence) → AreNamed es ids slots → AreEntriesOf slots l os → IsEachOnce (ids_at ids (live_places slots os))
+lent_once slots es ids l os a x = subst (λ (ys : List Occurrence). IsEachOnce (ids_at ids (live_places slots ys))) (sym x.2) (each_once slots es ids l 0 x.0 a)
+
+-- the entries are of places that are there
+pub entries_below : (slots : Slots) (l : Lit) (os : List Occurrence) → AreEntriesOf slots l os → All (λ e. e.place < length slots) os
+entries_below slots l os x =
+    subst (λ (ys : List Occurrence). All (λ e. e.place < length slots) ys) (sym x.2) (places_from l 0 (length slots) x.0 (omega (arith, x.1.count)))
+
+-- one entry after another
+step_live : (slots : Slots) (o : Occurrence) (rest : List Occurrence) (b : Bool) → is_some (get_or slots o.place None) ≡ b → live_places slots (o ∷ rest) ≡ cond b (o.place ∷ live_places slots rest) (live_places slots rest)
+step_live slots o rest b e = ap (λ (d : Bool). cond d (o.place ∷ live_places slots rest) (live_places slots rest)) e
+
+dropped : (os : List Occurrence) (k : ℕ) (d : Occurrence) → k < length os → drop k os ≡ get_or os k d ∷ drop (k + 1) os
+dropped os k d h = drop_more os k d h
+
+pub live_at : (slots : Slots) (os : List Occurrence) (k : ℕ) (d : Occurrence) (b : Bool) → k < length os → is_some (get_or slots (get_or os k d).place None) ≡ b
+    → live_places slots (drop k os) ≡ cond b ((get_or os k d).place ∷ live_places slots (drop (k + 1) os)) (live_places slots (drop (k + 1) os))
+live_at slots os k d b h e = ap (live_places slots) (dropped os k d h) ∙ step_live slots (get_or os k d) (drop (k + 1) os) b e
+
+-- a ledger's list for a literal
+pub entries_are : (slots : Slots) (listing : List Lit) (variables : ℕ) (table : List (List Occurrence)) (counters limits : List ℕ) (l : Lit) (number : ℕ) (os : List Occurrence) → IsLedger slots listing variables table counters limits → number ≡ code l → os ≡ get_or table number [] → AreEntriesOf slots l os
+entries_are slots listing variables table counters limits l number os e named is =
+    (e.indexed, e.slots_are, is ∙ ap (λ (k : ℕ). get_or table k []) named ∙ e.index.entries l)

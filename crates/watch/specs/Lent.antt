@@ -1,0 +1,32 @@
+-- The ids of the constraints that have a literal.
+use Rattle.std.specs.Prelude.{◌≡◌, ℕ, ◌<◌, List, [], ◌∷◌, Option, None, Some, Contains, is_some, if◌then◌else◌, map, slice_index_or}
+use Rattle.std.specs.FinMap as fin
+use Rattle.linear.specs.declared.term.Lit.{Lit}
+use Rattle.normal_form.specs.Normal.{NormalConstraint}
+use Rattle.propagate.specs.Content.{Content}
+use Rattle.propagate.specs.Literals.{coefficient_of}
+use Rattle.watch.specs.declared.occurrence.Occurrence.{Occurrence}
+use Rattle.watch.specs.Ledgers.{AreIndexed}
+use Rattle.watch.specs.Occurrences.{occurrences_of}
+
+-- the constraint of an id has the literal
+abbrev pub HasLiteral : Content → Lit → ℕ → Type 0
+HasLiteral content l id = (n : NormalConstraint) × (fin.get content id ≡ Some n) × (0 < coefficient_of n l)
+
+-- none stands twice
+abbrev pub IsEachOnce : List ℕ → Type 0
+IsEachOnce [] = Unit {0}
+IsEachOnce (k ∷ ks) = (Contains ks k → ⊥) × IsEachOnce ks
+
+-- the places of entries, where a constraint is there
+abbrev pub live_places : List (Option NormalConstraint) → List Occurrence → List ℕ
+live_places slots [] = []
+live_places slots (o ∷ os) = if is_some (slice_index_or slots o.place None) then o.place ∷ live_places slots os else live_places slots os
+
+-- the ids of places
+abbrev pub ids_at : List ℕ → List ℕ → List ℕ
+ids_at ids = map (λ k. slice_index_or ids k 0)
+
+-- the entries of a literal, those of places that are empty among them
+abbrev pub AreEntriesOf : List (Option NormalConstraint) → Lit → List Occurrence → Type 0
+AreEntriesOf slots l os = (indexed : List NormalConstraint) × AreIndexed slots indexed × (os ≡ occurrences_of l 0 indexed)

@@ -1,0 +1,83 @@
+//! The propagator that keeps what it has found: counters, occurrences and the closure from nothing.
+//!
+//! What it answers is what the plain propagator answers, since both meet the one contract. What it keeps between
+//! calls shows in the time alone: a question goes on from what the constraints force from nothing, and costs the
+//! constraints that its literals touch.
+
+use super::database::Database;
+use super::lending::Occurrences;
+use linear::Lit;
+use normal_form::Normal;
+use propagate::{Id, Propagator, Reach, Trace};
+use std::alloc::{AllocError, Global};
+use std::marker::Model;
+
+/// Constraints by their ids, with what they force kept between calls.
+#[derive(Drop)]
+pub struct WatchPropagator {
+    database: Database,
+}
+
+impl Model for WatchPropagator {
+    ghost use Rattle.std.specs.Coded.{coded_ℕ};
+    ghost use Rattle.std.specs.FinMap as map;
+    ghost use Rattle.propagate.specs.Content.{Content};
+    ghost use Rattle.watch.specs.Codes.{constraint_code};
+
+    ghost Value = { Content };
+
+    ghost coded = { map.code coded_ℕ constraint_code };
+
+    ghost view = { λ p. p.database };
+}
+
+impl WatchPropagator {
+    ghost use Rattle.std.specs.Prelude.{◌↔◌, ℕ, Contains};
+    ghost use Rattle.watch.specs.Lent.{HasLiteral, IsEachOnce};
+
+    /// The ids of the constraints that have a literal, each once, from a list that is kept.
+    pub fn occurrences(&self, literal: Lit) -> Occurrences<'_>
+        ensures exactly { (id : ℕ) → Contains result id ↔ HasLiteral self.now literal id }
+        ensures once { IsEachOnce result }
+    {
+        self.database.occurrences(literal)
+    }
+}
+
+impl Propagator for WatchPropagator {
+    ghost content = { λ p. p };
+
+    fn empty(alloc: Global) -> Self {
+        WatchPropagator {
+            database: Database::new(alloc),
+        }
+    }
+
+    fn insert(&mut self, id: Id, constraint: Normal) -> Result<(), AllocError> {
+        self.database.insert(id, constraint)
+    }
+
+    fn remove(&mut self, id: Id) -> Option<Normal> {
+        self.database.remove(id)
+    }
+
+    fn get(&self, id: Id) -> Option<&Normal> {
+        self.database.get(id)
+    }
+
+    fn after(&self, id: Id) -> Option<Id> {
+        self.database.after(id)
+    }
+
+    fn refute(&mut self, extras: &[Normal]) -> Result<bool, AllocError> {
+        self.database.refute(extras)
+    }
+
+    fn extend(&mut self, given: &[Lit]) -> Result<Reach, AllocError> {
+        self.database.extend(given)
+    }
+
+    fn trace(&mut self, given: &[Lit]) -> Result<Trace, AllocError> {
+        self.database.trace(given)
+    }
+}
