@@ -1,3 +1,4 @@
 pub mod Answer
+pub mod Checked
 pub mod Outcome
 pub mod Solution

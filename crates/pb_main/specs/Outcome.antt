@@ -9,16 +9,16 @@ use Rattle.opb_read.specs.declared.fault.OpbCode.TheVariants as codes
 use Rattle.opb_read.specs.declared.fault.OpbFault.{OpbFault}
 use Rattle.kernel.specs.Accepted.{Judgement}
 use Rattle.proof_rules.specs.Claim.{IsSolution}
-use Rattle.proof_rules.specs.Forms.{problem_ids}
+use Rattle.proof_rules.specs.Justified.{IsBest}
 use Rattle.proof_steps.specs.declared.conclusion.Conclusion.TheVariants as conclusions
 use Rattle.proof_steps.specs.declared.conclusion.Lower.TheVariants as lowers
 use Rattle.proof_steps.specs.declared.conclusion.Upper.TheVariants as uppers
-use Rattle.proof_text.specs.ProofSpells.{SpellsProof}
 use Rattle.checker.specs.Headline.{IsTrueOf, IsBadProblem}
 use Rattle.search.specs.Log.{Logbook, IsProof, IsFalling, last_of}
 use Rattle.search.specs.Solving.{IsOpen}
 use Rattle.pb_main.specs.declared.outcome.Outcome.{Outcome}
 use Rattle.pb_main.specs.declared.outcome.Outcome.TheVariants as outcomes
+use Rattle.pb_main.specs.Checked.{IsWritten}
 use Rattle.pb_main.specs.Solution.{NamedValues}
 use Rattle.pb_main.specs.declared.outcome.Unanswered.TheVariants as reasons
 
@@ -36,6 +36,12 @@ pub record IsSolutionOf (p : Opb) (s : NamedValues) : Type 0 where
   pub names : s.names ≡ p.names
   pub solution : IsSolution p s.values
   pub improved : AreImprovedTo p s.values s.improved
+
+-- The best solution of a log, which is worth its least improving value where there is an objective.
+pub record IsBestOf (l : Logbook) (s : NamedValues) : Type 0 where
+  pub solution : IsSolutionOf l.problem s
+  pub best : IsBest l.problem l.state.logged (Some s.values)
+  pub least : MatchOption l.problem.objective ⊤ (λ _. l.state.improve ≡ Some (worth l.problem s.values))
 
 -- These very bytes were accepted as a proof that the solution is worth `v` and none is worth less.
 pub record IsCheckedOptimum (opb proof : List ℕ) (accepted : Judgement) (s : NamedValues) : Type 0 where
@@ -64,7 +70,7 @@ pub record IsStopped (opb proof : List ℕ) (limit : ℕ) : Type 0 where
   pub spelled : Spells opb log.problem
   pub within : IsWithin log.problem
   pub stopped : IsOpen limit log
-  pub written : SpellsProof proof log.problem.names (pos (problem_ids log.problem.constraints)) log.steps log.conclusion
+  pub written : IsWritten log proof
 
 -- the faults of a text that is a problem of some other kind or size
 abbrev pub IsBeyond : OpbCode → Type 0

@@ -2,10 +2,13 @@
 #![tactic(auto)]
 
 mod answer;
+mod deciding;
 mod outcome;
+mod proof;
 mod solution;
 mod writable;
 
 pub use answer::{answer_text, status};
+pub use deciding::{Decided, decide};
 pub use outcome::{Outcome, Unanswered};
 pub use solution::Solution;

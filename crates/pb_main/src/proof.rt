@@ -1,0 +1,59 @@
+//! The proof as bytes, and what the checker says of just these bytes.
+
+ghost use Rattle.std.specs.Prelude.{◌≡◌, ◌≢◌, IfErr, IfOk, IfSome};
+ghost use Rattle.linear.specs.Limits.{IsWithin};
+ghost use Rattle.opb_read.specs.Spells.{Spells};
+ghost use Rattle.search.specs.Log.{IsProof};
+ghost use Rattle.pb_main.specs.Checked.{IsAcceptedOf, IsWritten};
+
+use super::outcome::Unanswered;
+use super::writable::{are_steps_writable, is_conclusion_writable};
+use checker::{Verdict, check};
+use kernel::Accepted;
+use proof_write::write_proof;
+use propagate::Propagator;
+use search::Log;
+use std::alloc::Global;
+
+/// The text of a log's proof, where it can be written and there is memory for it.
+pub(crate) fn proof_of<'a, P: Propagator>(
+    alloc: Global,
+    log: &Log<'a, P>,
+) -> Result<Vec<u8>, Unanswered>
+    ensures legal { IsProof log.now }
+    ensures written { IfOk result (λ proof. IsWritten log.now proof.items) }
+    ensures other { IfErr result (λ why. why ≢ Unanswered.Limit) }
+{
+    let names = log.names();
+    let count = names.len();
+    if !are_steps_writable(count, log.steps()) || !is_conclusion_writable(count, log.conclusion()) {
+        return Err(Unanswered::Unchecked);
+    }
+    let ids = log.kernel().file_ids();
+    match write_proof(alloc, names, ids, log.steps(), log.conclusion()) {
+        Ok(proof) => Ok(proof),
+        Err(_) => Err(Unanswered::Memory),
+    }
+}
+
+/// What the checker accepts, judging the written proof of a log; none where it wants memory. It never refuses: the log's steps
+/// are legal by its type, its conclusion is entitled to, and what is written reads back.
+pub(crate) fn accepted<'a, P: Propagator>(
+    alloc: Global,
+    opb: &[u8],
+    log: &Log<'a, P>,
+    proof: &[u8],
+) -> Option<Accepted>
+    requires spelled { Spells opb.now log.now.problem }
+    requires within { IsWithin log.now.problem }
+    requires legal { IsProof log.now }
+    requires written { IsWritten log.now proof.now }
+    ensures { IfSome result (λ accepted. IsAcceptedOf opb.now proof.now log.now accepted) }
+{
+    match check(alloc, opb, proof) {
+        Verdict::Accepted(accepted) => Some(accepted),
+        Verdict::NoMemory => None,
+        Verdict::Refused { .. } => unreachable!(),
+        Verdict::BadProblem(_) => unreachable!(),
+    }
+}
