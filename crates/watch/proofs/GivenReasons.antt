@@ -26,7 +26,7 @@ some_is_not_none p o e f = cc
 pub given_root : (xs : List Lit) (rs : List (Option ℕ)) (given : List Lit) → length rs ≡ length xs → AllForced rs → AreGiven xs rs given
 given_root xs rs given many f k d low none = absurd (some_is_not_none (get_or f.0 k 0) (get_or rs k None) (reason_at f.0 rs k f.1 (omega (arith, low, many))) none)
 
-given_added : (xs ys : List Lit) (rs ss : List (Option ℕ)) (given : List Lit) → length rs ≡ length xs → AreGiven xs rs given → Within (among ys) (among given) → AreGiven (xs ++ ys) (rs ++ ss) given
+pub given_added : (xs ys : List Lit) (rs ss : List (Option ℕ)) (given : List Lit) → length rs ≡ length xs → AreGiven xs rs given → Within (among ys) (among given) → AreGiven (xs ++ ys) (rs ++ ss) given
 given_added xs ys rs ss given many a h k d low none = elim (cases_lt k (length xs)) [
   | inl first ↦
       ap (λ (l : Lit). lists given l) (get_or_append_left xs ys d k first)
@@ -37,7 +37,7 @@ given_added xs ys rs ss given many a h k d low none = elim (cases_lt k (length x
       ∙ h (l.var.0) l.negated (listed_at ys (k - length xs) d (omega (arith, low, later, length-append xs ys)))
 ]
 
-given_walked : (xs ys : List Lit) (rs : List (Option ℕ)) (places : List ℕ) (given : List Lit) → length rs ≡ length xs → length (rs ++ map Some places) ≡ length (xs ++ ys) → AreGiven xs rs given → AreGiven (xs ++ ys) (rs ++ map Some places) given
+pub given_walked : (xs ys : List Lit) (rs : List (Option ℕ)) (places : List ℕ) (given : List Lit) → length rs ≡ length xs → length (rs ++ map Some places) ≡ length (xs ++ ys) → AreGiven xs rs given → AreGiven (xs ++ ys) (rs ++ map Some places) given
 given_walked xs ys rs places given many all a k d low none = elim (cases_lt k (length xs)) [
   | inl first ↦
       ap (λ (l : Lit). lists given l) (get_or_append_left xs ys d k first)
@@ -73,7 +73,7 @@ clash_end given listing None b e f end = absurd (false≢true (sym e ∙ f))
 clash_end given listing (Some l) b e f end = (l, end.0, end.1)
 
 -- given literals that are looked up
-take_within : (xs : List Lit) (k : ℕ) → Within (among (take k xs)) (among xs)
+pub take_within : (xs : List Lit) (k : ℕ) → Within (among (take k xs)) (among xs)
 take_within [] zero v s h = h
 take_within [] (suc k) v s h = h
 take_within (x ∷ xs) zero v s h = absurd (false≢true h)

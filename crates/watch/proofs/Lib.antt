@@ -24,3 +24,5 @@ pub mod LiveContent
 pub mod NamedChains
 pub mod MadeAnew
 pub mod LentIds
+pub mod KeptLevels
+pub mod Ascents

@@ -1,6 +1,8 @@
 //! Constraints by place, with what they force from nothing kept between calls.
 //!
 //! A closure from nothing only grows as constraints come in, and a question beside extra constraints goes on from it.
+//! Above it stand the literals that were given last, with what they force: a listing that begins as that one goes on
+//! from where they part, and a question without given literals takes them back.
 //! It is found when something is asked: a constraint that comes in only waits, so that reading a database costs no
 //! walk. A constraint that goes takes with it what was found by way of it and after that, and nothing else. Its place
 //! stays empty, and its entries in the lists of literals stay and cost a little, until the places are made anew.
@@ -16,14 +18,16 @@ ghost use Rattle.watch.specs.Lent.{AreEntriesOf};
 ghost use Rattle.watch.specs.Steps.{IsFound};
 
 use super::chain::Chain;
-use super::extension::reach_beside;
+use super::extension::reach_over;
 use super::extras::attach_waiting;
+use super::following::go_back;
 use super::ledger::Ledger;
+use super::levels::Levels;
 use super::occurrence::Occurrence;
 use super::queue::Queue;
-use super::refutation::{decide, refute_beside};
+use super::refutation::refute_anew;
 use super::release::release;
-use super::tracing::chain_beside;
+use super::tracing::chain_over;
 use linear::Lit;
 use normal_form::Normal;
 use propagate::Reach;
@@ -35,19 +39,20 @@ use std::marker::Model;
 pub(crate) struct Closure {
     ledger: Ledger,
     queue: Queue,
+    levels: Levels,
     alloc: Global,
 }
 
 impl Model for Closure {
     ghost use Rattle.std.specs.Prelude.{List, Option};
     ghost use Rattle.normal_form.specs.Normal.{NormalConstraint};
-    ghost use Rattle.watch.specs.Roots.{IsRoot};
+    ghost use Rattle.watch.specs.Keeping.{IsKept};
 
     ghost Value = { List (Option NormalConstraint) };
 
     ghost view = { λ c. c.ledger.slots };
 
-    ghost invariant = { λ c. IsRoot c.ledger c.queue.0 c.queue.1 };
+    ghost invariant = { λ c. IsKept c.ledger c.levels c.queue.0 c.queue.1 };
 }
 
 impl Closure {
@@ -58,6 +63,7 @@ impl Closure {
         Closure {
             ledger: Ledger::new(alloc),
             queue: Queue::new(alloc),
+            levels: Levels::new(alloc),
             alloc,
         }
     }
@@ -104,10 +110,11 @@ impl Closure {
         ensures slots { self.new ≡ self.old }
         ensures value { IfOk result (λ yes. IsTrue yes ↔ IsRefuted (shown self.old ++ extras.now)) }
     {
-        if decide(&mut self.ledger, &mut self.queue) {
-            return Ok(true);
-        }
-        refute_beside(self.alloc, &mut self.ledger, &mut self.queue, extras)
+        go_back(&mut self.ledger, &mut self.queue, &mut self.levels, 0);
+        let _literals = self.ledger.len();
+        let answer = refute_anew(self.alloc, &mut self.ledger, &mut self.queue, extras);
+        let _left = self.ledger.len();
+        answer
     }
 
     /// What a listing extends to: `Conflict` exactly where it has a literal and its opposite or a chain from it leads
@@ -116,10 +123,13 @@ impl Closure {
         ensures slots { self.new ≡ self.old }
         ensures value { IfOk result (IsReach (shown self.old) given.now) }
     {
-        if decide(&mut self.ledger, &mut self.queue) {
-            return Ok(Reach::Conflict);
-        }
-        reach_beside(self.alloc, &mut self.ledger, &mut self.queue, given)
+        reach_over(
+            self.alloc,
+            &mut self.ledger,
+            &mut self.queue,
+            &mut self.levels,
+            given,
+        )
     }
 
     /// Takes the constraint of a place out, if there is one. The place stays.
@@ -128,7 +138,10 @@ impl Closure {
         ensures value { result ≡ slice_index_or self.old place None }
         ensures slots { self.new ≡ slice_set self.old place None }
     {
+        go_back(&mut self.ledger, &mut self.queue, &mut self.levels, 0);
+        let _literals = self.ledger.len();
         release(&mut self.ledger, &mut self.queue, place);
+        let _left = self.ledger.len();
         self.ledger.take_out(place)
     }
 
@@ -138,6 +151,12 @@ impl Closure {
         ensures slots { self.new ≡ self.old }
         ensures value { IfOk result (IsFound (shown self.old) given.now) }
     {
-        chain_beside(self.alloc, &mut self.ledger, &mut self.queue, given)
+        chain_over(
+            self.alloc,
+            &mut self.ledger,
+            &mut self.queue,
+            &mut self.levels,
+            given,
+        )
     }
 }

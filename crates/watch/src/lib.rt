@@ -1,15 +1,18 @@
 //! A propagator that is fast: it keeps what it has found between calls, and a call costs what it touches.
 #![tactic(auto)]
 
+mod ascent;
 mod chain;
 mod closure;
 mod database;
 mod entry_lists;
 mod extension;
 mod extras;
+mod following;
 mod giving;
 mod ledger;
 mod lending;
+mod levels;
 mod lowering;
 mod measures;
 mod naming;

@@ -18,8 +18,8 @@ use super::walk::{settle, undo};
 use normal_form::Normal;
 use std::alloc::{AllocError, Global};
 
-/// Whether the constraints are refuted. What they force from nothing is then found.
-pub(crate) fn decide(ledger: &mut Ledger, queue: &mut Queue) -> bool
+// Whether the constraints are refuted. What they force from nothing is then found.
+fn decide(ledger: &mut Ledger, queue: &mut Queue) -> bool
     requires { IsRoot ledger.old queue.old.0 queue.old.1 }
     ensures value { IsTrue result ↔ IsRefuted (shown ledger.old.slots) }
     ensures goes_on { GoesOn ledger.old ledger.new }
@@ -50,8 +50,8 @@ fn decide_beside(
     Ok(decide(ledger, queue))
 }
 
-/// Whether settled constraints are refuted beside others. What stood before stands again.
-pub(crate) fn refute_beside(
+// Whether settled constraints are refuted beside others. What stood before stands again.
+fn refute_beside(
     alloc: Global,
     ledger: &mut Ledger,
     queue: &mut Queue,
@@ -70,4 +70,22 @@ pub(crate) fn refute_beside(
     detach_from(ledger, count);
     queue.clear(count);
     answer
+}
+
+/// Whether the constraints are refuted beside others. What they force from nothing is then found.
+pub(crate) fn refute_anew(
+    alloc: Global,
+    ledger: &mut Ledger,
+    queue: &mut Queue,
+    extras: &[Normal],
+) -> Result<bool, AllocError>
+    requires { IsRoot ledger.old queue.old.0 queue.old.1 }
+    ensures slots { ledger.new.slots ≡ ledger.old.slots }
+    ensures root { IsRoot ledger.new queue.new.0 queue.new.1 }
+    ensures value { IfOk result (λ yes. IsTrue yes ↔ IsRefuted (shown ledger.old.slots ++ extras.now)) }
+{
+    if decide(ledger, queue) {
+        return Ok(true);
+    }
+    refute_beside(alloc, ledger, queue, extras)
 }

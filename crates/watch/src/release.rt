@@ -19,13 +19,33 @@ fn take_back_one(ledger: &mut Ledger, queue: &mut Queue)
     requires count { queue.old.1 ≡ length ledger.old.slots }
     requires looked_at { AreLookedAt (shown ledger.old.slots) ledger.old.listing queue.old.0 }
     ensures slots { ledger.new.slots ≡ ledger.old.slots }
+    ensures variables { ledger.new.variables ≡ ledger.old.variables }
     ensures literals { length ledger.new.listing ≡ length ledger.old.listing - 1 }
+    ensures listing { ledger.new.listing ≡ take (length ledger.new.listing) ledger.old.listing }
     ensures reasons { ledger.new.reasons ≡ take (length ledger.new.listing) ledger.old.reasons }
     ensures count { queue.new.1 ≡ queue.old.1 }
     ensures looked_at { AreLookedAt (shown ledger.old.slots) ledger.new.listing queue.new.0 }
 {
     if let Some(literal) = ledger.take_back() {
         ledger.queue_places(literal, queue);
+    }
+}
+
+/// Takes all literals but the first ones back, and queues the constraints that may force one of them.
+pub(crate) fn take_back_to(ledger: &mut Ledger, queue: &mut Queue, count: usize)
+    requires count { count ≤ length ledger.old.listing }
+    requires places { queue.old.1 ≡ length ledger.old.slots }
+    requires looked_at { AreLookedAt (shown ledger.old.slots) ledger.old.listing queue.old.0 }
+    ensures slots { ledger.new.slots ≡ ledger.old.slots }
+    ensures variables { ledger.new.variables ≡ ledger.old.variables }
+    ensures listing { ledger.new.listing ≡ take count ledger.old.listing }
+    ensures reasons { ledger.new.reasons ≡ take count ledger.old.reasons }
+    ensures places { queue.new.1 ≡ queue.old.1 }
+    ensures looked_at { AreLookedAt (shown ledger.old.slots) ledger.new.listing queue.new.0 }
+{
+    let _literals = ledger.len();
+    while ledger.len() > count {
+        take_back_one(ledger, queue);
     }
 }
 
@@ -53,7 +73,5 @@ pub(crate) fn release(ledger: &mut Ledger, queue: &mut Queue, place: usize)
         → slice_index_or ledger.new.reasons k None ≡ Some place → ⊥ }
 {
     let count = count_before(ledger, place);
-    while ledger.len() > count {
-        take_back_one(ledger, queue);
-    }
+    take_back_to(ledger, queue, count);
 }

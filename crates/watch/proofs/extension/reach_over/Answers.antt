@@ -1,10 +1,41 @@
--- The literals are copied.
-use Rattle.std.proofs.Common.{◌∙◌}
-use Rattle.watch.specs.Ledgers.{shown}
+-- What is there is what chains from what is given lead to.
+use Rattle.std.proofs.Common.{◌∙◌, List, Option, subst, sym}
+use Rattle.std.proofs.lemmas.Bool.{false≢true}
+use Rattle.normal_form.specs.Normal.{NormalConstraint}
+use Rattle.watch.specs.Keeping.{IsAscent}
+use Rattle.watch.specs.Ledgers.{AreReasons, shown}
+use Rattle.watch.proofs.Ascents.{no_way, whole_end}
 use Rattle.watch.proofs.GivenOnes.{reach_of}
+use Rattle.watch.proofs.KeptLevels.{kept_wider}
 use Rattle.watch.proofs.extension.reach_over.Goals as goal
+
+pub returns-in_err-widen-clause-kept : goal.returns-in_err-widen-clause-kept
+returns-in_err-widen-clause-kept c =
+    let e = c.widen.ensures in
+    kept_wider c.args.ledger.now c.widen.new.self c.args.levels.now c.args.queue.now.0 c.args.queue.now.1 e.slots e.listing e.reasons c.requires.kept
+
+pub follow-requires-clause-kept : goal.follow-requires-clause-kept
+follow-requires-clause-kept c =
+    let e = c.widen.ensures in
+    kept_wider c.args.ledger.now c.widen.new.self c.args.levels.now c.args.queue.now.0 c.args.queue.now.1 e.slots e.listing e.reasons c.requires.kept
+
+pub returns-then-not-is_whole-clause-value : goal.returns-then-not-is_whole-clause-value
+returns-then-not-is_whole-clause-value c =
+    let old = c.args.ledger.now in
+    let new = c.follow.new.ledger in
+    let f = c.in_ok-ascent.ensures in
+    let a = c.in_ok-ascent.ascent in
+    let end = subst (λ (os : List (Option NormalConstraint)). IsAscent (shown os) c.args.given.now new.listing a) c.widen.ensures.slots f.end in
+    let reasons = subst (λ (os : List (Option NormalConstraint)). AreReasons (shown os) new.listing new.reasons) (f.slots ∙ c.widen.ensures.slots) c.len-literals.ensures.reasons in
+    no_way (shown old.slots) new.listing new.reasons c.args.given.now a reasons f.given (λ e. false≢true (sym c.if-not-is_whole.true ∙ c.is_whole.ensures.1 e)) end
 
 pub returns-clause-value : goal.returns-clause-value
 returns-clause-value c =
-    reach_of (shown c.args.ledger.now.slots) c.args.given.now c.goes_through.new.ledger.listing c.from_vec.result (c.from_vec.ensures ∙ c.in_ok-from_slice.ensures.items ∙ c.literals.ensures.listing)
-    (c.goes_through.ensures.yes c.if-not-goes_through.false) c.literals.ensures.once c.literals.ensures.consistent
+    let old = c.args.ledger.now in
+    let new = c.follow.new.ledger in
+    let f = c.in_ok-ascent.ensures in
+    let whole = c.is_whole.ensures.0 c.if-not-is_whole.false in
+    let end = subst (λ (os : List (Option NormalConstraint)). IsAscent (shown os) c.args.given.now new.listing c.in_ok-ascent.ascent) c.widen.ensures.slots f.end in
+    let reasons = subst (λ (os : List (Option NormalConstraint)). AreReasons (shown os) new.listing new.reasons) (f.slots ∙ c.widen.ensures.slots) c.len-literals.ensures.reasons in
+    let is = whole_end (shown old.slots) new.listing new.reasons c.args.given.now reasons f.given (subst (IsAscent (shown old.slots) c.args.given.now new.listing) whole end) in
+    reach_of (shown old.slots) c.args.given.now new.listing c.from_vec.result (c.from_vec.ensures ∙ c.in_ok-from_slice.ensures.items ∙ c.literals.ensures.listing) is c.literals.ensures.once c.literals.ensures.consistent

@@ -2,12 +2,14 @@
 use Rattle.std.proofs.Common.{◌≡◌, ◌≤◌, length, take}
 use Rattle.watch.specs.Ledgers.{shown}
 use Rattle.watch.specs.Looking.{AreLookedAt}
-use Rattle.watch.proofs.release.release.Given as goal
+use Rattle.watch.proofs.release.take_back_to.Given as goal
 
 abbrev pub invariant-loop-ledger : goal.invariant-loop-ledger
 invariant-loop-ledger l = record {
   slots : l.ledger.slots ≡ l.initial.ledger.slots;
+  variables : l.ledger.variables ≡ l.initial.ledger.variables;
   count : l.queue.1 ≡ l.initial.queue.1;
+  listing : l.ledger.listing ≡ take (length l.ledger.listing) l.initial.ledger.listing;
   reasons : l.ledger.reasons ≡ take (length l.ledger.listing) l.initial.ledger.reasons;
   long : l.count ≤ length l.ledger.listing;
   looked_at : AreLookedAt (shown l.initial.ledger.slots) l.ledger.listing l.queue.0;

@@ -1,0 +1,21 @@
+-- What is forced stands above the levels.
+use Rattle.watch.proofs.KeptLevels.{kept_settled, top_has}
+use Rattle.watch.proofs.following.settle_kept.Goals as goal
+
+pub returns-in-Some-clause-kept : goal.returns-in-Some-clause-kept
+returns-in-Some-clause-kept c levels k =
+    let s = c.settle-broken.ensures in
+    kept_settled c.args.ledger.now c.settle-broken.new.ledger levels c.args.queue.now.0 c.settle-broken.new.queue.0 c.args.queue.now.1 c.settle-broken.new.queue.1 c.len-before.ensures.reasons.as_many c.len-behind.ensures.reasons.as_many s.goes_on s.count s.looked_at k
+
+pub returns-in-None-clause-kept : goal.returns-in-None-clause-kept
+returns-in-None-clause-kept c levels k =
+    let s = c.settle-broken.ensures in
+    kept_settled c.args.ledger.now c.settle-broken.new.ledger levels c.args.queue.now.0 c.settle-broken.new.queue.0 c.args.queue.now.1 c.settle-broken.new.queue.1 c.len-before.ensures.reasons.as_many c.len-behind.ensures.reasons.as_many s.goes_on s.count s.looked_at k
+
+pub returns-in-None-clause-end : goal.returns-in-None-clause-end
+returns-in-None-clause-end c levels k =
+    let old = c.args.ledger.now in
+    let new = c.settle-broken.new.ledger in
+    let s = c.settle-broken.ensures in
+    let kept = kept_settled old new levels c.args.queue.now.0 c.settle-broken.new.queue.0 c.args.queue.now.1 c.settle-broken.new.queue.1 c.len-before.ensures.reasons.as_many c.len-behind.ensures.reasons.as_many s.goes_on s.count s.looked_at k in
+    (top_has new.listing new.reasons levels.0 levels.1 kept.levels_are, (c.in-None.ensures.end).1)

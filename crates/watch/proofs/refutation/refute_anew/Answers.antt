@@ -1,0 +1,10 @@
+-- What is refuted by itself is refuted beside others.
+use Rattle.std.proofs.Common.{refl}
+use Rattle.watch.proofs.Deciding.{refuted_beside}
+use Rattle.watch.proofs.refutation.refute_anew.Goals as goal
+
+pub returns-then-decide-clause-value : goal.returns-then-decide-clause-value
+returns-then-decide-clause-value c = (
+  λ _. refuted_beside c.args.ledger.now.slots c.args.ledger.now.slots c.args.extras.now refl (c.decide.ensures.value.0 c.if-decide.true),
+  λ _. refl,
+)

@@ -1,0 +1,23 @@
+//! Where a way up over given literals ends.
+
+ghost use Rattle.std.specs.Prelude.{◌≡◌, ◌↔◌, IsTrue};
+
+/// All are there and all is settled, or a constraint is broken, or the opposite of a literal is there.
+#[derive(Clone, Copy, Debug)]
+pub(crate) enum Ascent {
+    Whole,
+    Broken(usize),
+    Clash,
+}
+
+impl Ascent {
+    /// Whether all are there, and all is settled.
+    pub(crate) fn is_whole(self) -> bool
+        ensures { IsTrue result ↔ (self ≡ Ascent.Whole) }
+    {
+        match self {
+            Ascent::Whole => true,
+            Ascent::Broken(_) | Ascent::Clash => false,
+        }
+    }
+}

@@ -1,0 +1,157 @@
+//! Given literals, followed from where a listing parts from the one before.
+//!
+//! Literals above that are taken back with what they forced, and each constraint that they leave to force something
+//! waits again; the others are given one by one, each with what it forces. So what is kept never depends on what a
+//! listing had in place of another.
+
+ghost use Rattle.std.specs.Prelude.{◌≡◌, ◌<◌, ◌≤◌, ◌⊎◌, ◌++◌, ◌∷◌, [], ℕ, List, false, All, IfOk, OnErr, OnOk, length, take};
+ghost use Rattle.linear.specs.declared.term.Lit.{Lit};
+ghost use Rattle.propagate.specs.Literals.{lists, opposite};
+ghost use Rattle.watch.specs.Looking.{AreLookedAt};
+ghost use Rattle.watch.specs.Keeping.{IsAscent, IsKept};
+ghost use Rattle.watch.specs.Ledgers.{shown};
+ghost use Rattle.watch.specs.Steps.{AreGiven};
+ghost use Rattle.propagate.specs.Chain.{IsSettled};
+
+use super::ascent::Ascent;
+use super::giving::give;
+use super::ledger::Ledger;
+use super::levels::Levels;
+use super::occurrence::opposite_of;
+use super::queue::Queue;
+use super::release::take_back_to;
+use super::walk::settle;
+use linear::Lit;
+use std::alloc::AllocError;
+
+/// Takes back what stands above the first levels.
+pub(crate) fn go_back(ledger: &mut Ledger, queue: &mut Queue, levels: &mut Levels, level: usize)
+    requires kept { IsKept ledger.old levels.old queue.old.0 queue.old.1 }
+    requires level { level ≤ length levels.old.0 }
+    ensures slots { ledger.new.slots ≡ ledger.old.slots }
+    ensures variables { ledger.new.variables ≡ ledger.old.variables }
+    ensures levels { levels.new ≡ (take level levels.old.0, take level levels.old.1) }
+    ensures kept { IsKept ledger.new levels.new queue.new.0 queue.new.1 }
+{
+    let end = ledger.len();
+    take_back_to(ledger, queue, levels.height(level, end));
+    levels.truncate(level);
+}
+
+// Adds what is forced, up to a constraint that is broken, whatever levels there are.
+fn settle_kept(ledger: &mut Ledger, queue: &mut Queue) -> Ascent
+    requires count { queue.old.1 ≡ length ledger.old.slots }
+    requires looked_at { AreLookedAt (shown ledger.old.slots) ledger.old.listing queue.old.0 }
+    ensures slots { ledger.new.slots ≡ ledger.old.slots }
+    ensures variables { ledger.new.variables ≡ ledger.old.variables }
+    ensures kept { (levels : List Lit × List ℕ) → IsKept ledger.old levels queue.old.0 queue.old.1
+        → IsKept ledger.new levels queue.new.0 queue.new.1 }
+    ensures end { (levels : List Lit × List ℕ) → IsKept ledger.old levels queue.old.0 queue.old.1
+        → IsAscent (shown ledger.old.slots) levels.0 ledger.new.listing result }
+{
+    let _before = ledger.len();
+    let broken = settle(ledger, queue);
+    let _behind = ledger.len();
+    match broken {
+        Some(place) => Ascent::Broken(place),
+        None => Ascent::Whole,
+    }
+}
+
+// One level more, where the opposite of its literal is not there.
+fn open_level(
+    ledger: &mut Ledger,
+    queue: &mut Queue,
+    levels: &mut Levels,
+    literal: Lit,
+) -> Result<(), AllocError>
+    requires kept { IsKept ledger.old levels.old queue.old.0 queue.old.1 }
+    requires variable { literal.var.0 < ledger.old.variables }
+    requires free { lists ledger.old.listing (opposite literal) ≡ false }
+    ensures slots { ledger.new.slots ≡ ledger.old.slots }
+    ensures variables { ledger.new.variables ≡ ledger.old.variables }
+    ensures levels { OnOk result (levels.new.0 ≡ levels.old.0 ++ literal ∷ []) }
+    ensures no_levels { OnErr result (levels.new ≡ levels.old) }
+    ensures kept { IsKept ledger.new levels.new queue.new.0 queue.new.1 }
+{
+    levels.push(literal, ledger.len())?;
+    give(ledger, queue, literal);
+    let _behind = ledger.len();
+    Ok(())
+}
+
+// Gives one literal more, with what is forced then.
+fn step_up(
+    ledger: &mut Ledger,
+    queue: &mut Queue,
+    levels: &mut Levels,
+    literal: Lit,
+) -> Result<Ascent, AllocError>
+    requires kept { IsKept ledger.old levels.old queue.old.0 queue.old.1 }
+    requires variable { literal.var.0 < ledger.old.variables }
+    ensures slots { ledger.new.slots ≡ ledger.old.slots }
+    ensures variables { ledger.new.variables ≡ ledger.old.variables }
+    ensures levels { (levels.new.0 ≡ levels.old.0) ⊎ (levels.new.0 ≡ levels.old.0 ++ literal ∷ []) }
+    ensures kept { IsKept ledger.new levels.new queue.new.0 queue.new.1 }
+    ensures end { IfOk result (IsAscent (shown ledger.old.slots) (levels.old.0 ++ literal ∷ []) ledger.new.listing) }
+    ensures whole { IfOk result (λ a. a ≡ Ascent.Whole → levels.new.0 ≡ levels.old.0 ++ literal ∷ []) }
+{
+    if ledger.has(opposite_of(literal)) {
+        return Ok(Ascent::Clash);
+    }
+    open_level(ledger, queue, levels, literal)?;
+    Ok(settle_kept(ledger, queue))
+}
+
+// Gives the literals of a listing that are still to come.
+fn climb(
+    ledger: &mut Ledger,
+    queue: &mut Queue,
+    levels: &mut Levels,
+    given: &[Lit],
+) -> Result<Ascent, AllocError>
+    requires kept { IsKept ledger.old levels.old queue.old.0 queue.old.1 }
+    requires variables { All (λ l. l.var.0 < ledger.old.variables) given.now }
+    requires short { length levels.old.0 ≤ length given.now }
+    requires first { levels.old.0 ≡ take (length levels.old.0) given.now }
+    requires settled { IsSettled (shown ledger.old.slots) ledger.old.listing }
+    ensures slots { ledger.new.slots ≡ ledger.old.slots }
+    ensures variables { ledger.new.variables ≡ ledger.old.variables }
+    ensures first { levels.new.0 ≡ take (length levels.new.0) given.now }
+    ensures kept { IsKept ledger.new levels.new queue.new.0 queue.new.1 }
+    ensures end { IfOk result (IsAscent (shown ledger.old.slots) given.now ledger.new.listing) }
+{
+    for index in levels.count()..given.len() {
+        let ascent = step_up(ledger, queue, levels, given[index])?;
+        if !ascent.is_whole() {
+            return Ok(ascent);
+        }
+    }
+    Ok(Ascent::Whole)
+}
+
+/// Gives the literals of a listing, from where it parts from the one before.
+pub(crate) fn follow(
+    ledger: &mut Ledger,
+    queue: &mut Queue,
+    levels: &mut Levels,
+    given: &[Lit],
+) -> Result<Ascent, AllocError>
+    requires kept { IsKept ledger.old levels.old queue.old.0 queue.old.1 }
+    requires variables { All (λ l. l.var.0 < ledger.old.variables) given.now }
+    ensures slots { ledger.new.slots ≡ ledger.old.slots }
+    ensures variables { ledger.new.variables ≡ ledger.old.variables }
+    ensures kept { IsKept ledger.new levels.new queue.new.0 queue.new.1 }
+    ensures given { AreGiven ledger.new.listing ledger.new.reasons given.now }
+    ensures end { IfOk result (IsAscent (shown ledger.old.slots) given.now ledger.new.listing) }
+{
+    go_back(ledger, queue, levels, levels.agreement(given));
+    let ascent = settle_kept(ledger, queue);
+    let _literals = ledger.len();
+    if !ascent.is_whole() {
+        return Ok(ascent);
+    }
+    let answer = climb(ledger, queue, levels, given);
+    let _behind = ledger.len();
+    answer
+}
