@@ -8,10 +8,14 @@
 
 mod brancher;
 pub mod cases;
+mod clause;
+mod descent;
+mod endings;
 mod found;
 pub mod laws;
 mod log;
 mod solver;
+mod values;
 
 pub use brancher::{Brancher, First, Value};
 pub use found::{Found, Unfinished};
