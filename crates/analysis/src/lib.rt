@@ -11,8 +11,13 @@
 #![tactic(auto)]
 
 mod analysis;
+mod biting;
+mod derivation;
 mod entry;
 mod learned;
+mod slack;
+mod spot;
+mod standing;
 
 pub use analysis::analyse;
 pub use entry::Entry;

@@ -1,0 +1,110 @@
+//! A constraint and the items of the `pol` line that derives it, changed by one rule at a time.
+//!
+//! Each rule puts its item at the end, and so whatever the walk does, it has in its hands a line that derives what it has.
+//! Which rules it takes is a matter of use alone.
+
+ghost use Rattle.std.specs.Prelude.{IfOk};
+ghost use Rattle.proof_rules.specs.Expression.{Given, IsPostfixOf};
+
+use cut_rules::{add, divide, multiply, saturate, weaken};
+use linear::Var;
+use normal_form::{CutFault, Normal};
+use proof_steps::Item;
+use propagate::Id;
+use std::alloc::Global;
+
+/// A constraint, and the items that write an expression whose value it is.
+#[derive(Debug, Drop)]
+pub(crate) struct Derivation {
+    pub(crate) items: Vec<Item>,
+    pub(crate) constraint: Normal,
+}
+
+impl Derivation {
+    ghost use Rattle.std.specs.Prelude.{◌≡◌, Some, IfOk, pos};
+    ghost use Rattle.proof_rules.specs.Expression.{Given, IsPostfixOf};
+
+    /// The constraint of an id.
+    pub(crate) fn cited(alloc: Global, id: Id, constraint: &Normal) -> Result<Self, CutFault>
+        ensures { (given : Given) → given (pos id) ≡ Some constraint.now
+            → IfOk result (λ d. IsPostfixOf given d.items.items d.constraint) }
+    {
+        let mut items = Vec::new(alloc);
+        items.push(Item::Id(i128::from(id)))?;
+        Ok(Derivation {
+            items,
+            constraint: constraint.copy(alloc)?,
+        })
+    }
+
+    /// The same without a variable.
+    pub(crate) fn weakened(self, alloc: Global, var: Var) -> Result<Self, CutFault>
+        ensures { (given : Given) → IsPostfixOf given self.items.items self.constraint
+            → IfOk result (λ d. IsPostfixOf given d.items.items d.constraint) }
+    {
+        let Derivation {
+            mut items,
+            constraint,
+        } = self;
+        items.push(Item::Weaken(var))?;
+        let constraint = weaken(alloc, &constraint, var)?;
+        Ok(Derivation { items, constraint })
+    }
+
+    /// Its quotient, rounded up.
+    pub(crate) fn divided(self, alloc: Global, divisor: i128) -> Result<Self, CutFault>
+        ensures { (given : Given) → IsPostfixOf given self.items.items self.constraint
+            → IfOk result (λ d. IsPostfixOf given d.items.items d.constraint) }
+    {
+        let Derivation {
+            mut items,
+            constraint,
+        } = self;
+        items.push(Item::Divide(divisor))?;
+        let constraint = divide(alloc, &constraint, divisor)?;
+        Ok(Derivation { items, constraint })
+    }
+
+    /// Its multiple.
+    pub(crate) fn multiplied(self, alloc: Global, factor: i128) -> Result<Self, CutFault>
+        ensures { (given : Given) → IsPostfixOf given self.items.items self.constraint
+            → IfOk result (λ d. IsPostfixOf given d.items.items d.constraint) }
+    {
+        let Derivation {
+            mut items,
+            constraint,
+        } = self;
+        items.push(Item::Multiply(factor))?;
+        let constraint = multiply(alloc, &constraint, factor)?;
+        Ok(Derivation { items, constraint })
+    }
+
+    /// The same with no coefficient above the degree.
+    pub(crate) fn saturated(self, alloc: Global) -> Result<Self, CutFault>
+        ensures { (given : Given) → IsPostfixOf given self.items.items self.constraint
+            → IfOk result (λ d. IsPostfixOf given d.items.items d.constraint) }
+    {
+        let Derivation {
+            mut items,
+            constraint,
+        } = self;
+        items.push(Item::Saturate)?;
+        let constraint = saturate(alloc, &constraint)?;
+        Ok(Derivation { items, constraint })
+    }
+
+    /// The sum with another.
+    pub(crate) fn plus(self, alloc: Global, other: Derivation) -> Result<Self, CutFault>
+        ensures { (given : Given) → IsPostfixOf given self.items.items self.constraint → IsPostfixOf given other.items.items other.constraint
+            → IfOk result (λ d. IsPostfixOf given d.items.items d.constraint) }
+    {
+        let Derivation {
+            mut items,
+            constraint,
+        } = self;
+        items.extend_from_slice(&other.items)?;
+        items.push(Item::Add)?;
+        let constraint = add(alloc, &constraint, &other.constraint)?;
+        Ok(Derivation { items, constraint })
+    }
+}
