@@ -1,11 +1,11 @@
 -- One more item on the text of an expression, or two texts and `+`.
-use Rattle.std.proofs.Common.{◌≡◌, ℤ, pos, ◌<ℤ◌, List, [], ◌∷◌, ◌++◌, unsigned_abs, Some, refl, ap, sym, ◌∙◌}
+use Rattle.std.proofs.Common.{◌≡◌, ℤ, pos, ◌<ℤ◌, List, [], ◌∷◌, ◌++◌, unsigned_abs, Some, ap, sym, ◌∙◌}
 use Rattle.linear.specs.declared.term.Var.{Var}
 use Rattle.normal_form.specs.Normal.{NormalConstraint, Fits}
 use Rattle.cut_rules.specs.Rules.{IsSum, IsMultiple, IsQuotient, IsSaturation, IsWeakening}
 use Rattle.proof_steps.specs.declared.step.Item.{Item}
 use Rattle.proof_steps.specs.declared.step.Item.TheVariants as items
-use Rattle.proof_rules.specs.Expression.{Given, Expression, cited, sum, multiple, quotient, saturated, weakened, postfix, HasValue, IsPostfixOf}
+use Rattle.proof_rules.specs.Expression.{Given, cited, sum, multiple, quotient, saturated, weakened, postfix, IsPostfixOf}
 
 pub cites : (given : Given) (written : List Item) (id : ℤ) (n r : NormalConstraint) → written ≡ items.Id id ∷ [] → r ≡ n → given id ≡ Some n → IsPostfixOf given written r
 cites given written id n r e same is = (cited id, sym e, is ∙ ap Some (sym same))

@@ -7,6 +7,9 @@ ghost use Rattle.analysis.specs.Biting.{BitesAt, greatest_level};
 
 use super::entry::Entry;
 use super::learned::Learned;
+use super::standing::Standing;
+use super::stop::Stop;
+use super::walk::walk;
 use kernel::Kernel;
 use propagate::{Id, Propagator};
 use std::alloc::{AllocError, Global};
@@ -24,5 +27,12 @@ pub fn analyse<'a, P: Propagator>(
     ensures biting { IfOk result (λ found. IfSome found (λ l. BitesAt trail.now l.level l.constraint)) }
     ensures lower { IfOk result (λ found. IfSome found (λ l. l.level < greatest_level trail.now)) }
 {
-    Ok(None)
+    let Some(standing) = Standing::of(alloc, trail)? else {
+        return Ok(None);
+    };
+    match walk(alloc, kernel, &standing, conflict) {
+        Ok(learned) => Ok(Some(learned)),
+        Err(Stop::NothingLearned) => Ok(None),
+        Err(Stop::OutOfMemory) => Err(AllocError),
+    }
 }

@@ -6,8 +6,9 @@
 ghost use Rattle.std.specs.Prelude.{IfOk};
 ghost use Rattle.proof_rules.specs.Expression.{Given, IsPostfixOf};
 
+use super::learned::Learned;
 use cut_rules::{add, divide, multiply, saturate, weaken};
-use linear::Var;
+use linear::{Seq, Var};
 use normal_form::{CutFault, Normal};
 use proof_steps::Item;
 use propagate::Id;
@@ -106,5 +107,19 @@ impl Derivation {
         items.push(Item::Add)?;
         let constraint = add(alloc, &constraint, &other.constraint)?;
         Ok(Derivation { items, constraint })
+    }
+
+    /// As what was learned, with the level under which it bites.
+    pub(crate) fn learned(self, level: u32) -> Learned
+        ensures items { result.items ≡ self.items.items }
+        ensures constraint { result.constraint ≡ self.constraint }
+        ensures level { result.level ≡ level }
+    {
+        let Derivation { items, constraint } = self;
+        Learned {
+            items: Seq::from_vec(items),
+            constraint,
+            level,
+        }
     }
 }

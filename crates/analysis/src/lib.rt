@@ -15,9 +15,13 @@ mod biting;
 mod derivation;
 mod entry;
 mod learned;
+mod level;
+mod reduction;
 mod slack;
 mod spot;
 mod standing;
+mod stop;
+mod walk;
 
 pub use analysis::analyse;
 pub use entry::Entry;

@@ -11,7 +11,7 @@ ghost use Rattle.analysis.specs.Spots.{AreSpotsOf};
 
 use super::entry::Entry;
 use super::spot::Spot;
-use linear::Lit;
+use linear::{Lit, Var};
 use std::alloc::{AllocError, Global};
 use std::marker::Model;
 
@@ -88,12 +88,13 @@ impl<'a> Standing<'a> {
         self.entries
     }
 
-    // Where a variable stands, if it does.
-    fn spot(&self, variable: usize) -> Option<Spot>
-        ensures { (level : ℕ) (negated : Bool) → among (literals_up_to level self.now) variable negated ≡ makes_true result negated level }
+    /// Where a variable stands, if it does.
+    pub(crate) fn spot(&self, variable: Var) -> Option<Spot>
+        ensures { (level : ℕ) (negated : Bool) → among (literals_up_to level self.now) (variable.0) negated ≡ makes_true result negated level }
     {
-        if variable < self.spots.len() {
-            self.spots[variable]
+        let number = variable.0 as usize;
+        if number < self.spots.len() {
+            self.spots[number]
         } else {
             None
         }
@@ -103,8 +104,24 @@ impl<'a> Standing<'a> {
     pub(crate) fn is_true_at(&self, literal: Lit, level: u32) -> bool
         ensures { result ≡ lists (literals_up_to level self.now) literal }
     {
-        match self.spot(literal.var.0 as usize) {
+        match self.spot(literal.var) {
             Some(spot) => spot.negated == literal.negated && spot.level <= level,
+            None => false,
+        }
+    }
+
+    /// The place since which a literal is false, if it is.
+    pub(crate) fn false_since(&self, literal: Lit) -> Option<usize> {
+        match self.spot(literal.var) {
+            Some(spot) if spot.negated != literal.negated => Some(spot.place),
+            _ => None,
+        }
+    }
+
+    /// Whether a literal was false before a place.
+    pub(crate) fn is_false_before(&self, literal: Lit, place: usize) -> bool {
+        match self.false_since(literal) {
+            Some(since) => since < place,
             None => false,
         }
     }
