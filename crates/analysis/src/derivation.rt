@@ -7,7 +7,8 @@ ghost use Rattle.std.specs.Prelude.{IfOk};
 ghost use Rattle.proof_rules.specs.Expression.{Given, IsPostfixOf};
 
 use super::learned::Learned;
-use cut_rules::{add, divide, multiply, saturate, weaken};
+use accumulate::Accumulator;
+use cut_rules::{add, divide, multiply, saturate};
 use linear::{Seq, Var};
 use normal_form::{CutFault, Normal};
 use proof_steps::Item;
@@ -19,6 +20,14 @@ use std::alloc::Global;
 pub(crate) struct Derivation {
     pub(crate) items: Vec<Item>,
     pub(crate) constraint: Normal,
+}
+
+// A coefficient as a number of a line.
+fn written(coef: u128) -> Result<i128, CutFault> {
+    match i128::try_from(coef) {
+        Ok(number) => Ok(number),
+        Err(_) => Err(CutFault::TooLarge),
+    }
 }
 
 impl Derivation {
@@ -38,45 +47,66 @@ impl Derivation {
         })
     }
 
-    /// The same without a variable.
-    pub(crate) fn weakened(self, alloc: Global, var: Var) -> Result<Self, CutFault>
+    /// The same without some variables. It is taken apart once and put together once: to make a constraint anew for each
+    /// variable would cost the square of its length.
+    pub(crate) fn without(
+        self,
+        alloc: Global,
+        sum: &mut Accumulator,
+        variables: &[Var],
+    ) -> Result<Self, CutFault>
         ensures { (given : Given) → IsPostfixOf given self.items.items self.constraint
             → IfOk result (λ d. IsPostfixOf given d.items.items d.constraint) }
     {
+        if variables.is_empty() {
+            return Ok(self);
+        }
         let Derivation {
             mut items,
             constraint,
         } = self;
-        items.push(Item::Weaken(var))?;
-        let constraint = weaken(alloc, &constraint, var)?;
+        sum.load(&constraint)?;
+        for variable in variables {
+            sum.weaken(*variable);
+            items.push(Item::Weaken(*variable))?;
+        }
+        let constraint = sum.take(alloc)?;
         Ok(Derivation { items, constraint })
     }
 
-    /// Its quotient, rounded up.
-    pub(crate) fn divided(self, alloc: Global, divisor: i128) -> Result<Self, CutFault>
+    /// Its quotient, rounded up; nothing is written for the divisor 1.
+    pub(crate) fn divided(self, alloc: Global, divisor: u128) -> Result<Self, CutFault>
         ensures { (given : Given) → IsPostfixOf given self.items.items self.constraint
             → IfOk result (λ d. IsPostfixOf given d.items.items d.constraint) }
     {
+        if divisor == 1 {
+            return Ok(self);
+        }
+        let written = written(divisor)?;
         let Derivation {
             mut items,
             constraint,
         } = self;
-        items.push(Item::Divide(divisor))?;
-        let constraint = divide(alloc, &constraint, divisor)?;
+        items.push(Item::Divide(written))?;
+        let constraint = divide(alloc, &constraint, written)?;
         Ok(Derivation { items, constraint })
     }
 
-    /// Its multiple.
-    pub(crate) fn multiplied(self, alloc: Global, factor: i128) -> Result<Self, CutFault>
+    /// Its multiple; nothing is written for the factor 1.
+    pub(crate) fn multiplied(self, alloc: Global, factor: u128) -> Result<Self, CutFault>
         ensures { (given : Given) → IsPostfixOf given self.items.items self.constraint
             → IfOk result (λ d. IsPostfixOf given d.items.items d.constraint) }
     {
+        if factor == 1 {
+            return Ok(self);
+        }
+        let written = written(factor)?;
         let Derivation {
             mut items,
             constraint,
         } = self;
-        items.push(Item::Multiply(factor))?;
-        let constraint = multiply(alloc, &constraint, factor)?;
+        items.push(Item::Multiply(written))?;
+        let constraint = multiply(alloc, &constraint, written)?;
         Ok(Derivation { items, constraint })
     }
 

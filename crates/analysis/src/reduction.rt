@@ -11,8 +11,9 @@ ghost use Rattle.proof_rules.specs.Expression.{Given, IsPostfixOf};
 use super::derivation::Derivation;
 use super::standing::Standing;
 use super::stop::Stop;
+use accumulate::Accumulator;
 use linear::{Lit, Var};
-use normal_form::{CutFault, Normal};
+use normal_form::Normal;
 use std::alloc::{AllocError, Global};
 
 // The coefficient of a literal.
@@ -51,26 +52,6 @@ fn uneven(
     Ok(uneven)
 }
 
-// A constraint without some variables.
-fn without(alloc: Global, reason: Derivation, variables: &[Var]) -> Result<Derivation, CutFault>
-    ensures { (given : Given) → IsPostfixOf given reason.items.items reason.constraint
-        → IfOk result (λ d. IsPostfixOf given d.items.items d.constraint) }
-{
-    let mut rest = reason;
-    for variable in variables {
-        rest = rest.weakened(alloc, *variable)?;
-    }
-    Ok(rest)
-}
-
-/// A coefficient as a factor of a `pol` line.
-pub(crate) fn factor(coef: u128) -> Result<i128, Stop> {
-    match i128::try_from(coef) {
-        Ok(factor) => Ok(factor),
-        Err(_) => Err(Stop::NothingLearned),
-    }
-}
-
 /// The reason of the literal at a place, with the coefficient 1 there and a slack of at most 0 before that place.
 pub(crate) fn reduced(
     alloc: Global,
@@ -78,6 +59,7 @@ pub(crate) fn reduced(
     literal: Lit,
     standing: &Standing<'_>,
     place: usize,
+    sum: &mut Accumulator,
 ) -> Result<Derivation, Stop>
     ensures { (given : Given) → IsPostfixOf given reason.items.items reason.constraint
         → IfOk result (λ d. IsPostfixOf given d.items.items d.constraint) }
@@ -90,6 +72,6 @@ pub(crate) fn reduced(
         return Ok(reason);
     }
     let variables = uneven(alloc, &reason.constraint, literal, divisor, standing, place)?;
-    let even = without(alloc, reason, &variables)?;
-    Ok(even.divided(alloc, factor(divisor)?)?)
+    let even = reason.without(alloc, sum, &variables)?;
+    Ok(even.divided(alloc, divisor)?)
 }

@@ -13,9 +13,10 @@ ghost use Rattle.analysis.specs.Biting.{BitesAt, greatest_level};
 use super::derivation::Derivation;
 use super::learned::Learned;
 use super::level::{least_level, open_decisions};
-use super::reduction::{factor, reduced};
+use super::reduction::reduced;
 use super::standing::Standing;
 use super::stop::Stop;
+use accumulate::Accumulator;
 use kernel::Kernel;
 use linear::Seq;
 use normal_form::{Normal, NormalTerm};
@@ -88,6 +89,7 @@ fn resolved<'a, P: Propagator>(
     standing: &Standing<'_>,
     current: Derivation,
     at: Falsified,
+    sum: &mut Accumulator,
 ) -> Result<Derivation, Stop>
     requires place { at.place < length standing.now }
     requires derived { IsPostfixOf (constraint_of kernel.now.state) current.items.items current.constraint }
@@ -98,10 +100,10 @@ fn resolved<'a, P: Propagator>(
         return Err(Stop::NothingLearned);
     };
     let reason = cite(alloc, kernel, id)?;
-    let even = reduced(alloc, reason, entry.literal, standing, at.place)?;
-    let cancelling = even.multiplied(alloc, factor(at.coef)?)?;
-    let sum = current.plus(alloc, cancelling)?;
-    Ok(sum.saturated(alloc)?)
+    let even = reduced(alloc, reason, entry.literal, standing, at.place, sum)?;
+    let cancelling = even.multiplied(alloc, at.coef)?;
+    let resolvent = current.plus(alloc, cancelling)?;
+    Ok(resolvent.saturated(alloc)?)
 }
 
 /// What the constraint of an id, which has negative slack under a trail, comes to on the walk.
@@ -118,6 +120,7 @@ pub(crate) fn walk<'a, P: Propagator>(
     let decisions = open_decisions(standing.entries());
     let mut before = standing.entries().len();
     let mut current = cite(alloc, kernel, conflict)?;
+    let mut sum = Accumulator::new(alloc);
     loop {
         if let Some(level) = least_level(alloc, &current.constraint, standing, decisions)? {
             return Ok(current.learned(level));
@@ -126,6 +129,6 @@ pub(crate) fn walk<'a, P: Propagator>(
             return Err(Stop::NothingLearned);
         };
         before = at.place;
-        current = resolved(alloc, kernel, standing, current, at)?;
+        current = resolved(alloc, kernel, standing, current, at, &mut sum)?;
     }
 }

@@ -4,11 +4,11 @@ use Rattle.proof_rules.specs.Expression.{IsPostfixOf}
 use Rattle.proof_rules.specs.State.{constraint_of}
 use Rattle.analysis.proofs.walk.walk.Given as goal
 
-abbrev pub invariant-loop-current : goal.invariant-loop-current
-invariant-loop-current g l = record {
+abbrev pub invariant-loop-sum : goal.invariant-loop-sum
+invariant-loop-sum g l = record {
   place : l.before ≤ length l.standing;
   derived : IsPostfixOf (constraint_of l.kernel.state) l.current.items.items l.current.constraint;
 }
 
-abbrev pub decreases-loop-current : goal.decreases-loop-current
-decreases-loop-current g l = l.before
+abbrev pub decreases-loop-sum : goal.decreases-loop-sum
+decreases-loop-sum g l = l.before

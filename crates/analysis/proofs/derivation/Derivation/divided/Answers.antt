@@ -8,8 +8,8 @@ use Rattle.analysis.proofs.derivation.Derivation.divided.Goals as goal
 pub returns : goal.returns
 returns c given p =
     let made = c.in_ok-constraint in
-    let fits : FitsSigned w128 c.args.divisor = search rules in
-    let above : pos 0 <ℤ c.args.divisor = search rules in
-    let rule : IsQuotient (unsigned_abs c.args.divisor) c.args.self.constraint made.constraint =
-    subst (λ (k : ℤ). IsQuotient (unsigned_abs k) c.args.self.constraint made.constraint) (to_z-of_z w128 c.args.divisor fits) made.ensures.quotient in
-    divides given c.args.self.items.items c.push.new.self.items c.args.divisor c.args.self.constraint made.constraint (search rules) above rule p
+    let fits : FitsSigned w128 c.in_ok-written.written = search rules in
+    let above : pos 0 <ℤ c.in_ok-written.written = search rules in
+    let rule : IsQuotient (unsigned_abs c.in_ok-written.written) c.args.self.constraint made.constraint =
+    subst (λ (k : ℤ). IsQuotient (unsigned_abs k) c.args.self.constraint made.constraint) (to_z-of_z w128 c.in_ok-written.written fits) made.ensures.quotient in
+    divides given c.args.self.items.items c.push.new.self.items c.in_ok-written.written c.args.self.constraint made.constraint (search rules) above rule p

@@ -8,8 +8,8 @@ use Rattle.analysis.proofs.derivation.Derivation.multiplied.Goals as goal
 pub returns : goal.returns
 returns c given p =
     let made = c.in_ok-constraint in
-    let fits : FitsSigned w128 c.args.factor = search rules in
-    let above : pos 0 <ℤ c.args.factor = search rules in
-    let rule : IsMultiple (unsigned_abs c.args.factor) c.args.self.constraint made.constraint =
-    subst (λ (k : ℤ). IsMultiple (unsigned_abs k) c.args.self.constraint made.constraint) (to_z-of_z w128 c.args.factor fits) made.ensures.multiple in
-    multiplies given c.args.self.items.items c.push.new.self.items c.args.factor c.args.self.constraint made.constraint (search rules) above rule c.in_ok-constraint.ensures.normal.fits p
+    let fits : FitsSigned w128 c.in_ok-written.written = search rules in
+    let above : pos 0 <ℤ c.in_ok-written.written = search rules in
+    let rule : IsMultiple (unsigned_abs c.in_ok-written.written) c.args.self.constraint made.constraint =
+    subst (λ (k : ℤ). IsMultiple (unsigned_abs k) c.args.self.constraint made.constraint) (to_z-of_z w128 c.in_ok-written.written fits) made.ensures.multiple in
+    multiplies given c.args.self.items.items c.push.new.self.items c.in_ok-written.written c.args.self.constraint made.constraint (search rules) above rule c.in_ok-constraint.ensures.normal.fits p
