@@ -1,0 +1,3 @@
+pub mod Expressions
+pub mod Forcing
+pub mod SpotTable
