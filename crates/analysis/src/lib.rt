@@ -21,8 +21,10 @@ mod slack;
 mod spot;
 mod standing;
 mod stop;
+mod under;
 mod walk;
 
 pub use analysis::analyse;
 pub use entry::Entry;
 pub use learned::Learned;
+pub use under::bites_under;
