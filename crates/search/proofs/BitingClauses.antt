@@ -122,7 +122,7 @@ clause_bites live before closed d n consistent form possible closure unset = (
 )
 
 -- so does the clause of a beginning of decisions, where the beginning before its last one is closed
-take_consistent : (n : ℕ) (items : List Lit) → IsConsistent items → IsConsistent (take n items)
+pub take_consistent : (n : ℕ) (items : List Lit) → IsConsistent items → IsConsistent (take n items)
 take_consistent n items consistent (l, here, opposed) =
     let whole = take-append-drop n items in
     consistent (
@@ -146,3 +146,17 @@ learned_bites live n items closed d c consistent some within is clause reach uns
     let m : NormalConstraint = form c in
     let formed : IsNormalOf (negated_clause (before ++ d ∷ [])) m = subst (λ x. IsNormalOf x m) all (form_is c) in
     (m, form_is c, clause_bites live before closed d m (subst IsConsistent split (take_consistent n items consistent)) formed reach.0 reach.1 unset)
+
+-- what forces something under a closure bites
+pub settled_bites : (live : List NormalConstraint) (given closed : List Lit) (n : NormalConstraint) → IsReach live given (reaches.Closed closed)
+    → (IsBroken closed n ⊎ ((l : Lit) × IsForced closed l n)) → Bites live n
+settled_bites live given closed n reach bites = (
+  given,
+  closed,
+  record {
+    consistent = λ c. reach.0 (inl c);
+    no_conflict = λ c. reach.0 (inr c);
+    closure = reach.1;
+    bites = bites;
+  },
+)

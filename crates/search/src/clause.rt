@@ -8,8 +8,9 @@ ghost use Rattle.propagate.specs.Literals.{IsConsistent, lists, opposite};
 ghost use Rattle.search.specs.Clause.{negated_clause, opposite_term};
 ghost use Rattle.search.specs.Solving.{TakesId};
 
+use super::brancher::Brancher;
 use super::log::Log;
-use linear::{Lit, Relation, Seq, Signed, Term};
+use linear::{Lit, Relation, Seq, Signed, Term, Var};
 use proof_rules::StepFault;
 use proof_steps::Step;
 use propagate::{Propagator, Reach};
@@ -38,6 +39,11 @@ fn clause_of(alloc: Global, literals: &[Lit]) -> Result<Signed, AllocError>
         relation: Relation::AtLeast,
         right: 1,
     })
+}
+
+/// The variables of some literals.
+fn variables_of(alloc: Global, literals: &[Lit]) -> Result<Vec<Var>, AllocError> {
+    literals.iter().map(|literal| literal.var).collect(alloc)
 }
 
 /// Whether a literal is listed.
@@ -90,6 +96,7 @@ pub(crate) fn learn_clause<'a, P: Propagator>(
     log: &mut Log<'a, P>,
     decisions: &mut Vec<Lit>,
     count: usize,
+    brancher: &mut Box<dyn Brancher>,
 ) -> Result<(), StepFault>
     requires consistent { IsConsistent decisions.old.items }
     requires some { 0 < count }
@@ -112,7 +119,9 @@ pub(crate) fn learn_clause<'a, P: Propagator>(
         return Err(StepFault::NotShown);
     }
     let clause = clause_of(alloc, &decisions.as_slice()[..count])?;
+    let variables = variables_of(alloc, &decisions.as_slice()[..count])?;
     log.learn(Step::Rup(clause))?;
     decisions.truncate(kept);
+    brancher.conflict(variables.as_slice());
     Ok(())
 }

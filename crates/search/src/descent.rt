@@ -6,6 +6,7 @@ ghost use Rattle.search.specs.Values.{unlisted_below};
 
 use super::brancher::Brancher;
 use super::log::Log;
+use super::trail::{Trail, level_of};
 use super::values::{choose, values_of};
 use linear::{Lit, Seq};
 use propagate::{Id, Propagator};
@@ -14,7 +15,8 @@ use std::alloc::{AllocError, Global};
 /// Where decisions end.
 #[derive(Drop)]
 pub(crate) enum Descent {
-    Conflict,
+    /// The constraint of this id has negative slack.
+    Conflict(Id),
     /// Every variable has a value, by these literals, and there is no conflict.
     Settled(Seq<Lit>),
 }
@@ -39,6 +41,7 @@ fn advance<'a, P: Propagator>(
     alloc: Global,
     log: &mut Log<'a, P>,
     decisions: &mut Vec<Lit>,
+    trail: &mut Trail,
     count: u32,
     brancher: &mut Box<dyn Brancher>,
 ) -> Result<Option<Descent>, AllocError>
@@ -48,8 +51,9 @@ fn advance<'a, P: Propagator>(
     ensures fewer { IfOk result (λ end. IsNone end → unlisted_below count decisions.new.items < unlisted_below count decisions.old.items) }
 {
     let trace = log.trace(decisions.as_slice())?;
-    if trace.conflict.is_some() {
-        return Ok(Some(Descent::Conflict));
+    trail.force(trace.forced.as_slice(), level_of(decisions.as_slice()))?;
+    if let Some(conflict) = trace.conflict {
+        return Ok(Some(Descent::Conflict(conflict)));
     }
     let values = values_of(alloc, count, decisions.as_slice(), trace.forced.as_slice())?;
     let picked = brancher.pick(values.as_slice());
@@ -58,6 +62,7 @@ fn advance<'a, P: Propagator>(
         return Ok(Some(Descent::Settled(listing)));
     };
     decisions.push(literal)?;
+    trail.decide(literal, level_of(decisions.as_slice()))?;
     Ok(None)
 }
 
@@ -66,6 +71,7 @@ pub(crate) fn descend<'a, P: Propagator>(
     alloc: Global,
     log: &mut Log<'a, P>,
     decisions: &mut Vec<Lit>,
+    trail: &mut Trail,
     count: u32,
     brancher: &mut Box<dyn Brancher>,
 ) -> Result<Descent, AllocError>
@@ -74,7 +80,7 @@ pub(crate) fn descend<'a, P: Propagator>(
     ensures consistent { OnOk result (IsConsistent decisions.new.items) }
 {
     loop {
-        if let Some(end) = advance(alloc, log, decisions, count, brancher)? {
+        if let Some(end) = advance(alloc, log, decisions, trail, count, brancher)? {
             return Ok(end);
         }
     }

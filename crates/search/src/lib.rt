@@ -9,12 +9,14 @@
 mod brancher;
 pub mod cases;
 mod clause;
+mod cutting;
 mod descent;
 mod endings;
 mod found;
 pub mod laws;
 mod log;
 mod solver;
+mod trail;
 mod values;
 
 pub use brancher::{Brancher, First, Value};

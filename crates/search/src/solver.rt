@@ -6,14 +6,16 @@ ghost use Rattle.search.specs.Solving.{BearsOut, IsSolved, TakesId};
 
 use super::brancher::Brancher;
 use super::clause::{learn_clause, least_conflict};
+use super::cutting::learn_constraint;
 use super::descent::{Descent, descend};
 use super::endings::{end_exhausted, end_solved, end_stopped, may_stop};
 use super::found::{Found, Unfinished};
 use super::log::Log;
+use super::trail::{Trail, level_of};
 use linear::{Lit, Problem, Seq};
 use proof_rules::StepFault;
 use proof_steps::Step;
-use propagate::Propagator;
+use propagate::{Id, Propagator};
 use std::alloc::Global;
 
 /// What a search has found, and the proof of it.
@@ -29,7 +31,10 @@ fn resolve<'a, P: Propagator>(
     alloc: Global,
     log: &mut Log<'a, P>,
     decisions: &mut Vec<Lit>,
+    trail: &mut Trail,
+    conflict: Id,
     limit: u64,
+    brancher: &mut Box<dyn Brancher>,
 ) -> Result<Option<Found>, StepFault>
     requires { IsConsistent decisions.old.items }
     ensures problem { log.new.problem ≡ log.old.problem }
@@ -43,11 +48,17 @@ fn resolve<'a, P: Propagator>(
     if may_stop(log, limit) {
         return Ok(Some(end_stopped(log, limit)?));
     }
+    let learned = learn_constraint(alloc, log, decisions, trail.entries(), conflict, brancher)?;
+    if learned {
+        trail.go_back(level_of(decisions.as_slice()));
+        return Ok(None);
+    }
     let count = least_conflict(log, decisions.as_slice())?;
     if count == 0 {
         return Ok(Some(end_exhausted(log)?));
     }
-    learn_clause(alloc, log, decisions, count)?;
+    learn_clause(alloc, log, decisions, count, brancher)?;
+    trail.go_back(level_of(decisions.as_slice()));
     Ok(None)
 }
 
@@ -77,6 +88,7 @@ fn turn<'a, P: Propagator>(
     alloc: Global,
     log: &mut Log<'a, P>,
     decisions: &mut Vec<Lit>,
+    trail: &mut Trail,
     limit: u64,
     count: u32,
     brancher: &mut Box<dyn Brancher>,
@@ -87,10 +99,13 @@ fn turn<'a, P: Propagator>(
     ensures goes_on { IfOk result (λ end. IsNone end → TakesId log.old.state log.new.state) }
     ensures consistent { OnOk result (IsConsistent decisions.new.items) }
 {
-    match descend(alloc, log, decisions, count, brancher)? {
-        Descent::Conflict => resolve(alloc, log, decisions, limit),
+    match descend(alloc, log, decisions, trail, count, brancher)? {
+        Descent::Conflict(conflict) => {
+            resolve(alloc, log, decisions, trail, conflict, limit, brancher)
+        }
         Descent::Settled(listing) => {
             decisions.clear();
+            trail.go_back(0);
             accept(log, listing, limit)
         }
     }
@@ -110,8 +125,17 @@ fn search<'a, P: Propagator>(
         return Err(StepFault::TooLarge);
     };
     let mut decisions = Vec::new(alloc);
+    let mut trail = Trail::new(alloc, count)?;
     loop {
-        if let Some(found) = turn(alloc, log, &mut decisions, limit, count, &mut brancher)? {
+        if let Some(found) = turn(
+            alloc,
+            log,
+            &mut decisions,
+            &mut trail,
+            limit,
+            count,
+            &mut brancher,
+        )? {
             return Ok(found);
         }
     }
