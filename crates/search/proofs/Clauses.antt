@@ -84,7 +84,7 @@ apart ls v s consistent h = by (among ls v (not s)) refl
     by false e = e
 
 -- each listed literal's opposite stands in the clause
-clause_has : (ls : List Lit) (n : NormalConstraint) (v : ℕ) (s : Bool) → IsConsistent ls → IsNormalOf (negated_clause ls) n → among ls v s ≡ true → 0 < coefficient n v (not s)
+pub clause_has : (ls : List Lit) (n : NormalConstraint) (v : ℕ) (s : Bool) → IsConsistent ls → IsNormalOf (negated_clause ls) n → among ls v s ≡ true → 0 < coefficient n v (not s)
 clause_has ls n v true consistent form h =
     let some = count_some ls v true h in
     let none = count_none ls v false (apart ls v true consistent h) in
@@ -95,6 +95,15 @@ clause_has ls n v false consistent form h =
     let none = count_none ls v true (apart ls v false consistent h) in
     let given : neg_ℤ (net (map opposite_term ls) v) ≡ pos (count ls v false) = omega (arith, ints, net_counts ls v, none) in
     omega (arith, form.negated v, ap at_least_zero given, some)
+
+-- and no other literal does
+pub clause_lacks : (ls : List Lit) (n : NormalConstraint) (v : ℕ) (s : Bool) → IsNormalOf (negated_clause ls) n → among ls v (not s) ≡ false → coefficient n v s ≡ 0
+clause_lacks ls n v false form h =
+    let none = count_none ls v true h in
+    form.plain v ∙ floor_zero (net (map opposite_term ls) v) (omega (arith, ints, net_counts ls v, none))
+clause_lacks ls n v true form h =
+    let none = count_none ls v false h in
+    form.negated v ∙ floor_zero (neg_ℤ (net (map opposite_term ls) v)) (omega (arith, ints, net_counts ls v, none))
 
 -- what makes all of the listed literals true
 listed_true : List Lit → Valuation
@@ -147,7 +156,7 @@ written_sum all (l ∷ ls) consistent h =
     omega (arith, ints, ap (λ (b : Bool). cond b (pos 1) (pos 0)) here, rest)
 
 -- the degree is 1
-clause_degree : (ls : List Lit) (n : NormalConstraint) → IsConsistent ls → IsNormalOf (negated_clause ls) n → n.degree ≡ 1
+pub clause_degree : (ls : List Lit) (n : NormalConstraint) → IsConsistent ls → IsNormalOf (negated_clause ls) n → n.degree ≡ 1
 clause_degree ls n consistent f =
     let a : Valuation = listed_true ls in
     let weight = sum_nothing (literal_true a) n.terms (λ v s e. clause_false ls n v s consistent f e) in

@@ -1,4 +1,6 @@
+pub mod Choices
 pub mod Clauses
+pub mod BitingClauses
 pub mod Ending
 pub mod Growing
 pub mod Improving

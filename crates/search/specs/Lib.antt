@@ -1,3 +1,4 @@
 pub mod Clause
 pub mod Log
 pub mod Solving
+pub mod Values

@@ -25,6 +25,10 @@ abbrev pub ImprovementIsLive : List Term → State → Type 0
 ImprovementIsLive objective s =
     IfSome s.improve (λ least. (n : NormalConstraint) × IsNormalOf (at_most objective (least -ℤ pos 1)) n × Contains (constraints s) n)
 
+-- one more id is taken
+abbrev pub TakesId : State → State → Type 0
+TakesId old new = HasRoom old × (new.next ≡ old.next + 1)
+
 -- a search may stop: as many conflicts as it may meet, but one, have taught it something, or no id is left
 abbrev pub MayStop : ℕ → Logbook → Type 0
 MayStop limit l = (limit ≤ l.biting + 1) ⊎ (HasRoom l.state → ⊥)

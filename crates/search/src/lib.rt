@@ -8,10 +8,16 @@
 
 mod brancher;
 pub mod cases;
+mod clause;
+mod cutting;
+mod descent;
+mod endings;
 mod found;
 pub mod laws;
 mod log;
 mod solver;
+mod trail;
+mod values;
 
 pub use brancher::{Brancher, First, Value};
 pub use found::{Found, Unfinished};

@@ -1,14 +1,21 @@
 //! The search.
 
-ghost use Rattle.std.specs.Prelude.{◌≡◌, ◌≤◌, IfOk};
-ghost use Rattle.search.specs.Solving.{BearsOut, IsSolved};
+ghost use Rattle.std.specs.Prelude.{◌≡◌, ◌≤◌, IfOk, IfSome, IsNone, OnOk};
+ghost use Rattle.propagate.specs.Literals.{IsConsistent};
+ghost use Rattle.search.specs.Solving.{BearsOut, IsSolved, TakesId};
 
 use super::brancher::Brancher;
+use super::clause::{learn_clause, least_conflict};
+use super::cutting::learn_constraint;
+use super::descent::{Descent, descend};
+use super::endings::{end_exhausted, end_solved, end_stopped, may_stop};
 use super::found::{Found, Unfinished};
 use super::log::Log;
-use linear::Problem;
+use super::trail::{Trail, level_of};
+use linear::{Lit, Problem, Seq};
 use proof_rules::StepFault;
-use propagate::Propagator;
+use proof_steps::Step;
+use propagate::{Id, Propagator};
 use std::alloc::Global;
 
 /// What a search has found, and the proof of it.
@@ -19,16 +26,119 @@ pub struct Solved<'a, P: Propagator> {
     pub log: Option<Log<'a, P>>,
 }
 
+/// Learns from a conflict, or ends.
+fn resolve<'a, P: Propagator>(
+    alloc: Global,
+    log: &mut Log<'a, P>,
+    decisions: &mut Vec<Lit>,
+    trail: &mut Trail,
+    conflict: Id,
+    limit: u64,
+    brancher: &mut Box<dyn Brancher>,
+) -> Result<Option<Found>, StepFault>
+    requires { IsConsistent decisions.old.items }
+    ensures problem { log.new.problem ≡ log.old.problem }
+    ensures found { IfOk result (λ end. IfSome end (BearsOut limit log.new)) }
+    ensures learned { IfOk result (λ end. IsNone end → TakesId log.old.state log.new.state) }
+    ensures consistent { OnOk result (IsConsistent decisions.new.items) }
+{
+    if decisions.is_empty() {
+        return Ok(Some(end_exhausted(log)?));
+    }
+    if may_stop(log, limit) {
+        return Ok(Some(end_stopped(log, limit)?));
+    }
+    let learned = learn_constraint(alloc, log, decisions, trail.entries(), conflict, brancher)?;
+    if learned {
+        trail.go_back(level_of(decisions.as_slice()));
+        return Ok(None);
+    }
+    let count = least_conflict(log, decisions.as_slice())?;
+    if count == 0 {
+        return Ok(Some(end_exhausted(log)?));
+    }
+    learn_clause(alloc, log, decisions, count, brancher)?;
+    trail.go_back(level_of(decisions.as_slice()));
+    Ok(None)
+}
+
+/// Logs a solution. Where there is an objective the search goes on for a better one, with no decision open.
+fn accept<'a, P: Propagator>(
+    log: &mut Log<'a, P>,
+    listing: Seq<Lit>,
+    limit: u64,
+) -> Result<Option<Found>, StepFault>
+    ensures problem { log.new.problem ≡ log.old.problem }
+    ensures found { IfOk result (λ end. IfSome end (BearsOut limit log.new)) }
+    ensures improved { IfOk result (λ end. IsNone end → TakesId log.old.state log.new.state) }
+{
+    if log.problem().objective().is_none() {
+        log.apply(Step::Sol(listing))?;
+        return Ok(Some(end_solved(log)?));
+    }
+    if !log.has_room() {
+        return Ok(Some(end_stopped(log, limit)?));
+    }
+    log.improve(listing)?;
+    Ok(None)
+}
+
+/// Decides until there is a conflict or a solution, and learns from that.
+fn turn<'a, P: Propagator>(
+    alloc: Global,
+    log: &mut Log<'a, P>,
+    decisions: &mut Vec<Lit>,
+    trail: &mut Trail,
+    limit: u64,
+    count: u32,
+    brancher: &mut Box<dyn Brancher>,
+) -> Result<Option<Found>, StepFault>
+    requires { IsConsistent decisions.old.items }
+    ensures problem { log.new.problem ≡ log.old.problem }
+    ensures found { IfOk result (λ end. IfSome end (BearsOut limit log.new)) }
+    ensures goes_on { IfOk result (λ end. IsNone end → TakesId log.old.state log.new.state) }
+    ensures consistent { OnOk result (IsConsistent decisions.new.items) }
+{
+    match descend(alloc, log, decisions, trail, count, brancher)? {
+        Descent::Conflict(conflict) => {
+            resolve(alloc, log, decisions, trail, conflict, limit, brancher)
+        }
+        Descent::Settled(listing) => {
+            decisions.clear();
+            trail.go_back(0);
+            accept(log, listing, limit)
+        }
+    }
+}
+
 /// Searches, and leaves in the log what bears out the answer.
 fn search<'a, P: Propagator>(
-    _log: &mut Log<'a, P>,
-    _limit: u64,
-    _brancher: Box<dyn Brancher>,
+    alloc: Global,
+    log: &mut Log<'a, P>,
+    limit: u64,
+    mut brancher: Box<dyn Brancher>,
 ) -> Result<Found, StepFault>
-    ensures problem { _log.new.problem ≡ _log.old.problem }
-    ensures found { IfOk result (BearsOut _limit _log.new) }
+    ensures problem { log.new.problem ≡ log.old.problem }
+    ensures found { IfOk result (BearsOut limit log.new) }
 {
-    Err(StepFault::OutOfMemory)
+    let Ok(count) = u32::try_from(log.names().len()) else {
+        return Err(StepFault::TooLarge);
+    };
+    let mut decisions = Vec::new(alloc);
+    let mut trail = Trail::new(alloc, count)?;
+    loop {
+        if let Some(found) = turn(
+            alloc,
+            log,
+            &mut decisions,
+            &mut trail,
+            limit,
+            count,
+            &mut brancher,
+        )? {
+            return Ok(found);
+        }
+    }
 }
 
 /// Searches problems.
@@ -53,7 +163,7 @@ impl Solver {
                 log: None,
             };
         };
-        match search(&mut log, limit, brancher) {
+        match search(alloc, &mut log, limit, brancher) {
             Ok(found) => Solved {
                 found,
                 log: Some(log),

@@ -1,0 +1,4 @@
+pub mod Expressions
+pub mod Forcing
+pub mod SpotTable
+pub mod FlatTrails

@@ -1,0 +1,2 @@
+pub mod Biting
+pub mod Spots

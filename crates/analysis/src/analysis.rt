@@ -1,0 +1,38 @@
+//! The analysis of a conflict.
+
+ghost use Rattle.std.specs.Prelude.{◌<◌, IfOk, IfSome};
+ghost use Rattle.proof_rules.specs.Expression.{IsPostfixOf};
+ghost use Rattle.proof_rules.specs.State.{constraint_of};
+ghost use Rattle.analysis.specs.Biting.{BitesAt, greatest_level};
+
+use super::entry::Entry;
+use super::learned::Learned;
+use super::standing::Standing;
+use super::stop::Stop;
+use super::walk::walk;
+use kernel::Kernel;
+use propagate::{Id, Propagator};
+use std::alloc::{AllocError, Global};
+
+/// A constraint that follows from the live ones and would have said something sooner: it has negative slack or forces a literal
+/// under fewer decisions than are open. `None` where the walk finds none, or a number grows too large: the clause of the negated
+/// decisions serves then.
+pub fn analyse<'a, P: Propagator>(
+    alloc: Global,
+    kernel: &Kernel<'a, P>,
+    trail: &[Entry],
+    conflict: Id,
+) -> Result<Option<Learned>, AllocError>
+    ensures derived { IfOk result (λ found. IfSome found (λ l. IsPostfixOf (constraint_of kernel.now.state) l.items l.constraint)) }
+    ensures biting { IfOk result (λ found. IfSome found (λ l. BitesAt trail.now l.level l.constraint)) }
+    ensures lower { IfOk result (λ found. IfSome found (λ l. l.level < greatest_level trail.now)) }
+{
+    let Some(standing) = Standing::of(alloc, trail)? else {
+        return Ok(None);
+    };
+    match walk(alloc, kernel, &standing, conflict) {
+        Ok(learned) => Ok(Some(learned)),
+        Err(Stop::NothingLearned) => Ok(None),
+        Err(Stop::OutOfMemory) => Err(AllocError),
+    }
+}

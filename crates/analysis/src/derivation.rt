@@ -1,0 +1,155 @@
+//! A constraint and the items of the `pol` line that derives it, changed by one rule at a time.
+//!
+//! Each rule puts its item at the end, and so whatever the walk does, it has in its hands a line that derives what it has.
+//! Which rules it takes is a matter of use alone.
+
+ghost use Rattle.std.specs.Prelude.{IfOk};
+ghost use Rattle.proof_rules.specs.Expression.{Given, IsPostfixOf};
+
+use super::learned::Learned;
+use accumulate::Accumulator;
+use cut_rules::{add, divide, multiply, saturate};
+use linear::{Seq, Var};
+use normal_form::{CutFault, Normal};
+use proof_steps::Item;
+use propagate::Id;
+use std::alloc::Global;
+
+/// A constraint, and the items that write an expression whose value it is.
+#[derive(Debug, Drop)]
+pub(crate) struct Derivation {
+    pub(crate) items: Vec<Item>,
+    pub(crate) constraint: Normal,
+}
+
+// A coefficient as a number of a line.
+fn written(coef: u128) -> Result<i128, CutFault> {
+    match i128::try_from(coef) {
+        Ok(number) => Ok(number),
+        Err(_) => Err(CutFault::TooLarge),
+    }
+}
+
+impl Derivation {
+    ghost use Rattle.std.specs.Prelude.{◌≡◌, Some, IfOk, pos};
+    ghost use Rattle.proof_rules.specs.Expression.{Given, IsPostfixOf};
+
+    /// The constraint of an id.
+    pub(crate) fn cited(alloc: Global, id: Id, constraint: &Normal) -> Result<Self, CutFault>
+        ensures { (given : Given) → given (pos id) ≡ Some constraint.now
+            → IfOk result (λ d. IsPostfixOf given d.items.items d.constraint) }
+    {
+        let mut items = Vec::new(alloc);
+        items.push(Item::Id(i128::from(id)))?;
+        Ok(Derivation {
+            items,
+            constraint: constraint.copy(alloc)?,
+        })
+    }
+
+    /// The same without some variables. It is taken apart once and put together once: to make a constraint anew for each
+    /// variable would cost the square of its length.
+    pub(crate) fn without(
+        self,
+        alloc: Global,
+        sum: &mut Accumulator,
+        variables: &[Var],
+    ) -> Result<Self, CutFault>
+        ensures { (given : Given) → IsPostfixOf given self.items.items self.constraint
+            → IfOk result (λ d. IsPostfixOf given d.items.items d.constraint) }
+    {
+        if variables.is_empty() {
+            return Ok(self);
+        }
+        let Derivation {
+            mut items,
+            constraint,
+        } = self;
+        sum.load(&constraint)?;
+        for variable in variables {
+            sum.weaken(*variable);
+            items.push(Item::Weaken(*variable))?;
+        }
+        let constraint = sum.take(alloc)?;
+        Ok(Derivation { items, constraint })
+    }
+
+    /// Its quotient, rounded up; nothing is written for the divisor 1.
+    pub(crate) fn divided(self, alloc: Global, divisor: u128) -> Result<Self, CutFault>
+        ensures { (given : Given) → IsPostfixOf given self.items.items self.constraint
+            → IfOk result (λ d. IsPostfixOf given d.items.items d.constraint) }
+    {
+        if divisor == 1 {
+            return Ok(self);
+        }
+        let written = written(divisor)?;
+        let Derivation {
+            mut items,
+            constraint,
+        } = self;
+        items.push(Item::Divide(written))?;
+        let constraint = divide(alloc, &constraint, written)?;
+        Ok(Derivation { items, constraint })
+    }
+
+    /// Its multiple; nothing is written for the factor 1.
+    pub(crate) fn multiplied(self, alloc: Global, factor: u128) -> Result<Self, CutFault>
+        ensures { (given : Given) → IsPostfixOf given self.items.items self.constraint
+            → IfOk result (λ d. IsPostfixOf given d.items.items d.constraint) }
+    {
+        if factor == 1 {
+            return Ok(self);
+        }
+        let written = written(factor)?;
+        let Derivation {
+            mut items,
+            constraint,
+        } = self;
+        items.push(Item::Multiply(written))?;
+        let constraint = multiply(alloc, &constraint, written)?;
+        Ok(Derivation { items, constraint })
+    }
+
+    /// The same with no coefficient above the degree.
+    pub(crate) fn saturated(self, alloc: Global) -> Result<Self, CutFault>
+        ensures { (given : Given) → IsPostfixOf given self.items.items self.constraint
+            → IfOk result (λ d. IsPostfixOf given d.items.items d.constraint) }
+    {
+        let Derivation {
+            mut items,
+            constraint,
+        } = self;
+        items.push(Item::Saturate)?;
+        let constraint = saturate(alloc, &constraint)?;
+        Ok(Derivation { items, constraint })
+    }
+
+    /// The sum with another.
+    pub(crate) fn plus(self, alloc: Global, other: Derivation) -> Result<Self, CutFault>
+        ensures { (given : Given) → IsPostfixOf given self.items.items self.constraint → IsPostfixOf given other.items.items other.constraint
+            → IfOk result (λ d. IsPostfixOf given d.items.items d.constraint) }
+    {
+        let Derivation {
+            mut items,
+            constraint,
+        } = self;
+        items.extend_from_slice(&other.items)?;
+        items.push(Item::Add)?;
+        let constraint = add(alloc, &constraint, &other.constraint)?;
+        Ok(Derivation { items, constraint })
+    }
+
+    /// As what was learned, with the level under which it bites.
+    pub(crate) fn learned(self, level: u32) -> Learned
+        ensures items { result.items ≡ self.items.items }
+        ensures constraint { result.constraint ≡ self.constraint }
+        ensures level { result.level ≡ level }
+    {
+        let Derivation { items, constraint } = self;
+        Learned {
+            items: Seq::from_vec(items),
+            constraint,
+            level,
+        }
+    }
+}

@@ -1,0 +1,156 @@
+//! The least level under which a constraint bites.
+//!
+//! From level to level downwards, the literals of a constraint that came onto the trail at the level are taken back: what was
+//! false counts again, and what was set can be forced again. One pass over the constraint's literals in the order of their levels
+//! comes by every level there is. It only finds the level; that the constraint bites there is then computed from the definition.
+
+ghost use Rattle.std.specs.Prelude.{◌≡◌, ◌<◌, ◌≤◌, max, IfOk, IfSome, length};
+ghost use Rattle.analysis.specs.Biting.{BitesAt, greatest_level};
+
+use super::biting::bites;
+use super::entry::Entry;
+use super::standing::Standing;
+use normal_form::{Normal, NormalTerm};
+use std::alloc::{AllocError, Global};
+
+// The greater of two levels.
+fn greater(one: u32, other: u32) -> u32
+    ensures { result ≡ max one other }
+{
+    one.max(other)
+}
+
+/// So many decisions are open: the greatest level on a trail.
+pub(crate) fn open_decisions(trail: &[Entry]) -> u32
+    ensures { result ≡ greatest_level trail.now }
+{
+    let mut greatest = 0;
+    for entry in trail {
+        greatest = greater(greatest, entry.level);
+    }
+    greatest
+}
+
+// What a literal of a constraint has to do with the trail: the level since which it is set, `u32::MAX` where it is unset, and
+// whether it is false since then.
+#[derive(Clone, Copy, Debug)]
+struct Turn {
+    level: u32,
+    coef: u128,
+    is_false: bool,
+}
+
+fn turn_of(term: NormalTerm, standing: &Standing<'_>) -> Turn {
+    match standing.spot(term.var) {
+        Some(spot) => Turn {
+            level: spot.level,
+            coef: term.coef,
+            is_false: spot.negated != term.negated,
+        },
+        None => Turn {
+            level: u32::MAX,
+            coef: term.coef,
+            is_false: false,
+        },
+    }
+}
+
+// The turns of a constraint's literals, the one of the greatest level last.
+fn turns(
+    alloc: Global,
+    constraint: &Normal,
+    standing: &Standing<'_>,
+) -> Result<Vec<Turn>, AllocError> {
+    let mut turns = Vec::with_capacity(alloc, constraint.len())?;
+    for place in 0..constraint.len() {
+        turns.push(turn_of(constraint.term(place), standing))?;
+    }
+    turns.sort_by_key(|turn: &Turn| turn.level)?;
+    Ok(turns)
+}
+
+// What the literals that are not false add up to, and the greatest coefficient of an unset one. Sums are within 2^120, since
+// those of a constraint are.
+#[derive(Clone, Copy, Debug)]
+struct Sweep {
+    sum: u128,
+    unset: u128,
+}
+
+impl Sweep {
+    fn under_all(turns: &[Turn]) -> Sweep {
+        let mut sum: u128 = 0;
+        for turn in turns {
+            if !turn.is_false {
+                sum = sum.saturating_add(turn.coef);
+            }
+        }
+        Sweep { sum, unset: 0 }
+    }
+
+    fn taken_back(self, turn: Turn) -> Sweep {
+        Sweep {
+            sum: if turn.is_false {
+                self.sum.saturating_add(turn.coef)
+            } else {
+                self.sum
+            },
+            unset: self.unset.max(turn.coef),
+        }
+    }
+
+    fn bites(self, degree: u128) -> bool {
+        self.sum < degree.saturating_add(self.unset)
+    }
+}
+
+// The level that the turns before a place come up to.
+fn level_before(turns: &[Turn], place: usize) -> u32
+    requires { place ≤ length turns.now }
+{
+    if place == 0 {
+        0
+    } else {
+        turns[place - 1].level
+    }
+}
+
+// The least level at which a constraint of these turns, in the order of their levels, bites.
+fn least_biting(turns: &[Turn], degree: u128) -> Option<u32> {
+    let mut sweep = Sweep::under_all(turns);
+    let mut place = turns.len();
+    let mut least = if sweep.bites(degree) {
+        Some(level_before(turns, place))
+    } else {
+        None
+    };
+    while place > 0 {
+        place -= 1;
+        sweep = sweep.taken_back(turns[place]);
+        let level = level_before(turns, place);
+        if level < turns[place].level && sweep.bites(degree) {
+            least = Some(level);
+        }
+    }
+    least
+}
+
+/// A level below another at which a constraint bites, the least one, if there is any.
+pub(crate) fn least_level(
+    alloc: Global,
+    constraint: &Normal,
+    standing: &Standing<'_>,
+    decisions: u32,
+) -> Result<Option<u32>, AllocError>
+    ensures biting { IfOk result (λ found. IfSome found (λ level. BitesAt standing.now level constraint.now)) }
+    ensures lower { IfOk result (λ found. IfSome found (λ level. level < decisions)) }
+{
+    let turns = turns(alloc, constraint, standing)?;
+    let Some(level) = least_biting(&turns, constraint.degree()) else {
+        return Ok(None);
+    };
+    if level < decisions && bites(constraint, standing, level) {
+        return Ok(Some(level));
+    }
+    Ok(None)
+}

@@ -1,0 +1,30 @@
+//! What a conflict teaches, by cutting planes.
+//!
+//! A solver that has decided and propagated into a conflict can learn the clause that its decisions do not go together. A
+//! pseudo-Boolean conflict often says more: resolved with the reasons of the forced literals by the rules of cutting planes
+//! (Cook, Coullard and Turán) it becomes a constraint that speaks of numbers, and one such constraint can stand for
+//! exponentially many clauses. This is the analysis of RoundingSat (Elffers and Nordström, "Divide and conquer: towards faster
+//! pseudo-Boolean solving", IJCAI 2018).
+//!
+//! Nothing here judges. What is handed out comes with the items of the `pol` line that derives it, and with the level under
+//! which it bites, and both are contracts: so whoever logs it knows that the line is legal and that it says something new.
+#![tactic(auto)]
+
+mod analysis;
+mod biting;
+mod derivation;
+mod entry;
+mod learned;
+mod level;
+mod reduction;
+mod slack;
+mod spot;
+mod standing;
+mod stop;
+mod under;
+mod walk;
+
+pub use analysis::analyse;
+pub use entry::Entry;
+pub use learned::Learned;
+pub use under::bites_under;

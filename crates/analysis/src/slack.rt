@@ -1,0 +1,56 @@
+//! The slack of a constraint at a level of the trail.
+//!
+//! The code has numbers from 0 on, so it compares the sum of the literals that are not made false with the degree first, and has
+//! a slack only where it is not negative.
+
+ghost use Rattle.std.specs.Prelude.{◌≡◌, ◌+◌, ◌<◌, not, MatchOption, length, take};
+ghost use Rattle.normal_form.specs.Normal.{sum_over};
+ghost use Rattle.propagate.specs.Slack.{IsBroken, not_false};
+ghost use Rattle.analysis.specs.Biting.{literals_up_to};
+
+use super::standing::Standing;
+use linear::Lit;
+use normal_form::Normal;
+
+/// The opposite literal.
+pub(crate) fn opposite(literal: Lit) -> Lit
+    ensures { result ≡ record { var = literal.var; negated = not literal.negated } }
+{
+    Lit {
+        var: literal.var,
+        negated: !literal.negated,
+    }
+}
+
+// What the term at a place adds to the sum of the literals that are not made false.
+fn counted(constraint: &Normal, standing: &Standing<'_>, level: u32, place: usize) -> u128
+    requires { place < length constraint.now.terms }
+    ensures { sum_over (not_false (literals_up_to level standing.now)) (take (place + 1) constraint.now.terms)
+        ≡ sum_over (not_false (literals_up_to level standing.now)) (take place constraint.now.terms) + result }
+{
+    let term = constraint.term(place);
+    if standing.is_true_at(opposite(term.literal()), level) {
+        0
+    } else {
+        term.coef
+    }
+}
+
+// The sum of the coefficients of the literals that are not made false.
+fn open_sum(constraint: &Normal, standing: &Standing<'_>, level: u32) -> u128
+    ensures { result ≡ sum_over (not_false (literals_up_to level standing.now)) constraint.now.terms }
+{
+    let mut sum: u128 = 0;
+    for place in 0..constraint.len() {
+        sum += counted(constraint, standing, level, place);
+    }
+    sum
+}
+
+/// The slack of a constraint under the literals up to a level, or `None` where it is negative.
+pub(crate) fn slack(constraint: &Normal, standing: &Standing<'_>, level: u32) -> Option<u128>
+    ensures { MatchOption result (IsBroken (literals_up_to level standing.now) constraint.now)
+        (λ slack. sum_over (not_false (literals_up_to level standing.now)) constraint.now.terms ≡ constraint.now.degree + slack) }
+{
+    open_sum(constraint, standing, level).checked_sub(constraint.degree())
+}

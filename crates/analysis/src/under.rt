@@ -1,0 +1,51 @@
+//! Whether a constraint bites under a listing that is no trail: the closure of the decisions to which a search goes back.
+//!
+//! A trail may say less than propagation over what is live by now. So whoever goes back asks the propagator what the decisions
+//! that are left extend to, and then asks here.
+
+ghost use Rattle.std.specs.Prelude.{◌≡◌, ◌⊎◌, IfOk, IsTrue};
+ghost use Rattle.linear.specs.declared.term.Lit.{Lit};
+ghost use Rattle.propagate.specs.Slack.{IsBroken, IsForced};
+ghost use Rattle.analysis.specs.Biting.{literals_up_to};
+
+use super::biting::bites;
+use super::entry::Entry;
+use super::standing::Standing;
+use linear::Lit;
+use normal_form::Normal;
+use std::alloc::{AllocError, Global};
+
+// A literal that stands on a trail without decisions.
+fn at_start(literal: Lit) -> Entry
+    ensures literal { result.literal ≡ literal }
+    ensures level { result.level ≡ 0 }
+{
+    Entry {
+        literal,
+        reason: None,
+        level: 0,
+    }
+}
+
+// The trail of a listing, without decisions.
+fn trail_of(alloc: Global, listing: &[Lit]) -> Result<Vec<Entry>, AllocError>
+    ensures { IfOk result (λ trail. literals_up_to 0 trail.items ≡ listing.now) }
+{
+    let mut trail = Vec::with_capacity(alloc, listing.len())?;
+    for literal in listing {
+        trail.push(at_start(*literal))?;
+    }
+    Ok(trail)
+}
+
+/// Whether a constraint is known to have negative slack, or to force a literal, under a listing. A listing in which a variable
+/// stands twice is not looked at.
+pub fn bites_under(alloc: Global, constraint: &Normal, listing: &[Lit]) -> Result<bool, AllocError>
+    ensures { IfOk result (λ yes. IsTrue yes → IsBroken listing.now constraint.now ⊎ ((l : Lit) × IsForced listing.now l constraint.now)) }
+{
+    let trail = trail_of(alloc, listing)?;
+    let Some(standing) = Standing::of(alloc, trail.as_slice())? else {
+        return Ok(false);
+    };
+    Ok(bites(constraint, &standing, 0))
+}

@@ -1,0 +1,29 @@
+use Rattle.std.proofs.Common.{◌⊎◌, List, IfSome, take, sym, subst}
+use Rattle.linear.specs.declared.term.Lit.{Lit}
+use Rattle.propagate.specs.Reach.{IsReach}
+use Rattle.propagate.specs.Slack.{IsBroken, IsForced}
+use Rattle.propagate.specs.declared.reach.Reach.TheVariants as reaches
+use Rattle.proof_rules.specs.Expression.{IsPostfixOf}
+use Rattle.proof_rules.specs.State.{State, constraints, constraint_of}
+use Rattle.proof_steps.specs.declared.step.Step.TheVariants as kinds
+use Rattle.search.specs.Log.{Logbook, StepBites}
+use Rattle.search.proofs.BitingClauses.{settled_bites}
+use Rattle.search.proofs.cutting.learn_constraint.Goals as goal
+
+pub learn-requires-clause-bites : goal.learn-requires-clause-bites
+learn-requires-clause-bites g c =
+    let learned = c.in-Some.learned in
+    let closed : List Lit = c.in-Closed.closed in
+    let live = constraints c.args.log.now.state in
+    let given : List Lit = take learned.level c.args.decisions.now.items in
+    let lent : IsPostfixOf (constraint_of c.kernel.result.now.state) learned.items learned.constraint =
+    subst (λ o. IfSome o (λ l. IsPostfixOf (constraint_of c.kernel.result.now.state) l.items l.constraint)) c.in-Some.is c.in_ok-learned.ensures.derived in
+    let derived : IsPostfixOf (constraint_of c.args.log.now.state) learned.items learned.constraint =
+    subst (λ (s : State). IsPostfixOf (constraint_of s) learned.items learned.constraint) c.kernel.ensures.state lent in
+    let reach : IsReach live given (reaches.Closed closed) =
+    subst (λ r. IsReach live given r) c.in-Closed.is
+    (subst (λ xs. IsReach live (take learned.level xs) c.in_ok-closed.field-0) c.as_slice.ensures.value c.in_ok-closed.ensures.value) in
+    let bites : IsBroken closed learned.constraint ⊎ ((l : Lit) × IsForced closed l learned.constraint) =
+    subst (λ xs. IsBroken xs learned.constraint ⊎ ((l : Lit) × IsForced xs l learned.constraint)) c.as_slice-2.ensures (c.in_ok-bites_under.ensures c.if-not-branch.false) in
+    subst (λ (l : Logbook). StepBites l.state (kinds.Pol learned.items)) (sym c.extend.ensures.same)
+    (learned.constraint, derived, settled_bites live given closed learned.constraint reach bites)

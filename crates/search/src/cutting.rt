@@ -1,0 +1,69 @@
+//! What the analysis of a conflict comes to, logged as one `pol` line.
+//!
+//! The derivation comes with the analysis. That it bites is asked of the constraints as they are now: the closure of the decisions
+//! that are left is computed once more, and the constraint is looked at under it. So a trail that is out of date costs a
+//! weaker step, and never a wrong count.
+
+ghost use Rattle.std.specs.Prelude.{◌≡◌, IfOk, IsTrue, OnOk, false};
+ghost use Rattle.propagate.specs.Literals.{IsConsistent};
+ghost use Rattle.search.specs.Solving.{TakesId};
+
+use super::brancher::Brancher;
+use super::log::Log;
+use analysis::{Entry, Learned, analyse, bites_under};
+use linear::{Lit, Var};
+use normal_form::Normal;
+use proof_rules::StepFault;
+use proof_steps::Step;
+use propagate::{Id, Propagator, Reach};
+use std::alloc::{AllocError, Global};
+
+/// The variables of a constraint.
+fn variables_of(alloc: Global, constraint: &Normal) -> Result<Vec<Var>, AllocError> {
+    let mut variables = Vec::with_capacity(alloc, constraint.len())?;
+    for place in 0..constraint.len() {
+        variables.push(constraint.term(place).var)?;
+    }
+    Ok(variables)
+}
+
+/// Learns what the analysis of a conflict comes to, and undoes decisions down to the level at which it bites. False where it
+/// comes to nothing that bites.
+pub(crate) fn learn_constraint<'a, P: Propagator>(
+    alloc: Global,
+    log: &mut Log<'a, P>,
+    decisions: &mut Vec<Lit>,
+    trail: &[Entry],
+    conflict: Id,
+    brancher: &mut Box<dyn Brancher>,
+) -> Result<bool, StepFault>
+    requires { IsConsistent decisions.old.items }
+    ensures problem { log.new.problem ≡ log.old.problem }
+    ensures learned { IfOk result (λ yes. IsTrue yes → TakesId log.old.state log.new.state) }
+    ensures unchanged { IfOk result (λ yes. yes ≡ false → log.new ≡ log.old) }
+    ensures consistent { OnOk result (IsConsistent decisions.new.items) }
+{
+    let Some(learned) = analyse(alloc, log.kernel(), trail, conflict)? else {
+        return Ok(false);
+    };
+    let Learned {
+        items,
+        constraint,
+        level,
+    } = learned;
+    let kept = level as usize;
+    if kept >= decisions.len() {
+        return Ok(false);
+    }
+    let Reach::Closed(closed) = log.extend(&decisions.as_slice()[..kept])? else {
+        return Ok(false);
+    };
+    if !bites_under(alloc, &constraint, closed.as_slice())? {
+        return Ok(false);
+    }
+    let variables = variables_of(alloc, &constraint)?;
+    log.learn(Step::Pol(items))?;
+    decisions.truncate(kept);
+    brancher.conflict(variables.as_slice());
+    Ok(true)
+}

@@ -1,0 +1,61 @@
+//! How a search ends: each way with the conclusion that bears it out.
+
+ghost use Rattle.std.specs.Prelude.{◌≡◌, ℕ, IfOk, IsTrue, None};
+ghost use Rattle.search.specs.Solving.{BearsOut, MayStop};
+
+use super::found::{Found, Unfinished};
+use super::log::Log;
+use proof_rules::StepFault;
+use proof_steps::{Conclusion, Lower, Upper};
+use propagate::Propagator;
+
+/// Nothing better is left, as a conflict with no decision open shows: the best solution is an optimum, and without one there
+/// is no solution.
+pub(crate) fn end_exhausted<'a, P: Propagator>(log: &mut Log<'a, P>) -> Result<Found, StepFault>
+    ensures problem { log.new.problem ≡ log.old.problem }
+    ensures found { (limit : ℕ) → IfOk result (BearsOut limit log.new) }
+{
+    let Some(best) = log.least_value() else {
+        log.conclude(Conclusion::Unsat)?;
+        return Ok(Found::Unsat);
+    };
+    log.conclude(Conclusion::Bounds(Lower::At(best), Upper::At(best), None))?;
+    Ok(Found::Optimum)
+}
+
+/// A solution was logged, and there is no objective.
+pub(crate) fn end_solved<'a, P: Propagator>(log: &mut Log<'a, P>) -> Result<Found, StepFault>
+    requires { log.old.problem.objective ≡ None }
+    ensures problem { log.new.problem ≡ log.old.problem }
+    ensures found { (limit : ℕ) → IfOk result (BearsOut limit log.new) }
+{
+    log.conclude(Conclusion::Sat(None))?;
+    Ok(Found::Sat)
+}
+
+/// Whether a search may stop before its end.
+pub(crate) fn may_stop<'a, P: Propagator>(log: &Log<'a, P>, limit: u64) -> bool
+    ensures { IsTrue result → MayStop limit log.now }
+{
+    limit.saturating_sub(1) <= log.biting() || !log.has_room()
+}
+
+/// The search stops before its end.
+pub(crate) fn end_stopped<'a, P: Propagator>(
+    log: &mut Log<'a, P>,
+    limit: u64,
+) -> Result<Found, StepFault>
+    requires { MayStop limit log.old }
+    ensures problem { log.new.problem ≡ log.old.problem }
+    ensures found { IfOk result (BearsOut limit log.new) }
+{
+    if log.best().is_none() {
+        log.conclude(Conclusion::Nothing)?;
+        return Ok(Found::Unknown(Unfinished::Limit));
+    }
+    let Some(best) = log.least_value() else {
+        return Err(StepFault::UpperNotLogged);
+    };
+    log.conclude(Conclusion::Bounds(Lower::MinusInf, Upper::At(best), None))?;
+    Ok(Found::Sat)
+}

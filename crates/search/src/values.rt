@@ -1,0 +1,101 @@
+//! What a search knows of each variable, for whoever chooses the next literal, and the choice itself.
+//!
+//! A brancher is not believed: what it answers is looked up in the table, and replaced where the table does not have its
+//! variable as a free one. So no decision ever stands beside its opposite, which is all that a search needs to know.
+
+ghost use Rattle.std.specs.Prelude.{◌≡◌, ◌≢◌, ◌<◌, ℕ, IfOk, IfSome, IsTrue, length};
+ghost use Rattle.search.specs.Values.{IsFree, LeavesFree};
+
+use super::brancher::Value;
+use linear::{Lit, Var};
+use propagate::Id;
+use std::alloc::{AllocError, Global};
+
+/// Notes the value that a literal gives its variable, where the table has that variable.
+fn note(values: &mut [Value], literal: Lit)
+    ensures { (v : ℕ) → IsFree values.new v → IsFree values.old v × (v ≢ literal.var.0) }
+{
+    let place = literal.var.0 as usize;
+    if place < values.len() {
+        values[place] = if literal.negated {
+            Value::False
+        } else {
+            Value::True
+        };
+    }
+}
+
+/// Notes the values that decisions give their variables.
+fn note_decisions(values: &mut [Value], decisions: &[Lit])
+    ensures { LeavesFree decisions.now values.new }
+{
+    for decision in decisions {
+        note(values, *decision);
+    }
+}
+
+/// Notes the values that forced literals give their variables.
+fn note_forced(values: &mut [Value], forced: &[(Lit, Id)])
+    ensures { (v : ℕ) → IsFree values.new v → IsFree values.old v }
+{
+    for (literal, _) in forced {
+        note(values, *literal);
+    }
+}
+
+/// The values that decisions and what they force give the first variables.
+pub(crate) fn values_of(
+    alloc: Global,
+    count: u32,
+    decisions: &[Lit],
+    forced: &[(Lit, Id)],
+) -> Result<Vec<Value>, AllocError>
+    ensures free { IfOk result (λ values. LeavesFree decisions.now values.items) }
+    ensures count { IfOk result (λ values. length values.items ≡ count) }
+{
+    let mut values = vec![in alloc; Value::Free; count as usize]?;
+    note_decisions(values.as_mut_slice(), decisions);
+    note_forced(values.as_mut_slice(), forced);
+    Ok(values)
+}
+
+/// Whether a variable is free.
+fn is_free(values: &[Value], variable: Var) -> bool
+    ensures free { IsTrue result → IsFree values.now (variable.0) }
+    ensures inside { IsTrue result → variable.0 < length values.now }
+{
+    let place = variable.0 as usize;
+    if place < values.len() {
+        matches!(values[place], Value::Free)
+    } else {
+        false
+    }
+}
+
+/// The first free variable.
+fn first_free(values: &[Value], count: u32) -> Option<Var>
+    ensures free { IfSome result (λ v. IsFree values.now (v.0)) }
+    ensures inside { IfSome result (λ v. v.0 < length values.now) }
+{
+    for number in 0..count {
+        if is_free(values, Var(number)) {
+            return Some(Var(number));
+        }
+    }
+    None
+}
+
+/// The literal to be decided: the one that was picked, or else the first free variable set to false. None where no variable
+/// is free.
+pub(crate) fn choose(values: &[Value], count: u32, picked: Option<Lit>) -> Option<Lit>
+    ensures free { IfSome result (λ l. IsFree values.now (l.var.0)) }
+    ensures inside { IfSome result (λ l. l.var.0 < length values.now) }
+{
+    if let Some(literal) = picked {
+        if is_free(values, literal.var) {
+            return Some(literal);
+        }
+    }
+    let var = first_free(values, count)?;
+    Some(Lit { var, negated: true })
+}
