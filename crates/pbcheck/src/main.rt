@@ -2,28 +2,54 @@
 #![tactic(auto)]
 
 use checker::{check, verdict_status, verdict_text};
+use clap::{Arg, ArgAction, Command, Error};
+use command_line::{ended, refused};
+use std::alloc::Global;
 use std::io::Write;
 use std::process::ExitCode;
 use std::rt::{Env, Files};
 use std::{env, fs, io};
 
-/// The status of a command line that is not two words.
-const BAD_COMMAND: u8 = 64;
-/// The status of a device that failed.
-const DEVICE_FAILED: u8 = 3;
 /// The status of want of memory.
 const NO_MEMORY: u8 = 4;
 
+const EXPLANATION: &str = "Standard output has one verdict:
+  accepted NONE               exit status 0: the steps are legal, nothing is concluded
+  accepted SAT                0: there is a solution; a `v` line has one
+  accepted UNSAT              0: there is no solution
+  accepted BOUNDS L U         0: no solution is worth less than L, and the one of the `v` line at most U
+  refused line L code C NAME  1: line L of the proof is the first that cannot be read or is not legal
+  bad problem line L ..       2: FILE is no problem in the format
+  no memory                   4: nothing is said
+A command line that is refused ends with 64. A read or write that fails ends with 3 and
+`device failed` on standard error.
+
+Example: pbcheck examples/pigeons.opb examples/pigeons.pbp";
+
+/// What the command line may be.
+fn command<'a>(alloc: Global) -> Result<Command<'a>, Error> {
+    let file = Arg::new(alloc, "FILE")
+        .required(true)
+        .action(ArgAction::Set)
+        .help("The problem: linear constraints over 0-1 variables (OPB)");
+    let proof = Arg::new(alloc, "PROOF")
+        .required(true)
+        .action(ArgAction::Set)
+        .help("The proof, whoever wrote it (VeriPB, version 2.0)");
+    Ok(
+        Command::new(alloc, "pbcheck")
+            .version("0.1.0")
+            .about("Judges a proof about a pseudo-Boolean problem and prints the verdict.")
+            .after_help(EXPLANATION)
+            .arg(file)?
+            .arg(proof)?,
+    )
+}
+
 /// Reads the two files, judges the proof and prints the verdict. The result is the exit status.
-fn run<R: Env + Files + Print + Eprint + AllocGlobal>(rt: &R) -> io::Result<u8> {
-    let mut words = env::args(rt)?;
-    let _program = words.next();
-    let (Some(problem), Some(proof), None) = (words.next(), words.next(), words.next()) else {
-        eprintln!(rt; "usage: pbcheck FILE PROOF")?;
-        return Ok(BAD_COMMAND);
-    };
-    let opb = fs::read(rt, problem.as_str())?;
-    let lines = fs::read(rt, proof.as_str())?;
+fn judge<R: Files + Print + AllocGlobal>(rt: &R, problem: &str, proof: &str) -> io::Result<u8> {
+    let opb = fs::read(rt, problem)?;
+    let lines = fs::read(rt, proof)?;
     let verdict = check(rt.alloc(), opb.as_slice(), lines.as_slice());
     let Ok(text) = verdict_text(rt.alloc(), opb.as_slice(), &verdict) else {
         io::writer(rt).write_all(b"no memory\n")?;
@@ -33,12 +59,23 @@ fn run<R: Env + Files + Print + Eprint + AllocGlobal>(rt: &R) -> io::Result<u8> 
     Ok(verdict_status(&verdict))
 }
 
-fn main(rt: HostRuntime) -> ExitCode {
-    match run(&rt) {
-        Ok(status) => ExitCode::from(status),
-        Err(_) => {
-            let _ = eprintln!(rt; "device failed");
-            ExitCode::from(DEVICE_FAILED)
+/// Takes the command line, and does what it asks for. The result is the exit status.
+fn run<R: Env + Files + Print + Eprint + AllocGlobal>(rt: &R) -> io::Result<u8> {
+    let words: Vec<String> = env::args(rt)?.collect(rt.alloc())?;
+    let command = match command(rt.alloc()) {
+        Ok(command) => command,
+        Err(error) => return refused(rt, &error),
+    };
+    match command.try_get_matches_from(words.as_slice()) {
+        Ok(matches) => {
+            let problem = matches.get_str("FILE").unwrap_or("");
+            let proof = matches.get_str("PROOF").unwrap_or("");
+            judge(rt, problem, proof)
         }
+        Err(error) => refused(rt, &error),
     }
+}
+
+fn main(rt: HostRuntime) -> ExitCode {
+    ended(&rt, run(&rt))
 }
