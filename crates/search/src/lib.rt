@@ -6,6 +6,7 @@
 //! left to say of the search is that what it needs is never refused: these are the laws of `laws`.
 #![tactic(auto)]
 
+mod activity;
 mod brancher;
 pub mod cases;
 mod clause;
@@ -15,10 +16,12 @@ mod endings;
 mod found;
 pub mod laws;
 mod log;
+mod restarts;
 mod solver;
 mod trail;
 mod values;
 
+pub use activity::Activity;
 pub use brancher::{Brancher, First, Value};
 pub use found::{Found, Unfinished};
 pub use log::Log;

@@ -11,6 +11,7 @@ use super::descent::{Descent, descend};
 use super::endings::{end_exhausted, end_solved, end_stopped, may_stop};
 use super::found::{Found, Unfinished};
 use super::log::Log;
+use super::restarts::Restarts;
 use super::trail::{Trail, level_of};
 use linear::{Lit, Problem, Seq};
 use proof_rules::StepFault;
@@ -83,6 +84,23 @@ fn accept<'a, P: Propagator>(
     Ok(None)
 }
 
+/// Counts a conflict, and undoes all decisions where a restart is due.
+fn restart_if_due(
+    restarts: &mut Restarts,
+    decisions: &mut Vec<Lit>,
+    trail: &mut Trail,
+    brancher: &mut Box<dyn Brancher>,
+)
+    requires { IsConsistent decisions.old.items }
+    ensures { IsConsistent decisions.new.items }
+{
+    if restarts.is_due() {
+        decisions.clear();
+        trail.go_back(0);
+        brancher.restarted();
+    }
+}
+
 /// Decides until there is a conflict or a solution, and learns from that.
 fn turn<'a, P: Propagator>(
     alloc: Global,
@@ -91,6 +109,7 @@ fn turn<'a, P: Propagator>(
     trail: &mut Trail,
     limit: u64,
     count: u32,
+    restarts: &mut Restarts,
     brancher: &mut Box<dyn Brancher>,
 ) -> Result<Option<Found>, StepFault>
     requires { IsConsistent decisions.old.items }
@@ -101,7 +120,9 @@ fn turn<'a, P: Propagator>(
 {
     match descend(alloc, log, decisions, trail, count, brancher)? {
         Descent::Conflict(conflict) => {
-            resolve(alloc, log, decisions, trail, conflict, limit, brancher)
+            let end = resolve(alloc, log, decisions, trail, conflict, limit, brancher)?;
+            restart_if_due(restarts, decisions, trail, brancher);
+            Ok(end)
         }
         Descent::Settled(listing) => {
             decisions.clear();
@@ -126,7 +147,8 @@ fn search<'a, P: Propagator>(
     };
     let mut decisions = Vec::new(alloc);
     let mut trail = Trail::new(alloc, count)?;
-    loop {
+    let mut restarts = Restarts::new();
+    'turns: loop {
         if let Some(found) = turn(
             alloc,
             log,
@@ -134,6 +156,7 @@ fn search<'a, P: Propagator>(
             &mut trail,
             limit,
             count,
+            &mut restarts,
             &mut brancher,
         )? {
             return Ok(found);
