@@ -26,3 +26,4 @@ pub mod MadeAnew
 pub mod LentIds
 pub mod KeptLevels
 pub mod Ascents
+pub mod Reasoned

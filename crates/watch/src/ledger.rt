@@ -230,6 +230,15 @@ impl Ledger {
         self.trail.leaves_free(literal)
     }
 
+    /// Where the literal of a variable stands on the trail, if one is there.
+    pub(crate) fn position(&self, variable: usize) -> usize
+        requires { variable < self.now.variables }
+        ensures { (k : ℕ) (d : Lit) → k < length self.now.listing
+            → (slice_index_or self.now.listing k d).var.0 ≡ variable → k ≡ result }
+    {
+        self.trail.position(variable)
+    }
+
     /// The place of the constraint that forced the literal at an index of the trail.
     pub(crate) fn reason(&self, index: usize) -> Option<usize>
         requires { index < length self.now.listing }

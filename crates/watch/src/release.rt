@@ -3,12 +3,13 @@
 //! What is forced from nothing is kept between calls, and each literal has the constraint that forced it. Those
 //! before the first that stands on the constraint are a chain without it, so they stay; the first and all after it
 //! go, for they may stand on one another. A constraint that did not wait is still quiet then, unless a literal that
-//! goes is one of its own: it may force that one again. So these are queued, and nothing is made anew. The reasons
-//! are looked through in order, which is quick beside the walk that listed them.
+//! goes is one of its own: it may force that one again. So these are queued, and nothing is made anew. What a constraint
+//! forced is one of its own literals, so those are looked at, and not the trail.
 
 ghost use Rattle.std.specs.Prelude.{◌≡◌, ◌-◌, ◌<◌, ◌≤◌, ℕ, Some, None, length, slice_index_or, take};
-ghost use Rattle.watch.specs.Ledgers.{shown};
-ghost use Rattle.watch.specs.Looking.{AreLookedAt};
+ghost use Rattle.linear.specs.declared.term.Lit.{Lit};
+ghost use Rattle.watch.specs.Ledgers.{constraint_at, shown};
+ghost use Rattle.watch.specs.Looking.{AreLookedAt, term_at};
 ghost use Rattle.watch.specs.Roots.{IsRoot};
 
 use super::ledger::Ledger;
@@ -49,24 +50,44 @@ pub(crate) fn take_back_to(ledger: &mut Ledger, queue: &mut Queue, count: usize)
     }
 }
 
-// How many literals stand before the first whose reason is the constraint of a place.
+// Where the literal of a term's variable stands that the constraint of a place forced, if that is before a count, and
+// else the count.
+fn forced_before(ledger: &Ledger, place: usize, index: usize, count: usize) -> usize
+    requires place { place < length ledger.now.slots }
+    requires index { index < length (constraint_at (shown ledger.now.slots) place).terms }
+    requires count { count ≤ length ledger.now.listing }
+    ensures fewer { result ≤ count }
+    ensures none { (k : ℕ) (d : Lit) → k < result → slice_index_or ledger.now.reasons k None ≡ Some place
+        → (slice_index_or ledger.now.listing k d).var.0
+        ≡ (term_at (shown ledger.now.slots) place index).var.0 → ⊥ }
+{
+    let position = ledger.position(ledger.term(place, index).var.0 as usize);
+    if position < count && ledger.reason(position) == Some(place) {
+        position
+    } else {
+        count
+    }
+}
+
+// How many literals stand before the first whose reason is the constraint of a place: one of its own.
 fn count_before(ledger: &Ledger, place: usize) -> usize
+    requires { place < length ledger.now.slots }
     ensures few { result ≤ length ledger.now.listing }
     ensures as_many { length ledger.now.reasons ≡ length ledger.now.listing }
     ensures none { (k : ℕ) → k < result → slice_index_or ledger.now.reasons k None ≡ Some place → ⊥ }
 {
-    let end = ledger.len();
+    let mut count = ledger.len();
+    let end = ledger.term_count(place);
     for index in 0..end {
-        if ledger.reason(index) == Some(place) {
-            return index;
-        }
+        count = forced_before(ledger, place, index, count);
     }
-    end
+    count
 }
 
 /// Takes literals back, so that the constraint of a place is nobody's reason.
 pub(crate) fn release(ledger: &mut Ledger, queue: &mut Queue, place: usize)
-    requires { IsRoot ledger.old queue.old.0 queue.old.1 }
+    requires root { IsRoot ledger.old queue.old.0 queue.old.1 }
+    requires place { place < length ledger.old.slots }
     ensures slots { ledger.new.slots ≡ ledger.old.slots }
     ensures root { IsRoot ledger.new queue.new.0 queue.new.1 }
     ensures reasons { (k : ℕ) → k < length ledger.new.listing

@@ -5,7 +5,7 @@
 
 ghost use Rattle.std.specs.Prelude.{◌≡◌, ◌+◌, ◌<◌, ◌≤◌, ◌++◌, ◌∷◌, ◌⊎◌, []};
 ghost use Rattle.std.specs.Prelude.{ℕ, false, true, OnOk, OnErr, IsTrue, ◌↔◌, None};
-ghost use Rattle.std.specs.Prelude.{length, MatchOption, IfSome};
+ghost use Rattle.std.specs.Prelude.{length, slice_index_or, MatchOption, IfSome};
 ghost use Rattle.linear.specs.declared.term.Lit.{Lit};
 ghost use Rattle.propagate.specs.Literals.{IsConsistent, IsOnce, lists, opposite};
 
@@ -18,19 +18,22 @@ use std::marker::Model;
 pub(crate) struct Trail {
     listing: Vec<Lit>,
     values: Vec<Option<bool>>,
+    /// Where the literal of each variable stands, where it has one.
+    positions: Vec<usize>,
 }
 
 impl Model for Trail {
-    ghost use Rattle.std.specs.Prelude.{ℕ, ◌≤◌, List, length, vec_capacity};
+    ghost use Rattle.std.specs.Prelude.{◌≡◌, ℕ, ◌≤◌, List, length, vec_capacity};
     ghost use Rattle.linear.specs.declared.term.Lit.{Lit};
-    ghost use Rattle.watch.specs.Trails.{IsTrail};
+    ghost use Rattle.watch.specs.Trails.{ArePositions, IsTrail};
 
     ghost Value = { List Lit × ℕ };
 
     ghost view = { λ t. (t.listing.items, length t.values.items) };
 
     ghost invariant = { λ t. IsTrail t.listing.items t.values.items
-        × (length t.values.items ≤ vec_capacity t.listing) };
+        × (length t.values.items ≤ vec_capacity t.listing) × (length t.positions.items ≡ length t.values.items)
+        × ArePositions t.listing.items t.positions.items };
 }
 
 impl Trail {
@@ -41,6 +44,7 @@ impl Trail {
         Trail {
             listing: Vec::new(alloc),
             values: Vec::new(alloc),
+            positions: Vec::new(alloc),
         }
     }
 
@@ -51,7 +55,9 @@ impl Trail {
     {
         let more = self.values.len() + 1 - self.listing.len();
         self.listing.reserve(more)?;
+        self.positions.reserve(1)?;
         self.values.push(None)?;
+        self.positions.push_reserved(0);
         Ok(())
     }
 
@@ -112,6 +118,15 @@ impl Trail {
         }
     }
 
+    /// Where the literal of a variable stands, if one is listed.
+    pub(crate) fn position(&self, variable: usize) -> usize
+        requires { variable < self.now.1 }
+        ensures { (k : ℕ) (d : Lit) → k < length self.now.0 → (slice_index_or self.now.0 k d).var.0 ≡ variable
+            → k ≡ result }
+    {
+        self.positions[variable]
+    }
+
     /// Lists a literal that is free.
     pub(crate) fn push(&mut self, literal: Lit)
         requires variable { literal.var.0 < self.old.1 }
@@ -120,6 +135,7 @@ impl Trail {
         ensures value { self.new ≡ (self.old.0 ++ literal ∷ [], self.old.1) }
         ensures room { length self.old.0 < self.old.1 }
     {
+        self.positions[literal.var.0 as usize] = self.listing.len();
         self.listing.push_reserved(literal);
         self.values[literal.var.0 as usize] = Some(!literal.negated);
     }

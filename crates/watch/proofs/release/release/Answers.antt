@@ -12,7 +12,7 @@ returns-clause-root c =
     let new = c.take_back_to.new.ledger in
     let t = c.take_back_to.ensures in
     record {
-      places = t.places ∙ c.requires.places ∙ ap length (sym t.slots);
+      places = t.places ∙ c.requires.root.places ∙ ap length (sym t.slots);
       looked_at = subst (λ (os : List (Option NormalConstraint)). AreLookedAt (shown os) new.listing c.take_back_to.new.queue.0) (sym t.slots) t.looked_at;
-      forced = forced_first old.reasons new.reasons c.count_before-count.result t.reasons c.requires.forced;
+      forced = forced_first old.reasons new.reasons c.count_before-count.result t.reasons c.requires.root.forced;
     }

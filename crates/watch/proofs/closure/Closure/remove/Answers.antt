@@ -5,8 +5,8 @@ use Rattle.watch.proofs.KeptLevels.{kept_root, root_kept}
 use Rattle.watch.proofs.TakenBack.{root_without}
 use Rattle.watch.proofs.closure.Closure.remove.Goals as goal
 
-pub release-requires : goal.release-requires
-release-requires c =
+pub release-requires-clause-root : goal.release-requires-clause-root
+release-requires-clause-root c =
     root_kept c.go_back.new.ledger c.go_back.new.levels c.go_back.new.queue.0 c.go_back.new.queue.1 c.len-literals.ensures.reasons.as_many c.go_back.ensures.levels c.go_back.ensures.kept
 
 pub invariant_of-self : goal.invariant_of-self
