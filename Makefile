@@ -1,14 +1,17 @@
-# The door for people. `make` proves every crate and builds the program into bin/, from nothing too; `make test` runs the
-# gate: every proof from nothing, the edits that must fail, and the tests; `make demo` runs the checker on three pigeons in
-# two holes, an optimum, a symmetry and a new name.
-.PHONY: all test demo check layout refused-growths statuses bench differential wrong-edits wrong-bodies gate-minutes
+# The door for people. `make` proves every crate and builds both programs into bin/, from nothing too; `make test` runs the
+# gate: every proof from nothing, the edits that must fail, and the tests; `make demo` finds an optimum and has its proof
+# checked, and runs the checker on three pigeons in two holes, an optimum, a symmetry and a new name; `make install` puts both
+# programs and their manual pages under PREFIX.
+.PHONY: all test demo check install layout refused-growths statuses bench differential optima pigeons wrong-edits wrong-bodies gate-minutes
+
+PREFIX ?= /usr/local
 
 # How many crates are proved side by side.
 JOBS ?= $(shell nproc)
 
 SOURCES := crates.txt $(shell find crates \( -name out -o -name must-fail -o -name wrong-bodies -o -name wrong-definitions \) -prune -o -type f -print)
 
-all: bin/pbcheck
+all: bin/pbcheck bin/pbopt
 
 # Crates are proved side by side, each as soon as those that it stands on are; what an earlier run kept in out/ is not proved again.
 bin/pbcheck: $(SOURCES)
@@ -20,10 +23,23 @@ bin/pbcheck: $(SOURCES)
 	mkdir -p bin
 	cp crates/pbcheck/out/pbcheck bin/pbcheck
 
+bin/pbopt: bin/pbcheck
+	@echo "make: building pbopt"
+	cd crates/pbopt && (rt run -- data/clauses.opb --conflicts 1 > /dev/null || true)
+	cp crates/pbopt/out/pbopt bin/pbopt
+
+install: all
+	install -d $(DESTDIR)$(PREFIX)/bin $(DESTDIR)$(PREFIX)/share/man/man1
+	install bin/pbopt bin/pbcheck $(DESTDIR)$(PREFIX)/bin
+	install -m 644 docs/pbopt.1 docs/pbcheck.1 $(DESTDIR)$(PREFIX)/share/man/man1
+
 test:
 	rt ci
 
-demo: bin/pbcheck
+# `pbopt` ends with 30 where it found an optimum.
+demo: all
+	bin/pbopt examples/cover.opb --proof bin/cover.pbp || test $$? = 30
+	bin/pbcheck examples/cover.opb bin/cover.pbp
 	bin/pbcheck examples/pigeons.opb examples/pigeons.pbp
 	bin/pbcheck examples/cover.opb examples/cover.pbp
 	bin/pbcheck examples/machines.opb examples/machines.pbp
@@ -38,19 +54,29 @@ layout:
 	for crate in crates/*/; do (cd $$crate && rt fmt) || exit 1; done
 
 # Makes each allocation of a run fail in turn: the answer stays the usual one, or is `no memory`. Beside the gate: it wants a C compiler.
-refused-growths: bin/pbcheck
-	scripts/refused-growths examples/pigeons.opb examples/pigeons.pbp "accepted UNSAT"
-	scripts/refused-growths examples/pigeons.opb examples/pigeons-too-short.pbp "refused line 5 code 24 LowerNotShown"
-	scripts/refused-growths examples/cover.opb examples/cover.pbp "$$(printf 'accepted BOUNDS 5 5\nv x1 x2 -x3')"
-	scripts/refused-growths examples/majority.opb examples/majority.pbp "accepted UNSAT"
+refused-growths: all
+	scripts/refused-growths "accepted UNSAT" bin/pbcheck examples/pigeons.opb examples/pigeons.pbp
+	scripts/refused-growths "refused line 5 code 24 LowerNotShown" bin/pbcheck examples/pigeons.opb examples/pigeons-too-short.pbp
+	scripts/refused-growths "$$(printf 'accepted BOUNDS 5 5\nv x1 x2 -x3')" bin/pbcheck examples/cover.opb examples/cover.pbp
+	scripts/refused-growths "accepted UNSAT" bin/pbcheck examples/majority.opb examples/majority.pbp
+	scripts/refused-growths "s UNSATISFIABLE" bin/pbopt examples/pigeons.opb
+	scripts/refused-growths "$$(bin/pbopt examples/cover.opb)" bin/pbopt examples/cover.opb
 
 # Exit statuses and texts, failing reads and writes among them. Beside the gate: it wants a C compiler.
-statuses: bin/pbcheck
+statuses: all
 	scripts/statuses
 
 # Compares the checker with a second, plain judge on random problems and proofs, and what is accepted with all assignments.
 differential: bin/pbcheck
 	scripts/differential
+
+# Solves small problems of all kinds, and compares each answer with the best of all assignments, and its proof with the checker.
+optima: all
+	scripts/optima
+
+# Pigeons in too few holes, up to twenty: a hundred conflicts at most.
+pigeons: all
+	scripts/pigeons
 
 # Times the checker on large problems and proofs.
 bench: bin/pbcheck

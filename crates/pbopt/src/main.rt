@@ -4,7 +4,7 @@
 use clap::{Arg, ArgAction, Command, Error};
 use command_line::{ended, refused};
 use pb_main::{Decided, answer_text, decide, status};
-use search::{Brancher, First};
+use search::{Activity, Brancher};
 use std::alloc::Global;
 use std::io::Write;
 use std::process::ExitCode;
@@ -32,7 +32,9 @@ fn command<'a>(alloc: Global) -> Result<Command<'a>, Error> {
     let file = Arg::new(alloc, "FILE")
         .required(true)
         .action(ArgAction::Set)
-        .help("The problem: linear constraints over 0-1 variables, perhaps with an objective (OPB)");
+        .help(
+            "The problem: linear constraints over 0-1 variables, perhaps with an objective (OPB)",
+        );
     let proof = Arg::new(alloc, "proof")
         .long("proof")
         .value_name("FILE")
@@ -45,13 +47,15 @@ fn command<'a>(alloc: Global) -> Result<Command<'a>, Error> {
         .value_parser(clap::value_parser!(u64).range(1..))
         .default_value(CONFLICTS)
         .help("Stop at the conflict of this number, from 1");
-    Ok(Command::new(alloc, "pbopt")
-        .version("0.1.0")
-        .about("Solves a pseudo-Boolean problem and prints the answer, with a proof beside it.")
-        .after_help(EXPLANATION)
-        .arg(file)?
-        .arg(proof)?
-        .arg(conflicts)?)
+    Ok(
+        Command::new(alloc, "pbopt")
+            .version("0.1.0")
+            .about("Solves a pseudo-Boolean problem and prints the answer, with a proof beside it.")
+            .after_help(EXPLANATION)
+            .arg(file)?
+            .arg(proof)?
+            .arg(conflicts)?,
+    )
 }
 
 /// Prints the answer; where there is no memory for its text, that.
@@ -76,7 +80,7 @@ fn solve<R: Files + Print + AllocGlobal>(
         Some(path) => Some(fs::create(rt, path)?),
         None => None,
     };
-    let Ok(brancher) = Box::new(rt.alloc(), First) else {
+    let Ok(brancher) = Box::new(rt.alloc(), Activity::new(rt.alloc())) else {
         io::writer(rt).write_all(b"c memory\ns UNKNOWN\n")?;
         return Ok(0);
     };

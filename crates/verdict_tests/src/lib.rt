@@ -18,4 +18,6 @@ mod rows;
 #[cfg(test)]
 mod solutions;
 #[cfg(test)]
+mod solved;
+#[cfg(test)]
 mod verdicts;

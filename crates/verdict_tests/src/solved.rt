@@ -1,0 +1,298 @@
+//! The solver from the bytes of a problem to the printed answer, with three rules of choice: none, the conflicts', and one that always
+//! answers a variable that is set. The proof that is handed out is judged once more as if it came from anybody.
+
+use checker::{check, verdict_text};
+use linear::{Lit, Var};
+use pb_main::{Decided, answer_text, decide, status};
+use search::{Activity, Brancher, First, Value};
+use std::alloc::{AllocError, Global};
+use std::process::Abort;
+use std::test::Fail;
+
+/// Always answers the first variable, set or not.
+struct Stubborn;
+
+impl Brancher for Stubborn {
+    fn pick(&mut self, _values: &[Value]) -> Option<Lit> {
+        Some(Lit {
+            var: Var(0),
+            negated: false,
+        })
+    }
+
+    fn conflict(&mut self, _variables: &[Var]) {}
+
+    fn restarted(&mut self) {}
+}
+
+/// A rule of choice.
+#[derive(Clone, Copy, Debug)]
+enum Rule {
+    First,
+    Activity,
+    Stubborn,
+}
+
+const RULES: [Rule; 3] = [Rule::First, Rule::Activity, Rule::Stubborn];
+
+fn brancher(alloc: Global, rule: Rule) -> Result<Box<dyn Brancher>, AllocError> {
+    Ok(match rule {
+        Rule::First => Box::new(alloc, First)?,
+        Rule::Activity => Box::new(alloc, Activity::new(alloc))?,
+        Rule::Stubborn => Box::new(alloc, Stubborn)?,
+    })
+}
+
+/// A problem, how many conflicts the search may meet, what the answer ends with, its exit status, and how the verdict about its proof
+/// begins.
+#[derive(Clone, Copy)]
+struct Case {
+    opb: &'static str,
+    conflicts: u64,
+    ends: &'static str,
+    status: u8,
+    verdict: &'static str,
+}
+
+const FOUR_CLAUSES: &str = "1 x1 1 x2 >= 1 ; 1 x1 1 ~x2 >= 1 ; 1 ~x1 1 x2 >= 1 ; 1 ~x1 1 ~x2 >= 1 ;";
+
+const PIGEONS: &str = "1 x1 1 x2 >= 1 ; 1 x3 1 x4 >= 1 ; 1 x5 1 x6 >= 1 ; -1 x1 -1 x3 -1 x5 >= -1 ; -1 x2 -1 x4 -1 x6 >= -1 ;";
+
+const CASES: [Case; 20] = [
+    Case {
+        opb: FOUR_CLAUSES,
+        conflicts: 1000000,
+        ends: "s UNSATISFIABLE\n",
+        status: 20,
+        verdict: "accepted UNSAT\n",
+    },
+    // the first conflict has a decision open, whichever it is
+    Case {
+        opb: FOUR_CLAUSES,
+        conflicts: 1,
+        ends: "c limit\ns UNKNOWN\n",
+        status: 0,
+        verdict: "accepted NONE\n",
+    },
+    // both values of a variable fail, its literal is learned, the second conflict has no decision open
+    Case {
+        opb: FOUR_CLAUSES,
+        conflicts: 2,
+        ends: "s UNSATISFIABLE\n",
+        status: 20,
+        verdict: "accepted UNSAT\n",
+    },
+    Case {
+        opb: PIGEONS,
+        conflicts: 1000000,
+        ends: "s UNSATISFIABLE\n",
+        status: 20,
+        verdict: "accepted UNSAT\n",
+    },
+    Case {
+        opb: PIGEONS,
+        conflicts: 100,
+        ends: "s UNSATISFIABLE\n",
+        status: 20,
+        verdict: "accepted UNSAT\n",
+    },
+    // no constraint, and no variable
+    Case {
+        opb: "",
+        conflicts: 1000000,
+        ends: "s SATISFIABLE\nv\n",
+        status: 10,
+        verdict: "accepted SAT\nv\n",
+    },
+    Case {
+        opb: "min: ;",
+        conflicts: 1000000,
+        ends: "o 0\ns OPTIMUM FOUND\nv\n",
+        status: 30,
+        verdict: "accepted BOUNDS 0 0\nv\n",
+    },
+    // a contradiction in the file
+    Case {
+        opb: "1 x1 >= 2 ;",
+        conflicts: 1000000,
+        ends: "s UNSATISFIABLE\n",
+        status: 20,
+        verdict: "accepted UNSAT\n",
+    },
+    // units alone
+    Case {
+        opb: "1 x1 >= 1 ; 1 ~x2 >= 1 ;",
+        conflicts: 1000000,
+        ends: "s SATISFIABLE\nv x1 -x2\n",
+        status: 10,
+        verdict: "accepted SAT\nv x1 -x2\n",
+    },
+    // propagation alone, both ways
+    Case {
+        opb: "1 x1 >= 1 ; 1 ~x1 1 x2 >= 1 ; 2 ~x2 2 x3 >= 1 ;",
+        conflicts: 1000000,
+        ends: "s SATISFIABLE\nv x1 x2 x3\n",
+        status: 10,
+        verdict: "accepted SAT\nv x1 x2 x3\n",
+    },
+    Case {
+        opb: "1 x1 >= 1 ; 1 ~x1 1 x2 >= 1 ; 1 ~x2 >= 1 ;",
+        conflicts: 1000000,
+        ends: "s UNSATISFIABLE\n",
+        status: 20,
+        verdict: "accepted UNSAT\n",
+    },
+    // an equality with one solution, one without any
+    Case {
+        opb: "1 x1 2 x2 4 x3 = 5 ;",
+        conflicts: 1000000,
+        ends: "s SATISFIABLE\nv x1 -x2 x3\n",
+        status: 10,
+        verdict: "accepted SAT\nv x1 -x2 x3\n",
+    },
+    Case {
+        opb: "2 x1 2 x2 = 3 ;",
+        conflicts: 1000000,
+        ends: "s UNSATISFIABLE\n",
+        status: 20,
+        verdict: "accepted UNSAT\n",
+    },
+    // objectives
+    Case {
+        opb: "min: 2 x1 3 x2 ; 1 x1 1 x2 >= 1 ;",
+        conflicts: 1000000,
+        ends: "o 2\ns OPTIMUM FOUND\nv x1 -x2\n",
+        status: 30,
+        verdict: "accepted BOUNDS 2 2\nv x1 -x2\n",
+    },
+    Case {
+        opb: "min: 2 x1 3 x2 ; 1 x1 1 x2 >= 1 ;",
+        conflicts: 100,
+        ends: "o 2\ns OPTIMUM FOUND\nv x1 -x2\n",
+        status: 30,
+        verdict: "accepted BOUNDS 2 2\nv x1 -x2\n",
+    },
+    Case {
+        opb: "min: -1 x1 ;",
+        conflicts: 1000000,
+        ends: "o -1\ns OPTIMUM FOUND\nv x1\n",
+        status: 30,
+        verdict: "accepted BOUNDS -1 -1\nv x1\n",
+    },
+    Case {
+        opb: "min: 4 x1 3 x2 5 x3 ; 3 x1 2 x2 4 x3 >= 5 ;",
+        conflicts: 1000000,
+        ends: "o 7\ns OPTIMUM FOUND\nv x1 x2 -x3\n",
+        status: 30,
+        verdict: "accepted BOUNDS 7 7\nv x1 x2 -x3\n",
+    },
+    Case {
+        opb: "min: 1 x1 ; 2 x1 2 x2 = 3 ;",
+        conflicts: 1000000,
+        ends: "s UNSATISFIABLE\n",
+        status: 20,
+        verdict: "accepted UNSAT\n",
+    },
+    // a negative coefficient, and a variable that stands in the objective alone
+    Case {
+        opb: "min: 1 x1 -2 x2 1 x3 ; -1 x1 -1 x2 >= -1 ;",
+        conflicts: 1000000,
+        ends: "o -2\ns OPTIMUM FOUND\nv -x1 x2 -x3\n",
+        status: 30,
+        verdict: "accepted BOUNDS -2 -2\nv -x1 x2 -x3\n",
+    },
+    // the best cover of a triangle
+    Case {
+        opb: "min: 2 x1 3 x2 4 x3 ; 1 x1 1 x2 >= 1 ; 1 x2 1 x3 >= 1 ; 1 x1 1 x3 >= 1 ;",
+        conflicts: 1000000,
+        ends: "o 5\ns OPTIMUM FOUND\nv x1 x2 -x3\n",
+        status: 30,
+        verdict: "accepted BOUNDS 5 5\nv x1 x2 -x3\n",
+    },
+];
+
+/// What is printed, the exit status, and the verdict about the proof.
+#[derive(Drop)]
+struct Seen {
+    answer: Vec<u8>,
+    status: u8,
+    verdict: Vec<u8>,
+}
+
+fn seen(alloc: Global, case: Case, rule: Rule) -> Result<Seen, Fail> {
+    let opb = case.opb.as_bytes();
+    let Decided { outcome, proof } = decide(alloc, opb, case.conflicts.max(1), brancher(alloc, rule)?);
+    let verdict = check(alloc, opb, proof.as_slice());
+    Ok(Seen {
+        answer: answer_text(alloc, &outcome)?,
+        status: status(&outcome),
+        verdict: verdict_text(alloc, opb, &verdict)?,
+    })
+}
+
+fn is_answered<R: Abort + AllocGlobal>(rt: &R, case: Case, rule: Rule) -> Result<(), Fail> {
+    let seen = seen(rt.alloc(), case, rule)?;
+    assert!(rt;
+        seen.answer.as_slice().ends_with(case.ends.as_bytes()) && seen.status == case.status,
+        "for {} with {rule:?}", case.opb
+    );
+    assert_eq!(rt;
+        seen.verdict.as_slice(),
+        case.verdict.as_bytes(),
+        "for {} with {rule:?}", case.opb
+    );
+    Ok(())
+}
+
+#[test]
+fn problems_are_answered_with_every_rule_of_choice(rt: HostRuntime) -> Result<(), Fail> {
+    for case in CASES {
+        for rule in RULES {
+            is_answered(&rt, case, rule)?;
+        }
+    }
+    Ok(())
+}
+
+/// A text that is no supported problem, what is printed, and the exit status.
+#[derive(Clone, Copy)]
+struct Refusal {
+    opb: &'static str,
+    text: &'static str,
+    status: u8,
+}
+
+const REFUSALS: [Refusal; 3] = [
+    Refusal {
+        opb: "4611686018427387905 x1 >= 0 ;",
+        text: "c refused line 1 code 7 IntegerTooLarge\ns UNSUPPORTED\n",
+        status: 0,
+    },
+    Refusal {
+        opb: "1 x1 x2 >= 1 ;",
+        text: "c refused line 1 code 6 UnsupportedForm\ns UNSUPPORTED\n",
+        status: 0,
+    },
+    Refusal {
+        opb: "1 x1 >= 1\n",
+        text: "c refused line 2 code 3 NoSemicolon\n",
+        status: 2,
+    },
+];
+
+fn is_refused<R: Abort + AllocGlobal>(rt: &R, case: Refusal) -> Result<(), Fail> {
+    let alloc = rt.alloc();
+    let Decided { outcome, proof } = decide(alloc, case.opb.as_bytes(), 1, brancher(alloc, Rule::First)?);
+    let text = answer_text(alloc, &outcome)?;
+    assert_eq!(rt; text.as_slice(), case.text.as_bytes(), "for {}", case.opb);
+    assert!(rt; status(&outcome) == case.status && proof.is_empty(), "for {}", case.opb);
+    Ok(())
+}
+
+#[test]
+fn texts_that_are_no_supported_problem_are_refused(rt: HostRuntime) -> Result<(), Fail> {
+    for case in REFUSALS {
+        is_refused(&rt, case)?;
+    }
+    Ok(())
+}
