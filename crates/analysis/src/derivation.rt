@@ -3,7 +3,7 @@
 //! Each rule puts its item at the end, and so whatever the walk does, it has in its hands a line that derives what it has.
 //! Which rules it takes is a matter of use alone.
 
-ghost use Rattle.std.specs.Prelude.{IfOk};
+ghost use Rattle.std.specs.Prelude.{◌≡◌, pos, IfOk};
 ghost use Rattle.proof_rules.specs.Expression.{Given, IsPostfixOf};
 
 use super::learned::Learned;
@@ -23,7 +23,9 @@ pub(crate) struct Derivation {
 }
 
 // A coefficient as a number of a line.
-fn written(coef: u128) -> Result<i128, CutFault> {
+fn written(coef: u128) -> Result<i128, CutFault>
+    ensures { IfOk result (λ number. number ≡ pos coef) }
+{
     match i128::try_from(coef) {
         Ok(number) => Ok(number),
         Err(_) => Err(CutFault::TooLarge),
@@ -31,7 +33,9 @@ fn written(coef: u128) -> Result<i128, CutFault> {
 }
 
 impl Derivation {
-    ghost use Rattle.std.specs.Prelude.{◌≡◌, Some, IfOk, pos};
+    ghost use Rattle.std.specs.Prelude.{◌≡◌, ◌≢◌, ℕ, Bool, All, Some, IfOk, pos};
+    ghost use Rattle.normal_form.specs.Normal.{coefficient};
+    ghost use Rattle.cut_rules.specs.Rules.{IsCeiling};
     ghost use Rattle.proof_rules.specs.Expression.{Given, IsPostfixOf};
 
     /// The constraint of an id.
@@ -55,8 +59,10 @@ impl Derivation {
         sum: &mut Accumulator,
         variables: &[Var],
     ) -> Result<Self, CutFault>
-        ensures { (given : Given) → IsPostfixOf given self.items.items self.constraint
+        ensures derived { (given : Given) → IsPostfixOf given self.items.items self.constraint
             → IfOk result (λ d. IsPostfixOf given d.items.items d.constraint) }
+        ensures others { (v : ℕ) (s : Bool) → All (λ x. x.0 ≢ v) variables.now
+            → IfOk result (λ d. coefficient d.constraint v s ≡ coefficient self.constraint v s) }
     {
         if variables.is_empty() {
             return Ok(self);
@@ -76,8 +82,9 @@ impl Derivation {
 
     /// Its quotient, rounded up; nothing is written for the divisor 1.
     pub(crate) fn divided(self, alloc: Global, divisor: u128) -> Result<Self, CutFault>
-        ensures { (given : Given) → IsPostfixOf given self.items.items self.constraint
+        ensures derived { (given : Given) → IsPostfixOf given self.items.items self.constraint
             → IfOk result (λ d. IsPostfixOf given d.items.items d.constraint) }
+        ensures quotient { (v : ℕ) (s : Bool) → IfOk result (λ d. IsCeiling divisor (coefficient self.constraint v s) (coefficient d.constraint v s)) }
     {
         if divisor == 1 {
             return Ok(self);

@@ -5,7 +5,8 @@
 //! leaves the slack as it was; and the rest is divided. The literal then has the coefficient 1, rounding has cost no slack, and the
 //! slack, being below 1, is at most 0: so any multiple of it can be added to the conflict, whose slack stays negative.
 
-ghost use Rattle.std.specs.Prelude.{◌<◌, IfOk};
+ghost use Rattle.std.specs.Prelude.{◌≡◌, ◌≢◌, ◌+◌, ◌<◌, All, IfOk, length, take};
+ghost use Rattle.normal_form.specs.Normal.{coefficient, only, sum_over};
 ghost use Rattle.proof_rules.specs.Expression.{Given, IsPostfixOf};
 
 use super::derivation::Derivation;
@@ -13,18 +14,35 @@ use super::standing::Standing;
 use super::stop::Stop;
 use accumulate::Accumulator;
 use linear::{Lit, Var};
-use normal_form::Normal;
+use normal_form::{Normal, NormalTerm};
 use std::alloc::{AllocError, Global};
 
+// Whether a term is one of a literal.
+fn is_of(term: NormalTerm, literal: Lit) -> bool
+    ensures { result ≡ only (literal.var.0) literal.negated (term.var.0) term.negated }
+{
+    term.var.0 == literal.var.0 && term.negated == literal.negated
+}
+
+// What the term at a place adds to the coefficient of a literal.
+fn counted(constraint: &Normal, literal: Lit, place: usize) -> u128
+    requires { place < length constraint.now.terms }
+    ensures { sum_over (only (literal.var.0) literal.negated) (take (place + 1) constraint.now.terms)
+        ≡ sum_over (only (literal.var.0) literal.negated) (take place constraint.now.terms) + result }
+{
+    let term = constraint.term(place);
+    if is_of(term, literal) { term.coef } else { 0 }
+}
+
 // The coefficient of a literal.
-fn coefficient_of(constraint: &Normal, literal: Lit) -> u128 {
+fn coefficient_of(constraint: &Normal, literal: Lit) -> u128
+    ensures { result ≡ coefficient constraint.now (literal.var.0) literal.negated }
+{
+    let mut coef: u128 = 0;
     for place in 0..constraint.len() {
-        let term = constraint.term(place);
-        if term.literal() == literal {
-            return term.coef;
-        }
+        coef += counted(constraint, literal, place);
     }
-    0
+    coef
 }
 
 // The variables of a reason, but for that of the forced literal, that were not false when it was forced, and whose coefficients
@@ -38,6 +56,7 @@ fn uneven(
     place: usize,
 ) -> Result<Vec<Var>, AllocError>
     requires { 0 < divisor }
+    ensures { IfOk result (λ vars. All (λ x. x.0 ≢ literal.var.0) vars.items) }
 {
     let mut uneven = Vec::new(alloc);
     for index in 0..reason.len() {
@@ -61,8 +80,9 @@ pub(crate) fn reduced(
     place: usize,
     sum: &mut Accumulator,
 ) -> Result<Derivation, Stop>
-    ensures { (given : Given) → IsPostfixOf given reason.items.items reason.constraint
+    ensures derived { (given : Given) → IsPostfixOf given reason.items.items reason.constraint
         → IfOk result (λ d. IsPostfixOf given d.items.items d.constraint) }
+    ensures one { IfOk result (λ d. coefficient d.constraint (literal.var.0) literal.negated ≡ 1) }
 {
     let divisor = coefficient_of(&reason.constraint, literal);
     if divisor == 0 {

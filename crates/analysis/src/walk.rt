@@ -18,7 +18,6 @@ use super::standing::Standing;
 use super::stop::Stop;
 use accumulate::Accumulator;
 use kernel::Kernel;
-use linear::Seq;
 use normal_form::{Normal, NormalTerm};
 use propagate::{Id, Propagator};
 use std::alloc::Global;
