@@ -2,6 +2,7 @@ pub mod Choices
 pub mod Clauses
 pub mod BitingClauses
 pub mod Ending
+pub mod Forgetting
 pub mod Growing
 pub mod Improving
 pub mod Solutions

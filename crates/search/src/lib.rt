@@ -15,6 +15,7 @@ mod descent;
 mod endings;
 mod found;
 pub mod laws;
+mod lessons;
 mod log;
 mod restarts;
 mod solver;

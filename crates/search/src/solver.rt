@@ -10,6 +10,7 @@ use super::cutting::learn_constraint;
 use super::descent::{Descent, descend};
 use super::endings::{end_exhausted, end_solved, end_stopped, may_stop};
 use super::found::{Found, Unfinished};
+use super::lessons::Lessons;
 use super::log::Log;
 use super::restarts::Restarts;
 use super::trail::{Trail, level_of};
@@ -84,21 +85,30 @@ fn accept<'a, P: Propagator>(
     Ok(None)
 }
 
-/// Counts a conflict, and undoes all decisions where a restart is due.
-fn restart_if_due(
+/// Counts a conflict that was learned from. Where a restart is due it undoes all decisions, and forgets the older half of what
+/// was learned.
+fn restart_if_due<'a, P: Propagator>(
+    alloc: Global,
+    log: &mut Log<'a, P>,
     restarts: &mut Restarts,
+    lessons: &mut Lessons,
     decisions: &mut Vec<Lit>,
     trail: &mut Trail,
     brancher: &mut Box<dyn Brancher>,
-)
+) -> Result<(), StepFault>
     requires { IsConsistent decisions.old.items }
-    ensures { IsConsistent decisions.new.items }
+    ensures problem { log.new.problem ≡ log.old.problem }
+    ensures next { OnOk result (log.new.state.next ≡ log.old.state.next) }
+    ensures consistent { IsConsistent decisions.new.items }
 {
-    if restarts.is_due() {
-        decisions.clear();
-        trail.go_back(0);
-        brancher.restarted();
+    lessons.push(log.kernel().last_id())?;
+    if !restarts.is_due() {
+        return Ok(());
     }
+    decisions.clear();
+    trail.go_back(0);
+    brancher.restarted();
+    lessons.forget(alloc, log, trail.entries())
 }
 
 /// Decides until there is a conflict or a solution, and learns from that.
@@ -110,6 +120,7 @@ fn turn<'a, P: Propagator>(
     limit: u64,
     count: u32,
     restarts: &mut Restarts,
+    lessons: &mut Lessons,
     brancher: &mut Box<dyn Brancher>,
 ) -> Result<Option<Found>, StepFault>
     requires { IsConsistent decisions.old.items }
@@ -121,7 +132,9 @@ fn turn<'a, P: Propagator>(
     match descend(alloc, log, decisions, trail, count, brancher)? {
         Descent::Conflict(conflict) => {
             let end = resolve(alloc, log, decisions, trail, conflict, limit, brancher)?;
-            restart_if_due(restarts, decisions, trail, brancher);
+            if end.is_none() {
+                restart_if_due(alloc, log, restarts, lessons, decisions, trail, brancher)?;
+            }
             Ok(end)
         }
         Descent::Settled(listing) => {
@@ -148,6 +161,7 @@ fn search<'a, P: Propagator>(
     let mut decisions = Vec::new(alloc);
     let mut trail = Trail::new(alloc, count)?;
     let mut restarts = Restarts::new();
+    let mut lessons = Lessons::new(alloc);
     'turns: loop {
         if let Some(found) = turn(
             alloc,
@@ -157,6 +171,7 @@ fn search<'a, P: Propagator>(
             limit,
             count,
             &mut restarts,
+            &mut lessons,
             &mut brancher,
         )? {
             return Ok(found);
