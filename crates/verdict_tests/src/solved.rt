@@ -54,9 +54,11 @@ struct Case {
     verdict: &'static str,
 }
 
-const FOUR_CLAUSES: &str = "1 x1 1 x2 >= 1 ; 1 x1 1 ~x2 >= 1 ; 1 ~x1 1 x2 >= 1 ; 1 ~x1 1 ~x2 >= 1 ;";
+const FOUR_CLAUSES: &str =
+    "1 x1 1 x2 >= 1 ; 1 x1 1 ~x2 >= 1 ; 1 ~x1 1 x2 >= 1 ; 1 ~x1 1 ~x2 >= 1 ;";
 
-const PIGEONS: &str = "1 x1 1 x2 >= 1 ; 1 x3 1 x4 >= 1 ; 1 x5 1 x6 >= 1 ; -1 x1 -1 x3 -1 x5 >= -1 ; -1 x2 -1 x4 -1 x6 >= -1 ;";
+const PIGEONS: &str =
+    "1 x1 1 x2 >= 1 ; 1 x3 1 x4 >= 1 ; 1 x5 1 x6 >= 1 ; -1 x1 -1 x3 -1 x5 >= -1 ; -1 x2 -1 x4 -1 x6 >= -1 ;";
 
 const CASES: [Case; 20] = [
     Case {
@@ -221,7 +223,12 @@ struct Seen {
 
 fn seen(alloc: Global, case: Case, rule: Rule) -> Result<Seen, Fail> {
     let opb = case.opb.as_bytes();
-    let Decided { outcome, proof } = decide(alloc, opb, case.conflicts.max(1), brancher(alloc, rule)?);
+    let Decided { outcome, proof } = decide(
+        alloc,
+        opb,
+        case.conflicts.max(1),
+        brancher(alloc, rule)?,
+    );
     let verdict = check(alloc, opb, proof.as_slice());
     Ok(Seen {
         answer: answer_text(alloc, &outcome)?,
@@ -234,12 +241,14 @@ fn is_answered<R: Abort + AllocGlobal>(rt: &R, case: Case, rule: Rule) -> Result
     let seen = seen(rt.alloc(), case, rule)?;
     assert!(rt;
         seen.answer.as_slice().ends_with(case.ends.as_bytes()) && seen.status == case.status,
-        "for {} with {rule:?}", case.opb
+        "for {} with {rule:?}",
+        case.opb
     );
     assert_eq!(rt;
         seen.verdict.as_slice(),
         case.verdict.as_bytes(),
-        "for {} with {rule:?}", case.opb
+        "for {} with {rule:?}",
+        case.opb
     );
     Ok(())
 }
@@ -282,10 +291,19 @@ const REFUSALS: [Refusal; 3] = [
 
 fn is_refused<R: Abort + AllocGlobal>(rt: &R, case: Refusal) -> Result<(), Fail> {
     let alloc = rt.alloc();
-    let Decided { outcome, proof } = decide(alloc, case.opb.as_bytes(), 1, brancher(alloc, Rule::First)?);
+    let Decided { outcome, proof } = decide(
+        alloc,
+        case.opb.as_bytes(),
+        1,
+        brancher(alloc, Rule::First)?,
+    );
     let text = answer_text(alloc, &outcome)?;
     assert_eq!(rt; text.as_slice(), case.text.as_bytes(), "for {}", case.opb);
-    assert!(rt; status(&outcome) == case.status && proof.is_empty(), "for {}", case.opb);
+    assert!(rt;
+        status(&outcome) == case.status && proof.is_empty(),
+        "for {}",
+        case.opb
+    );
     Ok(())
 }
 
