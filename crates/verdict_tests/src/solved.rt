@@ -10,6 +10,7 @@ use std::process::Abort;
 use std::test::Fail;
 
 /// Always answers the first variable, set or not.
+#[derive(Drop)]
 struct Stubborn;
 
 impl Brancher for Stubborn {
@@ -221,7 +222,7 @@ struct Seen {
     verdict: Vec<u8>,
 }
 
-fn seen(alloc: Global, case: Case, rule: Rule) -> Result<Seen, Fail> {
+fn solve(alloc: Global, case: Case, rule: Rule) -> Result<Seen, Fail> {
     let opb = case.opb.as_bytes();
     let Decided { outcome, proof } = decide(
         alloc,
@@ -238,7 +239,7 @@ fn seen(alloc: Global, case: Case, rule: Rule) -> Result<Seen, Fail> {
 }
 
 fn is_answered<R: Abort + AllocGlobal>(rt: &R, case: Case, rule: Rule) -> Result<(), Fail> {
-    let seen = seen(rt.alloc(), case, rule)?;
+    let seen = solve(rt.alloc(), case, rule)?;
     assert!(rt;
         seen.answer.as_slice().ends_with(case.ends.as_bytes()) && seen.status == case.status,
         "for {} with {rule:?}",
