@@ -2,3 +2,4 @@ pub mod Expressions
 pub mod Forcing
 pub mod SpotTable
 pub mod FlatTrails
+pub mod Repeated

@@ -1,5 +1,5 @@
 -- A trail of a search, and the constraints that would have said something sooner on it.
-use Rattle.std.specs.Prelude.{ℕ, max, ◌⊎◌, List, [], ◌∷◌, nat_lt, if◌then◌else◌}
+use Rattle.std.specs.Prelude.{◌≡◌, ◌<◌, ℕ, max, ◌⊎◌, List, [], ◌∷◌, length, map, nat_lt, slice_index_or, if◌then◌else◌}
 use Rattle.linear.specs.declared.term.Lit.{Lit}
 use Rattle.normal_form.specs.Normal.{NormalConstraint}
 use Rattle.propagate.specs.Slack.{IsBroken, IsForced}
@@ -15,7 +15,18 @@ abbrev pub greatest_level : List Entry → ℕ
 greatest_level [] = 0
 greatest_level (e ∷ es) = max e.level (greatest_level es)
 
+-- under the literals of a listing the constraint has negative slack or forces a literal
+abbrev pub Bites : List Lit → NormalConstraint → Type 0
+Bites listing n = IsBroken listing n ⊎ ((l : Lit) × IsForced listing l n)
+
 -- under the literals up to the level the constraint has negative slack or forces a literal
 abbrev pub BitesAt : List Entry → ℕ → NormalConstraint → Type 0
-BitesAt trail level n =
-    IsBroken (literals_up_to level trail) n ⊎ ((l : Lit) × IsForced (literals_up_to level trail) l n)
+BitesAt trail level n = Bites (literals_up_to level trail) n
+
+abbrev pub variables_of : List Lit → List ℕ
+variables_of listing = map (λ l. l.var.0) listing
+
+-- some variable stands at two places
+abbrev pub RepeatsVariable : List Lit → Type 0
+RepeatsVariable listing =
+    (i j : ℕ) × (i < j) × (j < length listing) × (slice_index_or (variables_of listing) i 0 ≡ slice_index_or (variables_of listing) j 0)

@@ -4,10 +4,7 @@
 //! the walk comes by, so it is looked up and not searched. A variable has one place on a trail; a trail that lists a variable
 //! twice is no trail of a search, and is refused when the table is made, so that nobody has to promise it.
 
-ghost use Rattle.std.specs.Prelude.{◌≡◌, ◌++◌, ◌∷◌, [], IfOk, IfSome, IsTrue, List, length};
-ghost use Rattle.analysis.specs.declared.entry.Entry.{Entry};
-ghost use Rattle.analysis.specs.Biting.{literals_up_to};
-ghost use Rattle.analysis.specs.Spots.{AreSpotsOf};
+ghost use Rattle.std.specs.Prelude.{◌≡◌, ◌<◌, ℕ, false, None, Some, IsSome, IsTrue, All, length, set, slice_index_or};
 
 use super::entry::Entry;
 use super::spot::Spot;
@@ -35,7 +32,9 @@ impl<'a> Model for Standing<'a> {
 }
 
 // One more than the greatest variable's number.
-fn variable_count(trail: &[Entry]) -> usize {
+fn variable_count(trail: &[Entry]) -> usize
+    ensures { All (λ e. e.literal.var.0 < result) trail.now }
+{
     let mut count = 0;
     for entry in trail {
         count = count.max(entry.literal.var.0 as usize + 1);
@@ -45,7 +44,10 @@ fn variable_count(trail: &[Entry]) -> usize {
 
 // Notes where an entry stands, unless its variable stands elsewhere already.
 fn note(spots: &mut Vec<Option<Spot>>, entry: Entry, place: usize) -> bool
-    ensures { (before : List Entry) → IsTrue result → AreSpotsOf before spots.old.items → AreSpotsOf (before ++ entry ∷ []) spots.new.items }
+    ensures free { IsTrue result → slice_index_or spots.old.items (entry.literal.var.0) None ≡ None }
+    ensures inside { IsTrue result → entry.literal.var.0 < length spots.old.items }
+    ensures noted { IsTrue result → spots.new.items ≡ set spots.old.items (entry.literal.var.0) (Some (record { negated = entry.literal.negated; level = entry.level; place = place })) }
+    ensures taken { result ≡ false → entry.literal.var.0 < length spots.old.items → IsSome (slice_index_or spots.old.items (entry.literal.var.0) None) }
 {
     let variable = entry.literal.var.0 as usize;
     if variable >= spots.len() || spots[variable].is_some() {
@@ -60,14 +62,15 @@ fn note(spots: &mut Vec<Option<Spot>>, entry: Entry, place: usize) -> bool
 }
 
 impl<'a> Standing<'a> {
-    ghost use Rattle.std.specs.Prelude.{◌≡◌, ℕ, Bool, IfOk, IfSome};
+    ghost use Rattle.std.specs.Prelude.{◌≡◌, ℕ, Bool, IfOk, IfSome, IsNone, map};
     ghost use Rattle.propagate.specs.Literals.{among, lists};
     ghost use Rattle.analysis.specs.Spots.{makes_true};
-    ghost use Rattle.analysis.specs.Biting.{literals_up_to};
+    ghost use Rattle.analysis.specs.Biting.{RepeatsVariable, literals_up_to};
 
     /// The table of a trail, `None` where a variable stands on it twice.
     pub(crate) fn of(alloc: Global, trail: &'a [Entry]) -> Result<Option<Self>, AllocError>
-        ensures { IfOk result (λ made. IfSome made (λ s. s ≡ trail.now)) }
+        ensures trail { IfOk result (λ made. IfSome made (λ s. s ≡ trail.now)) }
+        ensures repeated { IfOk result (λ made. IsNone made → RepeatsVariable (map (λ e. e.literal) trail.now)) }
     {
         let mut spots = vec![in alloc; None; variable_count(trail)]?;
         for place in 0..trail.len() {

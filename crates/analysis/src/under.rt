@@ -3,10 +3,8 @@
 //! A trail may say less than propagation over what is live by now. So whoever goes back asks the propagator what the decisions
 //! that are left extend to, and then asks here.
 
-ghost use Rattle.std.specs.Prelude.{◌≡◌, ◌⊎◌, IfOk, IsTrue};
-ghost use Rattle.linear.specs.declared.term.Lit.{Lit};
-ghost use Rattle.propagate.specs.Slack.{IsBroken, IsForced};
-ghost use Rattle.analysis.specs.Biting.{literals_up_to};
+ghost use Rattle.std.specs.Prelude.{◌≡◌, ◌⊎◌, IfOk, IsTrue, map};
+ghost use Rattle.analysis.specs.Biting.{Bites, RepeatsVariable, literals_up_to};
 
 use super::biting::bites;
 use super::entry::Entry;
@@ -29,7 +27,8 @@ fn at_start(literal: Lit) -> Entry
 
 // The trail of a listing, without decisions.
 fn trail_of(alloc: Global, listing: &[Lit]) -> Result<Vec<Entry>, AllocError>
-    ensures { IfOk result (λ trail. literals_up_to 0 trail.items ≡ listing.now) }
+    ensures flat { IfOk result (λ trail. literals_up_to 0 trail.items ≡ listing.now) }
+    ensures literals { IfOk result (λ trail. map (λ e. e.literal) trail.items ≡ listing.now) }
 {
     let mut trail = Vec::with_capacity(alloc, listing.len())?;
     for literal in listing {
@@ -38,10 +37,11 @@ fn trail_of(alloc: Global, listing: &[Lit]) -> Result<Vec<Entry>, AllocError>
     Ok(trail)
 }
 
-/// Whether a constraint is known to have negative slack, or to force a literal, under a listing. A listing in which a variable
-/// stands twice is not looked at.
+/// Whether a constraint has negative slack, or forces a literal, under a listing. A listing in which a variable stands twice is not
+/// looked at, and is answered no.
 pub fn bites_under(alloc: Global, constraint: &Normal, listing: &[Lit]) -> Result<bool, AllocError>
-    ensures { IfOk result (λ yes. IsTrue yes → IsBroken listing.now constraint.now ⊎ ((l : Lit) × IsForced listing.now l constraint.now)) }
+    ensures sound { IfOk result (λ yes. IsTrue yes → Bites listing.now constraint.now) }
+    ensures complete { IfOk result (λ yes. Bites listing.now constraint.now → IsTrue yes ⊎ RepeatsVariable listing.now) }
 {
     let trail = trail_of(alloc, listing)?;
     let Some(standing) = Standing::of(alloc, trail.as_slice())? else {

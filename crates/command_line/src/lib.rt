@@ -3,8 +3,10 @@
 //! A script tells these two from any answer by the exit status alone, so they are the same in both programs.
 #![tactic(auto)]
 
-ghost use Rattle.std.specs.Prelude.{◌≡◌, ◌≢◌, IfOk};
+ghost use Rattle.std.specs.Prelude.{◌≡◌, IfOk, IsErr};
+ghost use Rattle.std.specs.Process.{exit_status};
 ghost use Rattle.clap.specs.Values.{kind_of};
+ghost use Rattle.command_line.specs.Statuses.{IsStatusFor};
 
 use clap::Error;
 use clap::error::ErrorKind;
@@ -18,16 +20,20 @@ pub const DEVICE_FAILED: u8 = 3;
 
 /// The status for a command line that is not taken: 0 for a call for help or the version, else that of a refused one.
 fn status_of(error: &Error) -> u8
-    ensures help { kind_of error.now ≡ ErrorKind.DisplayHelp → result ≡ 0 }
-    ensures version { kind_of error.now ≡ ErrorKind.DisplayVersion → result ≡ 0 }
-    ensures mistake { kind_of error.now ≢ ErrorKind.DisplayHelp → kind_of error.now ≢ ErrorKind.DisplayVersion → result ≡ 64 }
+    ensures { IsStatusFor (kind_of error.now) result }
 {
-    if error.use_stderr() { BAD_COMMAND } else { 0 }
+    match error.kind() {
+        ErrorKind::DisplayHelp | ErrorKind::DisplayVersion => 0,
+        _ => BAD_COMMAND,
+    }
 }
 
 /// Prints why a command line is not taken, help and the version on standard output, a mistake on standard error. The result
 /// is the exit status: 0 for help and the version, 64 for a mistake. Want of memory is answered as a device's failure.
-pub fn refused<R: Print + Eprint>(rt: &R, error: &Error) -> io::Result<u8> {
+pub fn refused<R: Print + Eprint>(rt: &R, error: &Error) -> io::Result<u8>
+    ensures status { IfOk result (IsStatusFor (kind_of error.now)) }
+    ensures memory { kind_of error.now ≡ ErrorKind.OutOfMemory → IsErr result }
+{
     if error.kind() == ErrorKind::OutOfMemory {
         return Err(io::Error::from(io::ErrorKind::OutOfMemory));
     }
@@ -37,7 +43,10 @@ pub fn refused<R: Print + Eprint>(rt: &R, error: &Error) -> io::Result<u8> {
 
 /// How a program ends: with the status of its answer, or, where a read or a write failed, with 3 and `device failed` on
 /// standard error.
-pub fn ended<R: Eprint>(rt: &R, answer: io::Result<u8>) -> ExitCode {
+pub fn ended<R: Eprint>(rt: &R, answer: io::Result<u8>) -> ExitCode
+    ensures answered { IfOk answer (λ status. exit_status result ≡ status) }
+    ensures failed { IsErr answer → exit_status result ≡ 3 }
+{
     match answer {
         Ok(status) => ExitCode::from(status),
         Err(_) => {

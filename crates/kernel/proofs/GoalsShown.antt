@@ -1,12 +1,11 @@
 -- The goals of a `red` step: what a constraint becomes is one, and beside a contradiction every goal is shown.
-use Rattle.std.proofs.Common.{◌≡◌, ◌↔◌, ◌⊎◌, inl, inr, ℕ, ◌<◌, ◌≤◌, Bool, true, false, IsTrue, Option, Some, None, List, [], ◌∷◌, ◌++◌, All, Any, Contains, IfSome, IsSomeAnd, MatchOption, ap, slice_index_or, refl, sym, subst, ◌∙◌, arith, length}
-use Rattle.std.proofs.lemmas.Bool.{cases_lt, false≢true}
+use Rattle.std.proofs.Common.{◌≡◌, ◌↔◌, inl, inr, ℕ, ◌<◌, ◌≤◌, Bool, IsTrue, Option, Some, None, List, [], ◌∷◌, ◌++◌, All, Contains, IfSome, IsSomeAnd, MatchOption, ap, slice_index_or, refl, sym, subst, ◌∙◌, arith}
+use Rattle.std.proofs.lemmas.Bool.{cases_lt}
 use Rattle.std.proofs.lemmas.List.Elements.{Contains-append_left, Contains-append_right}
 use Rattle.std.specs.FinMap as map
 use Rattle.linear.specs.declared.term.Term.{Term}
 use Rattle.linear.specs.Opb.{Opb}
 use Rattle.normal_form.specs.Normal.{NormalConstraint, Rises}
-use Rattle.normal_form.specs.Negation.{IsNegation}
 use Rattle.normal_form.proofs.NormalForm.{form, form_is, one_form}
 use Rattle.normal_form.proofs.Negations.{negation, negation_is}
 use Rattle.propagate.proofs.DegreeZero.{zero_refuted}
@@ -22,7 +21,7 @@ use Rattle.proof_rules.specs.declared.fault.StepFault.{StepFault}
 use Rattle.proof_rules.specs.declared.fault.StepFault.TheVariants as faults
 use Rattle.kernel.specs.Database.{Constraints}
 use Rattle.proof_rules.proofs.LiveConstraints.{All-from_get, Any-from_get}
-use Rattle.kernel.specs.Redundancy.{BecomesBeyond, IsOpenLive}
+use Rattle.kernel.specs.Redundancy.{IsOpenLive}
 use Rattle.kernel.proofs.Showing.{any_left}
 
 -- what a constraint becomes is shown or not

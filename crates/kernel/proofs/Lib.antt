@@ -5,8 +5,9 @@ pub mod Deleting
 pub mod Improving
 pub mod Keeping
 pub mod Listed
-pub mod Members
 pub mod GoalsShown
 pub mod Showing
 pub mod Tables
 pub mod TakenBack
+pub mod Touched
+pub mod Judging

@@ -23,15 +23,15 @@ any_either P (x ∷ xs) ys a = elim (any_split P x (xs ++ ys) a) as (λ _. Any P
   | inr b ↦ elim (any_either P xs ys b) as (λ _. Any P (x ∷ xs) ⊎ Any P ys) [ inl l ↦ inl (any_there P x xs l) | inr r ↦ inr r ]
 ]
 
--- nothing covers it, so it is shown exactly where its one negation is refuted
-pub shown_by_negation : (xs ys : List NormalConstraint) (n m : NormalConstraint) (found : Bool) → Rises 0 n.terms → IsNegation n m
-    → (Any (λ e. Covers e n) xs → ⊥) → (Any (λ e. Covers e n) ys → ⊥) → IsTrue found ↔ IsRefuted ((xs ++ ys) ++ m ∷ []) → IsTrue found ↔ IsShown (xs ++ ys) n
-shown_by_negation xs ys n m found rises negates first second refuted = (λ y. inr (m, negates, refuted.0 y), back)
+-- its one negation is not refuted, so it is shown exactly where something covers it
+pub shown_by_covering : (xs ys : List NormalConstraint) (n m : NormalConstraint) (found covered : Bool) → Rises 0 n.terms → IsNegation n m → (IsTrue found → ⊥)
+    → (Any (λ e. Covers e n) ys → ⊥) → IsTrue found ↔ IsRefuted ((xs ++ ys) ++ m ∷ []) → IsTrue covered ↔ Any (λ e. Covers e n) xs → IsTrue covered ↔ IsShown (xs ++ ys) n
+shown_by_covering xs ys n m found covered rises negates open_end second refuted first = (λ y. inl (any_left (λ e. Covers e n) xs ys (first.0 y)), back)
   where
-    covered : Any (λ e. Covers e n) xs ⊎ Any (λ e. Covers e n) ys → IsTrue found
-    covered (inl a) = absurd (first a)
-    covered (inr a) = absurd (second a)
+    either : Any (λ e. Covers e n) xs ⊎ Any (λ e. Covers e n) ys → IsTrue covered
+    either (inl a) = first.1 a
+    either (inr a) = absurd (second a)
 
-    back : IsShown (xs ++ ys) n → IsTrue found
-    back (inl a) = covered (any_either (λ e. Covers e n) xs ys a)
-    back (inr (k, is, conflict)) = refuted.1 (subst (λ x. IsRefuted ((xs ++ ys) ++ x ∷ [])) (sym (one_negation n m k rises negates is)) conflict)
+    back : IsShown (xs ++ ys) n → IsTrue covered
+    back (inl a) = either (any_either (λ e. Covers e n) xs ys a)
+    back (inr (k, is, conflict)) = absurd (open_end (refuted.1 (subst (λ x. IsRefuted ((xs ++ ys) ++ x ∷ [])) (sym (one_negation n m k rises negates is)) conflict)))

@@ -1,16 +1,19 @@
 -- The goals of a `red` step that are open.
-use Rattle.std.specs.Prelude.{◌≡◌, ℕ, ◌<◌, List, [], ◌∷◌, ◌++◌, MatchOption, Option, Some}
+use Rattle.std.specs.Prelude.{◌≡◌, ◌↔◌, ◌⊎◌, Bool, ℕ, ◌<◌, List, [], ◌∷◌, ◌++◌, MatchOption, Option, Some}
 use Rattle.std.specs.FinMap as map
 use Rattle.linear.specs.Opb.{Opb}
 use Rattle.linear.specs.declared.term.Term.{Term}
+use Rattle.linear.specs.declared.term.Var.{Var}
 use Rattle.normal_form.specs.Negation.{IsNegation}
 use Rattle.normal_form.specs.Normal.{NormalConstraint}
+use Rattle.propagate.specs.Content.{HasLiteral}
+use Rattle.propagate.specs.Ids.{IdSet, HasId}
 use Rattle.substitution.specs.Covering.{Covers}
 use Rattle.substitution.specs.Images.{Images}
 use Rattle.substitution.specs.Under.{IsUnder}
 use Rattle.proof_rules.specs.Fault.{IsGoalFault}
 use Rattle.proof_rules.specs.Legal.{IsShownUnder, IsShownNotRaised, Redundant}
-use Rattle.proof_rules.specs.State.{Live, State, constraints}
+use Rattle.proof_rules.specs.State.{Live, constraints}
 use Rattle.proof_rules.specs.declared.fault.StepFault.{StepFault}
 use Rattle.proof_rules.specs.declared.fault.StepFault.TheVariants as faults
 use Rattle.kernel.specs.Held.{Held}
@@ -18,6 +21,19 @@ use Rattle.kernel.specs.Held.{Held}
 -- what a constraint becomes under the images, if it does not cover that itself
 abbrev pub BecomesBeyond : NormalConstraint → Images → Option NormalConstraint → Type 0
 BecomesBeyond n images goal = MatchOption goal ((r : NormalConstraint) × IsUnder n images r × Covers n r) (IsUnder n images)
+
+-- the live constraint of an id has a literal of the variable
+abbrev pub HasVariable : Live → Var → ℕ → Type 0
+HasVariable live v id = (negated : Bool) × HasLiteral live (record { var = v; negated = negated }) id
+
+-- it has a variable that is given an image
+abbrev pub IsTouched : Live → Images → ℕ → Type 0
+IsTouched live [] id = ⊥
+IsTouched live (p ∷ ps) id = HasVariable live p.0 id ⊎ IsTouched live ps id
+
+-- a set has the ids of the live constraints that have the variable, beside those that another set has, and no more
+abbrev pub AddsVariable : Live → Var → IdSet → IdSet → Type 0
+AddsVariable live v before ids = (id : ℕ) → HasId ids id ↔ (HasId before id ⊎ HasVariable live v id)
 
 -- the goal of a live constraint is open, the first one by rising id
 abbrev pub IsOpenLive : Live → List NormalConstraint → Images → StepFault → Type 0

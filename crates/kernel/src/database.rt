@@ -4,9 +4,9 @@
 ghost use Rattle.std.specs.Prelude.{◌≡◌, ◌≤◌, ◌^◌, MatchOption};
 ghost use Rattle.proof_rules.specs.State.{id_limit, id_of};
 
-use linear::Lit;
+use linear::{Lit, Var};
 use normal_form::Normal;
-use propagate::{Id, Propagator, Reach, Trace};
+use propagate::{Id, Ids, Propagator, Reach, Trace};
 use std::alloc::{AllocError, Global};
 use std::marker::Model;
 use substitution::{Substitution, apply, covers};
@@ -36,11 +36,12 @@ impl<P: Propagator> Model for Database<P> {
 }
 
 impl<P: Propagator> Database<P> {
-    ghost use Rattle.kernel.specs.Redundancy.{BecomesBeyond};
-    ghost use Rattle.std.specs.Prelude.{◌≡◌, ◌↔◌, ◌<◌, ◌++◌, IfOk, IsSome, IsSomeAnd, MatchOption, None, IsTrue, OnErr, OnOk};
+    ghost use Rattle.kernel.specs.Redundancy.{AddsVariable, BecomesBeyond, IsTouched};
+    ghost use Rattle.std.specs.Prelude.{◌≡◌, ◌↔◌, ◌<◌, ◌++◌, ℕ, IfOk, IsSome, IsSomeAnd, MatchOption, None, IsTrue, OnErr, OnOk};
     ghost use Rattle.normal_form.specs.Normal.{NormalConstraint};
     ghost use Rattle.propagate.specs.Chain.{IsRefuted};
     ghost use Rattle.propagate.specs.Content.{IsLeastAbove, IsTrace};
+    ghost use Rattle.propagate.specs.Ids.{HasId};
     ghost use Rattle.propagate.specs.Literals.{IsConsistent};
     ghost use Rattle.propagate.specs.Reach.{IsReach};
     ghost use Rattle.substitution.specs.Covering.{Covers};
@@ -123,6 +124,34 @@ impl<P: Propagator> Database<P> {
             Some(live) => covers(live, constraint),
             None => false,
         }
+    }
+
+    // Adds the ids of the live constraints that have a variable to a set.
+    fn add_variable(&self, variable: Var, ids: &mut Ids) -> Result<(), AllocError>
+        ensures { OnOk result (AddsVariable self.now.live variable ids.old ids.new) }
+    {
+        let literal = Lit {
+            var: variable,
+            negated: false,
+        };
+        self.constraints.add_occurrences(literal, ids)?;
+        let opposite = Lit {
+            var: variable,
+            negated: true,
+        };
+        self.constraints.add_occurrences(opposite, ids)?;
+        Ok(())
+    }
+
+    /// The ids of the live constraints that have a variable of a witness.
+    pub(crate) fn touched(&self, alloc: Global, witness: &Substitution) -> Result<Ids, AllocError>
+        ensures { IfOk result (λ ids. (id : ℕ) → HasId ids id ↔ IsTouched self.now.live witness.now id) }
+    {
+        let mut ids = Ids::empty(alloc);
+        for image in witness.as_slice() {
+            self.add_variable(image.0, &mut ids)?;
+        }
+        Ok(ids)
     }
 
     /// What the live constraint of an id becomes under a witness; none where it covers that itself, as one does that has no

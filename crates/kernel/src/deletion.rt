@@ -8,10 +8,9 @@ ghost use Rattle.proof_rules.specs.Legal.{IsDeletable, LegalDel, without};
 ghost use Rattle.proof_rules.specs.State.{State, id_of};
 ghost use Rattle.kernel.specs.Deletion.{AreDeletable, IsWithout};
 
-use super::ids::Ids;
 use super::kernel::{Applied, Kernel};
 use proof_rules::StepFault;
-use propagate::{Id, Propagator};
+use propagate::{Id, Ids, Propagator};
 
 impl<'a, P: Propagator> Kernel<'a, P> {
     /// Takes out the constraints of some ids.

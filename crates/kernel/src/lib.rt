@@ -8,7 +8,6 @@ mod database;
 mod deletion;
 mod file;
 mod holdings;
-mod ids;
 mod kernel;
 mod log;
 mod objective;

@@ -9,9 +9,8 @@ ghost use Rattle.proof_rules.specs.Justified.{IsBest};
 ghost use Rattle.proof_rules.specs.Legal.{worth_of};
 ghost use Rattle.kernel.specs.Logged.{unlogged, with_logged, with_improved};
 
-use super::ids::Ids;
 use linear::{Assignment, Problem};
-use propagate::Id;
+use propagate::{Id, Ids};
 use std::alloc::{AllocError, Global};
 use std::marker::Model;
 

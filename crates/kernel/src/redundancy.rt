@@ -1,13 +1,13 @@
 //! `red`: a constraint is added that need not follow, where a witness turns every solution that it forbids into one that is
 //! no worse (redundance-based strengthening, after the VeriPB format). The goals are judged in order: the live constraints by
 //! rising id, the new one, the objective; each is shown from the live ones beside the negation of the new one. Most live
-//! constraints have no variable of the witness, and become themselves: such a one covers what it becomes, and costs one look
-//! at itself and none at the database.
+//! constraints have no variable of the witness, and become themselves. They are not looked at: the propagator says which ones
+//! have a variable, so that a step costs what its witness touches, however large the database is.
 
 ghost use Rattle.std.specs.Prelude.{◌≡◌, ◌↔◌, ◌++◌, ◌∷◌, [], Some, All, IfOk, IfErr, IfSome, IsErrOf, IsTrue, OnErr, OnOk};
 ghost use Rattle.std.specs.FinMap as map;
 ghost use Rattle.linear.specs.declared.constraint.Relation.TheVariants.{AtLeast};
-ghost use Rattle.normal_form.specs.Normal.{NormalConstraint};
+ghost use Rattle.normal_form.specs.Normal.{NormalConstraint, Rises};
 ghost use Rattle.proof_rules.specs.Fault.{OrMemory, IsRedFault};
 ghost use Rattle.proof_rules.specs.Legal.{IsShownUnder, IsShownNotRaised, LegalRed};
 ghost use Rattle.kernel.specs.Redundancy.{AreGoalsShown, IsGoalOpen, IsOpenLive, IsRaised};
@@ -73,24 +73,25 @@ impl<'a, P: Propagator> Kernel<'a, P> {
     }
 }
 
-/// Judges what the live constraints become under the witness, by rising id.
+/// Judges what the live constraints become under the witness, by rising id. Only those that have a variable of the witness are
+/// looked at: the others become themselves.
 fn judge_live<P: Propagator>(
     alloc: Global,
     database: &mut Database<P>,
     beside: &mut Vec<Normal>,
     witness: &Substitution,
 ) -> Result<(), StepFault>
+    requires normal { All (λ n. Rises 0 n.terms) (map.values database.old.live) }
     ensures same { database.new ≡ database.old }
     ensures beside { beside.new.items ≡ beside.old.items }
     ensures shown { OnOk result (All (IsShownUnder (map.values database.old.live ++ beside.old.items) witness.now) (map.values database.old.live)) }
     ensures fault { IfErr result (λ f. OrMemory f (IsOpenLive database.old.live (map.values database.old.live ++ beside.old.items) witness.now f)) }
 {
-    let mut id: Id = 0;
-    while let Some(next) = database.after(id) {
-        if !shows_live(alloc, database, beside, next, witness)? {
-            return Err(StepFault::GoalOpen(next));
+    let mut touched = database.touched(alloc, witness)?;
+    while let Some(id) = touched.pop_first() {
+        if !shows_live(alloc, database, beside, id, witness)? {
+            return Err(StepFault::GoalOpen(id));
         }
-        id = next;
     }
     Ok(())
 }

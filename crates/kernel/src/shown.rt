@@ -1,6 +1,7 @@
 //! Whether a constraint is shown from the live ones and a few beside them: some constraint covers it, or its negation
-//! beside all of them is refuted. Covering needs no memory and often answers at once; a constraint of degree 0 is shown
-//! before any negation is made, which might not fit. The database is asked, and never copied.
+//! beside all of them is refuted. A constraint of degree 0 is shown before any negation is made, which might not fit.
+//! Propagation is asked before the live constraints are looked at one by one, since it costs what the negation touches and
+//! shows most of what is written; only what it does not show is worth a pass. The database is asked, and never copied.
 
 ghost use Rattle.std.specs.Prelude.{◌≡◌, ◌↔◌, ◌++◌, ◌∷◌, [], Any, IfOk, OnErr, IsErrOf, IsTrue};
 ghost use Rattle.std.specs.FinMap as map;
@@ -30,11 +31,12 @@ pub(crate) fn is_shown<P: Propagator>(
     if constraint.degree() == 0 {
         return Ok(true);
     }
-    if is_covered_by(beside.as_slice(), constraint) || is_covered(database, constraint) {
+    if is_covered_by(beside.as_slice(), constraint) {
         return Ok(true);
     }
     let negation = negate(alloc, constraint)?;
-    is_refuted_beside(database, beside, negation)
+    let refuted = is_refuted_beside(database, beside, negation)?;
+    Ok(refuted || is_covered(database, constraint))
 }
 
 /// Whether the live constraints are refuted beside some others and one more.

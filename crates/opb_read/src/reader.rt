@@ -25,12 +25,16 @@ use crate::variables::Variables;
 use linear::{LARGEST_INTEGER, MOST_CONSTRAINTS, MOST_TERMS, Relation, Seq, Signed, Term};
 use pb_text::{Kind, Lookahead, Symbol, Token, as_literal, integer};
 use std::alloc::Global;
+use std::mem::replace;
 
 /// Where reading has come to. At a fault, the token that has it stands next.
 #[derive(Drop)]
 pub struct Reader<'a> {
     pub left: Lookahead<'a>,
     pub variables: Variables,
+    // Where the terms of a sum are gathered before they are copied to memory of their own, so that each sum takes memory
+    // once and just what it needs. What it holds between sums is of no account.
+    terms: Vec<Term>,
 }
 
 impl<'a> Reader<'a> {
@@ -42,6 +46,7 @@ impl<'a> Reader<'a> {
         Reader {
             left: Lookahead::new(text),
             variables: Variables::new(alloc),
+            terms: Vec::new(alloc),
         }
     }
 
@@ -97,7 +102,8 @@ impl<'a> Reader<'a> {
             PassesTerms behind 0 self.old.variables self.old.left (length v.items) self.new.variables self.new.left) }
         ensures stops { IfErr result (λ code. StopsInSum code behind 0 self.old.variables self.old.left self.new.left) }
     {
-        let mut terms = Vec::new(alloc);
+        let mut terms = replace(&mut self.terms, Vec::new(alloc));
+        terms.clear();
         while let Some(coefficient) = next_integer(&self.left) {
             if terms.reserve(1).is_err() {
                 return Err(OpbCode::OutOfMemory);
@@ -105,7 +111,11 @@ impl<'a> Reader<'a> {
             let term = self.term(coefficient, terms.len(), behind)?;
             terms.push_reserved(term);
         }
-        Ok(terms)
+        let Ok(own) = Vec::from_slice(alloc, terms.as_slice()) else {
+            return Err(OpbCode::OutOfMemory);
+        };
+        self.terms = terms;
+        Ok(own)
     }
 
     // Constraints: a sum, a relation, an integer and `;`.

@@ -177,6 +177,7 @@ pub(crate) fn token_length(text: &[u8]) -> usize
         0 < result →
         lexemes_from p text.now ≡ lexeme_at p (take result text.now) ∷ lexemes_from (behind result p) (drop result text.now) }
 {
-    let size = symbol_length(text);
-    if size > 0 { size } else { word_length(text) }
+    // Most tokens are words, and where one begins, no symbol does.
+    let size = word_length(text);
+    if size > 0 { size } else { symbol_length(text) }
 }

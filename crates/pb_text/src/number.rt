@@ -4,7 +4,7 @@
 //! and a proof of it need, and far enough below what an `i128` holds that a few of them add up safely. A longer word is
 //! still a number in the grammar, and refused as too large and not as no number.
 
-ghost use Rattle.std.specs.Prelude.{◌≡◌, ◌≢◌, ◌<◌, ◌≤◌, if◌then◌else◌, true, pos, neg_ℤ, IfOk, SomeIff};
+ghost use Rattle.std.specs.Prelude.{◌≡◌, ◌≢◌, ◌+◌, ◌-◌, ◌*◌, ◌<◌, ◌≤◌, if◌then◌else◌, true, pos, neg_ℤ, IfOk, IfSome, SomeIff};
 ghost use Rattle.std.specs.Result.{IsErrOf};
 ghost use Rattle.std.specs.List.{list_all};
 ghost use Rattle.pb_text.specs.Name.{is_digit};
@@ -26,8 +26,30 @@ pub enum NumFault {
 /// The largest size of a number that either format writes.
 pub const LARGEST_NUMBER: u128 = 1 << 120;
 
+/// A number with one digit more, where that fits 64 bits.
+fn with_digit(value: u64, digit: u8) -> Option<u64>
+    requires { 48 ≤ digit }
+    ensures { IfSome result (λ more. more ≡ value * 10 + (digit - 48)) }
+{
+    value.checked_mul(10)?.checked_add(u64::from(digit - b'0'))
+}
+
+/// The number that digits write, where it fits 64 bits: most do, and numbers of 128 bits cost several times as much.
+fn short_size(digits: &[u8]) -> Option<u64>
+    requires { list_all is_digit digits.now ≡ true }
+    ensures { IfSome result (λ size. size ≡ digits_value digits.now) }
+{
+    let mut rest = digits;
+    let mut value: u64 = 0;
+    while let Some((b, tail)) = rest.split_first() {
+        value = with_digit(value, *b)?;
+        rest = tail;
+    }
+    Some(value)
+}
+
 /// The number that digits write, where it is at most 2^120.
-fn size_of_digits(digits: &[u8]) -> Option<u128>
+fn long_size(digits: &[u8]) -> Option<u128>
     requires { list_all is_digit digits.now ≡ true }
     ensures { SomeIff result (digits_value digits.now ≤ largest_number) (digits_value digits.now) }
 {
@@ -41,6 +63,17 @@ fn size_of_digits(digits: &[u8]) -> Option<u128>
         rest = tail;
     }
     Some(value)
+}
+
+/// The number that digits write, where it is at most 2^120.
+fn size_of_digits(digits: &[u8]) -> Option<u128>
+    requires { list_all is_digit digits.now ≡ true }
+    ensures { SomeIff result (digits_value digits.now ≤ largest_number) (digits_value digits.now) }
+{
+    match short_size(digits) {
+        Some(size) => Some(u128::from(size)),
+        None => long_size(digits),
+    }
 }
 
 /// The digits of a word: what follows its sign, if it has one.

@@ -55,6 +55,7 @@ impl<'a> Tokens<'a> {
     ///
     /// Its kind is the kind of its bytes.
     #[tactic(auto, using(crate::proofs::Cutting::end_empty))]
+    #[inline(always)]
     pub fn next(&mut self) -> Option<Token<'a>>
         ensures tokens { MatchOption result ((self.old ≡ []) × (self.new ≡ [])) (λ t. self.old ≡ lexeme_of t ∷ self.new) }
         ensures kind { MatchOption result (Unit {0}) (λ t. t.kind ≡ kind_of t.text.now) }

@@ -86,13 +86,13 @@ less_is false false h = absurd h
 key_below : (x y : ℕ) → T (is_lt (nat_cmp x y)) → x < y
 key_below x y h = let less = less_is (Rattle.std.proofs.Common.nat_lt x y) (Rattle.std.proofs.Common.nat_eq x y) h in grind (arith, nat_tests)
 
-other_key : (x y : ℕ) → (x ≡ y → ⊥) → eq_by_cmp nat_cmp x y ≡ false
+pub other_key : (x y : ℕ) → (x ≡ y → ⊥) → eq_by_cmp nat_cmp x y ≡ false
 other_key x y h = grind (arith, nat_tests)
 
-passed_over : (q : ℕ) (e : ℕ × NormalConstraint) (es : Entries) → (q ≡ e.0 → ⊥) → fin.find nat_cmp q (e ∷ es) ≡ fin.find nat_cmp q es
+pub passed_over : (q : ℕ) (e : ℕ × NormalConstraint) (es : Entries) → (q ≡ e.0 → ⊥) → fin.find nat_cmp q (e ∷ es) ≡ fin.find nat_cmp q es
 passed_over q e es h = ap (λ (b : Bool). cond b (Some e.1) (fin.find nat_cmp q es)) (other_key q e.0 h)
 
-found_first : (e : ℕ × NormalConstraint) (es : Entries) → fin.find nat_cmp e.0 (e ∷ es) ≡ Some e.1
+pub found_first : (e : ℕ × NormalConstraint) (es : Entries) → fin.find nat_cmp e.0 (e ∷ es) ≡ Some e.1
 found_first e es = ap (λ (o : Ordering). cond (is_eq o) (Some e.1) (fin.find nat_cmp e.0 es)) (tied_itself nat_cmp_total e.0)
 
 -- no id up to one that is below all is there
@@ -101,6 +101,13 @@ none_below k q [] h l = refl
 none_below k q (e ∷ es) h l =
     let p = parts (is_lt (nat_cmp k e.0)) (below_all nat_cmp k es) h in
     passed_over q e es (λ same. omega (arith, same, l, key_below k e.0 p.0)) ∙ none_below k q es p.1 l
+
+-- the entries behind the first one rise too, and its id is not there
+pub rest_rises : (e : ℕ × NormalConstraint) (es : Entries) → T (fin.is_sorted nat_cmp (e ∷ es)) → T (fin.is_sorted nat_cmp es)
+rest_rises e es h = (parts (below_all nat_cmp e.0 es) (fin.is_sorted nat_cmp es) h).1
+
+pub none_in_rest : (e : ℕ × NormalConstraint) (es : Entries) (q : ℕ) → T (fin.is_sorted nat_cmp (e ∷ es)) → q ≡ e.0 → fin.find nat_cmp q es ≡ None
+none_in_rest e es q h same = none_below e.0 q es (parts (below_all nat_cmp e.0 es) (fin.is_sorted nat_cmp es) h).0 (omega (arith, same))
 
 -- at each place stands the constraint of the id that stands there
 pub found_at : (es : Entries) (k d : ℕ) (n : NormalConstraint) → T (fin.is_sorted nat_cmp es) → k < length (values_of es) → get_or (values_of es) k n ≡ n → fin.find nat_cmp (get_or (ids_of es) k d) es ≡ Some n

@@ -21,3 +21,5 @@ pub mod KeptChains
 pub mod Visits
 pub mod PassSteps
 pub mod TraceMeaning
+pub mod Members
+pub mod Gathered

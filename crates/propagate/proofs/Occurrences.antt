@@ -1,5 +1,6 @@
 -- Where a literal occurs among terms in order of their variables.
-use Rattle.std.proofs.Common.{◌≡◌, ℕ, zero, suc, ◌+◌, ◌<◌, ◌≤◌, Bool, true, false, cond, ◌==◌, ◌&&◌, List, [], ◌∷◌, length, get_or, refl, ap, sym, ◌∙◌, inl, inr, ◌⊎◌, arith}
+use Rattle.std.proofs.Common.{◌≡◌, ℕ, zero, suc, ◌+◌, ◌<◌, ◌≤◌, Bool, true, false, cond, eqb, ◌==◌, ◌&&◌, List, [], ◌∷◌, length, get_or, refl, ap, sym, ◌∙◌, inl, inr, ◌⊎◌, arith}
+use mathlib.Core.Bool.{beq}
 use Rattle.std.proofs.lemmas.Bool.Decides.{nat_tests}
 use Rattle.std.proofs.lemmas.Int.{ints}
 use Rattle.linear.specs.declared.term.Lit.{Lit}
@@ -11,6 +12,7 @@ use Rattle.propagate.specs.Walk.{CanForce}
 use Rattle.propagate.specs.Slack.{not_false, IsForced}
 use Rattle.propagate.specs.Passes.{literal_of}
 use Rattle.normal_form.proofs.SetSums.{only_is}
+use Rattle.normal_form.proofs.Sums.{rises_at}
 
 later_variable : (low : ℕ) (ts : List NormalTerm) (i : ℕ) (d : NormalTerm) → Rises low ts → i < length ts → low ≤ (get_or ts i d).var.0
 later_variable low [] i d r h = absurd (omega (arith, h))
@@ -83,3 +85,35 @@ nothing_forced listing n slack r e none l f =
       ap (lists listing) same ∙ f.unset,
       ap (λ (m : Lit). lists listing (opposite m)) same ∙ f.opposite_unset,
     )
+
+-- a constraint has a literal exactly where a term is of it
+pub has_at : (n : NormalConstraint) (l : Lit) (i : ℕ) (t : NormalTerm) → Rises 0 n.terms → i < length n.terms → t ≡ get_or n.terms i t → literal_of t ≡ l → 0 < coefficient_of n l
+has_at n l i t r h is same =
+    let own : coefficient_of n (literal_of t) ≡ t.coef =
+    ap (λ (u : NormalTerm). coefficient_of n (literal_of u)) is ∙ own_coefficient 0 n.terms i t r h ∙ sym (ap (λ (u : NormalTerm). u.coef) is) in
+    let its : t.coef ≡ (get_or n.terms i t).coef = ap (λ (u : NormalTerm). u.coef) is in
+    let wanted : coefficient_of n (literal_of t) ≡ coefficient_of n l = ap (coefficient_of n) same in
+    omega (arith, own, its, wanted, rises_at 0 n.terms i t r h)
+
+pub has_none : (n : NormalConstraint) (l : Lit) → ((k : ℕ) (d : NormalTerm) → k < length n.terms → literal_of (get_or n.terms k d) ≡ l → ⊥) → 0 < coefficient_of n l → ⊥
+has_none n l none h =
+    let at = stands n.terms (l.var.0) l.negated h in
+    let d : NormalTerm = record { coef = 0; var = l.var; negated = l.negated } in
+    none at.0 d at.1.0 (same_literal (literal_of (get_or n.terms at.0 d)) l (at.1.1 d).0 (at.1.1 d).1)
+
+-- literals that a test finds equal are one
+pub equal : (x l : Lit) → (eqb (x.var.0) (l.var.0) && beq x.negated l.negated) ≡ true → x ≡ l
+equal x l h =
+    let both = and_true (eqb (x.var.0) (l.var.0)) (beq x.negated l.negated) h in
+    let variable : x.var.0 ≡ l.var.0 = grind (arith, nat_tests, both.0) in
+    same_literal x l variable (same_signs x.negated l.negated both.1)
+  where
+    and_true : (a b : Bool) → (a && b) ≡ true → (a ≡ true) × (b ≡ true)
+    and_true true b h = (refl, h)
+    and_true false b h = absurd (cc)
+
+    same_signs : (a b : Bool) → beq a b ≡ true → a ≡ b
+    same_signs true true h = refl
+    same_signs true false h = absurd (cc)
+    same_signs false true h = absurd (cc)
+    same_signs false false h = refl

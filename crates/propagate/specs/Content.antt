@@ -1,10 +1,12 @@
 -- Constraints under their ids, and chains whose reasons are ids.
-use Rattle.std.specs.Prelude.{◌≡◌, ℕ, ◌<◌, List, [], ◌∷◌, ◌++◌, map, Option, None, Some, MatchOption}
+use Rattle.std.specs.Prelude.{◌≡◌, ◌↔◌, ◌⊎◌, ℕ, ◌<◌, List, [], ◌∷◌, ◌++◌, map, Option, None, Some, MatchOption}
 use Rattle.std.specs.FinMap as fin
 use Rattle.std.specs.Ordering.{nat_cmp}
 use Rattle.linear.specs.declared.term.Lit.{Lit}
 use Rattle.normal_form.specs.Normal.{NormalConstraint}
 use Rattle.propagate.specs.declared.trace.Trace.{Trace}
+use Rattle.propagate.specs.Ids.{IdSet, HasId}
+use Rattle.propagate.specs.Literals.{coefficient_of}
 use Rattle.propagate.specs.Slack.{IsBroken, IsForced}
 use Rattle.propagate.specs.Chain.{LeadsToConflict, IsClosure}
 
@@ -17,6 +19,14 @@ abbrev pub IsLeastAbove : Content → ℕ → Option ℕ → Type 0
 IsLeastAbove content id None = (k : ℕ) → id < k → fin.get content k ≡ None
 IsLeastAbove content id (Some next) = (id < next) × ((n : NormalConstraint) × (fin.get content next ≡ Some n))
     × ((k : ℕ) → id < k → k < next → fin.get content k ≡ None)
+
+-- the constraint of the id has the literal
+abbrev pub HasLiteral : Content → Lit → ℕ → Type 0
+HasLiteral content l id = (n : NormalConstraint) × (fin.get content id ≡ Some n) × (0 < coefficient_of n l)
+
+-- a set has the ids of the constraints that have the literal, beside those that another set has, and no more
+abbrev pub AddsOccurrences : Content → Lit → IdSet → IdSet → Type 0
+AddsOccurrences content l before ids = (id : ℕ) → HasId ids id ↔ (HasId before id ⊎ HasLiteral content l id)
 
 -- the constraint of the id forces the literal
 abbrev pub IsForcedIn : Content → List Lit → Lit → ℕ → Type 0

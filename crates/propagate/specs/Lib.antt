@@ -9,3 +9,4 @@ pub mod Walk
 pub mod Reach
 pub mod Content
 pub mod TraceByPlaces
+pub mod Ids

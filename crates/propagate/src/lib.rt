@@ -4,6 +4,7 @@
 
 pub mod cases;
 mod forced;
+mod ids;
 pub mod laws;
 mod pass;
 mod propagator;
@@ -15,6 +16,7 @@ mod trace;
 mod trail;
 mod walk;
 
+pub use ids::Ids;
 pub use propagator::{Id, Propagator};
 pub use reach::Reach;
 pub use scan_propagator::ScanPropagator;

@@ -14,10 +14,11 @@ ghost use Rattle.std.specs.FinMap as map;
 ghost use Rattle.std.specs.Ordering.{nat_cmp};
 ghost use Rattle.normal_form.specs.Normal.{NormalConstraint};
 ghost use Rattle.propagate.specs.Chain.{IsRefuted};
-ghost use Rattle.propagate.specs.Content.{IsLeastAbove, IsTrace};
+ghost use Rattle.propagate.specs.Content.{AddsOccurrences, IsLeastAbove, IsTrace};
 ghost use Rattle.propagate.specs.Literals.{IsConsistent};
 ghost use Rattle.propagate.specs.Reach.{IsReach};
 
+use super::ids::Ids;
 use super::reach::Reach;
 use super::trace::Trace;
 use linear::Lit;
@@ -54,6 +55,10 @@ pub trait Propagator: Drop {
     /// The least id above another that has a constraint.
     fn after(&self, id: Id) -> Option<Id>
         ensures { IsLeastAbove (content self.now) id result };
+
+    /// Adds the ids of the constraints that have a literal to a set.
+    fn add_occurrences(&self, literal: Lit, ids: &mut Ids) -> Result<(), AllocError>
+        ensures { OnOk result (AddsOccurrences (content self.now) literal ids.old ids.new) };
 
     /// Whether the constraints are refuted together with some extra ones: whether a chain from nothing leads to one of
     /// them with negative slack.

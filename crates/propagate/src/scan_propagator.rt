@@ -4,11 +4,14 @@
 //! faster one answers is compared with it. For a question it lends all constraints into one list, so that extra ones
 //! stand in the list beside them, and no constraint is copied.
 
-ghost use Rattle.std.specs.Prelude.{◌≡◌, ◌++◌, IfOk, OnOk, List, map};
+ghost use Rattle.std.specs.Prelude.{◌≡◌, ◌<◌, ◌↔◌, ◌++◌, IfOk, IsTrue, OnOk, List, map};
 ghost use Rattle.std.specs.FinMap as fin;
+ghost use Rattle.std.specs.FinSet as set;
 ghost use Rattle.std.specs.List.Sorted.{IsStrictlySortedBy};
 ghost use Rattle.std.specs.Ordering.{nat_cmp};
+ghost use Rattle.propagate.specs.Literals.{coefficient_of};
 
+use super::ids::Ids;
 use super::propagator::{Id, Propagator};
 use super::reach::Reach;
 use super::refutation::refuted;
@@ -47,6 +50,29 @@ fn ids(alloc: Global, all: &BTreeMap<Id, Normal>) -> Result<Vec<Id>, AllocError>
         ids.push(*id)?;
     }
     Ok(ids)
+}
+
+// Whether a constraint has a literal.
+fn has_literal(constraint: &Normal, literal: Lit) -> bool
+    ensures { IsTrue result ↔ 0 < coefficient_of constraint.now literal }
+{
+    for place in 0..constraint.len() {
+        if constraint.term(place).literal() == literal {
+            return true;
+        }
+    }
+    false
+}
+
+// Puts an id into a set if its constraint has a literal.
+fn add_if_it_has(ids: &mut Ids, id: Id, constraint: &Normal, literal: Lit) -> Result<(), AllocError>
+    ensures there { OnOk result (0 < coefficient_of constraint.now literal → ids.new ≡ set.insert ids.old id) }
+    ensures absent { OnOk result ((0 < coefficient_of constraint.now literal → ⊥) → ids.new ≡ ids.old) }
+{
+    if has_literal(constraint, literal) {
+        ids.insert(id)?;
+    }
+    Ok(())
 }
 
 impl ScanPropagator {
@@ -94,6 +120,13 @@ impl Propagator for ScanPropagator {
             Some((next, _)) => Some(*next),
             None => None,
         }
+    }
+
+    fn add_occurrences(&self, literal: Lit, ids: &mut Ids) -> Result<(), AllocError> {
+        for (id, constraint) in self.all.iter() {
+            add_if_it_has(ids, *id, constraint, literal)?;
+        }
+        Ok(())
     }
 
     fn refute(&mut self, extras: &[Normal]) -> Result<bool, AllocError> {

@@ -7,4 +7,5 @@ pub mod Growing
 pub mod Improving
 pub mod Solutions
 pub mod StaysBetter
+pub mod Trying
 pub mod StaysLive

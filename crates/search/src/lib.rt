@@ -17,6 +17,7 @@ mod found;
 pub mod laws;
 mod lessons;
 mod log;
+mod presolving;
 mod restarts;
 mod solver;
 mod trail;

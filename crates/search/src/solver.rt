@@ -12,6 +12,7 @@ use super::endings::{end_exhausted, end_solved, end_stopped, may_stop};
 use super::found::{Found, Unfinished};
 use super::lessons::Lessons;
 use super::log::Log;
+use super::presolving::presolve;
 use super::restarts::Restarts;
 use super::trail::{Trail, level_of};
 use linear::{Lit, Problem, Seq};
@@ -158,6 +159,7 @@ fn search<'a, P: Propagator>(
     let Ok(count) = u32::try_from(log.names().len()) else {
         return Err(StepFault::TooLarge);
     };
+    presolve(alloc, log)?;
     let mut decisions = Vec::new(alloc);
     let mut trail = Trail::new(alloc, count)?;
     let mut restarts = Restarts::new();

@@ -18,6 +18,4 @@ mod rows;
 #[cfg(test)]
 mod solutions;
 #[cfg(test)]
-mod solved;
-#[cfg(test)]
 mod verdicts;

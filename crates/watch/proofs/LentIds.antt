@@ -6,10 +6,11 @@ use Rattle.std.proofs.lemmas.List.Elements.{Contains-append_cases, Contains-push
 use Rattle.std.specs.FinMap as fin
 use Rattle.linear.specs.declared.term.Lit.{Lit}
 use Rattle.normal_form.specs.Normal.{NormalConstraint}
+use Rattle.propagate.specs.Content.{HasLiteral}
 use Rattle.propagate.specs.Literals.{coefficient_of}
 use Rattle.watch.specs.declared.occurrence.Occurrence.{Occurrence}
 use Rattle.watch.specs.Ledgers.{IsLedger, constraint_at}
-use Rattle.watch.specs.Lent.{AreEntriesOf, HasLiteral, IsEachOnce, ids_at, live_places}
+use Rattle.watch.specs.Lent.{AreEntriesOf, IsEachOnce, ids_at, live_places}
 use Rattle.watch.specs.Named.{AreNamed, content_at, place_of}
 use Rattle.watch.specs.Occurrences.{code, occurrences_of}
 use Rattle.watch.proofs.Entries.{places_from}
@@ -21,7 +22,7 @@ Slots = List (Option NormalConstraint)
 abbrev Places : Type 0
 Places = List (ℕ × ℕ)
 
-first_or_later : (L : List ℕ) (p k : ℕ) → Contains (p ∷ L) k → (p ≡ k) ⊎ Contains L k
+pub first_or_later : (L : List ℕ) (p k : ℕ) → Contains (p ∷ L) k → (p ≡ k) ⊎ Contains L k
 first_or_later L p k c = elim (Contains-append_cases (p ∷ []) L k c) [
   | inl a ↦ elim (Contains-push_cases [] p k a) [
     | inl none ↦ absurd (omega (arith, none.1))
@@ -30,7 +31,7 @@ first_or_later L p k c = elim (Contains-append_cases (p ∷ []) L k c) [
   | inr r ↦ inr r
 ]
 
-later : (L : List ℕ) (p k : ℕ) → Contains L k → Contains (p ∷ L) k
+pub later : (L : List ℕ) (p k : ℕ) → Contains L k → Contains (p ∷ L) k
 later L p k c = (suc c.0, omega (arith, c.1), c.2)
 
 contains_mapped : (f : ℕ → ℕ) (L : List ℕ) (x : ℕ) → Contains (map f L) x → (k : ℕ) × Contains L k × (f k ≡ x)

@@ -27,3 +27,4 @@ pub mod LentIds
 pub mod KeptLevels
 pub mod Ascents
 pub mod Reasoned
+pub mod AddedIds

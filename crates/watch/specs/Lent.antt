@@ -1,17 +1,10 @@
 -- The ids of the constraints that have a literal.
-use Rattle.std.specs.Prelude.{◌≡◌, ℕ, ◌<◌, List, [], ◌∷◌, Option, None, Some, Contains, is_some, if◌then◌else◌, map, slice_index_or}
-use Rattle.std.specs.FinMap as fin
+use Rattle.std.specs.Prelude.{◌≡◌, ℕ, List, [], ◌∷◌, Option, None, Contains, is_some, if◌then◌else◌, map, slice_index_or}
 use Rattle.linear.specs.declared.term.Lit.{Lit}
 use Rattle.normal_form.specs.Normal.{NormalConstraint}
-use Rattle.propagate.specs.Content.{Content}
-use Rattle.propagate.specs.Literals.{coefficient_of}
 use Rattle.watch.specs.declared.occurrence.Occurrence.{Occurrence}
 use Rattle.watch.specs.Ledgers.{AreIndexed}
 use Rattle.watch.specs.Occurrences.{occurrences_of}
-
--- the constraint of an id has the literal
-abbrev pub HasLiteral : Content → Lit → ℕ → Type 0
-HasLiteral content l id = (n : NormalConstraint) × (fin.get content id ≡ Some n) × (0 < coefficient_of n l)
 
 -- none stands twice
 abbrev pub IsEachOnce : List ℕ → Type 0

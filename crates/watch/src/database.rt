@@ -8,10 +8,10 @@ ghost use Rattle.std.specs.Prelude.{◌≡◌, ◌↔◌, ◌++◌, ℕ, Contain
 ghost use Rattle.std.specs.FinMap as map;
 ghost use Rattle.std.specs.Option.{option_copied};
 ghost use Rattle.propagate.specs.Chain.{IsRefuted};
-ghost use Rattle.propagate.specs.Content.{IsLeastAbove, IsTrace};
+ghost use Rattle.propagate.specs.Content.{HasLiteral, IsLeastAbove, IsTrace};
 ghost use Rattle.propagate.specs.Literals.{IsConsistent};
 ghost use Rattle.propagate.specs.Reach.{IsReach};
-ghost use Rattle.watch.specs.Lent.{HasLiteral, IsEachOnce};
+ghost use Rattle.watch.specs.Lent.{IsEachOnce};
 
 use super::closure::Closure;
 use super::lending::Occurrences;

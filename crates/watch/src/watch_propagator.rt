@@ -8,7 +8,7 @@ use super::database::Database;
 use super::lending::Occurrences;
 use linear::Lit;
 use normal_form::Normal;
-use propagate::{Id, Propagator, Reach, Trace};
+use propagate::{Id, Ids, Propagator, Reach, Trace};
 use std::alloc::{AllocError, Global};
 use std::marker::Model;
 
@@ -33,7 +33,8 @@ impl Model for WatchPropagator {
 
 impl WatchPropagator {
     ghost use Rattle.std.specs.Prelude.{◌↔◌, ℕ, Contains};
-    ghost use Rattle.watch.specs.Lent.{HasLiteral, IsEachOnce};
+    ghost use Rattle.propagate.specs.Content.{HasLiteral};
+    ghost use Rattle.watch.specs.Lent.{IsEachOnce};
 
     /// The ids of the constraints that have a literal, each once, from a list that is kept.
     pub fn occurrences(&self, literal: Lit) -> Occurrences<'_>
@@ -67,6 +68,14 @@ impl Propagator for WatchPropagator {
 
     fn after(&self, id: Id) -> Option<Id> {
         self.database.after(id)
+    }
+
+    fn add_occurrences(&self, literal: Lit, ids: &mut Ids) -> Result<(), AllocError> {
+        let mut rest = self.occurrences(literal);
+        while let Some(id) = rest.next() {
+            ids.insert(id)?;
+        }
+        Ok(())
     }
 
     fn refute(&mut self, extras: &[Normal]) -> Result<bool, AllocError> {

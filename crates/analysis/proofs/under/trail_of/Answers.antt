@@ -1,6 +1,7 @@
-use Rattle.std.proofs.Common.{◌++◌, [], ◌∷◌, get_or, false, sym, ap, ◌∙◌, arith}
-use Rattle.std.proofs.lemmas.List.{take_more}
+use Rattle.std.proofs.Common.{◌++◌, [], ◌∷◌, get_or, false, map, sym, ap, ◌∙◌, arith}
+use Rattle.std.proofs.lemmas.List.{map_push, take_more}
 use Rattle.linear.specs.declared.term.Lit.{Lit}
+use Rattle.analysis.specs.declared.entry.Entry.{Entry}
 use Rattle.analysis.specs.Biting.{literals_up_to}
 use Rattle.analysis.proofs.FlatTrails.{one_more_at_start}
 use Rattle.analysis.proofs.under.trail_of.Goals as goal
@@ -13,6 +14,12 @@ loop-literal-preserved c =
     let listing = c.args.listing.now in
     let place = c.loop-literal.literal-index in
     let item : Lit = get_or listing place first in
-    ap (literals_up_to 0) c.in_ok-push.ensures.items
-    ∙ one_more_at_start c.loop-literal.trail.items c.at_start.result item c.at_start.ensures.literal c.at_start.ensures.level
-    ∙ ap (λ xs. xs ++ item ∷ []) c.loop-literal.invariant ∙ sym (take_more listing place first (omega arith))
+    let more = sym (take_more listing place first (omega arith)) in (
+      ap (literals_up_to 0) c.in_ok-push.ensures.items
+          ∙ one_more_at_start c.loop-literal.trail.items c.at_start.result item c.at_start.ensures.literal c.at_start.ensures.level
+          ∙ ap (λ xs. xs ++ item ∷ []) c.loop-literal.invariant.0 ∙ more,
+      ap (map (λ (e : Entry). e.literal)) c.in_ok-push.ensures.items
+          ∙ map_push (λ (e : Entry). e.literal) c.loop-literal.trail.items c.at_start.result
+          ∙ ap (λ (l : Lit). map (λ (e : Entry). e.literal) c.loop-literal.trail.items ++ l ∷ []) c.at_start.ensures.literal
+          ∙ ap (λ xs. xs ++ item ∷ []) c.loop-literal.invariant.1 ∙ more,
+    )

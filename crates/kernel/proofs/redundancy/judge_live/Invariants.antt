@@ -1,15 +1,15 @@
-use Rattle.std.proofs.Common.{◌≡◌, ℕ, ◌-◌, ◌<◌, ◌≤◌, ◌++◌, Some}
+-- Nothing has changed, and what the constraints that are no more to be judged become is shown.
+use Rattle.std.proofs.Common.{◌≡◌, ◌++◌}
 use Rattle.std.specs.FinMap as map
-use Rattle.normal_form.specs.Normal.{NormalConstraint}
-use Rattle.proof_rules.specs.Legal.{IsShownUnder}
+use Rattle.std.specs.FinSet as set
+use Rattle.kernel.proofs.Judging.{IsJudging}
 use Rattle.kernel.proofs.redundancy.judge_live.Given as goal
 
-abbrev pub decreases-loop-next : goal.decreases-loop-next
-decreases-loop-next g l = l.database.next - l.id
+abbrev pub decreases-loop-id : goal.decreases-loop-id
+decreases-loop-id g l = set.len l.touched
 
--- nothing has changed, and what the constraints up to here become is shown
-abbrev pub invariant-loop-next : goal.invariant-loop-next
-invariant-loop-next g l =
+abbrev pub invariant-loop-id : goal.invariant-loop-id
+invariant-loop-id g l =
     (l.database ≡ l.fn.database)
     × (l.beside.items ≡ l.fn.beside.items)
-    × ((k : ℕ) (n : NormalConstraint) → 0 < k → k ≤ l.id → map.get l.fn.database.live k ≡ Some n → IsShownUnder (map.values l.fn.database.live ++ l.fn.beside.items) l.witness n)
+    × IsJudging l.fn.database.live (map.values l.fn.database.live ++ l.fn.beside.items) l.fn.witness l.touched

@@ -1,7 +1,9 @@
-use Rattle.std.proofs.Common.{rules, List, None, false, take, sym, subst, arith}
-use Rattle.std.proofs.lemmas.List.{take_more}
+use Rattle.std.proofs.Common.{◌<◌, ◌+◌, ◌++◌, ◌∷◌, [], rules, All, List, None, false, get_or, length, take, sym, ap, subst, ◌∙◌, arith}
+use Rattle.std.proofs.lemmas.List.{length-set, take_more}
 use Rattle.analysis.specs.declared.entry.Entry.{Entry}
-use Rattle.analysis.specs.Spots.{AreSpotsOf}
+use Rattle.analysis.specs.Spots.{AreSpotsBefore, AreSpotsOf}
+use Rattle.analysis.proofs.Repeated.{one_more_before, repeats}
+use Rattle.analysis.proofs.SpotTable.{spots_more}
 use Rattle.analysis.proofs.standing.Standing.of.Goals as goal
 
 abbrev first : Entry
@@ -10,5 +12,19 @@ first = record { literal = record { var = record { 0 = 0 }; negated = false }; r
 pub loop-place-preserved : goal.loop-place-preserved
 loop-place-preserved c =
     let at = c.loop-place in
-    subst (λ (es : List Entry). AreSpotsOf es c.note.new.spots.items) (sym (take_more c.args.trail.now at.place first (omega arith)))
-    (c.note.ensures (take at.place c.args.trail.now) (search rules) at.invariant)
+    let trail = c.args.trail.now in
+    let before = take at.place trail in
+    let e : Entry = get_or trail at.place first in
+    let new = c.note.new.spots.items in
+    let noted = c.note.ensures.noted (search rules) in (
+      subst (λ (es : List Entry). AreSpotsOf es new) (sym (take_more trail at.place first (omega arith)))
+          (subst (AreSpotsOf (before ++ e ∷ [])) (sym noted) (spots_more before at.spots.items e at.place (c.note.ensures.inside (search rules)) (c.note.ensures.free (search rules)) at.invariant.0)),
+      subst (AreSpotsBefore trail (at.place + 1)) (sym noted) (one_more_before trail at.place first at.spots.items _ (omega arith) at.invariant.1),
+      subst (λ n. All (λ e. e.literal.var.0 < n) trail) (sym (ap length noted ∙ length-set at.spots.items _ _)) at.invariant.2,
+    )
+
+pub returns-then-not-note-clause-repeated : goal.returns-then-not-note-clause-repeated
+returns-then-not-note-clause-repeated c =
+    let at = c.loop-place in
+    let trail = c.args.trail.now in
+    λ _. repeats trail at.place first at.spots.items (omega arith) at.invariant.1 (c.note.ensures.taken (search rules) (search rules))

@@ -1,7 +1,8 @@
--- The spots are those of the entries so far.
-use Rattle.std.proofs.Common.{take}
-use Rattle.analysis.specs.Spots.{AreSpotsOf}
+-- The spots are those of the entries so far, and have room for each variable.
+use Rattle.std.proofs.Common.{◌<◌, All, length, take}
+use Rattle.analysis.specs.Spots.{AreSpotsBefore, AreSpotsOf}
 use Rattle.analysis.proofs.standing.Standing.of.Given as goal
 
 abbrev pub invariant-loop-place : goal.invariant-loop-place
-invariant-loop-place l = AreSpotsOf (take l.place l.trail) l.spots.items
+invariant-loop-place l =
+    AreSpotsOf (take l.place l.trail) l.spots.items × (AreSpotsBefore l.trail l.place l.spots.items) × All (λ e. e.literal.var.0 < length l.spots.items) l.trail

@@ -1,16 +1,15 @@
-use Rattle.std.proofs.Common.{◌≡◌, ◌++◌, ◌∷◌, [], All, List, None, Some, IfSome, ap, refl, sym, subst, ◌∙◌}
+use Rattle.std.proofs.Common.{◌≡◌, ◌++◌, ◌∷◌, [], All, Some, IfSome, ap, refl, sym, subst, ◌∙◌}
 use Rattle.std.proofs.lemmas.Bool.{false≢true}
 use Rattle.std.proofs.lemmas.Result.{err_from_is_err_and}
 use Rattle.std.specs.FinMap as map
 use Rattle.linear.specs.Opb.{Opb}
-use Rattle.normal_form.specs.Normal.{NormalConstraint}
 use Rattle.normal_form.proofs.Negations.{negation}
 use Rattle.normal_form.proofs.NormalForm.{one_form}
-use Rattle.substitution.specs.Under.{IsUnder, substituted}
+use Rattle.substitution.specs.Under.{substituted}
 use Rattle.substitution.specs.Objective.{not_raised}
-use Rattle.proof_rules.specs.Legal.{IsShownUnder, IsShownNotRaised, Redundant}
+use Rattle.proof_rules.specs.Legal.{IsShownUnder, IsShownNotRaised}
 use Rattle.proof_rules.specs.Shown.{IsShown}
-use Rattle.proof_rules.specs.State.{State, constraints}
+use Rattle.proof_rules.specs.State.{constraints}
 use Rattle.proof_rules.proofs.Faults.{or_memory}
 use Rattle.kernel.specs.Held.{Held}
 use Rattle.kernel.specs.Redundancy.{IsGoalOpen, IsOpenLive}

@@ -48,8 +48,8 @@ loop-coefficient-init c =
     let left = c.args.self.now.left in
     let vars = c.args.self.now.variables in
     let names = names_in vars left in
-    let done = c.new-terms.result.items in
-    let none : done ≡ [] = search rules in
+    let done = c.clear.new.self.items in
+    let none : done ≡ [] = c.clear.ensures.items in
     let few : length done ≤ most_terms = omega (arith, ap length none) in (
       ap (λ ts. ts ++ terms_of names left) none,
       refl,
@@ -60,7 +60,21 @@ loop-coefficient-init c =
     )
 
 pub returns-clause-passes : goal.returns-clause-passes
-returns-clause-passes c = c.loop-coefficient.invariant.5
+returns-clause-passes c =
+    let copied : c.in-Ok.own.items ≡ c.loop-coefficient.terms.items = c.in-Ok.ensures.items ∙ c.as_slice.ensures.value in
+    subst
+    (λ (ts : List Term). PassesTerms c.args.behind 0 c.args.self.now.variables c.args.self.now.left (length ts) c.loop-coefficient.self.variables c.loop-coefficient.self.left)
+    (sym copied)
+    c.loop-coefficient.invariant.5
+
+pub returns-in_default-from_slice-clause-denies : goal.returns-in_default-from_slice-clause-denies
+unfolding DeniesSum
+returns-in_default-from_slice-clause-denies c = tt
+
+pub returns-in_default-from_slice-clause-stops : goal.returns-in_default-from_slice-clause-stops
+returns-in_default-from_slice-clause-stops c =
+    let l = c.loop-coefficient in
+    sum_wants c.args.behind c.args.self.now.variables l.self.variables c.args.self.now.left l.self.left (length l.terms.items) l.invariant.5
 
 -- one more term, read
 record Next (names : List (List ℕ)) (done : List Term) (left whole : List Lexeme) : Type 0 where

@@ -1,7 +1,6 @@
 -- The ids that the database lends.
 use Rattle.std.proofs.Common.{◌↔◌, ℕ, Contains, subst}
-use Rattle.propagate.specs.Content.{Content}
-use Rattle.watch.specs.Lent.{HasLiteral}
+use Rattle.propagate.specs.Content.{Content, HasLiteral}
 use Rattle.watch.proofs.watch_propagator.WatchPropagator.occurrences.Goals as goal
 
 pub returns-clause-exactly : goal.returns-clause-exactly

@@ -1,0 +1,79 @@
+-- The touched constraints are judged by rising id: what is no more in the set of those to be judged is shown.
+use Rattle.std.proofs.Common.{◌≡◌, ◌↔◌, inl, inr, ℕ, ◌-◌, ◌<◌, Bool, true, false, not, ◌&&◌, cond, IsTrue, Some, List, ◌++◌, All, sym, ap, subst, ◌∙◌, arith}
+use Rattle.std.proofs.lemmas.Bool.{cases_eq, cases_lt, false≢true}
+use Rattle.std.proofs.lemmas.Cmp.{nat_cmp_total}
+use Rattle.std.specs.FinMap as map
+use Rattle.std.specs.FinSet as set
+use Rattle.std.specs.Ordering.{nat_cmp, eq_by_cmp}
+use Rattle.normal_form.specs.Normal.{NormalConstraint, Rises}
+use Rattle.propagate.specs.Ids.{IdSet, HasId, IsLeastId}
+use Rattle.propagate.proofs.Entries.{other_key}
+use Rattle.substitution.specs.Images.{Images}
+use Rattle.proof_rules.specs.Legal.{IsShownUnder}
+use Rattle.proof_rules.specs.State.{Live}
+use Rattle.proof_rules.specs.declared.fault.StepFault.TheVariants.{GoalOpen}
+use Rattle.proof_rules.proofs.LiveConstraints.{All-from_get, All-get}
+use Rattle.kernel.specs.Database.{Constraints}
+use Rattle.kernel.specs.Redundancy.{IsOpenLive, IsTouched}
+use Rattle.kernel.proofs.Touched.{touched_live, untouched_shown}
+
+-- the ids still to be judged are live, and what the constraints of all others become is shown
+pub record IsJudging (live : Live) (from : List NormalConstraint) (images : Images) (ids : IdSet) : Type 0 where
+  pub there : (k : ℕ) → HasId ids k → (n : NormalConstraint) × (map.get live k ≡ Some n)
+  pub shown : (k : ℕ) (n : NormalConstraint) → map.get live k ≡ Some n → (HasId ids k → ⊥) → IsShownUnder from images n
+
+pub judging_first : (live : Live) (beside : List NormalConstraint) (images : Images) (ids : IdSet) → All (λ n. Rises 0 n.terms) (map.values live) → ((k : ℕ) → HasId ids k ↔ IsTouched live images k)
+    → IsJudging live (map.values live ++ beside) images ids
+judging_first live beside images ids rises touched = record {
+  there = λ k h. touched_live live images k ((touched k).0 h);
+  shown = λ k n is absent. untouched_shown live beside images k n is (All-get (λ m. Rises 0 m.terms) live k n rises is) (λ h. absent ((touched k).1 h));
+}
+
+removed_keeps : (ids : IdSet) (id k : ℕ) → HasId (set.remove ids id) k → HasId ids k
+removed_keeps ids id k h = second (not (eq_by_cmp nat_cmp k id)) (set.contains ids k) (sym (set.contains-remove nat_cmp_total ids id k) ∙ h)
+  where
+    second : (a b : Bool) → (a && b) ≡ true → b ≡ true
+    second true b h = h
+    second false b h = absurd (cc)
+
+others_stay : (ids : IdSet) (id k : ℕ) → (k ≡ id → ⊥) → HasId ids k → HasId (set.remove ids id) k
+others_stay ids id k other h = set.contains-remove nat_cmp_total ids id k ∙ ap (λ (b : Bool). not b && set.contains ids k) (other_key k id other) ∙ h
+
+pub judging_more : (live : Live) (from : List NormalConstraint) (images : Images) (ids new : IdSet) (id : ℕ) → IsJudging live from images ids → new ≡ set.remove ids id
+    → ((n : NormalConstraint) → map.get live id ≡ Some n → IsShownUnder from images n) → IsJudging live from images new
+judging_more live from images ids new id j is here = subst (IsJudging live from images) (sym is) (record {
+  there = λ k h. j.there k (removed_keeps ids id k h);
+  shown = λ k n at absent. elim (cases_eq k id) as (λ _. IsShownUnder from images n) [
+    | inl same ↦ here n (subst (λ (i : ℕ). map.get live i ≡ Some n) same at)
+    | inr other ↦ j.shown k n at (λ h. absent (others_stay ids id k other h))
+  ];
+})
+
+-- the goal of the least one is open
+pub judging_open : (live : Live) (from : List NormalConstraint) (images : Images) (ids : IdSet) (id : ℕ) → IsJudging live from images ids → IsLeastId ids id
+    → ((n : NormalConstraint) → map.get live id ≡ Some n → IsShownUnder from images n → ⊥) → IsOpenLive live from images (GoalOpen id)
+judging_open live from images ids id j least never =
+    let n = j.there id least.0 in
+    (n.0, n.1, never n.0 n.1, λ k d before is. j.shown k d is (λ h. omega (arith, before, least.1 k h)))
+
+pub judging_end : (live : Live) (from : List NormalConstraint) (images : Images) (ids : IdSet) → IsJudging live from images ids → ids ≡ set.empty → All (IsShownUnder from images) (map.values live)
+judging_end live from images ids j none = All-from_get (IsShownUnder from images) live (λ k n is. j.shown k n is (λ h. false≢true (sym (set.contains-empty nat_cmp k) ∙ subst (λ (s : IdSet). HasId s k) none h)))
+
+-- a set without its least id is smaller
+pub fewer : (ids new : IdSet) (id : ℕ) → HasId ids id → new ≡ set.remove ids id → set.len new < set.len ids
+fewer ids new id h is =
+    let length : set.len new ≡ set.len ids - 1 = ap (λ (s : IdSet). set.len s) is ∙ set.len-remove nat_cmp_total ids id ∙ ap (λ (b : Bool). cond b (set.len ids - 1) (set.len ids)) h in
+    elim (cases_lt 0 (set.len ids)) as (λ _. set.len new < set.len ids) [
+      | inl some ↦ omega (arith, length, some)
+      | inr none ↦
+          let empty : ids ≡ set.empty = set.empty_of_len ids (omega (arith, none)) in
+          absurd (false≢true (sym (set.contains-empty nat_cmp id) ∙ subst (λ (s : IdSet). HasId s id) empty h))
+    ]
+
+-- what was answered of a constraint, in the words of what the judging began with
+pub judged : (d e : Constraints) (beside now : List NormalConstraint) (images : Images) (id : ℕ) (found : Bool) → e ≡ d → now ≡ beside
+    → ((n : NormalConstraint) → map.get e.live id ≡ Some n → IsTrue found ↔ IsShownUnder (map.values e.live ++ now) images n)
+    → (n : NormalConstraint) → map.get d.live id ≡ Some n → IsTrue found ↔ IsShownUnder (map.values d.live ++ beside) images n
+judged d e beside now images id found same still answered =
+    subst (λ (c : Constraints). (n : NormalConstraint) → map.get c.live id ≡ Some n → IsTrue found ↔ IsShownUnder (map.values c.live ++ beside) images n) same
+    (subst (λ (items : List NormalConstraint). (n : NormalConstraint) → map.get e.live id ≡ Some n → IsTrue found ↔ IsShownUnder (map.values e.live ++ items) images n) still answered)

@@ -1,0 +1,30 @@
+-- One variable of the witness after another.
+use Rattle.std.proofs.Common.{false, get_or, length, sym, subst, ap, arith}
+use Rattle.linear.specs.declared.term.Var.{Var}
+use Rattle.propagate.specs.Ids.{IdSet}
+use Rattle.substitution.specs.declared.image.Image.{Image}
+use Rattle.substitution.specs.declared.image.Image.TheVariants.{Lit}
+use Rattle.substitution.specs.Images.{Images}
+use Rattle.kernel.specs.Redundancy.{AddsVariable}
+use Rattle.kernel.proofs.Touched.{IsGatheringTouched, gathering_none, gathering_next, gathered_all}
+use Rattle.kernel.proofs.database.Database.touched.Goals as goal
+
+pub loop-image-init : goal.loop-image-init
+loop-image-init g c =
+    let live = c.args.self.now.live in
+    let images = c.args.witness.now in
+    subst (λ (ids : IdSet). IsGatheringTouched live images images ids) (sym c.empty-ids.ensures) (gathering_none live images)
+
+pub loop-image-preserved : goal.loop-image-preserved
+loop-image-preserved g c =
+    let d : Var × Image = (record { 0 = 0 }, Lit (record { var = record { 0 = 0 }; negated = false })) in
+    let live = c.args.self.now.live in
+    let i = c.loop-image.image-index in
+    let count = ap length c.as_slice-image-items.ensures.images in
+    let adds = subst (λ (images : Images). AddsVariable live (get_or images i d).0 c.loop-image.ids c.add_variable.new.ids) c.as_slice-image-items.ensures.images c.in_ok-add_variable.ensures in
+    gathering_next live c.args.witness.now i d c.loop-image.ids c.add_variable.new.ids (omega (arith, count)) c.loop-image.invariant adds
+
+pub returns : goal.returns
+returns g c =
+    let count = ap length c.as_slice-image-items.ensures.images in
+    gathered_all c.args.self.now.live c.args.witness.now c.loop-image.image-index c.loop-image.ids (omega (arith, count)) c.loop-image.invariant

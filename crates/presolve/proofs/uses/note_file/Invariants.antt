@@ -1,0 +1,8 @@
+use Rattle.std.proofs.Common.{take}
+use Rattle.presolve.specs.Standing.{StandsNowhere}
+use Rattle.presolve.specs.Uses.{Notes}
+use Rattle.presolve.proofs.uses.note_file.Given as goal
+
+-- the literals of the constraints so far
+abbrev pub invariant-loop-constraint : goal.invariant-loop-constraint
+invariant-loop-constraint l = Notes (λ v s. StandsNowhere (take l.constraint-index l.problem.constraints) v s) l.initial.table l.table

@@ -1,0 +1,4 @@
+pub mod Standing
+pub mod Fixing
+pub mod Uses
+pub mod Cases

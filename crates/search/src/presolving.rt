@@ -1,0 +1,105 @@
+//! What is put into the log before any search: that literals are true which may be made true at no cost.
+//!
+//! A candidate is not believed. Each is put to the kernel as a step of redundance, and one that the kernel refuses is left
+//! out, as one is for which no id is left; so nothing but speed rests on which candidates there are. Their constraints are no
+//! lessons: they stand for as long as the search goes on, and are not counted as what a conflict has taught.
+
+ghost use Rattle.std.specs.Prelude.{◌≡◌, ◌≢◌, List, map, IfOk, OnOk};
+ghost use Rattle.kernel.specs.Held.{HasAtLeast};
+ghost use Rattle.linear.specs.declared.term.Lit.{Lit};
+ghost use Rattle.presolve.specs.Fixing.{AreFixed};
+ghost use Rattle.search.specs.Log.{ImprovesNothing};
+ghost use Rattle.search.specs.Presolving.{Tries, TriesAll, fixing, is_true, made_true};
+
+use super::log::Log;
+use linear::{Lit, Relation, Seq, Signed, Term};
+use presolve::fixable;
+use proof_rules::StepFault;
+use proof_steps::Step;
+use propagate::Propagator;
+use std::alloc::{AllocError, Global};
+use substitution::{Image, Substitution};
+
+/// `1 l >= 1`.
+fn is_true(alloc: Global, literal: Lit) -> Result<Signed, AllocError>
+    ensures { IfOk result (λ constraint. constraint ≡ is_true literal) }
+{
+    let term = Term {
+        coef: 1,
+        var: literal.var,
+        negated: literal.negated,
+    };
+    let terms = Vec::from_slice(alloc, &[term])?;
+    Ok(Signed {
+        terms: Seq::from_vec(terms),
+        relation: Relation::AtLeast,
+        right: 1,
+    })
+}
+
+/// The witness that makes a literal true.
+fn made_true(alloc: Global, literal: Lit) -> Result<Substitution, AllocError>
+    ensures { IfOk result (λ witness. witness ≡ made_true literal) }
+{
+    let image = if literal.negated {
+        Image::Zero
+    } else {
+        Image::One
+    };
+    let images = Vec::from_slice(alloc, &[(literal.var, image)])?;
+    let Some(witness) = Substitution::new(alloc, images)? else {
+        unreachable!()
+    };
+    Ok(witness)
+}
+
+/// Hands on that memory was wanted; any other fault says only that a step is not legal.
+fn unless_refused(fault: StepFault) -> Result<(), StepFault>
+    ensures { OnOk result (fault ≢ StepFault.OutOfMemory) }
+{
+    match fault {
+        StepFault::OutOfMemory => Err(StepFault::OutOfMemory),
+        _ => Ok(()),
+    }
+}
+
+/// Puts a step into the log where it is legal.
+fn attempt<'a, P: Propagator>(log: &mut Log<'a, P>, step: Step) -> Result<(), StepFault>
+    requires relation { HasAtLeast step }
+    requires other { ImprovesNothing step }
+    ensures problem { log.new.problem ≡ log.old.problem }
+    ensures tried { OnOk result (Tries step log.old log.new) }
+{
+    if let Err(fault) = log.apply(step) {
+        return unless_refused(fault);
+    }
+    Ok(())
+}
+
+/// Fixes each of these literals where that is legal.
+fn fix<'a, P: Propagator>(
+    alloc: Global,
+    log: &mut Log<'a, P>,
+    literals: &[Lit],
+) -> Result<(), StepFault>
+    ensures problem { log.new.problem ≡ log.old.problem }
+    ensures tried { OnOk result (TriesAll (map fixing literals.now) log.old log.new) }
+{
+    for literal in literals {
+        let step = Step::Red(is_true(alloc, *literal)?, made_true(alloc, *literal)?);
+        attempt(log, step)?;
+    }
+    Ok(())
+}
+
+/// Fixes the literals of the problem that may be made true before any search.
+pub(crate) fn presolve<'a, P: Propagator>(
+    alloc: Global,
+    log: &mut Log<'a, P>,
+) -> Result<(), StepFault>
+    ensures problem { log.new.problem ≡ log.old.problem }
+    ensures fixed { OnOk result ((ls : List Lit) × AreFixed log.old.problem ls × TriesAll (map fixing ls) log.old log.new) }
+{
+    let literals = fixable(alloc, log.problem())?;
+    fix(alloc, log, literals.as_slice())
+}
