@@ -7,7 +7,7 @@ use Rattle.checker.specs.Walk.{Accepts, Advances, Position, Next}
 use Rattle.checker.specs.declared.stop.Stop.{Stop}
 use Rattle.checker.specs.declared.walk.Walk.{Walk}
 
-abbrev pub position_of : Walk → Position
+abbrev pub position_of : {P : Type 0} → Walk P → Position
 position_of walk = record {
   section = walk.section;
   names = walk.names;
@@ -24,18 +24,18 @@ pub record Reads (old new : Position) (number : ℕ) (said : Line) : Type 0 wher
   pub now_at : new ≡ record old { names = next.names; left = next.behind }
 
 -- what a line says is accepted
-abbrev pub AcceptsOn : Walk → Line → Walk → Type 0
+abbrev pub AcceptsOn : {P : Type 0} → Walk P → Line → Walk P → Type 0
 AcceptsOn old said new = Accepts old.kernel.problem (position_of old) said (position_of new)
 
 -- the next line is read, and accepted
-abbrev pub AdvancesOn : Walk → Walk → Type 0
+abbrev pub AdvancesOn : {P : Type 0} → Walk P → Walk P → Type 0
 AdvancesOn old new = Advances old.kernel.problem (position_of old) (position_of new)
 
 -- what a line says is refused, its number being this one
-abbrev pub IsRefusal : ℕ → Walk → Line → Stop → Type 0
+abbrev pub IsRefusal : {P : Type 0} → ℕ → Walk P → Line → Stop → Type 0
 IsRefusal number walk said stop =
     StopsBy (λ line code. (line ≡ number) × Refuses walk.kernel.problem walk.kernel.state said code) stop
 
 -- no line leads on from where the walk stands
-abbrev pub IsStopOf : Walk → Stop → Type 0
+abbrev pub IsStopOf : {P : Type 0} → Walk P → Stop → Type 0
 IsStopOf walk stop = StopsBy (Stops walk.kernel.problem (position_of walk) walk.reader.last) stop

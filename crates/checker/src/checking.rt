@@ -8,8 +8,15 @@ ghost use Rattle.checker.specs.Headline.{IsVerdictOf};
 use super::judge::judge;
 use super::stop::Stop;
 use super::verdict::Verdict;
+use deferred::Deferred;
 use opb_read::{OpbCode, OpbFault, read};
+use propagate::ScanPropagator;
 use std::alloc::Global;
+use watch::WatchPropagator;
+
+/// What keeps the live constraints: a new one waits, by its id alone, until a question is asked; then it is entered into the lists
+/// of its literals. A proof that asks nothing enters nothing.
+type Judging = Deferred<ScanPropagator, WatchPropagator>;
 
 /// Judges a proof (VeriPB 2.0, this product's profile) of a problem (the linear OPB format).
 ///
@@ -22,7 +29,7 @@ pub fn check(alloc: Global, opb: &[u8], proof: &[u8]) -> Verdict
     ensures sound { IsVerdictOf opb.now proof.now result }
 {
     match read(alloc, opb) {
-        Ok(problem) => match judge(alloc, &problem, proof) {
+        Ok(problem) => match judge::<Judging>(alloc, &problem, proof) {
             Ok(accepted) => Verdict::Accepted(accepted),
             Err(Stop::At(line, code)) => Verdict::Refused { line, code },
             Err(Stop::NoMemory) => Verdict::NoMemory,

@@ -9,10 +9,11 @@ use super::stop::Stop;
 use super::walk::Walk;
 use kernel::Accepted;
 use linear::Problem;
+use propagate::Propagator;
 use std::alloc::Global;
 
-/// Judges a proof of a problem. What is accepted is true of the problem, whoever wrote the proof.
-pub(crate) fn judge<'a>(
+/// Judges a proof of a problem, over any propagator. What is accepted is true of the problem, whoever wrote the proof.
+pub(crate) fn judge<'a, P: Propagator>(
     alloc: Global,
     problem: &'a Problem,
     proof: &'a [u8],
@@ -20,7 +21,7 @@ pub(crate) fn judge<'a>(
     ensures proved { IfOk result (λ accepted. IsProved problem.now proof.now accepted) }
     ensures stop { IfErr result (StopsBy (IsStopped problem.now proof.now)) }
 {
-    let mut walk = Walk::begin(alloc, problem, proof)?;
+    let mut walk = Walk::<P>::begin(alloc, problem, proof)?;
     while !walk.is_over() {
         walk.advance()?;
     }

@@ -11,15 +11,12 @@ ghost use Rattle.checker.specs.Walk.{Reaches};
 ghost use Rattle.checker.specs.WalkOf.{position_of, AcceptsOn, AdvancesOn, IsRefusal, IsStopOf, Reads};
 
 use super::stop::{Stop, judging, reading};
-use kernel::Accepted;
+use kernel::{Accepted, Kernel};
 use linear::{Names, Problem};
 use proof_steps::{Conclusion, Step};
 use proof_text::{Line, Place, ProofFault, ProofReader, read_line};
+use propagate::Propagator;
 use std::alloc::Global;
-use watch::WatchPropagator;
-
-/// The judge of steps, over the propagator that keeps what it has found.
-type Kernel<'a> = kernel::Kernel<'a, WatchPropagator>;
 
 /// A line that was read, and its number.
 #[derive(Drop)]
@@ -31,18 +28,18 @@ struct Read {
 /// A position in a proof: the section that is due, the names so far, the lines that are left, the state of the kernel,
 /// and what was concluded.
 #[derive(Drop)]
-pub(crate) struct Walk<'a> {
+pub(crate) struct Walk<'a, P: Propagator> {
     allocator: Global,
     section: Place,
     names: Names,
     reader: ProofReader<'a>,
-    kernel: Kernel<'a>,
+    kernel: Kernel<'a, P>,
     /// The number of the file's constraints, an equality counted twice.
     count: u64,
     pub(crate) concluded: Option<Accepted>,
 }
 
-impl<'a> Walk<'a> {
+impl<'a, P: Propagator> Walk<'a, P> {
     /// The position before the first line.
     pub(crate) fn begin(alloc: Global, problem: &'a Problem, proof: &'a [u8]) -> Result<Self, Stop>
         ensures problem { IfOk result (λ walk. walk.kernel.problem ≡ problem.now) }

@@ -7,7 +7,7 @@ use Rattle.checker.proofs.judge.judge.Given as goal
 
 -- the walk has come to where it stands
 abbrev pub invariant-loop-walk : goal.invariant-loop-walk
-invariant-loop-walk l =
+invariant-loop-walk g l =
     (l.walk.kernel.problem ≡ l.fn.problem)
     × (l.walk.count ≡ problem_ids l.fn.problem.constraints)
     × (l.walk.reader.last ≡ (lines_of l.fn.proof).last)
@@ -15,4 +15,4 @@ invariant-loop-walk l =
 
 -- the lines that are left
 abbrev pub decreases-loop-walk : goal.decreases-loop-walk
-decreases-loop-walk l = length l.walk.reader.lines
+decreases-loop-walk g l = length l.walk.reader.lines

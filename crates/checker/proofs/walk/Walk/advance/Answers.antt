@@ -11,7 +11,7 @@ use Rattle.checker.proofs.Walking.{RefusesAt, advances_by, stops_refused}
 use Rattle.checker.proofs.walk.Walk.advance.Goals as goal
 
 pub returns-clause-advances : goal.returns-clause-advances
-returns-clause-advances c =
+returns-clause-advances g c =
     let p : Opb = c.args.self.now.kernel.problem in
     let same = ap (λ (k : Held). k.problem) c.in_ok-number.ensures.kernel in
     on_ok_weaker c.accept.result
@@ -21,7 +21,7 @@ returns-clause-advances c =
     c.accept.ensures.accepts
 
 pub returns-clause-stop : goal.returns-clause-stop
-returns-clause-stop c =
+returns-clause-stop g c =
     let p : Opb = c.args.self.now.kernel.problem in
     let same = ap (λ (k : Held). k.problem) c.in_ok-number.ensures.kernel in
     IfErr-weaker c.accept.result (StopsBy (RefusesAt c.in_ok-number.field-0.number c.read.new.self.kernel.problem c.read.new.self.kernel.state c.in_ok-number.field-0.line))

@@ -4,9 +4,9 @@ use Rattle.checker.proofs.Walking.{begins, counts_file}
 use Rattle.checker.proofs.walk.Walk.begin.Goals as goal
 
 pub returns-clause-begins : goal.returns-clause-begins
-returns-clause-begins c =
+returns-clause-begins g c =
     begins c.args.problem.now c.args.proof.now c.in_ok-copy.field-0 c.new-2.result.lines c.in-Ok.kernel.state (c.in_ok-copy.ensures ∙ c.names.ensures.names)
     (ap (λ (x : Pending). x.lines) c.new-2.ensures) c.in-Ok.ensures.start
 
 pub returns-clause-count : goal.returns-clause-count
-returns-clause-count c = counts_file c.args.problem.now c.in-Ok.kernel.state c.last_id.result c.in-Ok.ensures.start c.last_id.ensures.last
+returns-clause-count g c = counts_file c.args.problem.now c.in-Ok.kernel.state c.last_id.result c.in-Ok.ensures.start c.last_id.ensures.last

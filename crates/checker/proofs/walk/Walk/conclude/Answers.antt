@@ -3,7 +3,7 @@ use Rattle.kernel.specs.Held.{Held}
 use Rattle.checker.proofs.walk.Walk.conclude.Goals as goal
 
 pub returns-in-Ok-clause-accepts : goal.returns-in-Ok-clause-accepts
-returns-in-Ok-clause-accepts c = record {
+returns-in-Ok-clause-accepts g c = record {
   section_is = refl;
   best = c.in-Ok.accepted.best;
   justified = c.in-Ok.ensures.justified;

@@ -9,7 +9,7 @@ use Rattle.checker.proofs.Walking.{denied_behind}
 use Rattle.checker.proofs.walk.Walk.finish.Goals as goal
 
 pub returns-in-Some-clause-stop : goal.returns-in-Some-clause-stop
-returns-in-Some-clause-stop c =
+returns-in-Some-clause-stop g c =
     subst (StopsBy (Stops c.args.self.now.kernel.problem (position_of c.args.self.now) c.args.self.now.reader.last)) (sym c.reading.ensures)
     (unread (record {
       next = numbered_of c.in-Some.line;

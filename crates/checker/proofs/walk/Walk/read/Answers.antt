@@ -3,7 +3,7 @@ use Rattle.proof_text.specs.LinesAhead.{numbered_of}
 use Rattle.checker.proofs.walk.Walk.read.Goals as goal
 
 pub returns-in-Ok-clause-reads : goal.returns-in-Ok-clause-reads
-returns-in-Ok-clause-reads c = record {
+returns-in-Ok-clause-reads g c = record {
   next = record {
     line = numbered_of c.in-Some.line;
     behind = c.next.new.self.lines;

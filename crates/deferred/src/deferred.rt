@@ -1,0 +1,103 @@
+//! Constraints that wait until a question is asked.
+//!
+//! To enter a constraint into the lists of its literals costs more than to read it. A proof by cutting planes alone asks nothing
+//! before its conclusion, and many constraints are deleted before anybody asks; so a new one waits, and what is taken out while it
+//! waits was never entered. What is answered is what the other propagator answers, since all meet one contract.
+
+ghost use Rattle.std.specs.Prelude.{◌≡◌};
+ghost use Rattle.deferred.specs.Joined.{least_of};
+
+use super::settling::settle;
+use linear::Lit;
+use normal_form::Normal;
+use propagate::{Id, Ids, Propagator, Reach, Trace};
+use std::alloc::{AllocError, Global};
+use std::marker::Model;
+
+/// A propagator `P` that is given its constraints when a question is asked; until then `W` holds them. They are seen as one map.
+#[derive(Drop)]
+pub struct Deferred<W: Propagator, P: Propagator> {
+    waiting: W,
+    settled: P,
+    alloc: Global,
+}
+
+impl<W: Propagator, P: Propagator> Model for Deferred<W, P> {
+    ghost use Rattle.std.specs.Coded.{coded_ℕ};
+    ghost use Rattle.std.specs.FinMap as map;
+    ghost use Rattle.propagate.specs.Content.{Content};
+    ghost use Rattle.deferred.specs.Codes.{constraint_code};
+    ghost use Rattle.deferred.specs.Joined.{AreApart, joined};
+
+    ghost Value = { Content };
+
+    ghost coded = { map.code coded_ℕ constraint_code };
+
+    ghost view = { λ d. joined (W.content d.waiting) (P.content d.settled) };
+
+    ghost invariant = { λ d. AreApart (W.content d.waiting) (P.content d.settled) };
+}
+
+/// The lesser of two ids, of which each may be missing.
+fn earlier(one: Option<Id>, other: Option<Id>) -> Option<Id>
+    ensures { result ≡ least_of one other }
+{
+    match (one, other) {
+        (Some(one), Some(other)) => Some(one.min(other)),
+        (None, id) | (id, None) => id,
+    }
+}
+
+impl<W: Propagator, P: Propagator> Propagator for Deferred<W, P> {
+    ghost content = { λ d. d };
+
+    fn empty(alloc: Global) -> Self {
+        Deferred {
+            waiting: W::empty(alloc),
+            settled: P::empty(alloc),
+            alloc,
+        }
+    }
+
+    fn insert(&mut self, id: Id, constraint: Normal) -> Result<(), AllocError> {
+        self.waiting.insert(id, constraint)
+    }
+
+    fn remove(&mut self, id: Id) -> Option<Normal> {
+        match self.waiting.remove(id) {
+            Some(constraint) => Some(constraint),
+            None => self.settled.remove(id),
+        }
+    }
+
+    fn get(&self, id: Id) -> Option<&Normal> {
+        match self.waiting.get(id) {
+            Some(constraint) => Some(constraint),
+            None => self.settled.get(id),
+        }
+    }
+
+    fn after(&self, id: Id) -> Option<Id> {
+        earlier(self.waiting.after(id), self.settled.after(id))
+    }
+
+    fn add_occurrences(&self, literal: Lit, ids: &mut Ids) -> Result<(), AllocError> {
+        self.waiting.add_occurrences(literal, ids)?;
+        self.settled.add_occurrences(literal, ids)
+    }
+
+    fn refute(&mut self, extras: &[Normal]) -> Result<bool, AllocError> {
+        settle(self.alloc, &mut self.waiting, &mut self.settled)?;
+        self.settled.refute(extras)
+    }
+
+    fn extend(&mut self, given: &[Lit]) -> Result<Reach, AllocError> {
+        settle(self.alloc, &mut self.waiting, &mut self.settled)?;
+        self.settled.extend(given)
+    }
+
+    fn trace(&mut self, given: &[Lit]) -> Result<Trace, AllocError> {
+        settle(self.alloc, &mut self.waiting, &mut self.settled)?;
+        self.settled.trace(given)
+    }
+}
