@@ -1,5 +1,5 @@
 -- Each signed constraint has exactly one normal form, which holds exactly where the constraint is met.
-use Rattle.std.proofs.Common.{◌≡◌, ℕ, ◌+◌, ◌^◌, ◌≤◌, Bool, true, false, List, refl, ap, sym, subst, ◌∙◌, arith, inl, inr}
+use Rattle.std.proofs.Common.{◌≡◌, ℕ, ◌+◌, ◌≤◌, Bool, true, false, List, refl, ap, sym, subst, ◌∙◌, arith, inl, inr}
 use Rattle.std.specs.Prelude.{ℤ, pos, negsuc, ◌≤ℤ◌, unsigned_abs, ◌↔◌}
 use Rattle.std.proofs.lemmas.Int.{ints}
 use Rattle.linear.specs.declared.constraint.Relation.{Relation}

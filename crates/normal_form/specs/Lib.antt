@@ -1,3 +1,4 @@
+pub mod Terms
 pub mod Normal
 pub mod NormalOf
 pub mod Negation

@@ -11,6 +11,7 @@ ghost use Rattle.normal_form.specs.Balance.{rises_of};
 use super::fault::CutFault;
 use super::normal::Normal;
 use super::term::NormalTerm;
+use super::terms::Terms;
 use linear::Var;
 use std::alloc::{AllocError, Global};
 use std::marker::Model;
@@ -19,7 +20,7 @@ use std::marker::Model;
 /// only `finish` asks whether the sum is within the limit.
 #[derive(Debug, Drop)]
 pub struct NormalBuilder {
-    terms: Vec<NormalTerm>,
+    terms: Terms,
     capped_sum: u128,
 }
 
@@ -30,9 +31,9 @@ impl Model for NormalBuilder {
 
     ghost Value = { List NormalTerm };
 
-    ghost view = { λ b. b.terms.items };
+    ghost view = { λ b. b.terms };
 
-    ghost invariant = { λ b. Rises 0 b.terms.items × (b.capped_sum ≡ min (total b.terms.items) (2 ^ 128 - 1)) };
+    ghost invariant = { λ b. Rises 0 b.terms × (b.capped_sum ≡ min (total b.terms) (2 ^ 128 - 1)) };
 }
 
 impl NormalBuilder {
@@ -41,7 +42,7 @@ impl NormalBuilder {
         ensures { result ≡ [] }
     {
         NormalBuilder {
-            terms: Vec::new(alloc),
+            terms: Terms::new(alloc),
             capped_sum: 0,
         }
     }
@@ -51,7 +52,7 @@ impl NormalBuilder {
         ensures { IfOk result (λ b. b ≡ []) }
     {
         Ok(NormalBuilder {
-            terms: Vec::with_capacity(alloc, count)?,
+            terms: Terms::with_capacity(alloc, count)?,
             capped_sum: 0,
         })
     }
@@ -90,11 +91,11 @@ impl NormalBuilder {
     }
 
     /// The terms so far.
-    pub(crate) fn terms(&self) -> &[NormalTerm]
+    pub(crate) fn terms(&self) -> &Terms
         ensures value { result.now ≡ self.now }
         ensures rises { Rises 0 self.now }
     {
-        self.terms.as_slice()
+        &self.terms
     }
 
     /// The constraint of these terms with this degree. `TooLarge` comes exactly where their sum or the

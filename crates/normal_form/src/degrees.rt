@@ -10,6 +10,7 @@ ghost use Rattle.normal_form.specs.Normal.{largest_sum, total, sum_over};
 ghost use Rattle.normal_form.specs.NormalOf.{size_sum, negated_sum, at_least_zero, sign_changed};
 
 use super::term::NormalTerm;
+use super::terms::Terms;
 use linear::Term;
 
 // The coefficient of a negated term, 0 of another.
@@ -40,14 +41,14 @@ fn negated_coefficient(term: NormalTerm) -> u128
 }
 
 // What the coefficients of the negated literals add up to.
-fn negated_total(terms: &[NormalTerm]) -> i128
+fn negated_total(terms: &Terms) -> i128
     requires { total terms.now ≤ largest_sum }
     ensures value { result ≡ pos (sum_over (λ _ negated. negated) terms.now) }
     ensures size { unsigned_abs result ≤ largest_sum }
 {
     let mut sum: u128 = 0;
-    for term in terms {
-        sum += negated_coefficient(*term);
+    for place in 0..terms.len() {
+        sum += negated_coefficient(terms.get(place));
     }
     sum as i128
 }
@@ -60,7 +61,7 @@ fn at_least_zero(number: i128) -> u128
 }
 
 /// The degree of `terms >= right`, whose merged terms these are.
-pub(crate) fn at_least_degree(right: i128, terms: &[Term], merged: &[NormalTerm]) -> u128
+pub(crate) fn at_least_degree(right: i128, terms: &[Term], merged: &Terms) -> u128
     requires sizes { size_sum terms.now ≤ largest_sum }
     requires sum { total merged.now ≤ largest_sum }
     ensures { result ≡ min (at_least_zero ((right -ℤ negated_sum terms.now) +ℤ pos (sum_over (λ _ negated. negated) merged.now))) (2 ^ 127 - 1) }
@@ -70,7 +71,7 @@ pub(crate) fn at_least_degree(right: i128, terms: &[Term], merged: &[NormalTerm]
 }
 
 /// The degree of the same with all signs changed, whose merged terms these are.
-pub(crate) fn at_most_degree(right: i128, terms: &[Term], merged: &[NormalTerm]) -> u128
+pub(crate) fn at_most_degree(right: i128, terms: &[Term], merged: &Terms) -> u128
     requires sizes { size_sum terms.now ≤ largest_sum }
     requires sum { total merged.now ≤ largest_sum }
     ensures { result ≡ min (at_least_zero ((neg_ℤ right -ℤ negated_sum (map sign_changed terms.now)) +ℤ pos (sum_over (λ _ negated. negated) merged.now))) (2 ^ 127 - 1) }

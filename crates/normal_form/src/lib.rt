@@ -12,6 +12,7 @@ mod negation;
 mod normal;
 mod opposites;
 mod term;
+mod terms;
 mod truth;
 
 pub use builder::NormalBuilder;

@@ -9,6 +9,7 @@ ghost use Rattle.normal_form.specs.Normal.{IsNormal, Rises, Fits, total};
 
 use super::fault::CutFault;
 use super::term::NormalTerm;
+use super::terms::Terms;
 use std::alloc::{AllocError, Global};
 use std::default::MadeWith;
 use std::marker::Model;
@@ -20,7 +21,7 @@ pub const LARGEST_SUM: u128 = 1 << 120;
 /// variables. Its coefficient sum and its degree are at most `2^120`.
 #[derive(Debug, Drop)]
 pub struct Normal {
-    terms: Vec<NormalTerm>,
+    terms: Terms,
     coefficient_sum: u128,
     bound: u128,
 }
@@ -31,24 +32,24 @@ impl Model for Normal {
 
     ghost Value = { NormalConstraint };
 
-    ghost view = { λ n. record { terms = n.terms.items; degree = n.bound } };
+    ghost view = { λ n. record { terms = n.terms; degree = n.bound } };
 
-    ghost invariant = { λ n. IsNormal (record { terms = n.terms.items; degree = n.bound }) × (n.coefficient_sum ≡ total n.terms.items) };
+    ghost invariant = { λ n. IsNormal (record { terms = n.terms; degree = n.bound }) × (n.coefficient_sum ≡ total n.terms) };
 }
 
 impl Normal {
     /// The constraint of these terms with this degree, where it is within the limits.
     pub(crate) fn from_parts(
-        terms: Vec<NormalTerm>,
+        terms: Terms,
         capped_sum: u128,
         degree: u128,
     ) -> Result<Normal, CutFault>
-        requires rises { Rises 0 terms.items }
-        requires sum { capped_sum ≡ min (total terms.items) (2 ^ 128 - 1) }
-        ensures terms { IfOk result (λ n. n.terms ≡ terms.items) }
+        requires rises { Rises 0 terms }
+        requires sum { capped_sum ≡ min (total terms) (2 ^ 128 - 1) }
+        ensures terms { IfOk result (λ n. n.terms ≡ terms) }
         ensures degree { IfOk result (λ n. n.degree ≡ degree) }
         ensures normal { IfOk result IsNormal }
-        ensures too_large { IsErrOf result CutFault.TooLarge ↔ (Fits (record { terms = terms.items; degree = degree }) → ⊥) }
+        ensures too_large { IsErrOf result CutFault.TooLarge ↔ (Fits (record { terms = terms; degree = degree }) → ⊥) }
         ensures others { OnErr result (IsErrOf result CutFault.TooLarge) }
     {
         if capped_sum > LARGEST_SUM || degree > LARGEST_SUM {
@@ -74,15 +75,15 @@ impl Normal {
         requires { place < length self.now.terms }
         ensures value { result ≡ slice_index_or self.now.terms place result }
     {
-        self.terms[place]
+        self.terms.get(place)
     }
 
     /// The terms, in rising order of variables.
-    pub(crate) fn terms(&self) -> &[NormalTerm]
+    pub(crate) fn terms(&self) -> &Terms
         ensures value { result.now ≡ self.now.terms }
         ensures normal { IsNormal self.now }
     {
-        self.terms.as_slice()
+        &self.terms
     }
 
     /// The degree: what the true literals must add up to at least.
@@ -106,7 +107,7 @@ impl Normal {
         ensures value { IfOk result (λ n. n ≡ self.now) }
     {
         Ok(Normal {
-            terms: Vec::from_slice(alloc, self.terms.as_slice())?,
+            terms: self.terms.copy(alloc)?,
             coefficient_sum: self.coefficient_sum,
             bound: self.bound,
         })
@@ -121,7 +122,7 @@ impl MadeWith<Global> for Normal {
     /// The constraint without terms, of degree 0, which holds everywhere.
     fn made_with(alloc: Global) -> Normal {
         Normal {
-            terms: Vec::new(alloc),
+            terms: Terms::new(alloc),
             coefficient_sum: 0,
             bound: 0,
         }

@@ -7,15 +7,17 @@ ghost use Rattle.normal_form.specs.Balance.{flipped};
 
 use super::builder::NormalBuilder;
 use super::term::NormalTerm;
+use super::terms::Terms;
 use std::alloc::{AllocError, Global};
 
 /// The same coefficients at the opposite literals.
-pub(crate) fn flip(alloc: Global, terms: &[NormalTerm]) -> Result<NormalBuilder, AllocError>
+pub(crate) fn flip(alloc: Global, terms: &Terms) -> Result<NormalBuilder, AllocError>
     requires { Rises 0 terms.now }
     ensures { IfOk result (λ b. b ≡ flipped terms.now) }
 {
     let mut opposite = NormalBuilder::with_capacity(alloc, terms.len())?;
-    for term in terms {
+    for place in 0..terms.len() {
+        let term = terms.get(place);
         opposite.push(NormalTerm {
             coef: term.coef,
             var: term.var,

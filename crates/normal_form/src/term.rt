@@ -5,7 +5,7 @@ ghost use Rattle.std.specs.Prelude.{◌≡◌};
 use linear::{Lit, Var};
 
 /// A coefficient and the literal that it counts for: the variable `x`, or its negation `~x`.
-#[derive(Clone, Copy, Debug, PartialEq, Eq)]
+#[derive(Clone, Copy, Debug, PartialEq, Eq, Hash)]
 pub struct NormalTerm {
     pub coef: u128,
     pub var: Var,

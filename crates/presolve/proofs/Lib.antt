@@ -1,2 +1,10 @@
 pub mod Noting
 pub mod Taking
+pub mod Exchanging
+pub mod Keys
+pub mod Places
+pub mod SameForms
+pub mod Symmetry
+pub mod NetSums
+pub mod Pairing
+pub mod Alike

@@ -5,6 +5,7 @@ use Rattle.linear.specs.declared.constraint.Relation.TheVariants.{AtLeast, Equal
 use Rattle.linear.specs.declared.constraint.Signed.{Signed}
 use Rattle.linear.specs.declared.term.Lit.{Lit}
 use Rattle.normal_form.specs.Cases.{signed}
+use Rattle.presolve.specs.declared.swapping.Swap.{Swap}
 
 abbrev pub literal : ℕ → Bool → Lit
 literal v negated = record { var = record { 0 = v }; negated = negated }
@@ -31,3 +32,17 @@ even = record { names = names; objective = None; constraints = just_one_of_two �
 -- two names, and no constraint
 abbrev pub free : Opb
 free = record { names = names; objective = None; constraints = [] }
+
+-- 1 x0 1 x1 >= 1
+abbrev pub alike : Opb
+alike = record { names = names; objective = None; constraints = one_of_two ∷ [] }
+
+-- 2 x0 1 x1 >= 2
+abbrev pub weighted : Signed
+weighted = record { terms = signed (pos 2) 0 ∷ signed (pos 1) 1 ∷ []; relation = AtLeast; right = pos 2 }
+
+abbrev pub unlike : Opb
+unlike = record { names = names; objective = None; constraints = weighted ∷ [] }
+
+abbrev pub pair : ℕ → ℕ → Swap
+pair x y = record { first = record { 0 = x }; second = record { 0 = y } }

@@ -1,10 +1,14 @@
 -- What a search puts into its log before it looks for solutions.
-use Rattle.std.specs.Prelude.{◌≡◌, ◌⊎◌, pos, List, [], ◌∷◌, ◌++◌, if◌then◌else◌}
+use Rattle.std.specs.Prelude.{◌≡◌, ◌⊎◌, false, true, pos, List, [], ◌∷◌, ◌++◌, if◌then◌else◌}
 use Rattle.linear.specs.declared.constraint.Relation.TheVariants.{AtLeast}
 use Rattle.linear.specs.declared.constraint.Signed.{Signed}
 use Rattle.linear.specs.declared.term.Lit.{Lit}
+use Rattle.linear.specs.declared.term.Var.{Var}
 use Rattle.substitution.specs.Images.{Images}
+use Rattle.substitution.specs.declared.image.Image.{Image}
+use Rattle.substitution.specs.declared.image.Image.TheVariants as images
 use Rattle.substitution.specs.declared.image.Image.TheVariants.{Zero, One}
+use Rattle.presolve.specs.declared.swapping.Swap.{Swap}
 use Rattle.proof_rules.specs.Fault.{IsStepFault}
 use Rattle.proof_rules.specs.Legal.{Legal}
 use Rattle.proof_rules.specs.declared.fault.StepFault.{StepFault}
@@ -23,6 +27,26 @@ made_true l = (l.var, if l.negated then Zero else One) ∷ []
 -- the step that fixes a literal
 abbrev pub fixing : Lit → Step
 fixing l = kinds.Red (is_true l) (made_true l)
+
+-- 1 x 1 ~y >= 1: of a pair the first variable is true wherever the second is
+abbrev pub in_order : Swap → Signed
+in_order s = record {
+  terms = record { coef = pos 1; var = s.first; negated = false } ∷ record { coef = pos 1; var = s.second; negated = true } ∷ [];
+  relation = AtLeast;
+  right = pos 1;
+}
+
+-- the image that is a variable itself
+abbrev pub variable : Var → Image
+variable v = images.Lit (record { var = v; negated = false })
+
+-- the witness by which the variables of a pair change places
+abbrev pub exchange : Swap → Images
+exchange s = (s.first, variable s.second) ∷ (s.second, variable s.first) ∷ []
+
+-- the step that asks for an order of a pair
+abbrev pub swapping : Swap → Step
+swapping s = kinds.Red (in_order s) (exchange s)
 
 -- a legal step stands at the end of a log, and nothing else that a search goes by has changed
 pub record Enters (step : Step) (old new : Logbook) : Type 0 where

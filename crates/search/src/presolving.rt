@@ -1,19 +1,22 @@
-//! What is put into the log before any search: that literals are true which may be made true at no cost.
+//! What is put into the log before any search: that literals are true which may be made true at no cost, and that of two
+//! variables which may change places the first one is true wherever the second is.
 //!
 //! A candidate is not believed. Each is put to the kernel as a step of redundance, and one that the kernel refuses is left
 //! out, as one is for which no id is left; so nothing but speed rests on which candidates there are. Their constraints are no
 //! lessons: they stand for as long as the search goes on, and are not counted as what a conflict has taught.
 
-ghost use Rattle.std.specs.Prelude.{◌≡◌, ◌≢◌, List, map, IfOk, OnOk};
+ghost use Rattle.std.specs.Prelude.{◌≡◌, ◌≢◌, ◌<◌, ◌++◌, List, All, map, IfOk, OnOk};
 ghost use Rattle.kernel.specs.Held.{HasAtLeast};
 ghost use Rattle.linear.specs.declared.term.Lit.{Lit};
 ghost use Rattle.presolve.specs.Fixing.{AreFixed};
+ghost use Rattle.presolve.specs.Swapping.{AreUsed};
+ghost use Rattle.presolve.specs.declared.swapping.Swap.{Swap};
 ghost use Rattle.search.specs.Log.{ImprovesNothing};
-ghost use Rattle.search.specs.Presolving.{Tries, TriesAll, fixing, is_true, made_true};
+ghost use Rattle.search.specs.Presolving.{Tries, TriesAll, exchange, fixing, in_order, is_true, made_true, swapping, variable};
 
 use super::log::Log;
-use linear::{Lit, Relation, Seq, Signed, Term};
-use presolve::fixable;
+use linear::{Lit, Relation, Seq, Signed, Term, Var};
+use presolve::{Swap, fixable, swappable};
 use proof_rules::StepFault;
 use proof_steps::Step;
 use propagate::Propagator;
@@ -47,6 +50,52 @@ fn made_true(alloc: Global, literal: Lit) -> Result<Substitution, AllocError>
         Image::One
     };
     let images = Vec::from_slice(alloc, &[(literal.var, image)])?;
+    let Some(witness) = Substitution::new(alloc, images)? else {
+        unreachable!()
+    };
+    Ok(witness)
+}
+
+/// `1 x 1 ~y >= 1`: the first of two variables is true wherever the second is.
+fn in_order(alloc: Global, swap: Swap) -> Result<Signed, AllocError>
+    ensures { IfOk result (λ constraint. constraint ≡ in_order swap) }
+{
+    let first = Term {
+        coef: 1,
+        var: swap.first,
+        negated: false,
+    };
+    let second = Term {
+        coef: 1,
+        var: swap.second,
+        negated: true,
+    };
+    let terms = Vec::from_slice(alloc, &[first, second])?;
+    Ok(Signed {
+        terms: Seq::from_vec(terms),
+        relation: Relation::AtLeast,
+        right: 1,
+    })
+}
+
+/// The image that is a variable itself.
+fn variable(var: Var) -> Image
+    ensures { result ≡ variable var }
+{
+    Image::Lit(Lit {
+        var,
+        negated: false,
+    })
+}
+
+/// The witness by which two variables change places.
+fn exchange(alloc: Global, swap: Swap) -> Result<Substitution, AllocError>
+    requires { swap.first.0 < swap.second.0 }
+    ensures { IfOk result (λ witness. witness ≡ exchange swap) }
+{
+    let first = (swap.first, variable(swap.second));
+    let second = (swap.second, variable(swap.first));
+    let images = Vec::from_slice(alloc, &[first, second])?;
     let Some(witness) = Substitution::new(alloc, images)? else {
         unreachable!()
     };
@@ -92,14 +141,35 @@ fn fix<'a, P: Propagator>(
     Ok(())
 }
 
-/// Fixes the literals of the problem that may be made true before any search.
+/// Asks for an order of each of these pairs where that is legal.
+fn order<'a, P: Propagator>(
+    alloc: Global,
+    log: &mut Log<'a, P>,
+    swaps: &[Swap],
+) -> Result<(), StepFault>
+    requires { All (λ s. s.first.0 < s.second.0) swaps.now }
+    ensures problem { log.new.problem ≡ log.old.problem }
+    ensures tried { OnOk result (TriesAll (map swapping swaps.now) log.old log.new) }
+{
+    for swap in swaps {
+        let step = Step::Red(in_order(alloc, *swap)?, exchange(alloc, *swap)?);
+        attempt(log, step)?;
+    }
+    Ok(())
+}
+
+/// Fixes the literals of the problem that may be made true before any search, and asks for an order of the variables that may
+/// change places.
 pub(crate) fn presolve<'a, P: Propagator>(
     alloc: Global,
     log: &mut Log<'a, P>,
 ) -> Result<(), StepFault>
     ensures problem { log.new.problem ≡ log.old.problem }
-    ensures fixed { OnOk result ((ls : List Lit) × AreFixed log.old.problem ls × TriesAll (map fixing ls) log.old log.new) }
+    ensures tried { OnOk result ((ls : List Lit) × (ss : List Swap) × AreFixed log.old.problem ls × AreUsed log.old.problem ls ss
+        × TriesAll (map fixing ls ++ map swapping ss) log.old log.new) }
 {
     let literals = fixable(alloc, log.problem())?;
-    fix(alloc, log, literals.as_slice())
+    fix(alloc, log, literals.as_slice())?;
+    let swaps = swappable(alloc, log.problem(), literals.as_slice())?;
+    order(alloc, log, swaps.as_slice())
 }

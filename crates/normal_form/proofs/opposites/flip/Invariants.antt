@@ -3,5 +3,5 @@ use Rattle.std.proofs.Common.{◌≡◌, take}
 use Rattle.normal_form.specs.Balance.{flipped}
 use Rattle.normal_form.proofs.opposites.flip.Given as goal
 
-abbrev pub invariant-loop-term : goal.invariant-loop-term
-invariant-loop-term l = l.opposite ≡ flipped (take l.term-index l.terms)
+abbrev pub invariant-loop-place : goal.invariant-loop-place
+invariant-loop-place l = l.opposite ≡ flipped (take l.place l.fn.terms)

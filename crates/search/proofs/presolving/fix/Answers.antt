@@ -5,7 +5,7 @@ use Rattle.substitution.specs.Images.{Images}
 use Rattle.proof_steps.specs.declared.step.Step.{Step}
 use Rattle.proof_steps.specs.declared.step.Step.TheVariants.{Red}
 use Rattle.search.specs.Presolving.{Tries, fixing, is_true, made_true}
-use Rattle.search.proofs.Trying.{fixing_more}
+use Rattle.search.proofs.Trying.{tries_more}
 use Rattle.search.proofs.presolving.fix.Goals as goal
 
 pub loop-literal-preserved : goal.loop-literal-preserved
@@ -20,4 +20,4 @@ loop-literal-preserved g c =
     let witness : b ≡ made_true x = c.in_ok-made_true.ensures {u = tt} in
     let step : Red a b ≡ fixing x = ap (λ (s : Signed). Red s b) constraint ∙ ap (λ (m : Images). Red (is_true x) m) witness in
     let tried = subst (λ (s : Step). Tries s c.loop-literal.log c.attempt.new.log) step c.in_ok-attempt.ensures.tried in
-    (c.in_ok-attempt.ensures.problem ∙ c.loop-literal.invariant.0, fixing_more ls i d c.args.log.now c.loop-literal.log c.attempt.new.log c.loop-literal-test.true c.loop-literal.invariant.1 tried)
+    (c.in_ok-attempt.ensures.problem ∙ c.loop-literal.invariant.0, tries_more fixing ls i d c.args.log.now c.loop-literal.log c.attempt.new.log c.loop-literal-test.true c.loop-literal.invariant.1 tried)

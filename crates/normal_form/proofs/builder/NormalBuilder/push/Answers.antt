@@ -12,7 +12,7 @@ bound_grown : (ts us : List NormalTerm) (t : NormalTerm) → us ≡ ts ++ t ∷ 
 bound_grown ts us t e b = rw e (omega (arith, bound_push ts t, b))
 
 pub invariant_of-self-2 : goal.invariant_of-self-2
-invariant_of-self-2 c = grown c.self.inside.terms.items c.push.new.self.items c.args.term c.self.inside.capped_sum c.saturating_add-self-inside.result c.in_ok-push.ensures.items c.self.invariant.0 (search (rules, c.requires.variable, c.self.view_is)) c.requires.coefficient c.self.invariant.1 c.saturating_add-self-inside.ensures
+invariant_of-self-2 c = grown c.self.inside.terms c.push.new.self c.args.term c.self.inside.capped_sum c.saturating_add-self-inside.result c.in_ok-push.ensures.ok c.self.invariant.0 (search (rules, c.requires.variable, c.self.view_is)) c.requires.coefficient c.self.invariant.1 c.saturating_add-self-inside.ensures
 
 pub returns-clause-bound : goal.returns-clause-bound
-returns-clause-bound c = bound_grown c.self.inside.terms.items c.push.new.self.items c.args.term c.in_ok-push.ensures.items (search (rules, c.requires.variable, c.self.view_is))
+returns-clause-bound c = bound_grown c.self.inside.terms c.push.new.self c.args.term c.in_ok-push.ensures.ok (search (rules, c.requires.variable, c.self.view_is))

@@ -1,0 +1,31 @@
+use Rattle.std.proofs.Common.{◌≡◌, ◌<◌, ◌++◌, List, All, Contains, map, get_or, sym, subst, ◌∙◌}
+use Rattle.std.proofs.lemmas.List.Elements.{Contains-get_or}
+use Rattle.std.proofs.lemmas.Result.{on_ok_weaker}
+use Rattle.linear.specs.Opb.{Opb}
+use Rattle.linear.specs.declared.term.Lit.{Lit}
+use Rattle.presolve.specs.Fixing.{AreFixed}
+use Rattle.presolve.specs.Swapping.{AreUsed}
+use Rattle.presolve.specs.declared.swapping.Swap.{Swap}
+use Rattle.search.specs.Log.{Logbook}
+use Rattle.search.specs.Presolving.{TriesAll, fixing, swapping}
+use Rattle.search.proofs.Trying.{tries_both}
+use Rattle.search.proofs.presolving.presolve.Goals as goal
+
+pub order-requires : goal.order-requires
+order-requires g c =
+    let ss : List Swap = c.in_ok-swaps.swaps.items in
+    subst (All (λ (s : Swap). s.first.0 < s.second.0)) (sym c.as_slice-3.ensures.value) (λ i d h. ((c.in_ok-swaps.ensures.used.exact (get_or ss i d)).0 (Contains-get_or ss i d h)).swappable.order)
+
+pub returns-clause-tried : goal.returns-clause-tried
+returns-clause-tried g c =
+    let ls : List Lit = c.in_ok-literals.literals.items in
+    let ss : List Swap = c.in_ok-swaps.swaps.items in
+    let p : Opb = c.args.log.now.problem in
+    let old : Logbook = c.args.log.now in
+    let mid : Logbook = c.fix.new.log in
+    let new : Logbook = c.order.new.log in
+    let fixed : AreFixed p ls = subst (λ q. AreFixed q ls) c.problem.ensures c.in_ok-literals.ensures.fixed in
+    let used : AreUsed p ls ss = subst (λ q. AreUsed q ls ss) (c.problem-2.ensures ∙ c.in_ok-fix.ensures.problem) (subst (λ us. AreUsed c.problem-2.result.now us ss) c.as_slice-2.ensures.value c.in_ok-swaps.ensures.used) in
+    let first : TriesAll (map fixing ls) old mid = subst (λ us. TriesAll (map fixing us) old mid) c.as_slice.ensures.value c.in_ok-fix.ensures.tried in
+    on_ok_weaker c.order.result
+    (λ tried. (ls, ss, fixed, used, tries_both (map fixing ls) (map swapping ss) old mid new first (subst (λ us. TriesAll (map swapping us) mid new) c.as_slice-3.ensures.value tried))) c.order.ensures.tried
