@@ -1,5 +1,5 @@
 -- What a log proves, the checker accepts, and what a log bears out is so.
-use Rattle.std.proofs.Common.{◌≡◌, ◌⊎◌, inl, inr, ℕ, ℤ, List, Bool, Option, Some, None, refl, sym, ap, subst, ◌∙◌}
+use Rattle.std.proofs.Common.{◌≡◌, ◌⊎◌, inl, inr, ℕ, ℤ, List, Bool, Option, Some, None, sym, ap, subst, ◌∙◌}
 use Rattle.std.specs.Prelude.{MatchOption, ⊤}
 use Rattle.linear.specs.Limits.{IsWithin}
 use Rattle.linear.specs.Opb.{Opb}
@@ -8,21 +8,22 @@ use Rattle.opb_read.specs.Spells.{Spells}
 use Rattle.opb_read.specs.declared.fault.OpbFault.{OpbFault}
 use Rattle.kernel.specs.Accepted.{Judgement}
 use Rattle.proof_rules.specs.Justified.{IsBest, IsJustified, TakesHint, hint_of}
+use Rattle.proof_rules.specs.Legal.{worth_of}
 use Rattle.proof_rules.specs.State.{State}
 use Rattle.proof_rules.proofs.OneState.{one_best}
 use Rattle.proof_steps.specs.declared.conclusion.Conclusion.{Conclusion}
 use Rattle.proof_steps.specs.declared.conclusion.Conclusion.TheVariants as conclusions
 use Rattle.proof_steps.specs.declared.conclusion.Lower.TheVariants as lowers
 use Rattle.proof_steps.specs.declared.conclusion.Upper.TheVariants as uppers
-use Rattle.checker.specs.Headline.{IsProved, IsTrueOf, IsVerdictOf}
+use Rattle.checker.specs.Headline.{IsProved, IsVerdictOf}
 use Rattle.checker.specs.declared.verdict.Code.{Code}
 use Rattle.checker.specs.declared.verdict.Verdict.{Verdict}
 use Rattle.checker.specs.declared.verdict.Verdict.TheVariants as verdicts
 use Rattle.checker.proofs.ProvedAccepted.{proved_accepted}
 use Rattle.search.specs.Log.{Logbook, IsProof}
 use Rattle.search.specs.Solving.{IsOptimum}
-use Rattle.pb_main.specs.Checked.{IsAcceptedOf, IsWritten}
-use Rattle.pb_main.specs.Outcome.{IsBestOf, IsCheckedOptimum, IsSolutionOf, worth}
+use Rattle.pb_main.specs.Checked.{IsAcceptedOf, IsLogOf, IsWritten}
+use Rattle.pb_main.specs.Outcome.{IsBestOf, IsCheckedOptimum, IsSolutionOf}
 use Rattle.pb_main.specs.Solution.{NamedValues}
 
 -- the text of a log proves its conclusion, with some best assignment
@@ -57,7 +58,7 @@ never_bad opb proof l p spelled within written fault is = by (accepted_alone opb
     by (inr e) = cc
 
 -- without a hint, the best assignment of a conclusion is the best that is logged
-best_logged : (p : Opb) (s : State) (c : Conclusion) (best other : Option (List Bool)) → IsJustified p s c best → hint_of c ≡ None → IsBest p s.logged other → best ≡ other
+pub best_logged : (p : Opb) (s : State) (c : Conclusion) (best other : Option (List Bool)) → IsJustified p s c best → hint_of c ≡ None → IsBest p s.logged other → best ≡ other
 best_logged p s c best other (t, takes, entitles, is) none also =
     let same : t ≡ s = subst (λ h. TakesHint p s h t) none takes in
     one_best p s.logged best other (subst (λ (r : State). IsBest p r.logged best) same is) also
@@ -92,14 +93,19 @@ with_objective (Some terms) objective e h = h
 same_value : (v w : ℤ) (o : Option ℤ) → o ≡ Some v → o ≡ Some w → v ≡ w
 same_value v w o e f = cc
 
-pub checked_optimum : (opb proof : List ℕ) (l : Logbook) (a : Judgement) (s : NamedValues) → IsOptimum l → IsProof l → IsAcceptedOf opb proof l a → IsBestOf l s → IsCheckedOptimum opb proof a s
-checked_optimum opb proof l a s (v, improve, concluded) p accepted best =
+pub checked_optimum : (opb proof : List ℕ) (l : Logbook) (a : Judgement) (s : NamedValues) → IsOptimum l → IsLogOf opb l → IsWritten l proof → IsAcceptedOf opb proof l a → IsBestOf l s → IsCheckedOptimum opb proof a s
+checked_optimum opb proof l a s (v, improve, concluded) of_text written accepted best =
+    let p = of_text.legal in
     let asked = bounds_ask l.problem l.state v p.entitled.0 (subst (λ c. IsJustified l.problem l.state c p.entitled.0) concluded p.entitled.1) in
-    let worth_is : v ≡ worth l.problem s.values = same_value v (worth l.problem s.values) l.state.improve improve (with_objective l.problem.objective asked.0 asked.1 best.least) in
-    let there : v ≡ worth accepted.is_true.problem s.values = worth_is ∙ ap (λ q. worth q s.values) (sym accepted.problem) in
+    let worth : v ≡ worth_of l.problem s.values = same_value v (worth_of l.problem s.values) l.state.improve improve (with_objective l.problem.objective asked.0 asked.1 best.least) in
+    let there : v ≡ worth_of accepted.is_true.problem s.values = worth ∙ ap (λ q. worth_of q s.values) (sym accepted.problem) in
     record {
       is_true = accepted.is_true;
       solution = subst (λ q. IsSolutionOf q s) (sym accepted.problem) best.solution;
       best = accepted.best (Some s.values) (ap hint_of concluded) best.best;
       bounds = accepted.conclusion ∙ concluded ∙ ap (λ x. conclusions.Bounds (lowers.At x) (uppers.At x) None) there;
+      log = l;
+      of_text = of_text;
+      written = written;
+      from_log = best;
     }

@@ -1,2 +1,4 @@
 pub mod Accepting
+pub mod BestSolutions
+pub mod Conclusions
 pub mod Outcomes

@@ -2,6 +2,7 @@
 #![tactic(auto)]
 
 mod answer;
+mod best;
 mod deciding;
 mod outcome;
 mod proof;

@@ -1,13 +1,13 @@
 //! The proof as bytes, and what the checker says of just these bytes.
 
-ghost use Rattle.std.specs.Prelude.{◌≡◌, ◌≢◌, IfErr, IfOk, IfSome};
+ghost use Rattle.std.specs.Prelude.{IfErr, IfOk, IfSome};
 ghost use Rattle.linear.specs.Limits.{IsWithin};
-ghost use Rattle.opb_read.specs.Spells.{Spells};
 ghost use Rattle.search.specs.Log.{IsProof};
-ghost use Rattle.pb_main.specs.Checked.{IsAcceptedOf, IsWritten};
+ghost use Rattle.search.specs.declared.found.Found.{Found};
+ghost use Rattle.pb_main.specs.Checked.{IsAcceptedOf, IsBorneOut, IsLogOf, IsUnwritten, IsWritten};
 
 use super::outcome::Unanswered;
-use super::writable::{are_steps_writable, is_conclusion_writable};
+use super::writable::are_steps_writable;
 use checker::{Verdict, check};
 use kernel::Accepted;
 use proof_write::write_proof;
@@ -15,18 +15,20 @@ use propagate::Propagator;
 use search::Log;
 use std::alloc::Global;
 
-/// The text of a log's proof, where it can be written and there is memory for it.
+/// The text of a log's proof, where its steps can be written and there is memory for it. What a search concludes always
+/// can be: its bounds are what a solution of the file is worth.
 pub(crate) fn proof_of<'a, P: Propagator>(
     alloc: Global,
     log: &Log<'a, P>,
 ) -> Result<Vec<u8>, Unanswered>
+    requires within { IsWithin log.now.problem }
+    requires borne_out { (found : Found) × IsBorneOut log.now found }
     ensures legal { IsProof log.now }
     ensures written { IfOk result (λ proof. IsWritten log.now proof.items) }
-    ensures other { IfErr result (λ why. why ≢ Unanswered.Limit) }
+    ensures unwritten { IfErr result (IsUnwritten log.now) }
 {
     let names = log.names();
-    let count = names.len();
-    if !are_steps_writable(count, log.steps()) || !is_conclusion_writable(count, log.conclusion()) {
+    if !are_steps_writable(names.len(), log.steps()) {
         return Err(Unanswered::Unchecked);
     }
     let ids = log.kernel().file_ids();
@@ -36,17 +38,15 @@ pub(crate) fn proof_of<'a, P: Propagator>(
     }
 }
 
-/// What the checker accepts, judging the written proof of a log; none where it wants memory. It never refuses: the log's steps
-/// are legal by its type, its conclusion is entitled to, and what is written reads back.
+/// What the checker accepts, judging the written proof of a log; none where it wants memory. It never refuses: the log's
+/// steps are legal by its type, its conclusion is entitled to, and what is written reads back.
 pub(crate) fn accepted<'a, P: Propagator>(
     alloc: Global,
     opb: &[u8],
     log: &Log<'a, P>,
     proof: &[u8],
 ) -> Option<Accepted>
-    requires spelled { Spells opb.now log.now.problem }
-    requires within { IsWithin log.now.problem }
-    requires legal { IsProof log.now }
+    requires of_text { IsLogOf opb.now log.now }
     requires written { IsWritten log.now proof.now }
     ensures { IfSome result (λ accepted. IsAcceptedOf opb.now proof.now log.now accepted) }
 {

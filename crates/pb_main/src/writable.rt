@@ -1,14 +1,14 @@
-//! Whether what a log holds can be written as the text of a proof.
+//! Whether the steps of a log can be written as the text of a proof.
 //!
 //! The format bounds integers by 2^120 and names variables by the file's table. Every step of a solver is within these
 //! bounds, but a log is no text and takes steps beyond them, so this is looked at once, before the proof is written.
 
-ghost use Rattle.std.specs.Prelude.{◌↔◌, ◌<◌, All, IsTrue, length};
-ghost use Rattle.proof_text.specs.Writable.{IsConclusionWritable, IsConstraintWritable, IsHintWritable, IsImageWritable, IsItemWritable};
-ghost use Rattle.proof_text.specs.Writable.{IsLitWritable, IsLowerWritable, IsPairWritable, IsStepWritable, IsTermWritable, IsUpperWritable, IsWritable};
+ghost use Rattle.std.specs.Prelude.{◌↔◌, ◌<◌, All, IsTrue};
+ghost use Rattle.proof_text.specs.Writable.{IsConstraintWritable, IsImageWritable, IsItemWritable};
+ghost use Rattle.proof_text.specs.Writable.{IsLitWritable, IsPairWritable, IsStepWritable, IsTermWritable, IsWritable};
 
-use linear::{Lit, Relation, Seq, Signed, Term, Var};
-use proof_steps::{Conclusion, Item, Lower, Step, Upper};
+use linear::{Lit, Relation, Signed, Term, Var};
+use proof_steps::{Item, Step};
 use substitution::Image;
 
 /// The largest size of an integer of a proof.
@@ -107,46 +107,4 @@ pub(crate) fn are_steps_writable(count: usize, steps: &[Step]) -> bool
     ensures { IsTrue result ↔ All (IsStepWritable count) steps.now }
 {
     steps.iter().all(|step| is_step_writable(count, step))
-}
-
-fn is_lower_writable(lower: Lower) -> bool
-    ensures { IsTrue result ↔ IsLowerWritable lower }
-{
-    match lower {
-        Lower::MinusInf => true,
-        Lower::At(bound) => is_writable(bound),
-        Lower::Inf => true,
-    }
-}
-
-fn is_upper_writable(upper: Upper) -> bool
-    ensures { IsTrue result ↔ IsUpperWritable upper }
-{
-    match upper {
-        Upper::At(bound) => is_writable(bound),
-        Upper::Inf => true,
-    }
-}
-
-fn is_hint_writable(count: usize, hint: &Option<Seq<Lit>>) -> bool
-    ensures { IsTrue result ↔ IsHintWritable count hint.now }
-{
-    match hint {
-        None => true,
-        Some(literals) => are_literals_writable(count, literals.as_slice()),
-    }
-}
-
-/// The same of a conclusion.
-pub(crate) fn is_conclusion_writable(count: usize, conclusion: &Conclusion) -> bool
-    ensures { IsTrue result ↔ IsConclusionWritable count conclusion.now }
-{
-    match conclusion {
-        Conclusion::Nothing => true,
-        Conclusion::Sat(hint) => is_hint_writable(count, hint),
-        Conclusion::Unsat => true,
-        Conclusion::Bounds(lower, upper, hint) => {
-            is_lower_writable(*lower) && is_upper_writable(*upper) && is_hint_writable(count, hint)
-        }
-    }
 }

@@ -1,9 +1,8 @@
-use Rattle.std.proofs.Common.{subst, sym}
-use Rattle.pb_main.specs.Outcome.{IsOutcomeOf}
+use Rattle.pb_main.proofs.Outcomes.{without_bytes}
 use Rattle.pb_main.proofs.deciding.decide.Goals as goal
 
-pub returns : goal.returns
-returns g c =
-    let e = c.without_proof-in-Err.ensures in
-    let proof = c.without_proof-in-Err.result.proof.items in
-    subst (IsOutcomeOf c.args.opb.now proof c.args.limit) (sym e.outcome) (c.unread.ensures c.args.opb.now proof c.args.limit c.in-Err.ensures.denies c.in-Err.ensures.place)
+pub returns-in-Err : goal.returns-in-Err
+returns-in-Err g c =
+    let none = c.without_proof.ensures in
+    let unread = c.unread.ensures c.args.opb.now c.args.limit c.in-Err.ensures.denies c.in-Err.ensures.place in
+    without_bytes c.args.opb.now c.without_proof.result.proof.items c.args.limit c.without_proof.result.outcome c.unread.result none.outcome none.proof unread

@@ -3,15 +3,15 @@ use Rattle.pb_main.proofs.proof.accepted.Goals as goal
 
 pub unreachable-requires : goal.unreachable-requires
 unreachable-requires g c =
-    let r = c.requires in
-    never_refused c.args.opb.now c.args.proof.now c.args.log.now r.legal r.spelled r.within r.written c.in-Refused.line c.in-Refused.code c.in-Refused.ensures.sound
+    let of_text = c.requires.of_text in
+    never_refused c.args.opb.now c.args.proof.now c.args.log.now of_text.legal of_text.spelled of_text.within c.requires.written c.in-Refused.line c.in-Refused.code c.in-Refused.ensures.sound
 
 pub unreachable-requires-in-BadProblem : goal.unreachable-requires-in-BadProblem
 unreachable-requires-in-BadProblem g c =
-    let r = c.requires in
-    never_bad c.args.opb.now c.args.proof.now c.args.log.now r.legal r.spelled r.within r.written c.in-BadProblem.field-0 c.in-BadProblem.ensures.sound
+    let of_text = c.requires.of_text in
+    never_bad c.args.opb.now c.args.proof.now c.args.log.now of_text.legal of_text.spelled of_text.within c.requires.written c.in-BadProblem.field-0 c.in-BadProblem.ensures.sound
 
 pub returns-in-Accepted : goal.returns-in-Accepted
 returns-in-Accepted g c =
-    let r = c.requires in
-    accepted_of c.args.opb.now c.args.proof.now c.args.log.now r.legal r.spelled r.within r.written c.in-Accepted.accepted c.in-Accepted.ensures.sound
+    let of_text = c.requires.of_text in
+    accepted_of c.args.opb.now c.args.proof.now c.args.log.now of_text.legal of_text.spelled of_text.within c.requires.written c.in-Accepted.accepted c.in-Accepted.ensures.sound
