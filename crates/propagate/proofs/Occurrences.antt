@@ -32,14 +32,14 @@ own_coefficient low (t ∷ ts) (suc i) d r h =
     omega (arith, lower (t.var.0) (u.var.0) t.coef (same_sign u.negated t.negated) (omega (arith, above)), own_coefficient (t.var.0 + 1) ts i d r.2 (omega (arith, h)))
 
 -- a literal with a coefficient has a term
-abbrev StandsAt : List NormalTerm → ℕ → Bool → ℕ → Type 0
+abbrev pub StandsAt : List NormalTerm → ℕ → Bool → ℕ → Type 0
 StandsAt ts v s k = (k < length ts) × ((d : NormalTerm) → ((get_or ts k d).var.0 ≡ v) × ((get_or ts k d).negated ≡ s))
 
 tested : (b : Bool) (c rest : ℕ) → 0 < cond b c 0 + rest → (b ≡ true) ⊎ (0 < rest)
 tested true c rest h = inl refl
 tested false c rest h = inr (omega (arith, h))
 
-stands : (ts : List NormalTerm) (v : ℕ) (s : Bool) → 0 < sum_over (only v s) ts → (k : ℕ) × StandsAt ts v s k
+pub stands : (ts : List NormalTerm) (v : ℕ) (s : Bool) → 0 < sum_over (only v s) ts → (k : ℕ) × StandsAt ts v s k
 stands [] v s h = absurd (omega (arith, h))
 stands (t ∷ ts) v s h = elim (tested (only v s (t.var.0) t.negated) t.coef (sum_over (only v s) ts) h) [
   | inl o ↦ (0, (omega arith, λ d. only_is v (t.var.0) s t.negated o))
@@ -53,7 +53,7 @@ TermForces listing slack t = CanForce listing slack t.coef (literal_of t)
 literal : ℕ → Bool → Lit
 literal v s = record { var = record { 0 = v }; negated = s }
 
-same_literal : (l m : Lit) → l.var.0 ≡ m.var.0 → l.negated ≡ m.negated → l ≡ m
+pub same_literal : (l m : Lit) → l.var.0 ≡ m.var.0 → l.negated ≡ m.negated → l ≡ m
 unfolding literal
 same_literal l m v s =
     let one : literal (l.var.0) l.negated ≡ literal (m.var.0) l.negated = ap (λ (x : ℕ). literal x l.negated) v in

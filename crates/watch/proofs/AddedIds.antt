@@ -1,5 +1,5 @@
 -- Ids that are lent, put into a set one after another.
-use Rattle.std.proofs.Common.{◌≡◌, ◌↔◌, ◌⊎◌, inl, inr, ℕ, ◌+◌, ◌<◌, Contains, List, [], ◌∷◌, length, refl, sym, ap, subst, arith}
+use Rattle.std.proofs.Common.{◌≡◌, ◌↔◌, ◌⊎◌, inl, inr, ℕ, Contains, List, [], ◌∷◌, sym, subst, arith}
 use Rattle.std.specs.FinSet as set
 use Rattle.linear.specs.declared.term.Lit.{Lit}
 use Rattle.propagate.specs.Content.{AddsOccurrences, Content, HasLiteral}

@@ -1,8 +1,8 @@
 -- Levels of given literals, when the trail grows and when it is taken back.
-use Rattle.std.proofs.Common.{◌≡◌, ℕ, suc, ◌+◌, ◌<◌, ◌≤◌, inl, inr, true, false, Option, None, Some, List, [], ◌∷◌, ◌++◌, length, get_or, map, take, refl, ap, sym, subst, ◌∙◌, length-append, arith}
+use Rattle.std.proofs.Common.{◌≡◌, ℕ, suc, ◌+◌, ◌-◌, ◌<◌, ◌≤◌, inl, inr, true, false, Option, None, Some, List, [], ◌∷◌, ◌++◌, length, get_or, map, take, refl, ap, sym, subst, ◌∙◌, length-append, arith}
 use Rattle.std.proofs.lemmas.Bool.{false≢true, cases_lt}
 use Rattle.std.proofs.lemmas.List.{get_or-take, get_or_append_left, get_or_default, get_or_past, get_or_push, length-take-le, take-append-le, take-take, take_more}
-use Rattle.std.proofs.Math.Seq.{take-length}
+use Rattle.std.proofs.Math.Seq.{take-append_seam, take-length}
 use Rattle.linear.specs.declared.term.Lit.{Lit}
 use Rattle.normal_form.specs.Normal.{NormalConstraint}
 use Rattle.propagate.specs.Literals.{lists}
@@ -272,3 +272,17 @@ next_first xs given k d low e = ap (λ (ys : List Lit). ys ++ get_or given k d �
 
 pub kept_has : (s : State) (levels : List Lit × List ℕ) (q : List ℕ) (c : ℕ) (given : List Lit) → levels.0 ≡ given → IsKept s levels q c → HasAll given s.listing
 kept_has s levels q c given e k = subst (λ (xs : List Lit). HasAll xs s.listing) e (top_has s.listing s.reasons levels.0 levels.1 k.levels_are)
+
+-- a level that was opened, and closed again
+pub level_closed : (old mid new : List Lit × List ℕ) (l : Lit) (height count : ℕ) → mid ≡ (old.0 ++ l ∷ [], old.1 ++ height ∷ []) → count ≡ length mid.0 → length old.1 ≡ length old.0 → new ≡ (take (count - 1) mid.0, take (count - 1) mid.1) → new ≡ old
+level_closed old mid new l height count e counts many is =
+    let first : mid.0 ≡ old.0 ++ l ∷ [] = ap (λ (p : List Lit × List ℕ). p.0) e in
+    let second : mid.1 ≡ old.1 ++ height ∷ [] = ap (λ (p : List Lit × List ℕ). p.1) e in
+    let short : count - 1 ≡ length old.0 = omega (arith, counts, ap (length {A = Lit}) first, length-append old.0 (l ∷ [])) in
+    let left : take (count - 1) mid.0 ≡ old.0 = ap (λ (n : ℕ). take n mid.0) short ∙ ap (take (length old.0)) first ∙ take-append_seam old.0 (l ∷ []) in
+    let right : take (count - 1) mid.1 ≡ old.1 = ap (λ (n : ℕ). take n mid.1) (short ∙ sym many) ∙ ap (take (length old.1)) second ∙ take-append_seam old.1 (height ∷ []) in
+    is ∙ ap (λ (xs : List Lit). (xs, take (count - 1) mid.1)) left ∙ ap (λ (ys : List ℕ). (old.0, ys)) right
+
+-- more waits
+pub kept_longer : (s : State) (levels : List Lit × List ℕ) (q q' : List ℕ) (count after : ℕ) → after ≡ count → AreLookedAt (shown s.slots) s.listing q' → IsKept s levels q count → IsKept s levels q' after
+kept_longer s levels q q' count after e looked k = record { places = e ∙ k.places; looked_at = looked; levels_are = k.levels_are }

@@ -1,15 +1,16 @@
 -- Which ids are lent for a literal: those of the live constraints that have it, each once.
 use Rattle.std.proofs.Common.{◌≡◌, ◌↔◌, ℕ, zero, suc, ◌+◌, ◌<◌, ◌==◌, ◌⊎◌, inl, inr, Bool, true, false, cond, is_some, All, Contains, drop, Option, None, Some, List, [], ◌∷◌, ◌++◌, length, get_or, map, refl, ap, sym, subst, ◌∙◌, arith}
 use Rattle.std.proofs.lemmas.Bool.Decides.{nat_tests}
-use Rattle.std.proofs.lemmas.List.{drop_more}
-use Rattle.std.proofs.lemmas.List.Elements.{Contains-append_cases, Contains-push_cases}
+use Rattle.std.proofs.lemmas.List.{drop_more, map-append}
+use Rattle.std.proofs.lemmas.List.Elements.{All-append, Contains-append_cases, Contains-append_left, Contains-append_right, Contains-push_cases}
 use Rattle.std.specs.FinMap as fin
 use Rattle.linear.specs.declared.term.Lit.{Lit}
 use Rattle.normal_form.specs.Normal.{NormalConstraint}
 use Rattle.propagate.specs.Content.{HasLiteral}
 use Rattle.propagate.specs.Literals.{coefficient_of}
 use Rattle.watch.specs.declared.occurrence.Occurrence.{Occurrence}
-use Rattle.watch.specs.Ledgers.{IsLedger, constraint_at}
+use Rattle.watch.specs.declared.pair.Pair.{Pair}
+use Rattle.watch.specs.Ledgers.{AreParted, IsLedger, constraint_at}
 use Rattle.watch.specs.Lent.{AreEntriesOf, IsEachOnce, ids_at, live_places}
 use Rattle.watch.specs.Named.{AreNamed, content_at, place_of}
 use Rattle.watch.specs.Occurrences.{code, occurrences_of}
@@ -150,41 +151,124 @@ some_same n m o e f = cc
 none_is_not_some : {X : Type 0} (x : X) (o : Option X) → o ≡ None → o ≡ Some x → ⊥
 none_is_not_some x o e f = cc
 
+-- the places of two lists of entries
+live_cases : (b : Bool) (p : ℕ) (xs ys : List ℕ) → cond b (p ∷ (xs ++ ys)) (xs ++ ys) ≡ cond b (p ∷ xs) xs ++ ys
+live_cases true p xs ys = refl
+live_cases false p xs ys = refl
+
+live_append : (slots : Slots) (xs ys : List Occurrence) → live_places slots (xs ++ ys) ≡ live_places slots xs ++ live_places slots ys
+live_append slots [] ys = refl
+live_append slots (o ∷ os) ys =
+    ap (λ (ks : List ℕ). cond (is_some (get_or slots o.place None)) (o.place ∷ ks) ks) (live_append slots os ys) ∙ live_cases (is_some (get_or slots o.place None)) o.place (live_places slots os) (live_places slots ys)
+
+ids_append : (ids xs ys : List ℕ) → ids_at ids (xs ++ ys) ≡ ids_at ids xs ++ ids_at ids ys
+ids_append ids xs ys = map-append (λ k. get_or ids k 0) xs ys
+
+once_append : (xs ys : List ℕ) → IsEachOnce xs → IsEachOnce ys → ((k : ℕ) → Contains xs k → Contains ys k → ⊥) → IsEachOnce (xs ++ ys)
+once_append [] ys a b apart = b
+once_append (x ∷ xs) ys a b apart = (
+  λ c. elim (Contains-append_cases xs ys x c) [
+    | inl left ↦ a.0 left
+    | inr right ↦ apart x (0, omega arith, refl) right
+  ],
+  once_append xs ys a.1 b (λ k c d. apart k (later xs x k c) d),
+)
+
+-- what is counted or watched at a live place is the constraint that stands there, and not both
+abbrev Counts : List NormalConstraint → Lit → ℕ → Type 0
+Counts ns l k = 0 < coefficient_of (constraint_at ns k) l
+
+of_slot : (slots : Slots) (ns ws : List NormalConstraint) (pairs : List (Option Pair)) (l : Lit) (k : ℕ) (n : NormalConstraint) (o : Option Pair) → AreParted slots ns ws pairs → get_or slots k None ≡ Some n → get_or pairs k None ≡ o → Counts ns l k ⊎ Counts ws l k → 0 < coefficient_of n l
+of_slot slots ns ws pairs l k n None x e f (inl some) = subst (λ (c : NormalConstraint). 0 < coefficient_of c l) (x.counts k n e f).0 some
+of_slot slots ns ws pairs l k n None x e f (inr some) = absurd (omega (arith, subst (λ (c : NormalConstraint). 0 < coefficient_of c l) (x.counts k n e f).1 some))
+of_slot slots ns ws pairs l k n (Some p) x e f (inl some) = absurd (omega (arith, subst (λ (c : NormalConstraint). 0 < coefficient_of c l) (x.watches k n p e f).0 some))
+of_slot slots ns ws pairs l k n (Some p) x e f (inr some) = subst (λ (c : NormalConstraint). 0 < coefficient_of c l) (x.watches k n p e f).1 some
+
+in_one : (slots : Slots) (ns ws : List NormalConstraint) (pairs : List (Option Pair)) (l : Lit) (k : ℕ) (n : NormalConstraint) (o : Option Pair) → AreParted slots ns ws pairs → get_or slots k None ≡ Some n → get_or pairs k None ≡ o → 0 < coefficient_of n l → Counts ns l k ⊎ Counts ws l k
+in_one slots ns ws pairs l k n None x e f some = inl (subst (λ (c : NormalConstraint). 0 < coefficient_of c l) (sym (x.counts k n e f).0) some)
+in_one slots ns ws pairs l k n (Some p) x e f some = inr (subst (λ (c : NormalConstraint). 0 < coefficient_of c l) (sym (x.watches k n p e f).1) some)
+
+not_in_both : (slots : Slots) (ns ws : List NormalConstraint) (pairs : List (Option Pair)) (l : Lit) (k : ℕ) (n : NormalConstraint) (o : Option Pair) → AreParted slots ns ws pairs → get_or slots k None ≡ Some n → get_or pairs k None ≡ o → Counts ns l k → Counts ws l k → ⊥
+not_in_both slots ns ws pairs l k n None x e f a b = omega (arith, subst (λ (c : NormalConstraint). 0 < coefficient_of c l) (x.counts k n e f).1 b)
+not_in_both slots ns ws pairs l k n (Some p) x e f a b = omega (arith, subst (λ (c : NormalConstraint). 0 < coefficient_of c l) (x.watches k n p e f).0 a)
+
+-- a place that is live in either part
+abbrev IsLive : Slots → Lit → List NormalConstraint → ℕ → Type 0
+IsLive slots l ns k = (is_some (get_or slots k None) ≡ true) × Counts ns l k
+
+live_in : (slots : Slots) (l : Lit) (ns : List NormalConstraint) (k : ℕ) → Contains (live_places slots (occurrences_of l 0 ns)) k → IsLive slots l ns k
+live_in slots l ns k c =
+    let it = live_there slots l 0 ns k c in
+    let here : it.0 ≡ k = omega (arith, it.1) in
+    (it.2.1, subst (λ (j : ℕ). Counts ns l j) here it.2.2)
+
+abbrev places_in : Slots → Lit → List NormalConstraint → List ℕ
+places_in slots l ns = live_places slots (occurrences_of l 0 ns)
+
+both_places : (slots : Slots) (l : Lit) (ns ws : List NormalConstraint) (os : List Occurrence) → os ≡ occurrences_of l 0 ns ++ occurrences_of l 0 ws → live_places slots os ≡ places_in slots l ns ++ places_in slots l ws
+both_places slots l ns ws os e = ap (live_places slots) e ∙ live_append slots (occurrences_of l 0 ns) (occurrences_of l 0 ws)
+
+live_cases_of : (slots : Slots) (l : Lit) (ns ws : List NormalConstraint) (os : List Occurrence) (k : ℕ) → os ≡ occurrences_of l 0 ns ++ occurrences_of l 0 ws → Contains (live_places slots os) k → IsLive slots l ns k ⊎ IsLive slots l ws k
+live_cases_of slots l ns ws os k e c = elim (Contains-append_cases (places_in slots l ns) (places_in slots l ws) k (subst (λ (ks : List ℕ). Contains ks k) (both_places slots l ns ws os e) c)) [
+  | inl left ↦ inl (live_in slots l ns k left)
+  | inr right ↦ inr (live_in slots l ws k right)
+]
+
+live_now : (slots : Slots) (l : Lit) (ns ws : List NormalConstraint) (k : ℕ) → IsLive slots l ns k ⊎ IsLive slots l ws k → (is_some (get_or slots k None) ≡ true) × (Counts ns l k ⊎ Counts ws l k)
+live_now slots l ns ws k (inl a) = (a.0, inl a.1)
+live_now slots l ns ws k (inr b) = (b.0, inr b.1)
+
 pub lent_has : (slots : Slots) (es : Places) (ids : List ℕ) (l : Lit) (os : List Occurrence) → AreNamed es ids slots → AreEntriesOf slots l os → (id : ℕ) → Contains (ids_at ids (live_places slots os)) id → HasLiteral (content_at slots es) l id
 lent_has slots es ids l os a x id c =
-    let ns = x.0 in
     let m = contains_mapped (λ k. get_or ids k 0) (live_places slots os) id c in
     let k = m.0 in
-    let it = live_there slots l 0 ns k (subst (λ (ys : List Occurrence). Contains (live_places slots ys) k) x.2 m.1) in
-    let n = some_of (get_or slots k None) it.2.1 in
-    let here : it.0 ≡ k = omega (arith, it.1) in
-    let same : constraint_at ns it.0 ≡ n.0 = ap (constraint_at ns) here ∙ x.1.same k n.0 n.1 in (
+    let live = live_now slots l x.0 x.1 k (live_cases_of slots l x.0 x.1 os k x.4 m.1) in
+    let n = some_of (get_or slots k None) live.0 in (
       n.0,
       ap (fin.get (content_at slots es)) (sym m.2) ∙ sym (got slots es ids (get_or ids k 0) k a (a.named k n.0 n.1)) ∙ n.1,
-      subst (λ (c : NormalConstraint). 0 < coefficient_of c l) same it.2.2,
+      of_slot slots x.0 x.1 x.2 l k n.0 (get_or x.2 k None) x.3 n.1 refl live.1,
     )
+
+-- a live place that is counted or watched is in the list
+live_listed : (slots : Slots) (l : Lit) (ns ws : List NormalConstraint) (os : List Occurrence) (k : ℕ) → os ≡ occurrences_of l 0 ns ++ occurrences_of l 0 ws → is_some (get_or slots k None) ≡ true → k < length ns → k < length ws → Counts ns l k ⊎ Counts ws l k → Contains (live_places slots os) k
+live_listed slots l ns ws os k e live low low_w (inl some) =
+    subst (λ (ks : List ℕ). Contains ks k) (sym (both_places slots l ns ws os e)) (Contains-append_left (places_in slots l ns) (places_in slots l ws) k (there_live slots l 0 ns k k (omega arith) (low, live, some)))
+live_listed slots l ns ws os k e live low low_w (inr some) =
+    subst (λ (ks : List ℕ). Contains ks k) (sym (both_places slots l ns ws os e)) (Contains-append_right (places_in slots l ns) (places_in slots l ws) k (there_live slots l 0 ws k k (omega arith) (low_w, live, some)))
 
 lent_at : (slots : Slots) (es : Places) (ids : List ℕ) (l : Lit) (os : List Occurrence) → AreNamed es ids slots → AreEntriesOf slots l os → (id : ℕ) → HasLiteral (content_at slots es) l id → (o : Option ℕ) → place_of es id ≡ o → Contains (ids_at ids (live_places slots os)) id
 lent_at slots es ids l os a x id h None e = absurd (none_is_not_some h.0 (fin.get (content_at slots es) id) (got_none slots es id e) h.1)
 lent_at slots es ids l os a x id h (Some k) e =
-    let ns = x.0 in
     let there : get_or slots k None ≡ Some h.0 = got slots es ids id k a e ∙ h.1 in
-    let low : k < length ns = omega (arith, below slots k h.0 there, x.1.count) in
-    let same : constraint_at ns k ≡ h.0 = x.1.same k h.0 there in
-    let live = there_live slots l 0 ns k k (omega arith) (low, ap (λ (o : Option NormalConstraint). is_some o) there, subst (λ (c : NormalConstraint). 0 < coefficient_of c l) (sym same) h.2) in
-    let in_list = subst (λ (ys : List Occurrence). Contains (live_places slots ys) k) (sym x.2) live in
+    let low : k < length slots = below slots k h.0 there in
+    let some = in_one slots x.0 x.1 x.2 l k h.0 (get_or x.2 k None) x.3 there refl h.2 in
+    let in_list = live_listed slots l x.0 x.1 os k x.4 (ap (λ (o : Option NormalConstraint). is_some o) there) (omega (arith, low, x.3.count)) (omega (arith, low, x.3.watched_count)) some in
     subst (λ (i : ℕ). Contains (ids_at ids (live_places slots os)) i) (a.live id k e).2 (mapped_contains (λ k. get_or ids k 0) (live_places slots os) k in_list)
 
 pub lent_exactly : (slots : Slots) (es : Places) (ids : List ℕ) (l : Lit) (os : List Occurrence) → AreNamed es ids slots → AreEntriesOf slots l os → (id : ℕ) → Contains (ids_at ids (live_places slots os)) id ↔ HasLiteral (content_at slots es) l id
 lent_exactly slots es ids l os a x id = (lent_has slots es ids l os a x id, λ h. lent_at slots es ids l os a x id h (place_of es id) refl)
 
+-- no id comes of both parts
+apart_ids : (slots : Slots) (es : Places) (ids : List ℕ) (l : Lit) (ns ws : List NormalConstraint) (pairs : List (Option Pair)) → AreNamed es ids slots → AreParted slots ns ws pairs → (id : ℕ) → Contains (ids_at ids (places_in slots l ns)) id → Contains (ids_at ids (places_in slots l ws)) id → ⊥
+apart_ids slots es ids l ns ws pairs a x id c d =
+    let m = contains_mapped (λ k. get_or ids k 0) (places_in slots l ns) id c in
+    let r = contains_mapped (λ k. get_or ids k 0) (places_in slots l ws) id d in
+    let one = live_in slots l ns m.0 m.1 in
+    let two = live_in slots l ws r.0 r.1 in
+    let same : m.0 ≡ r.0 = one_live slots es ids m.0 r.0 a one.0 two.0 (m.2 ∙ sym r.2) in
+    let n = some_of (get_or slots m.0 None) one.0 in
+    not_in_both slots ns ws pairs l m.0 n.0 (get_or pairs m.0 None) x n.1 refl one.1 (subst (λ (j : ℕ). Counts ws l j) (sym same) two.1)
+
 pub lent_once : (slots : Slots) (es : Places) (ids : List ℕ) (l : Lit) (os : List Occurrence) → AreNamed es ids slots → AreEntriesOf slots l os → IsEachOnce (ids_at ids (live_places slots os))
-lent_once slots es ids l os a x = subst (λ (ys : List Occurrence). IsEachOnce (ids_at ids (live_places slots ys))) (sym x.2) (each_once slots es ids l 0 x.0 a)
+lent_once slots es ids l os a x =
+    subst IsEachOnce (sym (ap (ids_at ids) (both_places slots l x.0 x.1 os x.4) ∙ ids_append ids (places_in slots l x.0) (places_in slots l x.1)))
+    (once_append (ids_at ids (places_in slots l x.0)) (ids_at ids (places_in slots l x.1)) (each_once slots es ids l 0 x.0 a) (each_once slots es ids l 0 x.1 a) (apart_ids slots es ids l x.0 x.1 x.2 a x.3))
 
 -- the entries are of places that are there
 pub entries_below : (slots : Slots) (l : Lit) (os : List Occurrence) → AreEntriesOf slots l os → All (λ e. e.place < length slots) os
 entries_below slots l os x =
-    subst (λ (ys : List Occurrence). All (λ e. e.place < length slots) ys) (sym x.2) (places_from l 0 (length slots) x.0 (omega (arith, x.1.count)))
+    subst (λ (ys : List Occurrence). All (λ e. e.place < length slots) ys) (sym x.4)
+    (All-append (λ (o : Occurrence). o.place < length slots) (occurrences_of l 0 x.0) (occurrences_of l 0 x.1) (places_from l 0 (length slots) x.0 (omega (arith, x.3.count))) (places_from l 0 (length slots) x.1 (omega (arith, x.3.watched_count))))
 
 -- one entry after another
 step_live : (slots : Slots) (o : Occurrence) (rest : List Occurrence) (b : Bool) → is_some (get_or slots o.place None) ≡ b → live_places slots (o ∷ rest) ≡ cond b (o.place ∷ live_places slots rest) (live_places slots rest)
@@ -197,7 +281,13 @@ pub live_at : (slots : Slots) (os : List Occurrence) (k : ℕ) (d : Occurrence) 
     → live_places slots (drop k os) ≡ cond b ((get_or os k d).place ∷ live_places slots (drop (k + 1) os)) (live_places slots (drop (k + 1) os))
 live_at slots os k d b h e = ap (live_places slots) (dropped os k d h) ∙ step_live slots (get_or os k d) (drop (k + 1) os) b e
 
--- a ledger's list for a literal
-pub entries_are : (slots : Slots) (listing : List Lit) (variables : ℕ) (table : List (List Occurrence)) (counters limits : List ℕ) (l : Lit) (number : ℕ) (os : List Occurrence) → IsLedger slots listing variables table counters limits → number ≡ code l → os ≡ get_or table number [] → AreEntriesOf slots l os
-entries_are slots listing variables table counters limits l number os e named is =
-    (e.indexed, e.slots_are, is ∙ ap (λ (k : ℕ). get_or table k []) named ∙ e.index.entries l)
+-- a ledger's lists for a literal
+pub entries_are : (slots : Slots) (listing : List Lit) (variables : ℕ) (table clauses : List (List Occurrence)) (counters limits : List ℕ) (pairs : List (Option Pair)) (l : Lit) (number : ℕ) (os rest : List Occurrence) → IsLedger slots listing variables table clauses counters limits pairs
+    → number ≡ code l → os ≡ get_or table number [] → rest ≡ get_or clauses number [] → AreEntriesOf slots l (os ++ rest)
+entries_are slots listing variables table clauses counters limits pairs l number os rest e named is more = (
+  e.counted,
+  e.watched,
+  pairs,
+  e.slots_are,
+  ap (λ (xs : List Occurrence). xs ++ rest) (is ∙ ap (λ (k : ℕ). get_or table k []) named ∙ e.index.entries l) ∙ ap (λ (xs : List Occurrence). occurrences_of l 0 e.counted ++ xs) (more ∙ ap (λ (k : ℕ). get_or clauses k []) named ∙ e.watched_index.entries l),
+)

@@ -1,8 +1,8 @@
 -- What a ledger keeps, with a literal more that is true, and with one fewer.
 use Rattle.std.proofs.lemmas.Bool.{cases_lt}
-use Rattle.std.proofs.Common.{◌≡◌, ℕ, zero, suc, ◌+◌, ◌-◌, ◌^◌, ◌<◌, ◌≤◌, ◌⊎◌, inl, inr, false, Option, None, Some, SomeIff, MatchOption, Contains, All, List, [], ◌∷◌, ◌++◌, length, get_or, refl, ap, sym, subst, ◌∙◌, arith}
+use Rattle.std.proofs.Common.{◌≡◌, ℕ, zero, suc, ◌+◌, ◌-◌, ◌^◌, ◌<◌, ◌≤◌, ◌⊎◌, inl, inr, false, is_some, Option, None, Some, SomeIff, MatchOption, Contains, All, List, [], ◌∷◌, ◌++◌, length, get_or, refl, ap, sym, subst, ◌∙◌, arith}
 use Rattle.std.proofs.lemmas.Int.{ints}
-use Rattle.std.proofs.lemmas.List.{get_or_default, length-map}
+use Rattle.std.proofs.lemmas.List.{get_or_default, get_or_past, length-map}
 use Rattle.std.proofs.lemmas.List.Elements.{All-get_or, All-nil}
 use Rattle.linear.specs.declared.term.Lit.{Lit}
 use Rattle.normal_form.specs.Normal.{NormalConstraint, IsNormal, total, variable_bound}
@@ -12,7 +12,10 @@ use Rattle.propagate.specs.Slack.{not_false, IsBroken}
 use Rattle.propagate.specs.Walk.{IsQuiet}
 use Rattle.watch.specs.declared.occurrence.Occurrence.{Occurrence}
 use Rattle.watch.specs.Occurrences.{share_of, code, occurrences_of}
-use Rattle.watch.specs.Ledgers.{constraint_at, constraint_in, shown, nothing, open_sum, IsLedger, IsIndex, AreCounters, AreKnown, AreIndexed, AreLimits, AreReasons}
+use Rattle.watch.specs.Ledgers.{constraint_at, constraint_in, shown, nothing, open_sum, IsLedger, IsIndex, AreCounters, AreKnown, AreParted, AreLimits, AreReasons}
+use Rattle.watch.specs.declared.pair.Pair.{Pair}
+use Rattle.watch.specs.Falls.{IsAt}
+use Rattle.watch.specs.Watched.{AreSameKinds, AreWatched, Watching}
 use Rattle.watch.proofs.Entering.{code_below}
 use Rattle.watch.proofs.Entries.{shares_from, places_from}
 use Rattle.watch.proofs.Opening.{open_less, quiet_at_limit}
@@ -26,14 +29,28 @@ shown_at [] k = refl
 shown_at (o ∷ os) zero = refl
 shown_at (o ∷ os) (suc k) = shown_at os k
 
-shown_by : (slots : List (Option NormalConstraint)) (ns : List NormalConstraint) (k : ℕ) (o : Option NormalConstraint) → get_or slots k None ≡ o → AreIndexed slots ns
-    → (constraint_at (shown slots) k ≡ constraint_at ns k) ⊎ (constraint_at (shown slots) k ≡ nothing)
-shown_by slots ns k None e x = inr (shown_at slots k ∙ ap constraint_in e)
-shown_by slots ns k (Some n) e x = inl (shown_at slots k ∙ ap constraint_in e ∙ sym (x.same k n e))
+-- what is shown at a place is counted there, or nothing, or a clause that is watched
+pub record IsWatchedThere (slots : Slots) (pairs : List (Option Pair)) (k : ℕ) : Type 0 where
+  pub clause : NormalConstraint
+  pub pair : Pair
+  pub there : IsAt slots pairs k clause pair
 
--- what is shown at a place is what is indexed there, or nothing
-pub shown_or_nothing : (slots : List (Option NormalConstraint)) (ns : List NormalConstraint) (k : ℕ) → AreIndexed slots ns → (constraint_at (shown slots) k ≡ constraint_at ns k) ⊎ (constraint_at (shown slots) k ≡ nothing)
-shown_or_nothing slots ns k x = shown_by slots ns k (get_or slots k None) refl x
+shown_pair : (slots : Slots) (ns ws : List NormalConstraint) (pairs : List (Option Pair)) (k : ℕ) (n : NormalConstraint) (o : Option Pair) → get_or slots k None ≡ Some n → get_or pairs k None ≡ o → AreParted slots ns ws pairs
+    → (constraint_at (shown slots) k ≡ constraint_at ns k) ⊎ IsWatchedThere slots pairs k
+shown_pair slots ns ws pairs k n None e f x = inl (shown_at slots k ∙ ap constraint_in e ∙ sym (x.counts k n e f).0)
+shown_pair slots ns ws pairs k n (Some p) e f x = inr (record { clause = n; pair = p; there = (e, f) })
+
+shown_by : (slots : Slots) (ns ws : List NormalConstraint) (pairs : List (Option Pair)) (k : ℕ) (o : Option NormalConstraint) → get_or slots k None ≡ o → AreParted slots ns ws pairs
+    → (constraint_at (shown slots) k ≡ nothing) ⊎ ((constraint_at (shown slots) k ≡ constraint_at ns k) ⊎ IsWatchedThere slots pairs k)
+shown_by slots ns ws pairs k None e x = inl (shown_at slots k ∙ ap constraint_in e)
+shown_by slots ns ws pairs k (Some n) e x = inr (shown_pair slots ns ws pairs k n (get_or pairs k None) e refl x)
+
+pub shown_kind : (slots : Slots) (ns ws : List NormalConstraint) (pairs : List (Option Pair)) (k : ℕ) → AreParted slots ns ws pairs
+    → (constraint_at (shown slots) k ≡ nothing) ⊎ ((constraint_at (shown slots) k ≡ constraint_at ns k) ⊎ IsWatchedThere slots pairs k)
+shown_kind slots ns ws pairs k x = shown_by slots ns ws pairs k (get_or slots k None) refl x
+
+pub shown_clause : (slots : Slots) (pairs : List (Option Pair)) (k : ℕ) (w : IsWatchedThere slots pairs k) → constraint_at (shown slots) k ≡ w.clause
+shown_clause slots pairs k w = shown_at slots k ∙ ap constraint_in w.there.0
 
 pub quiet_nothing : (listing : List Lit) → IsQuiet listing nothing
 quiet_nothing listing = (λ b. omega (arith, ints, b), λ l f. omega (arith, f.occurs))
@@ -67,41 +84,71 @@ counted ns listing before after l os a x unset same lowered = record {
   open_sums = λ k low. omega (arith, lowered k (omega (arith, low, a.counted)), x.1 k low, a.open_sums k low, open_less listing l (constraint_at ns k) unset);
 }
 
--- a constraint whose counter has not fallen below its limit is quiet
-pub quiet_shown : (slots : List (Option NormalConstraint)) (ns : List NormalConstraint) (listing : List Lit) (counters limits : List ℕ) (k : ℕ) → AreIndexed slots ns → AreCounters ns listing counters → AreLimits (shown slots) limits → k < length slots
+-- a counted constraint whose counter has not fallen below its limit is quiet
+pub quiet_counted : (slots : Slots) (ns : List NormalConstraint) (listing : List Lit) (counters limits : List ℕ) (k : ℕ) → constraint_at (shown slots) k ≡ constraint_at ns k → length slots ≡ length ns → AreCounters ns listing counters → AreLimits (shown slots) limits → k < length slots
     → get_or limits k 0 ≤ get_or counters k 0 → IsQuiet listing (constraint_at (shown slots) k)
-quiet_shown slots ns listing counters limits k x a b low far = elim (shown_or_nothing slots ns k x) [
-  | inl e ↦ quiet_at_limit listing (constraint_at (shown slots) k) (get_or counters k 0) (get_or limits k 0) (a.open_sums k (omega (arith, low, x.count)) ∙ ap (open_sum listing) (sym e)) (λ m. b.enough k m (omega (arith, low, length-map slots constraint_in))) far
-  | inr e ↦ subst (λ (n : NormalConstraint). IsQuiet listing n) (sym e) (quiet_nothing listing)
-]
+quiet_counted slots ns listing counters limits k e many a b low far =
+    quiet_at_limit listing (constraint_at (shown slots) k) (get_or counters k 0) (get_or limits k 0) (a.open_sums k (omega (arith, low, many)) ∙ ap (open_sum listing) (sym e)) (λ m. b.enough k m (omega (arith, low, length-map slots constraint_in))) far
 
 pub nothing_there : (slots : List (Option NormalConstraint)) (k : ℕ) (l : Lit) → 0 < coefficient_of (constraint_at (shown slots) k) l → k < length slots
 nothing_there [] k l h = absurd (omega (arith, h))
 nothing_there (o ∷ os) zero l h = omega arith
 nothing_there (o ∷ os) (suc k) l h = omega (arith, nothing_there os k l h)
 
-pub queued : (slots : List (Option NormalConstraint)) (ns : List NormalConstraint) (listing : List Lit) (before after limits queue : List ℕ) (l : Lit) (os : List Occurrence) → AreIndexed slots ns → AreCounters ns listing before → AreLimits (shown slots) limits → AreEntries ns (opposite l) os → AreCounters ns (listing ++ l ∷ []) after
-    → ((k : ℕ) → k < length before → 0 < share_of k os → (get_or limits k 0 ≤ get_or after k 0) ⊎ Contains queue k)
-    → (k : ℕ) → 0 < coefficient_of (constraint_at (shown slots) k) (opposite l) → IsQuiet (listing ++ l ∷ []) (constraint_at (shown slots) k) ⊎ Contains queue k
-queued slots ns listing before after limits queue l os x a b es after_are h k some =
-    let low : k < length slots = nothing_there slots k (opposite l) some in
-    let there : k < length ns = omega (arith, low, x.count) in
-    elim (shown_or_nothing slots ns k x) [
-      | inl e ↦ elim (h k (omega (arith, there, a.counted)) (omega (arith, some, ap (λ (n : NormalConstraint). coefficient_of n (opposite l)) e, es.1 k there))) [
-        | inl far ↦ inl (quiet_shown slots ns (listing ++ l ∷ []) after limits k x after_are b low far)
-        | inr waits ↦ inr waits
+-- a place waits, or what is shown there is quiet, where that is so of what is counted and of what is watched
+pub each_kind : (slots : Slots) (ns ws : List NormalConstraint) (pairs : List (Option Pair)) (listing : List Lit) (counters limits queue : List ℕ) (l : Lit) (os : List Occurrence) → AreParted slots ns ws pairs → AreCounters ns listing counters → AreLimits (shown slots) limits → AreEntries ns l os
+    → ((k : ℕ) → k < length ns → 0 < share_of k os → (get_or limits k 0 ≤ get_or counters k 0) ⊎ Contains queue k)
+    → ((k : ℕ) (n : NormalConstraint) (p : Pair) → IsAt slots pairs k n p → 0 < coefficient_of n l → IsQuiet listing n ⊎ Contains queue k)
+    → (k : ℕ) → 0 < coefficient_of (constraint_at (shown slots) k) l → IsQuiet listing (constraint_at (shown slots) k) ⊎ Contains queue k
+each_kind slots ns ws pairs listing counters limits queue l os x a b es counts watches k some =
+    let low : k < length slots = nothing_there slots k l some in
+    elim (shown_kind slots ns ws pairs k x) [
+      | inl e ↦ inl (subst (λ (n : NormalConstraint). IsQuiet listing n) (sym e) (quiet_nothing listing))
+      | inr rest ↦ elim rest [
+        | inl e ↦ elim (counts k (omega (arith, low, x.count)) (omega (arith, some, ap (λ (n : NormalConstraint). coefficient_of n l) e, es.1 k (omega (arith, low, x.count))))) [
+          | inl far ↦ inl (quiet_counted slots ns listing counters limits k e x.count a b low far)
+          | inr waits ↦ inr waits
+        ]
+        | inr w ↦
+            let same : constraint_at (shown slots) k ≡ w.clause = shown_clause slots pairs k w in
+            elim (watches k w.clause w.pair w.there (omega (arith, some, ap (λ (n : NormalConstraint). coefficient_of n l) same))) [
+              | inl quiet ↦ inl (subst (λ (n : NormalConstraint). IsQuiet listing n) (sym same) quiet)
+              | inr waits ↦ inr waits
+            ]
       ]
-      | inr e ↦ inl (subst (λ (n : NormalConstraint). IsQuiet (listing ++ l ∷ []) n) (sym e) (quiet_nothing (listing ++ l ∷ [])))
     ]
 
--- the ledger with other counters, of another listing
-pub recounted : (slots : List (Option NormalConstraint)) (listing new : List Lit) (variables same_variables : ℕ) (table : List (List Occurrence)) (counters after limits : List ℕ) (e : IsLedger slots listing variables table counters limits) → same_variables ≡ variables → AreCounters e.indexed new after → IsLedger slots new same_variables table after limits
-recounted slots listing new variables same_variables table counters after limits e same a = rw same (record {
-  indexed = e.indexed;
+-- the ledger with other counters, of another listing, and other pairs at the same places
+kind_kept : (o o' : Option Pair) → is_some o' ≡ is_some o → o' ≡ None → o ≡ None
+kind_kept None o' e f = refl
+kind_kept (Some p) None e f = cc
+kind_kept (Some p) (Some q) e f = cc
+
+pair_kept : (o o' : Option Pair) (q : Pair) → is_some o' ≡ is_some o → o' ≡ Some q → (p : Pair) × (o ≡ Some p)
+pair_kept (Some p) o' q e f = (p, refl)
+pair_kept None None q e f = absurd (cc)
+pair_kept None (Some p) q e f = absurd (cc)
+
+pub parted_same : (slots : Slots) (ns ws : List NormalConstraint) (pairs new : List (Option Pair)) → AreParted slots ns ws pairs → AreSameKinds pairs new → AreParted slots ns ws new
+parted_same slots ns ws pairs new x same = record {
+  count = x.count;
+  watched_count = x.watched_count;
+  pair_count = x.pair_count ∙ sym same.count;
+  counts = λ k n e f. x.counts k n e (kind_kept (get_or pairs k None) (get_or new k None) (same.kinds k) f);
+  watches = λ k n q e f. let p = pair_kept (get_or pairs k None) (get_or new k None) q (same.kinds k) f in x.watches k n p.0 e p.1;
+}
+
+pub recounted : (slots : Slots) (listing new : List Lit) (variables same_variables : ℕ) (table clauses : List (List Occurrence)) (counters after limits : List ℕ) (pairs others : List (Option Pair)) (e : IsLedger slots listing variables table clauses counters limits pairs)
+    → same_variables ≡ variables → AreCounters e.counted new after → AreSameKinds pairs others → IsLedger slots new same_variables table clauses after limits others
+recounted slots listing new variables same_variables table clauses counters after limits pairs others e same a kinds = rw same (record {
+  counted = e.counted;
+  watched = e.watched;
   index = e.index;
+  watched_index = e.watched_index;
   counters_are = a;
   known = e.known;
-  slots_are = e.slots_are;
+  watched_known = e.watched_known;
+  slots_are = parted_same slots e.counted e.watched pairs others e.slots_are kinds;
   limits_are = e.limits_are;
 })
 
@@ -130,39 +177,67 @@ some_at slots place o n h is e = get_or_default slots place None o h ∙ sym is 
 pub none_at : (slots : List (Option NormalConstraint)) (place : ℕ) (o : Option NormalConstraint) → place < length slots → o ≡ get_or slots place o → o ≡ None → get_or slots place None ≡ None
 none_at slots place o h is e = get_or_default slots place None o h ∙ sym is ∙ e
 
--- its counter is what is open in it
-pub counter_there : (slots : List (Option NormalConstraint)) (listing : List Lit) (variables : ℕ) (table : List (List Occurrence)) (counters limits : List ℕ) (place counter : ℕ) (n : NormalConstraint) → IsLedger slots listing variables table counters limits
-    → place < length slots → get_or slots place None ≡ Some n → counter ≡ get_or counters place counter → (counter ≡ open_sum listing n) × (constraint_at (shown slots) place ≡ n)
-counter_there slots listing variables table counters limits place counter n i h e is =
-    let low : place < length i.indexed = omega (arith, h, i.slots_are.count) in (
-      is ∙ get_or_default counters place counter 0 (omega (arith, low, i.counters_are.counted)) ∙ i.counters_are.open_sums place low ∙ ap (open_sum listing) (i.slots_are.same place n e),
-      shown_at slots place ∙ ap constraint_in e,
-    )
+-- its counter is what is open in it, where it is counted
+pub counter_there : (slots : Slots) (listing : List Lit) (variables : ℕ) (table clauses : List (List Occurrence)) (counters limits : List ℕ) (pairs : List (Option Pair)) (place counter : ℕ) (n : NormalConstraint) → IsLedger slots listing variables table clauses counters limits pairs
+    → place < length slots → get_or slots place None ≡ Some n → get_or pairs place None ≡ None → counter ≡ get_or counters place counter → counter ≡ open_sum listing n
+counter_there slots listing variables table clauses counters limits pairs place counter n i h e f is =
+    let low : place < length i.counted = omega (arith, h, i.slots_are.count) in
+    is ∙ get_or_default counters place counter 0 (omega (arith, low, i.counters_are.counted)) ∙ i.counters_are.open_sums place low ∙ ap (open_sum listing) (i.slots_are.counts place n e f).0
 
 -- its variables are known
-pub variables_there : (slots : List (Option NormalConstraint)) (listing : List Lit) (variables : ℕ) (table : List (List Occurrence)) (counters limits : List ℕ) (place : ℕ) (n : NormalConstraint) → IsLedger slots listing variables table counters limits
+known_by : (slots : Slots) (listing : List Lit) (variables : ℕ) (table clauses : List (List Occurrence)) (counters limits : List ℕ) (pairs : List (Option Pair)) (place : ℕ) (n : NormalConstraint) (o : Option Pair) → IsLedger slots listing variables table clauses counters limits pairs
+    → place < length slots → get_or slots place None ≡ Some n → get_or pairs place None ≡ o → (variable_bound n.terms ≤ variables) × IsNormal n
+known_by slots listing variables table clauses counters limits pairs place n None i h e f =
+    let low : place < length i.counted = omega (arith, h, i.slots_are.count) in (
+      rw ((i.slots_are.counts place n e f).0) at (All-get_or (λ (m : NormalConstraint). variable_bound m.terms ≤ variables) i.counted place nothing low i.known.within),
+      rw ((i.slots_are.counts place n e f).0) at (All-get_or IsNormal i.counted place nothing low i.known.normal),
+    )
+known_by slots listing variables table clauses counters limits pairs place n (Some p) i h e f =
+    let low : place < length i.watched = omega (arith, h, i.slots_are.watched_count) in (
+      rw ((i.slots_are.watches place n p e f).1) at (All-get_or (λ (m : NormalConstraint). variable_bound m.terms ≤ variables) i.watched place nothing low i.watched_known.within),
+      rw ((i.slots_are.watches place n p e f).1) at (All-get_or IsNormal i.watched place nothing low i.watched_known.normal),
+    )
+
+pub variables_there : (slots : Slots) (listing : List Lit) (variables : ℕ) (table clauses : List (List Occurrence)) (counters limits : List ℕ) (pairs : List (Option Pair)) (place : ℕ) (n : NormalConstraint) → IsLedger slots listing variables table clauses counters limits pairs
     → place < length slots → get_or slots place None ≡ Some n → variable_bound n.terms ≤ variables
-variables_there slots listing variables table counters limits place n i h e =
-    let low : place < length i.indexed = omega (arith, h, i.slots_are.count) in
-    rw (i.slots_are.same place n e) at (All-get_or (λ (m : NormalConstraint). variable_bound m.terms ≤ variables) i.indexed place nothing low i.known.within)
+variables_there slots listing variables table clauses counters limits pairs place n i h e = (known_by slots listing variables table clauses counters limits pairs place n (get_or pairs place None) i h e refl).0
+
+none_past : (slots : Slots) (k : ℕ) (n : NormalConstraint) → get_or slots k None ≡ Some n → k < length slots
+none_past slots k n e = elim (cases_lt k (length slots)) [
+  | inl low ↦ low
+  | inr high ↦ absurd (none_some (sym (get_or_past slots k None high) ∙ e))
+]
+  where
+    none_some : None ≡ Some n → ⊥
+    none_some f = cc
+
+pub all_within : (slots : Slots) (listing : List Lit) (variables : ℕ) (table clauses : List (List Occurrence)) (counters limits : List ℕ) (pairs : List (Option Pair)) → IsLedger slots listing variables table clauses counters limits pairs
+    → (k : ℕ) (n : NormalConstraint) → get_or slots k None ≡ Some n → variable_bound n.terms ≤ variables
+all_within slots listing variables table clauses counters limits pairs i k n e = variables_there slots listing variables table clauses counters limits pairs k n i (none_past slots k n e) e
 
 -- a ledger with nothing in it
-nowhere : IsLedger [] [] 0 [] [] []
+nowhere : IsLedger [] [] 0 [] [] [] [] []
 nowhere = record {
-  indexed = [];
+  counted = [];
+  watched = [];
   index = record { size = omega arith; entries = λ l. refl };
+  watched_index = record { size = omega arith; entries = λ l. refl };
   counters_are = record { counted = refl; open_sums = λ k h. absurd (omega (arith, h)) };
   known = record { normal = All-nil IsNormal; within = All-nil (λ (n : NormalConstraint). variable_bound n.terms ≤ 0) };
-  slots_are = record { count = refl; same = λ k n e. (cc) };
+  watched_known = record { normal = All-nil IsNormal; within = All-nil (λ (n : NormalConstraint). variable_bound n.terms ≤ 0) };
+  slots_are = record { count = refl; watched_count = refl; pair_count = refl; counts = λ k n e f. absurd (cc); watches = λ k n p e f. absurd (cc) };
   limits_are = record { limited = refl; enough = λ k l h. absurd (omega (arith, h)) };
 }
+
+nobody : AreWatched [] [] 0 (record { rows = []; pairs = [] })
+nobody = record { size = omega arith; within = λ k p e. absurd (cc); each = λ k n p e f. absurd (cc) }
 
 no_reasons : AreReasons [] [] []
 no_reasons = record { as_many = refl; forced = λ k d h. absurd (omega (arith, h)) }
 
-pub empty : (slots : List (Option NormalConstraint)) (trail : List Lit × ℕ) (table : List (List Occurrence)) (counters limits : List ℕ) (reasons : List (Option ℕ)) (capacity : ℕ) → slots ≡ [] → trail ≡ ([], 0) → table ≡ [] → counters ≡ [] → limits ≡ [] → reasons ≡ []
-    → IsLedger slots trail.0 trail.1 table counters limits × AreReasons (shown slots) trail.0 reasons × (trail.1 ≤ capacity)
-empty slots trail table counters limits reasons capacity s t b c l r = rw (s, t, b, c, l, r) (nowhere, no_reasons, omega arith)
+pub empty : (slots : Slots) (trail : List Lit × ℕ) (table clauses : List (List Occurrence)) (counters limits : List ℕ) (watchers : Watching) (reasons : List (Option ℕ)) (capacity : ℕ) → slots ≡ [] → trail ≡ ([], 0) → table ≡ [] → clauses ≡ [] → counters ≡ [] → limits ≡ [] → watchers ≡ record { rows = []; pairs = [] } → reasons ≡ []
+    → IsLedger slots trail.0 trail.1 table clauses counters limits watchers.pairs × AreReasons (shown slots) trail.0 reasons × (trail.1 ≤ capacity) × AreWatched slots trail.0 trail.1 watchers
+empty slots trail table clauses counters limits watchers reasons capacity s t b d c l w r = rw (s, t, b, d, c, l, w, r) (nowhere, no_reasons, omega arith, nobody)
 
 pub queued_there : (slots same : List (Option NormalConstraint)) (listing new : List Lit) (queue : List ℕ) (l : Lit) → slots ≡ same → new ≡ listing ++ l ∷ []
     → ((k : ℕ) → 0 < coefficient_of (constraint_at (shown slots) k) (opposite l) → IsQuiet (listing ++ l ∷ []) (constraint_at (shown slots) k) ⊎ Contains queue k)

@@ -1,5 +1,5 @@
 -- One literal fewer that is true: what stays quiet, and what has to be looked at.
-use Rattle.std.proofs.Common.{◌≡◌, ℕ, zero, suc, ◌<◌, ◌≤◌, ◌⊎◌, inl, inr, Bool, true, false, not, Contains, Option, None, Some, List, [], ◌∷◌, ◌++◌, length, get_or, map, set, take, refl, ap, sym, subst, ◌∙◌, arith}
+use Rattle.std.proofs.Common.{◌≡◌, ℕ, zero, suc, ◌<◌, ◌⊎◌, inl, inr, Bool, true, false, not, Contains, Option, None, Some, List, [], ◌∷◌, ◌++◌, length, get_or, map, set, take, refl, ap, sym, subst, ◌∙◌, arith}
 use Rattle.std.proofs.lemmas.Bool.{false≢true, cases_eq}
 use Rattle.std.proofs.lemmas.Int.{ints}
 use Rattle.std.proofs.lemmas.List.{get_or-set_same, get_or-set_other, length-map, length-set}
@@ -11,14 +11,14 @@ use Rattle.propagate.specs.Walk.{IsQuiet}
 use Rattle.propagate.proofs.Consistency.{only_here}
 use Rattle.propagate.proofs.Listings.{among_cases}
 use Rattle.watch.specs.declared.occurrence.Occurrence.{Occurrence}
-use Rattle.watch.specs.Ledgers.{State, AreCounters, AreIndexed, AreLimits, IsIndex, constraint_at, constraint_in, nothing, shown}
+use Rattle.watch.specs.Ledgers.{State, IsIndex, constraint_at, constraint_in, nothing, shown}
 use Rattle.watch.specs.Looking.{AreLookedAt}
-use Rattle.watch.specs.Occurrences.{code, occurrences_of, share_of}
+use Rattle.watch.specs.Occurrences.{code, occurrences_of}
 use Rattle.watch.specs.Roots.{AllForced, IsRoot}
 use Rattle.watch.proofs.Entering.{code_below}
 use Rattle.watch.proofs.Entries.{places_from, shares_from}
 use Rattle.watch.proofs.Opening.{open_less}
-use Rattle.watch.proofs.Standing.{AreEntries, nothing_there, quiet_nothing, quiet_shown, shown_at, shown_or_nothing}
+use Rattle.watch.proofs.Standing.{AreEntries, quiet_nothing, shown_at}
 use Rattle.watch.proofs.Walking.{none_or_some}
 
 same_coefficient : (n : NormalConstraint) (v w : ℕ) (s b : Bool) → v ≡ w → s ≡ b → coefficient_of n (record { var = record { 0 = v }; negated = s }) ≡ coefficient_of n (record { var = record { 0 = w }; negated = b })
@@ -74,19 +74,6 @@ entries_at ns count table l number os x named is =
 
 pub inside_at : (ns : List NormalConstraint) (count : ℕ) (table : List (List Occurrence)) (l : Lit) (number : ℕ) → IsIndex ns count table → number ≡ code l → l.var.0 < count → number < length table
 inside_at ns count table l number x named h = omega (arith, named, code_below l count (length table) (omega (arith, h)) x.size)
-
-pub queued_at : (slots : List (Option NormalConstraint)) (ns : List NormalConstraint) (listing : List Lit) (counters limits queue : List ℕ) (l : Lit) (os : List Occurrence) → AreIndexed slots ns → AreCounters ns listing counters → AreLimits (shown slots) limits → AreEntries ns l os
-    → ((k : ℕ) → 0 < share_of k os → (get_or limits k 0 ≤ get_or counters k 0) ⊎ Contains queue k)
-    → (k : ℕ) → 0 < coefficient_of (constraint_at (shown slots) k) l → IsQuiet listing (constraint_at (shown slots) k) ⊎ Contains queue k
-queued_at slots ns listing counters limits queue l os x a b es h k some =
-    let low : k < length slots = nothing_there slots k l some in
-    elim (shown_or_nothing slots ns k x) [
-      | inl e ↦ elim (h k (omega (arith, some, ap (λ (n : NormalConstraint). coefficient_of n l) e, es.1 k (omega (arith, low, x.count))))) [
-        | inl far ↦ inl (quiet_shown slots ns listing counters limits k x a b low far)
-        | inr waits ↦ inr waits
-      ]
-      | inr e ↦ inl (subst (λ (n : NormalConstraint). IsQuiet listing n) (sym e) (quiet_nothing listing))
-    ]
 
 -- literals whose reasons are all there, and the first of them
 some_take : (places : List ℕ) (k : ℕ) → take k (map Some places) ≡ map Some (take k places)

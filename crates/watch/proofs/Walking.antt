@@ -47,7 +47,7 @@ one_sign low (t ∷ ts) v s r h =
 pub same_open : (listing : List Lit) (l : Lit) (n : NormalConstraint) → Rises 0 n.terms → IsForced listing l n → open_sum (listing ++ l ∷ []) n ≡ open_sum listing n
 same_open listing l n r f = omega (arith, open_less listing l n f.unset, one_sign 0 n.terms (l.var.0) l.negated r f.occurs)
 
-waits_more : (place : ℕ) (q q' : List ℕ) → ((k : ℕ) → Contains q k → Contains q' k) → (k : ℕ) → Contains (place ∷ q) k → Contains (place ∷ q') k
+pub waits_more : (place : ℕ) (q q' : List ℕ) → ((k : ℕ) → Contains q k → Contains q' k) → (k : ℕ) → Contains (place ∷ q) k → Contains (place ∷ q') k
 waits_more place q q' kept k (zero, low, e) = (zero, omega arith, e)
 waits_more place q q' kept k (suc i, low, e) = let r = kept k (i, omega (arith, low), e) in (suc r.0, omega (arith, r.1), r.2)
 
@@ -73,6 +73,13 @@ looked_more ns listing l place q q' unset all kept new k low = elim (none_or_som
     | inl quiet ↦ inl quiet
     | inr waits ↦ inr (waits_later place q' k waits)
   ]
+]
+
+-- what waits may be more
+pub looked_later : (ns : List NormalConstraint) (listing : List Lit) (q q' : List ℕ) → AreLookedAt ns listing q → ((k : ℕ) → Contains q k → Contains q' k) → AreLookedAt ns listing q'
+looked_later ns listing q q' all kept k low = elim (all k low) [
+  | inl quiet ↦ inl quiet
+  | inr waits ↦ inr (kept k waits)
 ]
 
 pub forced_there : (ns : List NormalConstraint) (listing : List Lit) (l : Lit) (place : ℕ) → place < length ns → IsForced listing l (constraint_at ns place) → IsForcedByOne ns listing l

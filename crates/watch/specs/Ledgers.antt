@@ -5,6 +5,7 @@ use Rattle.normal_form.specs.Normal.{NormalConstraint, IsNormal, sum_over, varia
 use Rattle.propagate.specs.Literals.{coefficient_of}
 use Rattle.propagate.specs.Slack.{IsForced, not_false}
 use Rattle.watch.specs.declared.occurrence.Occurrence.{Occurrence}
+use Rattle.watch.specs.declared.pair.Pair.{Pair}
 use Rattle.watch.specs.Occurrences.{entries_of, occurrences_of}
 
 -- what a caller sees: what stands at each place, the literals that are taken as true, the place of the constraint that
@@ -56,18 +57,26 @@ pub record AreKnown (constraints : List NormalConstraint) (variables : ℕ) : Ty
   pub normal : All IsNormal constraints
   pub within : All (λ n. variable_bound n.terms ≤ variables) constraints
 
--- what stands at a place is what is indexed there
-pub record AreIndexed (slots : List (Option NormalConstraint)) (indexed : List NormalConstraint) : Type 0 where
-  pub count : length slots ≡ length indexed
-  pub same : (k : ℕ) (n : NormalConstraint) → slice_index_or slots k None ≡ Some n → constraint_at indexed k ≡ n
+-- what stands at a place is counted, where it has no two literals that watch it, and else watched
+pub record AreParted (slots : List (Option NormalConstraint)) (counted watched : List NormalConstraint) (pairs : List (Option Pair)) : Type 0 where
+  pub count : length slots ≡ length counted
+  pub watched_count : length slots ≡ length watched
+  pub pair_count : length slots ≡ length pairs
+  pub counts : (k : ℕ) (n : NormalConstraint) → slice_index_or slots k None ≡ Some n → slice_index_or pairs k None ≡ None
+      → (constraint_at counted k ≡ n) × (constraint_at watched k ≡ nothing)
+  pub watches : (k : ℕ) (n : NormalConstraint) (p : Pair) → slice_index_or slots k None ≡ Some n → slice_index_or pairs k None ≡ Some p
+      → (constraint_at counted k ≡ nothing) × (constraint_at watched k ≡ n)
 
 -- what a ledger keeps. A constraint that was taken out stays indexed and counted, and its limit asks for nothing
-pub record IsLedger (slots : List (Option NormalConstraint)) (listing : List Lit) (variables : ℕ) (table : List (List Occurrence)) (counters limits : List ℕ) : Type 0 where
-  pub indexed : List NormalConstraint
-  pub index : IsIndex indexed variables table
-  pub counters_are : AreCounters indexed listing counters
-  pub known : AreKnown indexed variables
-  pub slots_are : AreIndexed slots indexed
+pub record IsLedger (slots : List (Option NormalConstraint)) (listing : List Lit) (variables : ℕ) (table clauses : List (List Occurrence)) (counters limits : List ℕ) (pairs : List (Option Pair)) : Type 0 where
+  pub counted : List NormalConstraint
+  pub watched : List NormalConstraint
+  pub index : IsIndex counted variables table
+  pub watched_index : IsIndex watched variables clauses
+  pub counters_are : AreCounters counted listing counters
+  pub known : AreKnown counted variables
+  pub watched_known : AreKnown watched variables
+  pub slots_are : AreParted slots counted watched pairs
   pub limits_are : AreLimits (shown slots) limits
 
 -- the constraint at the place of the reason forces the literal, where there is a reason

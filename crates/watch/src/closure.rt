@@ -14,7 +14,7 @@ ghost use Rattle.propagate.specs.Chain.{IsRefuted};
 ghost use Rattle.propagate.specs.Literals.{IsConsistent};
 ghost use Rattle.propagate.specs.Reach.{IsReach};
 ghost use Rattle.watch.specs.Ledgers.{constraint_at, shown};
-ghost use Rattle.watch.specs.Lent.{AreEntriesOf};
+ghost use Rattle.watch.specs.Lent.{AreEntriesOf, all_of};
 ghost use Rattle.watch.specs.Steps.{IsFound};
 
 use super::chain::Chain;
@@ -23,7 +23,7 @@ use super::extras::attach_waiting;
 use super::following::go_back;
 use super::ledger::Ledger;
 use super::levels::Levels;
-use super::occurrence::Occurrence;
+use super::occurrence::Entries;
 use super::queue::Queue;
 use super::refutation::refute_anew;
 use super::release::release;
@@ -85,9 +85,9 @@ impl Closure {
     }
 
     /// Where a literal stands, places that are empty among them.
-    pub(crate) fn entries(&self, literal: Lit) -> &[Occurrence]
-        ensures value { AreEntriesOf self.now literal result.now }
-        ensures places { All (λ e. e.place < length self.now) result.now }
+    pub(crate) fn entries(&self, literal: Lit) -> Entries<'_>
+        ensures value { AreEntriesOf self.now literal (all_of result) }
+        ensures places { All (λ e. e.place < length self.now) (all_of result) }
     {
         self.ledger.entries(literal)
     }

@@ -5,19 +5,22 @@
 //! and taking it off looks at nothing else. Where memory ends midway, the entries so far are taken off by the same
 //! way.
 
-ghost use Rattle.std.specs.Prelude.{◌≡◌, ◌*◌, ◌≤◌, ℕ, List, [], OnOk, OnErr, length, take};
+ghost use Rattle.std.specs.Prelude.{◌≡◌, ◌*◌, ◌<◌, ◌≤◌, ◌++◌, ◌∷◌, ℕ, List, [], None, Some, OnOk, OnErr, length, take};
 ghost use Rattle.linear.specs.declared.term.Lit.{Lit};
 ghost use Rattle.normal_form.specs.Normal.{IsNormal, variable_bound};
 ghost use Rattle.watch.specs.declared.occurrence.Occurrence.{Occurrence};
-ghost use Rattle.watch.specs.Occurrences.{HasMore, entries_of};
+ghost use Rattle.watch.specs.Occurrences.{HasMore, code, entries_of};
+ghost use Rattle.watch.specs.Watched.{StandsIn};
 
 use super::occurrence::{Occurrence, code_of};
+use super::pair::Pair;
 use super::table::Table;
+use super::watchers::Watchers;
 use normal_form::Normal;
 use std::alloc::AllocError;
 
 // Puts in the entries of the first terms, as many as memory is there for.
-fn enter_some(table: &mut Table, place: usize, constraint: &Normal) -> usize
+fn enter_some(table: &mut Table<Occurrence>, place: usize, constraint: &Normal) -> usize
     requires { 2 * variable_bound constraint.now.terms ≤ length table.old }
     ensures length { length table.new ≡ length table.old }
     ensures count { result ≤ length constraint.now.terms }
@@ -38,8 +41,8 @@ fn enter_some(table: &mut Table, place: usize, constraint: &Normal) -> usize
     count
 }
 
-/// Puts in the entries of a constraint at a place, or none.
-pub(crate) fn enter(table: &mut Table, place: usize, constraint: &Normal) -> Result<(), AllocError>
+// Puts in the entries of a constraint at a place, or none.
+fn enter(table: &mut Table<Occurrence>, place: usize, constraint: &Normal) -> Result<(), AllocError>
     requires { 2 * variable_bound constraint.now.terms ≤ length table.old }
     ensures length { length table.new ≡ length table.old }
     ensures ok { OnOk result (HasMore (entries_of table.old) table.new place constraint.now.terms) }
@@ -54,7 +57,7 @@ pub(crate) fn enter(table: &mut Table, place: usize, constraint: &Normal) -> Res
 }
 
 /// Takes off the entries of a constraint's first terms, which are the last of their lists.
-pub(crate) fn leave(table: &mut Table, constraint: &Normal, count: usize)
+pub(crate) fn leave(table: &mut Table<Occurrence>, constraint: &Normal, count: usize)
     requires table { 2 * variable_bound constraint.now.terms ≤ length table.old }
     requires count { count ≤ length constraint.now.terms }
     requires normal { IsNormal constraint.now }
@@ -65,5 +68,61 @@ pub(crate) fn leave(table: &mut Table, constraint: &Normal, count: usize)
 {
     for index in 0..count {
         table.pop(code_of(constraint.term(index).literal()));
+    }
+}
+
+/// Puts in the entries of a constraint that is counted, at the next place.
+pub(crate) fn enter_counted(
+    table: &mut Table<Occurrence>,
+    watchers: &mut Watchers,
+    constraint: &Normal,
+) -> Result<(), AllocError>
+    requires { 2 * variable_bound constraint.now.terms ≤ length table.old }
+    ensures length { length table.new ≡ length table.old }
+    ensures ok { OnOk result (HasMore (entries_of table.old) table.new (length watchers.old.pairs) constraint.now.terms) }
+    ensures err { OnErr result (HasMore (entries_of table.old) table.new (length watchers.old.pairs) []) }
+    ensures pairs { OnOk result (watchers.new.pairs ≡ watchers.old.pairs ++ None ∷ []) }
+    ensures no_pairs { OnErr result (watchers.new.pairs ≡ watchers.old.pairs) }
+    ensures rows { watchers.new.rows ≡ watchers.old.rows }
+{
+    let place = watchers.len();
+    watchers.skip()?;
+    match enter(table, place, constraint) {
+        Err(_) => {
+            watchers.detach();
+            Err(AllocError)
+        }
+        Ok(()) => Ok(()),
+    }
+}
+
+/// Puts in the entries of a clause that is watched by two literals, at the next place.
+pub(crate) fn enter_watched(
+    table: &mut Table<Occurrence>,
+    watchers: &mut Watchers,
+    constraint: &Normal,
+    pair: Pair,
+) -> Result<(), AllocError>
+    requires table { 2 * variable_bound constraint.now.terms ≤ length table.old }
+    requires first { code pair.first < length watchers.old.rows }
+    requires second { code pair.second < length watchers.old.rows }
+    ensures length { length table.new ≡ length table.old }
+    ensures ok { OnOk result (HasMore (entries_of table.old) table.new (length watchers.old.pairs) constraint.now.terms) }
+    ensures err { OnErr result (HasMore (entries_of table.old) table.new (length watchers.old.pairs) []) }
+    ensures pairs { OnOk result (watchers.new.pairs ≡ watchers.old.pairs ++ Some pair ∷ []) }
+    ensures no_pairs { OnErr result (watchers.new.pairs ≡ watchers.old.pairs) }
+    ensures row_count { length watchers.new.rows ≡ length watchers.old.rows }
+    ensures kept { (l : Lit) (k : ℕ) → StandsIn watchers.old.rows l k → StandsIn watchers.new.rows l k }
+    ensures first_there { OnOk result (StandsIn watchers.new.rows pair.first (length watchers.old.pairs)) }
+    ensures second_there { OnOk result (StandsIn watchers.new.rows pair.second (length watchers.old.pairs)) }
+{
+    let place = watchers.len();
+    watchers.watch(pair)?;
+    match enter(table, place, constraint) {
+        Err(_) => {
+            watchers.detach();
+            Err(AllocError)
+        }
+        Ok(()) => Ok(()),
     }
 }

@@ -39,7 +39,7 @@ pub(crate) fn go_back(ledger: &mut Ledger, queue: &mut Queue, levels: &mut Level
 }
 
 // Adds what is forced, up to a constraint that is broken, whatever levels there are.
-fn settle_kept(ledger: &mut Ledger, queue: &mut Queue) -> Ascent
+fn settle_kept(ledger: &mut Ledger, queue: &mut Queue) -> Result<Ascent, AllocError>
     requires count { queue.old.1 ≡ length ledger.old.slots }
     requires looked_at { AreLookedAt (shown ledger.old.slots) ledger.old.listing queue.old.0 }
     ensures slots { ledger.new.slots ≡ ledger.old.slots }
@@ -47,14 +47,14 @@ fn settle_kept(ledger: &mut Ledger, queue: &mut Queue) -> Ascent
     ensures kept { (levels : List Lit × List ℕ) → IsKept ledger.old levels queue.old.0 queue.old.1
         → IsKept ledger.new levels queue.new.0 queue.new.1 }
     ensures end { (levels : List Lit × List ℕ) → IsKept ledger.old levels queue.old.0 queue.old.1
-        → IsAscent (shown ledger.old.slots) levels.0 ledger.new.listing result }
+        → IfOk result (IsAscent (shown ledger.old.slots) levels.0 ledger.new.listing) }
 {
     let _before = ledger.len();
     let broken = settle(ledger, queue);
     let _behind = ledger.len();
-    match broken {
-        Some(place) => Ascent::Broken(place),
-        None => Ascent::Whole,
+    match broken? {
+        Some(place) => Ok(Ascent::Broken(place)),
+        None => Ok(Ascent::Whole),
     }
 }
 
@@ -75,7 +75,13 @@ fn open_level(
     ensures kept { IsKept ledger.new levels.new queue.new.0 queue.new.1 }
 {
     levels.push(literal, ledger.len())?;
-    give(ledger, queue, literal);
+    match give(ledger, queue, literal) {
+        Err(_) => {
+            levels.truncate(levels.count() - 1);
+            return Err(AllocError);
+        }
+        Ok(()) => {}
+    }
     let _behind = ledger.len();
     Ok(())
 }
@@ -100,7 +106,7 @@ fn step_up(
         return Ok(Ascent::Clash);
     }
     open_level(ledger, queue, levels, literal)?;
-    Ok(settle_kept(ledger, queue))
+    settle_kept(ledger, queue)
 }
 
 // Gives the literals of a listing that are still to come.
@@ -146,8 +152,9 @@ pub(crate) fn follow(
     ensures end { IfOk result (IsAscent (shown ledger.old.slots) given.now ledger.new.listing) }
 {
     go_back(ledger, queue, levels, levels.agreement(given));
-    let ascent = settle_kept(ledger, queue);
+    let settled = settle_kept(ledger, queue);
     let _literals = ledger.len();
+    let ascent = settled?;
     if !ascent.is_whole() {
         return Ok(ascent);
     }

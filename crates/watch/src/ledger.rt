@@ -19,16 +19,20 @@ ghost use Rattle.normal_form.specs.Normal.{Rises, variable_bound};
 ghost use Rattle.propagate.specs.Literals.{IsConsistent, IsOnce, lists, opposite, coefficient_of};
 ghost use Rattle.propagate.specs.Slack.{IsBroken};
 ghost use Rattle.propagate.specs.Walk.{IsQuiet};
-ghost use Rattle.watch.specs.Lent.{AreEntriesOf};
+ghost use Rattle.watch.specs.Lent.{AreEntriesOf, all_of};
 ghost use Rattle.watch.specs.Ledgers.{AreReasons, IsReason, constraint_at, open_sum, shown};
+ghost use Rattle.watch.specs.Watched.{IsOpen, IsPairOf};
 
-use super::entry_lists::{enter, leave};
+use super::choosing::open_pair;
+use super::entry_lists::{enter_counted, enter_watched, leave};
 use super::lowering::{lower, queue_below, raise};
 use super::measures::{largest, open_sum};
-use super::occurrence::{Occurrence, code_of, opposite_of};
+use super::occurrence::{Entries, Occurrence, code_of, opposite_of};
+use super::pair::Pair;
 use super::queue::Queue;
 use super::table::Table;
 use super::trail::Trail;
+use super::watchers::Watchers;
 use linear::Lit;
 use normal_form::{Normal, NormalTerm};
 use std::alloc::{AllocError, Global};
@@ -38,9 +42,13 @@ use std::marker::Model;
 #[derive(Drop)]
 pub(crate) struct Ledger {
     slots: Vec<Option<Normal>>,
-    table: Table,
+    /// Where literals stand in constraints that are counted.
+    table: Table<Occurrence>,
     counters: Vec<u128>,
     limits: Vec<u128>,
+    /// Where literals stand in clauses that are watched.
+    clauses: Table<Occurrence>,
+    watchers: Watchers,
     trail: Trail,
     reasons: Vec<Option<usize>>,
 }
@@ -48,6 +56,7 @@ pub(crate) struct Ledger {
 impl Model for Ledger {
     ghost use Rattle.std.specs.Prelude.{◌≤◌, vec_capacity};
     ghost use Rattle.watch.specs.Ledgers.{State, IsLedger, AreReasons, shown};
+    ghost use Rattle.watch.specs.Watched.{AreWatched};
 
     ghost Value = { State };
 
@@ -58,8 +67,9 @@ impl Model for Ledger {
       variables = e.trail.1;
     } };
 
-    ghost invariant = { λ e. IsLedger e.slots.items e.trail.0 e.trail.1 e.table e.counters.items e.limits.items
-        × AreReasons (shown e.slots.items) e.trail.0 e.reasons.items × (e.trail.1 ≤ vec_capacity e.reasons) };
+    ghost invariant = { λ e. IsLedger e.slots.items e.trail.0 e.trail.1 e.table e.clauses e.counters.items e.limits.items e.watchers.pairs
+        × AreReasons (shown e.slots.items) e.trail.0 e.reasons.items × (e.trail.1 ≤ vec_capacity e.reasons)
+        × AreWatched e.slots.items e.trail.0 e.trail.1 e.watchers };
 }
 
 impl Ledger {
@@ -72,14 +82,21 @@ impl Ledger {
             table: Table::new(alloc),
             counters: Vec::new(alloc),
             limits: Vec::new(alloc),
+            clauses: Table::new(alloc),
+            watchers: Watchers::new(alloc),
             trail: Trail::new(alloc),
             reasons: Vec::new(alloc),
         }
     }
 
     /// Takes a free literal as true, forced by the constraint of a place or given, and queues what may now be broken
-    /// or force.
-    pub(crate) fn set_true(&mut self, literal: Lit, reason: Option<usize>, queue: &mut Queue)
+    /// or force. On want of memory it stays free.
+    pub(crate) fn set_true(
+        &mut self,
+        literal: Lit,
+        reason: Option<usize>,
+        queue: &mut Queue,
+    ) -> Result<(), AllocError>
         requires variable { literal.var.0 < self.old.variables }
         requires unset { lists self.old.listing literal ≡ false }
         requires opposite_unset { lists self.old.listing (opposite literal) ≡ false }
@@ -87,21 +104,28 @@ impl Ledger {
         requires queue { queue.old.1 ≡ length self.old.slots }
         ensures slots { self.new.slots ≡ self.old.slots }
         ensures variables { self.new.variables ≡ self.old.variables }
-        ensures listing { self.new.listing ≡ self.old.listing ++ literal ∷ [] }
-        ensures reasons { self.new.reasons ≡ self.old.reasons ++ reason ∷ [] }
+        ensures listing { OnOk result (self.new.listing ≡ self.old.listing ++ literal ∷ []) }
+        ensures reasons { OnOk result (self.new.reasons ≡ self.old.reasons ++ reason ∷ []) }
+        ensures err { OnErr result (self.new ≡ self.old) }
         ensures count { queue.new.1 ≡ queue.old.1 }
         ensures kept { (k : ℕ) → Contains queue.old.0 k → Contains queue.new.0 k }
-        ensures queued { (k : ℕ) → 0 < coefficient_of (constraint_at (shown self.old.slots) k) (opposite literal)
-            → IsQuiet self.new.listing (constraint_at (shown self.old.slots) k) ⊎ Contains queue.new.0 k }
+        ensures queued { OnOk result ((k : ℕ)
+            → 0 < coefficient_of (constraint_at (shown self.old.slots) k) (opposite literal)
+            → IsQuiet self.new.listing (constraint_at (shown self.old.slots) k) ⊎ Contains queue.new.0 k) }
     {
+        let fallen = opposite_of(literal);
+        self.watchers
+            .fall(self.slots.as_slice(), &self.trail, fallen, queue)?;
         self.trail.push(literal);
+        let _literals = self.trail.listing();
         self.reasons.push_reserved(reason);
         lower(
             &mut self.counters,
             self.limits.as_slice(),
             queue,
-            self.table.row(code_of(opposite_of(literal))),
+            self.table.row(code_of(fallen)),
         );
+        Ok(())
     }
 
     /// Takes the last literal back, if there is one.
@@ -111,6 +135,7 @@ impl Ledger {
         ensures listing { MatchOption result ((self.old.listing ≡ []) × (self.new.listing ≡ []))
             (λ l. self.old.listing ≡ self.new.listing ++ l ∷ []) }
         ensures unset { IfSome result (λ l. lists self.new.listing l ≡ false) }
+        ensures opposite_unset { IfSome result (λ l. IsOpen self.new.listing l) }
         ensures variable { IfSome result (λ l. l.var.0 < self.old.variables) }
         ensures reasons { self.new.reasons ≡ take (length self.new.listing) self.old.reasons }
     {
@@ -127,9 +152,10 @@ impl Ledger {
         }
     }
 
-    /// Queues the constraints with a literal that may be broken or force something.
+    /// Queues the constraints with a literal, which is not made false, that may be broken or force something.
     pub(crate) fn queue_places(&self, literal: Lit, queue: &mut Queue)
         requires variable { literal.var.0 < self.now.variables }
+        requires unfallen { IsOpen self.now.listing literal }
         requires queue { queue.old.1 ≡ length self.now.slots }
         ensures count { queue.new.1 ≡ queue.old.1 }
         ensures kept { (k : ℕ) → Contains queue.old.0 k → Contains queue.new.0 k }
@@ -142,10 +168,23 @@ impl Ledger {
             queue,
             self.table.row(code_of(literal)),
         );
+        let _literals = self.trail.listing();
+        self.watchers.queue_last(&self.trail, literal, queue);
+    }
+
+    // What is open in the constraint of a place: it is counted, or added up where it is watched.
+    fn open(&self, place: usize, constraint: &Normal) -> u128
+        requires { slice_index_or self.now.slots place None ≡ Some constraint.now }
+        ensures { result ≡ open_sum self.now.listing constraint.now }
+    {
+        match self.watchers.pair(place) {
+            None => self.counters[place],
+            Some(_) => open_sum(constraint, &self.trail),
+        }
     }
 
     /// What the literals of the constraint at a place that are not made false have more than its degree, or `None`
-    /// where it is broken. Nothing is added up.
+    /// where it is broken.
     pub(crate) fn slack(&self, place: usize) -> Option<u128>
         requires { place < length self.now.slots }
         ensures { MatchOption result (IsBroken self.now.listing (constraint_at (shown self.now.slots) place))
@@ -154,7 +193,9 @@ impl Ledger {
     {
         match &self.slots[place] {
             None => Some(0),
-            Some(constraint) => self.counters[place].checked_sub(constraint.degree()),
+            Some(constraint) => self
+                .open(place, constraint)
+                .checked_sub(constraint.degree()),
         }
     }
 
@@ -256,11 +297,15 @@ impl Ledger {
     }
 
     /// Where a literal stands, places that say nothing among them.
-    pub(crate) fn entries(&self, literal: Lit) -> &[Occurrence]
-        ensures value { AreEntriesOf self.now.slots literal result.now }
-        ensures places { All (λ e. e.place < length self.now.slots) result.now }
+    pub(crate) fn entries(&self, literal: Lit) -> Entries<'_>
+        ensures value { AreEntriesOf self.now.slots literal (all_of result) }
+        ensures places { All (λ e. e.place < length self.now.slots) (all_of result) }
     {
-        self.table.row_or_none(code_of(literal))
+        let number = code_of(literal);
+        Entries {
+            counted: self.table.row_or_none(number),
+            watched: self.clauses.row_or_none(number),
+        }
     }
 
     /// Takes the constraint of a place out, if there is one, where it is no literal's reason. The place stays.
@@ -292,9 +337,45 @@ impl Ledger {
         ensures ok { OnOk result (variables ≤ self.new.variables) }
     {
         self.table.widen(alloc, variables * 2)?;
+        self.clauses.widen(alloc, variables * 2)?;
+        self.watchers.widen(alloc, variables * 2)?;
         self.reasons
             .reserve(variables.saturating_sub(self.reasons.len()))?;
         self.trail.widen(variables)
+    }
+
+    // Adds a constraint at the next place, to be counted.
+    fn attach_counted(&mut self, constraint: Normal) -> Result<(), AllocError>
+        requires { variable_bound constraint.terms ≤ self.old.variables }
+        ensures ok { OnOk result (self.new ≡ record self.old { slots = self.old.slots ++ Some constraint ∷ [] }) }
+        ensures err { OnErr result (self.new ≡ self.old) }
+    {
+        make_room(&mut self.slots, &mut self.counters, &mut self.limits)?;
+        let open = open_sum(&constraint, &self.trail);
+        let limit = constraint.degree() + largest(&constraint);
+        enter_counted(&mut self.table, &mut self.watchers, &constraint)?;
+        self.counters.push_reserved(open);
+        self.limits.push_reserved(limit);
+        self.slots.push_reserved(Some(constraint));
+        Ok(())
+    }
+
+    // Adds a clause at the next place, to be watched by two open literals.
+    fn attach_watched(&mut self, constraint: Normal, pair: Pair) -> Result<(), AllocError>
+        requires variables { variable_bound constraint.terms ≤ self.old.variables }
+        requires pair { IsPairOf constraint pair }
+        requires first { IsOpen self.old.listing pair.first }
+        requires second { IsOpen self.old.listing pair.second }
+        ensures ok { OnOk result (self.new ≡ record self.old { slots = self.old.slots ++ Some constraint ∷ [] }) }
+        ensures err { OnErr result (self.new ≡ self.old) }
+    {
+        make_room(&mut self.slots, &mut self.counters, &mut self.limits)?;
+        let limit = constraint.degree() + largest(&constraint);
+        enter_watched(&mut self.clauses, &mut self.watchers, &constraint, pair)?;
+        self.counters.push_reserved(0);
+        self.limits.push_reserved(limit);
+        self.slots.push_reserved(Some(constraint));
+        Ok(())
     }
 
     /// Adds a constraint at the next place.
@@ -303,14 +384,10 @@ impl Ledger {
         ensures ok { OnOk result (self.new ≡ record self.old { slots = self.old.slots ++ Some constraint ∷ [] }) }
         ensures err { OnErr result (self.new ≡ self.old) }
     {
-        make_room(&mut self.slots, &mut self.counters, &mut self.limits)?;
-        let open = open_sum(&constraint, &self.trail);
-        let limit = constraint.degree() + largest(&constraint);
-        enter(&mut self.table, self.slots.len(), &constraint)?;
-        self.counters.push_reserved(open);
-        self.limits.push_reserved(limit);
-        self.slots.push_reserved(Some(constraint));
-        Ok(())
+        match open_pair(&constraint, &self.trail) {
+            None => self.attach_counted(constraint),
+            Some(pair) => self.attach_watched(constraint, pair),
+        }
     }
 
     /// Takes the constraint of the last place off, and the place.
@@ -323,7 +400,11 @@ impl Ledger {
         match self.slots.pop() {
             Some(Some(constraint)) => {
                 let count = constraint.len();
-                leave(&mut self.table, &constraint, count);
+                match self.watchers.pair(self.slots.len()) {
+                    None => leave(&mut self.table, &constraint, count),
+                    Some(_) => leave(&mut self.clauses, &constraint, count),
+                }
+                self.watchers.detach();
                 self.counters.pop();
                 self.limits.pop();
             }

@@ -5,17 +5,17 @@
 
 ghost use Rattle.std.specs.Prelude.{◌≡◌, ◌+◌, ◌<◌, ◌≤◌, ◌∷◌, [], All, MatchOption, drop, length, slice_index_or};
 ghost use Rattle.watch.specs.declared.occurrence.Occurrence.{Occurrence};
-ghost use Rattle.watch.specs.Lent.{ids_at, live_places};
+ghost use Rattle.watch.specs.Lent.{all_of, ids_at, live_places};
 
 use super::closure::Closure;
-use super::occurrence::Occurrence;
+use super::occurrence::Entries;
 use propagate::Id;
 use std::marker::Model;
 
 /// The ids of constraints that are still to come.
 #[derive(Drop)]
 pub struct Occurrences<'a> {
-    entries: &'a [Occurrence],
+    entries: Entries<'a>,
     passed: usize,
     closure: &'a Closure,
     ids: &'a [Id],
@@ -23,26 +23,26 @@ pub struct Occurrences<'a> {
 
 impl<'a> Model for Occurrences<'a> {
     ghost use Rattle.std.specs.Prelude.{◌≡◌, ◌<◌, ◌≤◌, ℕ, List, All, drop, length};
-    ghost use Rattle.watch.specs.Lent.{ids_at, live_places};
+    ghost use Rattle.watch.specs.Lent.{all_of, ids_at, live_places};
 
     ghost Value = { List ℕ };
 
-    ghost view = { λ o. ids_at o.ids.now (live_places o.closure.now (drop o.passed o.entries.now)) };
+    ghost view = { λ o. ids_at o.ids.now (live_places o.closure.now (drop o.passed (all_of o.entries))) };
 
-    ghost invariant = { λ o. (o.passed ≤ length o.entries.now) × (length o.ids.now ≡ length o.closure.now)
-        × All (λ e. e.place < length o.closure.now) o.entries.now };
+    ghost invariant = { λ o. (o.passed ≤ length (all_of o.entries)) × (length o.ids.now ≡ length o.closure.now)
+        × All (λ e. e.place < length o.closure.now) (all_of o.entries) };
 }
 
 // The first entry from an index on whose constraint is there.
-fn first_live(entries: &[Occurrence], from: usize, closure: &Closure) -> Option<usize>
-    requires from { from ≤ length entries.now }
-    requires places { All (λ e. e.place < length closure.now) entries.now }
-    ensures { MatchOption result (live_places closure.now (drop from entries.now) ≡ [])
-        (λ k. (k < length entries.now) × ((d : Occurrence) → live_places closure.now (drop from entries.now)
-        ≡ (slice_index_or entries.now k d).place ∷ live_places closure.now (drop (k + 1) entries.now))) }
+fn first_live(entries: Entries<'_>, from: usize, closure: &Closure) -> Option<usize>
+    requires from { from ≤ length (all_of entries) }
+    requires places { All (λ e. e.place < length closure.now) (all_of entries) }
+    ensures { MatchOption result (live_places closure.now (drop from (all_of entries.entry)) ≡ [])
+        (λ k. (k < length (all_of entries.entry)) × ((d : Occurrence) → live_places closure.now (drop from (all_of entries.entry))
+        ≡ (slice_index_or (all_of entries.entry) k d).place ∷ live_places closure.now (drop (k + 1) (all_of entries.entry)))) }
 {
     for index in from..entries.len() {
-        if closure.get(entries[index].place).is_some() {
+        if closure.get(entries.place(index)).is_some() {
             return Some(index);
         }
     }
@@ -51,10 +51,10 @@ fn first_live(entries: &[Occurrence], from: usize, closure: &Closure) -> Option<
 
 impl<'a> Occurrences<'a> {
     /// The ids of the constraints at the places of entries.
-    pub(crate) fn of(entries: &'a [Occurrence], closure: &'a Closure, ids: &'a [Id]) -> Self
-        requires places { All (λ e. e.place < length closure.now) entries.now }
+    pub(crate) fn of(entries: Entries<'a>, closure: &'a Closure, ids: &'a [Id]) -> Self
+        requires places { All (λ e. e.place < length closure.now) (all_of entries) }
         requires ids { length ids.now ≡ length closure.now }
-        ensures { result ≡ ids_at ids.now (live_places closure.now entries.now) }
+        ensures { result ≡ ids_at ids.now (live_places closure.now (all_of entries.entry)) }
     {
         Occurrences {
             entries,
@@ -70,6 +70,6 @@ impl<'a> Occurrences<'a> {
     {
         let index = first_live(self.entries, self.passed, self.closure)?;
         self.passed = index + 1;
-        Some(self.ids[self.entries[index].place])
+        Some(self.ids[self.entries.place(index)])
     }
 }

@@ -3,11 +3,13 @@
 
 mod ascent;
 mod chain;
+mod choosing;
 mod closure;
 mod database;
 mod entry_lists;
 mod extension;
 mod extras;
+mod finding;
 mod following;
 mod giving;
 mod ledger;
@@ -17,6 +19,7 @@ mod lowering;
 mod measures;
 mod naming;
 mod occurrence;
+mod pair;
 mod queue;
 mod refutation;
 mod release;
@@ -26,6 +29,7 @@ mod tracing;
 mod trail;
 mod walk;
 mod watch_propagator;
+mod watchers;
 
 pub use lending::Occurrences;
 pub use watch_propagator::WatchPropagator;

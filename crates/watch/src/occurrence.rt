@@ -4,8 +4,10 @@
 //! list of the places where it stands, with its coefficient there: what is touched is found without a look at the
 //! rest, and without a look at the constraint.
 
-ghost use Rattle.std.specs.Prelude.{◌≡◌};
+ghost use Rattle.std.specs.Prelude.{◌≡◌, ◌<◌, length, slice_index_or};
 ghost use Rattle.propagate.specs.Literals.{opposite};
+ghost use Rattle.watch.specs.declared.occurrence.Occurrence.{Occurrence};
+ghost use Rattle.watch.specs.Lent.{all_of};
 ghost use Rattle.watch.specs.Occurrences.{code};
 
 use linear::Lit;
@@ -15,6 +17,35 @@ use linear::Lit;
 pub(crate) struct Occurrence {
     pub(crate) place: usize,
     pub(crate) coef: u128,
+}
+
+/// Where a literal stands: in constraints that are counted, and in clauses that are watched.
+#[derive(Clone, Copy, Debug)]
+pub(crate) struct Entries<'a> {
+    pub(crate) counted: &'a [Occurrence],
+    pub(crate) watched: &'a [Occurrence],
+}
+
+impl<'a> Entries<'a> {
+    /// How many there are.
+    pub(crate) fn len(self) -> usize
+        ensures { result ≡ length (all_of self.entry) }
+    {
+        self.counted.len() + self.watched.len()
+    }
+
+    /// The place of the entry at an index, where those that are counted come first.
+    pub(crate) fn place(self, index: usize) -> usize
+        requires { index < length (all_of self) }
+        ensures { (d : Occurrence) → result ≡ (slice_index_or (all_of self.entry) index d).place }
+    {
+        let counted = self.counted.len();
+        if index < counted {
+            self.counted[index].place
+        } else {
+            self.watched[index - counted].place
+        }
+    }
 }
 
 /// The number of a literal in tables by literal.

@@ -19,15 +19,16 @@ use normal_form::Normal;
 use std::alloc::{AllocError, Global};
 
 // Whether the constraints are refuted. What they force from nothing is then found.
-fn decide(ledger: &mut Ledger, queue: &mut Queue) -> bool
+fn decide(ledger: &mut Ledger, queue: &mut Queue) -> Result<bool, AllocError>
     requires { IsRoot ledger.old queue.old.0 queue.old.1 }
-    ensures value { IsTrue result ↔ IsRefuted (shown ledger.old.slots) }
+    ensures value { IfOk result (λ yes. IsTrue yes ↔ IsRefuted (shown ledger.old.slots)) }
     ensures goes_on { GoesOn ledger.old ledger.new }
     ensures root { IsRoot ledger.new queue.new.0 queue.new.1 }
-    ensures settled { (IsTrue result → ⊥) → IsSettled (shown ledger.new.slots) ledger.new.listing }
+    ensures settled { IfOk result (λ yes. (IsTrue yes → ⊥)
+        → IsSettled (shown ledger.new.slots) ledger.new.listing) }
 {
     let _literals = ledger.len();
-    settle(ledger, queue).is_some()
+    Ok(settle(ledger, queue)?.is_some())
 }
 
 // Attaches constraints, and decides whether all are refuted. What stood before comes first.
@@ -47,7 +48,7 @@ fn decide_beside(
 {
     let _literals = ledger.len();
     attach_all(alloc, ledger, queue, extras)?;
-    Ok(decide(ledger, queue))
+    decide(ledger, queue)
 }
 
 // Whether settled constraints are refuted beside others. What stood before stands again.
@@ -84,7 +85,7 @@ pub(crate) fn refute_anew(
     ensures root { IsRoot ledger.new queue.new.0 queue.new.1 }
     ensures value { IfOk result (λ yes. IsTrue yes ↔ IsRefuted (shown ledger.old.slots ++ extras.now)) }
 {
-    if decide(ledger, queue) {
+    if decide(ledger, queue)? {
         return Ok(true);
     }
     refute_beside(alloc, ledger, queue, extras)

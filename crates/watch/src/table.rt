@@ -1,28 +1,27 @@
-//! Lists of occurrences, by the numbers of literals.
+//! Lists of entries, by the numbers of literals.
 
 ghost use Rattle.std.specs.Prelude.{◌≡◌, ◌-◌, ◌<◌, ◌≤◌, ◌++◌, ◌∷◌, [], ℕ, OnOk, OnErr, length, take, slice_index_or};
 ghost use Rattle.std.specs.Prelude.{slice_set};
+ghost use Rattle.std.specs.List.{swap_remove};
 
-use super::occurrence::Occurrence;
 use std::alloc::{AllocError, Global};
 use std::marker::Model;
 
-/// A list of occurrences for each number below a bound.
+/// A list of entries for each number below a bound.
 #[derive(Drop)]
-pub(crate) struct Table {
-    rows: Vec<Vec<Occurrence>>,
+pub(crate) struct Table<E> {
+    rows: Vec<Vec<E>>,
 }
 
-impl Model for Table {
+impl<E> Model for Table<E> {
     ghost use Rattle.std.specs.Prelude.{List, map};
-    ghost use Rattle.watch.specs.declared.occurrence.Occurrence.{Occurrence};
 
-    ghost Value = { List (List Occurrence) };
+    ghost Value = { List (List E) };
 
     ghost view = { λ t. map (λ v. v.items) t.rows.items };
 }
 
-impl Table {
+impl<E: Copy> Table<E> {
     /// No lists.
     pub(crate) fn new(alloc: Global) -> Self
         ensures { result ≡ [] }
@@ -45,7 +44,7 @@ impl Table {
     }
 
     /// The list of a number.
-    pub(crate) fn row(&self, number: usize) -> &[Occurrence]
+    pub(crate) fn row(&self, number: usize) -> &[E]
         requires { number < length self.now }
         ensures { result.now ≡ slice_index_or self.now number [] }
     {
@@ -53,7 +52,7 @@ impl Table {
     }
 
     /// The list of a number, and none above the bound.
-    pub(crate) fn row_or_none(&self, number: usize) -> &[Occurrence]
+    pub(crate) fn row_or_none(&self, number: usize) -> &[E]
         ensures { result.now ≡ slice_index_or self.now number [] }
     {
         match self.rows.get(number) {
@@ -63,7 +62,7 @@ impl Table {
     }
 
     /// One entry more at the end of a list.
-    pub(crate) fn push(&mut self, number: usize, entry: Occurrence) -> Result<(), AllocError>
+    pub(crate) fn push(&mut self, number: usize, entry: E) -> Result<(), AllocError>
         requires { number < length self.old }
         ensures ok { OnOk result (self.new ≡ slice_set self.old number
             (slice_index_or self.old number [] ++ entry ∷ [])) }
@@ -82,5 +81,15 @@ impl Table {
             (take (length (slice_index_or self.old number []) - 1) (slice_index_or self.old number [])) }
     {
         self.rows[number].pop();
+    }
+
+    /// Takes the entry at an index off a list; the last one takes its place.
+    pub(crate) fn swap_remove(&mut self, number: usize, index: usize) -> E
+        requires number { number < length self.old }
+        requires index { index < length (slice_index_or self.old number []) }
+        ensures { self.new ≡ slice_set self.old number
+            (swap_remove (slice_index_or self.old number []) index result) }
+    {
+        self.rows[number].swap_remove(index)
     }
 }

@@ -4,7 +4,7 @@
 //! it, so that an empty queue says that all is settled, and no pass over the constraints ends a walk. What a
 //! constraint forces does not change its own slack, so all that it forces is listed at once.
 
-ghost use Rattle.std.specs.Prelude.{◌≡◌, ◌<◌, ◌≤◌, ◌∷◌, ◌⊎◌, [], MatchOption, length, take};
+ghost use Rattle.std.specs.Prelude.{◌≡◌, ◌<◌, ◌≤◌, ◌∷◌, ◌⊎◌, [], IfOk, MatchOption, OnOk, length, take};
 ghost use Rattle.propagate.specs.Chain.{IsSettled};
 ghost use Rattle.propagate.specs.Walk.{IsBrokenAt};
 ghost use Rattle.watch.specs.Ledgers.{constraint_at, shown};
@@ -12,9 +12,16 @@ ghost use Rattle.watch.specs.Looking.{AreLookedAt, GoesOn, CanForce, HasSlack, t
 
 use super::ledger::Ledger;
 use super::queue::Queue;
+use std::alloc::AllocError;
 
 // Forces the literal of a term, where its coefficient is above the slack and it is free.
-fn force_term(ledger: &mut Ledger, queue: &mut Queue, place: usize, index: usize, slack: u128)
+fn force_term(
+    ledger: &mut Ledger,
+    queue: &mut Queue,
+    place: usize,
+    index: usize,
+    slack: u128,
+) -> Result<(), AllocError>
     requires place { place < length ledger.old.slots }
     requires index { index < length (constraint_at (shown ledger.old.slots) place).terms }
     requires slack { HasSlack (shown ledger.old.slots) ledger.old.listing place slack }
@@ -22,57 +29,74 @@ fn force_term(ledger: &mut Ledger, queue: &mut Queue, place: usize, index: usize
     requires looked_at { AreLookedAt (shown ledger.old.slots) ledger.old.listing (place ∷ queue.old.0) }
     ensures goes_on { GoesOn ledger.old ledger.new }
     ensures count { queue.new.1 ≡ queue.old.1 }
-    ensures progress { (queue.new.0 ≡ queue.old.0) ⊎ (length ledger.old.listing < length ledger.new.listing) }
+    ensures progress { OnOk result ((queue.new.0 ≡ queue.old.0)
+        ⊎ (length ledger.old.listing < length ledger.new.listing)) }
     ensures slack { HasSlack (shown ledger.old.slots) ledger.new.listing place slack }
     ensures looked_at { AreLookedAt (shown ledger.old.slots) ledger.new.listing (place ∷ queue.new.0) }
-    ensures done { CanForce ledger.new.listing slack (term_at (shown ledger.old.slots) place index) → ⊥ }
+    ensures done { OnOk result (CanForce ledger.new.listing slack (term_at (shown ledger.old.slots) place index) → ⊥) }
 {
     let term = ledger.term(place, index);
     let literal = term.literal();
     if term.coef <= slack || !ledger.leaves_free(literal) {
-        return;
+        return Ok(());
     }
-    ledger.set_true(literal, Some(place), queue);
+    ledger.set_true(literal, Some(place), queue)?;
+    Ok(())
 }
 
-// Forces all that the constraint at a place forces, where its slack is this.
-fn force(ledger: &mut Ledger, queue: &mut Queue, place: usize, slack: u128)
+// Forces all that the constraint at a place forces, where its slack is this; it waits no more, but where memory ends.
+fn force(
+    ledger: &mut Ledger,
+    queue: &mut Queue,
+    place: usize,
+    slack: u128,
+) -> Result<(), AllocError>
     requires place { place < length ledger.old.slots }
     requires slack { HasSlack (shown ledger.old.slots) ledger.old.listing place slack }
     requires count { queue.old.1 ≡ length ledger.old.slots }
     requires looked_at { AreLookedAt (shown ledger.old.slots) ledger.old.listing (place ∷ queue.old.0) }
     ensures goes_on { GoesOn ledger.old ledger.new }
     ensures count { queue.new.1 ≡ queue.old.1 }
-    ensures progress { (queue.new.0 ≡ queue.old.0) ⊎ (length ledger.old.listing < length ledger.new.listing) }
-    ensures looked_at { AreLookedAt (shown ledger.old.slots) ledger.new.listing queue.new.0 }
+    ensures progress { OnOk result ((queue.new.0 ≡ queue.old.0)
+        ⊎ (length ledger.old.listing < length ledger.new.listing)) }
+    ensures looked_at { OnOk result (AreLookedAt (shown ledger.old.slots) ledger.new.listing queue.new.0) }
+    ensures waits { AreLookedAt (shown ledger.old.slots) ledger.new.listing (place ∷ queue.new.0) }
 {
     let end = ledger.term_count(place);
     for index in 0..end {
-        force_term(ledger, queue, place, index, slack);
+        force_term(ledger, queue, place, index, slack)?;
     }
+    Ok(())
 }
 
 /// Adds forced literals until a constraint is broken, whose place is returned and waits again, or nothing waits and
-/// nothing more is forced.
-pub(crate) fn settle(ledger: &mut Ledger, queue: &mut Queue) -> Option<usize>
+/// nothing more is forced. Where memory ends, what was not looked at waits.
+pub(crate) fn settle(ledger: &mut Ledger, queue: &mut Queue) -> Result<Option<usize>, AllocError>
     requires count { queue.old.1 ≡ length ledger.old.slots }
     requires looked_at { AreLookedAt (shown ledger.old.slots) ledger.old.listing queue.old.0 }
     ensures goes_on { GoesOn ledger.old ledger.new }
     ensures count { queue.new.1 ≡ queue.old.1 }
     ensures looked_at { AreLookedAt (shown ledger.old.slots) ledger.new.listing queue.new.0 }
-    ensures end { MatchOption result ((queue.new.0 ≡ []) × IsSettled (shown ledger.old.slots) ledger.new.listing)
-        (IsBrokenAt (shown ledger.old.slots) ledger.new.listing) }
+    ensures end { IfOk result (λ broken. MatchOption broken
+        ((queue.new.0 ≡ []) × IsSettled (shown ledger.old.slots) ledger.new.listing)
+        (IsBrokenAt (shown ledger.old.slots) ledger.new.listing)) }
 {
     while let Some(place) = queue.take() {
         let Some(slack) = ledger.slack(place) else {
             queue.add(place);
-            return Some(place);
+            return Ok(Some(place));
         };
-        force(ledger, queue, place, slack);
+        match force(ledger, queue, place, slack) {
+            Err(_) => {
+                queue.add(place);
+                return Err(AllocError);
+            }
+            Ok(()) => {}
+        }
         let _waiting = queue.len();
         let _taken = ledger.len();
     }
-    None
+    Ok(None)
 }
 
 /// Takes back all literals but the first ones.

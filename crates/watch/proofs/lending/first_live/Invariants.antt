@@ -1,7 +1,7 @@
 -- What was passed over says nothing.
 use Rattle.std.proofs.Common.{◌≡◌, drop}
-use Rattle.watch.specs.Lent.{live_places}
+use Rattle.watch.specs.Lent.{all_of, live_places}
 use Rattle.watch.proofs.lending.first_live.Given as goal
 
 abbrev pub invariant-loop-index : goal.invariant-loop-index
-invariant-loop-index l = live_places l.closure (drop l.from l.entries) ≡ live_places l.closure (drop l.index l.entries)
+invariant-loop-index l = live_places l.closure (drop l.from (all_of l.entries)) ≡ live_places l.closure (drop l.index (all_of l.entries))

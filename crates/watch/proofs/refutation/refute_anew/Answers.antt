@@ -3,8 +3,8 @@ use Rattle.std.proofs.Common.{refl}
 use Rattle.watch.proofs.Deciding.{refuted_beside}
 use Rattle.watch.proofs.refutation.refute_anew.Goals as goal
 
-pub returns-then-decide-clause-value : goal.returns-then-decide-clause-value
-returns-then-decide-clause-value c = (
-  λ _. refuted_beside c.args.ledger.now.slots c.args.ledger.now.slots c.args.extras.now refl (c.decide.ensures.value.0 c.if-decide.true),
+pub returns-then-branch-clause-value : goal.returns-then-branch-clause-value
+returns-then-branch-clause-value c = (
+  λ _. refuted_beside c.args.ledger.now.slots c.args.ledger.now.slots c.args.extras.now refl (c.in_ok-decide.ensures.value.0 c.if-branch.true),
   λ _. refl,
 )

@@ -1,7 +1,7 @@
 -- The ids at the places of the literal's entries.
 use Rattle.std.proofs.Common.{◌↔◌, ℕ, Contains, List, subst, sym, ◌∙◌, ap}
 use Rattle.propagate.specs.Content.{Content, HasLiteral}
-use Rattle.watch.specs.Lent.{IsEachOnce, ids_at, live_places}
+use Rattle.watch.specs.Lent.{IsEachOnce, all_of, ids_at, live_places}
 use Rattle.watch.specs.Named.{content_at}
 use Rattle.watch.proofs.LentIds.{lent_exactly, lent_once}
 use Rattle.watch.proofs.database.Database.occurrences.Goals as goal
@@ -9,7 +9,7 @@ use Rattle.watch.proofs.database.Database.occurrences.Goals as goal
 pub returns-clause-exactly : goal.returns-clause-exactly
 returns-clause-exactly c =
     let e = c.self.inside in
-    let os = c.entries.result.now in
+    let os = (all_of c.entries.result) in
     let lent = c.of.ensures ∙ ap (λ (ids : List ℕ). ids_at ids (live_places e.closure os)) c.as_slice-ids.ensures.value in
     subst (λ (m : Content). (id : ℕ) → Contains c.of.result id ↔ HasLiteral m c.args.literal id) c.self.view_is
     (subst (λ (ks : List ℕ). (id : ℕ) → Contains ks id ↔ HasLiteral (content_at e.closure e.places.entries) c.args.literal id) (sym lent)
@@ -18,6 +18,6 @@ returns-clause-exactly c =
 pub returns-clause-once : goal.returns-clause-once
 returns-clause-once c =
     let e = c.self.inside in
-    let os = c.entries.result.now in
+    let os = (all_of c.entries.result) in
     let lent = c.of.ensures ∙ ap (λ (ids : List ℕ). ids_at ids (live_places e.closure os)) c.as_slice-ids.ensures.value in
     subst IsEachOnce (sym lent) (lent_once e.closure e.places.entries e.ids.items c.args.literal os c.self.invariant c.entries.ensures.value)

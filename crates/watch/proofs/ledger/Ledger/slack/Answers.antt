@@ -1,17 +1,15 @@
--- The counter is the open sum.
-use Rattle.std.proofs.Common.{◌≡◌, ◌+◌, ◌<◌, MatchOption, length, ap, subst, arith}
+-- The open sum less the degree.
+use Rattle.std.proofs.Common.{◌≡◌, ◌<◌, length, ap, sym, ◌∙◌, arith}
 use Rattle.normal_form.specs.Normal.{NormalConstraint}
-use Rattle.propagate.specs.Slack.{IsBroken}
-use Rattle.watch.specs.Ledgers.{State, constraint_at, open_sum, shown}
-use Rattle.watch.proofs.Standing.{some_at, counter_there, slack_said}
+use Rattle.watch.specs.Ledgers.{State, constraint_at, constraint_in, shown}
+use Rattle.watch.proofs.Standing.{shown_at, slack_said, some_at}
 use Rattle.watch.proofs.ledger.Ledger.slack.Goals as goal
 
 pub returns-in-Some : goal.returns-in-Some
 returns-in-Some c =
     let e = c.self.inside in
-    let low : c.args.place < length e.slots.items = omega (arith, c.requires, ap (λ (s : State). length s.slots) c.self.view_is) in
     let n : NormalConstraint = c.in-Some.constraint in
+    let low : c.args.place < length e.slots.items = omega (arith, c.requires, ap (λ (s : State). length s.slots) c.self.view_is) in
     let there = some_at e.slots.items c.args.place c.index.result.now n low c.index.ensures c.in-Some.is in
-    let counter = counter_there e.slots.items e.trail.0 e.trail.1 e.table e.counters.items e.limits.items c.args.place c.index-in-Some.result.now n c.self.invariant.0 low there c.index-in-Some.ensures in
-    subst (λ (s : State). MatchOption c.checked_sub.result (IsBroken s.listing (constraint_at (shown s.slots) c.args.place)) (λ slack. open_sum s.listing (constraint_at (shown s.slots) c.args.place) ≡ (constraint_at (shown s.slots) c.args.place).degree + slack))
-    c.self.view_is (slack_said c.checked_sub.result e.trail.0 n (constraint_at (shown e.slots.items) c.args.place) c.index-in-Some.result.now c.degree.result c.checked_sub.ensures counter.0 c.degree.ensures.value counter.1)
+    let shows : constraint_at (shown c.args.self.now.slots) c.args.place ≡ n = ap (λ (s : State). constraint_at (shown s.slots) c.args.place) (sym c.self.view_is) ∙ shown_at e.slots.items c.args.place ∙ ap constraint_in there in
+    slack_said c.checked_sub.result c.args.self.now.listing n (constraint_at (shown c.args.self.now.slots) c.args.place) c.open.result c.degree.result c.checked_sub.ensures c.open.ensures c.degree.ensures.value shows

@@ -2,6 +2,7 @@
 use Rattle.std.proofs.Common.{◌≡◌, ◌<◌, ℕ, Some, None, length, get_or, ap, sym, subst, arith}
 use Rattle.watch.specs.Ledgers.{State}
 use Rattle.watch.proofs.Attaching.{taken_out, reasons_apart}
+use Rattle.watch.proofs.WatchedPlaces.{watched_without}
 use Rattle.watch.proofs.ledger.Ledger.take_out.Goals as goal
 
 pub invariant_of-self : goal.invariant_of-self
@@ -10,4 +11,9 @@ invariant_of-self c =
     let low : c.args.place < length e.slots.items = omega (arith, c.requires.place, ap (λ (s : State). length s.slots) c.self.view_is) in
     let free : (k : ℕ) → k < length e.trail.0 → get_or e.reasons.items k None ≡ Some c.args.place → ⊥ = subst (λ (s : State). (k : ℕ) → k < length s.listing → get_or s.reasons k None ≡ Some c.args.place → ⊥) (sym c.self.view_is) c.requires.reasons in
     let gone : c.take.new.self ≡ None = c.take.ensures.after in
-    rw gone (taken_out e.slots.items c.args.place e.trail.0 e.trail.1 e.table e.counters.items e.limits.items c.self.invariant.0 low, reasons_apart e.slots.items c.args.place e.trail.0 e.reasons.items c.self.invariant.1 free, c.self.invariant.2)
+    rw gone (
+      taken_out e.slots.items c.args.place e.trail.0 e.trail.1 e.table e.clauses e.counters.items e.limits.items e.watchers.pairs c.self.invariant.0 low,
+      reasons_apart e.slots.items c.args.place e.trail.0 e.reasons.items c.self.invariant.1 free,
+      c.self.invariant.2,
+      watched_without e.slots.items c.args.place e.trail.0 e.trail.1 e.watchers low c.self.invariant.3,
+    )

@@ -12,7 +12,7 @@ returns-clause-variable c =
     let e = c.self.inside in
     let low : c.args.place < length e.slots.items = omega (arith, c.requires.place, ap (λ (s : State). length s.slots) c.self.view_is) in
     let there = some_at e.slots.items c.args.place c.index.result.now c.in-Some.constraint low c.index.ensures c.in-Some.is in
-    let within : variable_bound c.in-Some.constraint.terms ≤ e.trail.1 = variables_there e.slots.items e.trail.0 e.trail.1 e.table e.counters.items e.limits.items c.args.place c.in-Some.constraint c.self.invariant.0 low there in
+    let within : variable_bound c.in-Some.constraint.terms ≤ e.trail.1 = variables_there e.slots.items e.trail.0 e.trail.1 e.table e.clauses e.counters.items e.limits.items e.watchers.pairs c.args.place c.in-Some.constraint c.self.invariant.0 low there in
     let shows : constraint_at (shown c.args.self.now.slots) c.args.place ≡ c.in-Some.constraint = ap (λ (s : State). constraint_at (shown s.slots) c.args.place) (sym c.self.view_is) ∙ shown_at e.slots.items c.args.place ∙ ap constraint_in there in
     let inside : c.args.index < length c.in-Some.constraint.terms = omega (arith, c.requires.index, ap (λ (n : NormalConstraint). length n.terms) shows) in
     omega (arith, within, bound_at c.in-Some.constraint.terms c.args.index c.term.result inside, ap (λ (t : NormalTerm). t.var.0) c.term.ensures.value, ap (λ (s : State). s.variables) c.self.view_is)

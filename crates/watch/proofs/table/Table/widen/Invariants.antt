@@ -4,7 +4,7 @@ use Rattle.watch.proofs.Rows.{rows_of, IsWider}
 use Rattle.watch.proofs.table.Table.widen.Given as goal
 
 abbrev pub invariant-loop : goal.invariant-loop
-invariant-loop l = record {
+invariant-loop g l = record {
   count : length l.self-inside.rows.items ≡ l.counter;
   wider : IsWider l.fn.self (rows_of l.self-inside.rows.items);
 }

@@ -1,0 +1,13 @@
+//! What is found of a clause when a literal of a row falls.
+
+use super::pair::Pair;
+
+/// It is not watched by that literal, one of the two that watch it is true, all its other literals are false, or it has
+/// another open literal, which watches it from now on beside the one that stays.
+#[derive(Clone, Copy, Debug)]
+pub(crate) enum Finding {
+    Elsewhere,
+    Satisfied,
+    Last,
+    Moved(Pair),
+}
