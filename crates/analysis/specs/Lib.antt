@@ -1,2 +1,3 @@
 pub mod Biting
+pub mod Lines
 pub mod Spots

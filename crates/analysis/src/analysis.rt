@@ -4,6 +4,7 @@ ghost use Rattle.std.specs.Prelude.{◌<◌, IfOk, IfSome};
 ghost use Rattle.proof_rules.specs.Expression.{IsPostfixOf};
 ghost use Rattle.proof_rules.specs.State.{constraint_of};
 ghost use Rattle.analysis.specs.Biting.{BitesAt, greatest_level};
+ghost use Rattle.analysis.specs.Lines.{BeginsWith};
 
 use super::entry::Entry;
 use super::learned::Learned;
@@ -16,13 +17,14 @@ use std::alloc::{AllocError, Global};
 
 /// A constraint that follows from the live ones and would have said something sooner: it has negative slack or forces a literal
 /// under fewer decisions than are open. `None` where the walk finds none, or a number grows too large: the clause of the negated
-/// decisions serves then.
+/// decisions serves then. The line that derives it begins with the conflict.
 pub fn analyse<'a, P: Propagator>(
     alloc: Global,
     kernel: &Kernel<'a, P>,
     trail: &[Entry],
     conflict: Id,
 ) -> Result<Option<Learned>, AllocError>
+    ensures begins { IfOk result (λ found. IfSome found (λ l. BeginsWith conflict l.items)) }
     ensures derived { IfOk result (λ found. IfSome found (λ l. IsPostfixOf (constraint_of kernel.now.state) l.items l.constraint)) }
     ensures biting { IfOk result (λ found. IfSome found (λ l. BitesAt trail.now l.level l.constraint)) }
     ensures lower { IfOk result (λ found. IfSome found (λ l. l.level < greatest_level trail.now)) }

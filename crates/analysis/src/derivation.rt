@@ -37,10 +37,12 @@ impl Derivation {
     ghost use Rattle.normal_form.specs.Normal.{coefficient};
     ghost use Rattle.cut_rules.specs.Rules.{IsCeiling};
     ghost use Rattle.proof_rules.specs.Expression.{Given, IsPostfixOf};
+    ghost use Rattle.analysis.specs.Lines.{BeginsWith, GoesOnFrom};
 
     /// The constraint of an id.
     pub(crate) fn cited(alloc: Global, id: Id, constraint: &Normal) -> Result<Self, CutFault>
-        ensures { (given : Given) → given (pos id) ≡ Some constraint.now
+        ensures begins { IfOk result (λ d. BeginsWith id d.items.items) }
+        ensures derived { (given : Given) → given (pos id) ≡ Some constraint.now
             → IfOk result (λ d. IsPostfixOf given d.items.items d.constraint) }
     {
         let mut items = Vec::new(alloc);
@@ -119,7 +121,8 @@ impl Derivation {
 
     /// The same with no coefficient above the degree.
     pub(crate) fn saturated(self, alloc: Global) -> Result<Self, CutFault>
-        ensures { (given : Given) → IsPostfixOf given self.items.items self.constraint
+        ensures more { IfOk result (λ d. GoesOnFrom self.items.items d.items.items) }
+        ensures derived { (given : Given) → IsPostfixOf given self.items.items self.constraint
             → IfOk result (λ d. IsPostfixOf given d.items.items d.constraint) }
     {
         let Derivation {
@@ -133,7 +136,8 @@ impl Derivation {
 
     /// The sum with another.
     pub(crate) fn plus(self, alloc: Global, other: Derivation) -> Result<Self, CutFault>
-        ensures { (given : Given) → IsPostfixOf given self.items.items self.constraint → IsPostfixOf given other.items.items other.constraint
+        ensures more { IfOk result (λ d. GoesOnFrom self.items.items d.items.items) }
+        ensures derived { (given : Given) → IsPostfixOf given self.items.items self.constraint → IsPostfixOf given other.items.items other.constraint
             → IfOk result (λ d. IsPostfixOf given d.items.items d.constraint) }
     {
         let Derivation {

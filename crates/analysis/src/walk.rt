@@ -9,6 +9,7 @@ ghost use Rattle.std.specs.Prelude.{ℕ, ◌<◌, IfOk, IfSome, length};
 ghost use Rattle.proof_rules.specs.Expression.{IsPostfixOf};
 ghost use Rattle.proof_rules.specs.State.{constraint_of};
 ghost use Rattle.analysis.specs.Biting.{BitesAt, greatest_level};
+ghost use Rattle.analysis.specs.Lines.{BeginsWith, GoesOnFrom};
 
 use super::derivation::Derivation;
 use super::learned::Learned;
@@ -73,7 +74,8 @@ fn cite<'a, P: Propagator>(
     kernel: &Kernel<'a, P>,
     id: Id,
 ) -> Result<Derivation, Stop>
-    ensures { IfOk result (λ d. IsPostfixOf (constraint_of kernel.now.state) d.items.items d.constraint) }
+    ensures begins { IfOk result (λ d. BeginsWith id d.items.items) }
+    ensures derived { IfOk result (λ d. IsPostfixOf (constraint_of kernel.now.state) d.items.items d.constraint) }
 {
     let Some(constraint) = kernel.constraint(id) else {
         return Err(Stop::NothingLearned);
@@ -92,7 +94,8 @@ fn resolved<'a, P: Propagator>(
 ) -> Result<Derivation, Stop>
     requires place { at.place < length standing.now }
     requires derived { IsPostfixOf (constraint_of kernel.now.state) current.items.items current.constraint }
-    ensures { IfOk result (λ d. IsPostfixOf (constraint_of kernel.now.state) d.items.items d.constraint) }
+    ensures more { IfOk result (λ d. GoesOnFrom current.items.items d.items.items) }
+    ensures derived { IfOk result (λ d. IsPostfixOf (constraint_of kernel.now.state) d.items.items d.constraint) }
 {
     let entry = standing.entries()[at.place];
     let Some(id) = entry.reason else {
@@ -112,6 +115,7 @@ pub(crate) fn walk<'a, P: Propagator>(
     standing: &Standing<'_>,
     conflict: Id,
 ) -> Result<Learned, Stop>
+    ensures begins { IfOk result (λ l. BeginsWith conflict l.items) }
     ensures derived { IfOk result (λ l. IsPostfixOf (constraint_of kernel.now.state) l.items l.constraint) }
     ensures biting { IfOk result (λ l. BitesAt standing.now l.level l.constraint) }
     ensures lower { IfOk result (λ l. l.level < greatest_level standing.now) }

@@ -26,7 +26,7 @@ impl<W: Propagator, P: Propagator> Model for Deferred<W, P> {
     ghost use Rattle.std.specs.Coded.{coded_ℕ};
     ghost use Rattle.std.specs.FinMap as map;
     ghost use Rattle.propagate.specs.Content.{Content};
-    ghost use Rattle.deferred.specs.Codes.{constraint_code};
+    ghost use Rattle.normal_form.specs.Codes.{constraint_code};
     ghost use Rattle.deferred.specs.Joined.{AreApart, joined};
 
     ghost Value = { Content };

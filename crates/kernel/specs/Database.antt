@@ -3,7 +3,7 @@ use Rattle.std.specs.Prelude.{ℕ, ◌+◌, ◌-◌, ℤ, Option, refl}
 use Rattle.std.specs.Coded.{Coded, code_by, coded×, coded_ℕ}
 use Rattle.std.specs.FinMap as map
 use Rattle.normal_form.specs.Normal.{NormalConstraint}
-use Rattle.proof_rules.specs.Codes.{constraint_code}
+use Rattle.normal_form.specs.Codes.{constraint_code}
 use Rattle.proof_rules.specs.State.{Live, id_of}
 
 pub record Constraints : Type 0 where

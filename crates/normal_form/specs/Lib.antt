@@ -4,3 +4,4 @@ pub mod NormalOf
 pub mod Negation
 pub mod Balance
 pub mod Cases
+pub mod Codes

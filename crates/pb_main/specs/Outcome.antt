@@ -1,5 +1,5 @@
 -- What the solver's program answers about a problem's text, and what is so then.
-use Rattle.std.specs.Prelude.{◌≡◌, ℕ, ℤ, List, [], Bool, None, Some, MatchOption, ⊤}
+use Rattle.std.specs.Prelude.{◌≡◌, ◌⊎◌, ℕ, ℤ, List, [], Bool, None, Some, MatchOption, ⊤}
 use Rattle.linear.specs.Opb.{Opb}
 use Rattle.opb_read.specs.declared.fault.OpbCode.{OpbCode}
 use Rattle.opb_read.specs.declared.fault.OpbCode.TheVariants as codes
@@ -86,10 +86,14 @@ pub record IsLeftOpen (opb proof : List ℕ) (limit : ℕ) : Type 0 where
   pub written : IsWritten log proof
   pub stopped : IsOpen limit log
 
--- Why what a search found cannot be checked: there is no solution, or none so far, and the log of that cannot be
--- written; or the search stopped, and its best solution is not the last improving one.
+-- nothing was found: there is no solution, or none so far, where the search stopped
+abbrev pub IsNothingFound : ℕ → Logbook → Type 0
+IsNothingFound limit l = (l.conclusion ≡ conclusions.Unsat) ⊎ IsOpen limit l
+
+-- Why what a search found cannot be checked: nothing was found, and the log of that cannot be written; or the search
+-- stopped, and its best solution is not the last improving one.
 pub data IsUncheckable (limit : ℕ) (l : Logbook) : Type 0 where
-  unwritable : l.state.logged ≡ [] → (AreStepsWritable l → ⊥) → IsUncheckable limit l
+  unwritable : IsNothingFound limit l → (AreStepsWritable l → ⊥) → IsUncheckable limit l
   outdone : IsBestSoFar limit l → (BestIsLeast l → ⊥) → IsUncheckable limit l
 
 -- A log of which what was found cannot be checked. The bytes are the log's proof, or none.

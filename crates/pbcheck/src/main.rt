@@ -26,23 +26,31 @@ A command line that is refused ends with 64. A read or write that fails ends wit
 
 Example: pbcheck examples/pigeons.opb examples/pigeons.pbp";
 
+/// The file of the problem.
+fn file<'a>(alloc: Global) -> Arg<'a> {
+    Arg::new(alloc, "FILE")
+        .required(true)
+        .action(ArgAction::Set)
+        .help("The problem: linear constraints over 0-1 variables (OPB)")
+}
+
+/// The file of the proof.
+fn proof<'a>(alloc: Global) -> Arg<'a> {
+    Arg::new(alloc, "PROOF")
+        .required(true)
+        .action(ArgAction::Set)
+        .help("The proof, whoever wrote it (VeriPB, version 2.0)")
+}
+
 /// What the command line may be.
 fn command<'a>(alloc: Global) -> Result<Command<'a>, Error> {
-    let file = Arg::new(alloc, "FILE")
-        .required(true)
-        .action(ArgAction::Set)
-        .help("The problem: linear constraints over 0-1 variables (OPB)");
-    let proof = Arg::new(alloc, "PROOF")
-        .required(true)
-        .action(ArgAction::Set)
-        .help("The proof, whoever wrote it (VeriPB, version 2.0)");
     Ok(
         Command::new(alloc, "pbcheck")
             .version("0.1.0")
             .about("Judges a proof about a pseudo-Boolean problem and prints the verdict.")
             .after_help(EXPLANATION)
-            .arg(file)?
-            .arg(proof)?,
+            .arg(file(alloc))?
+            .arg(proof(alloc))?,
     )
 }
 

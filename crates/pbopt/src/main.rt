@@ -18,43 +18,53 @@ const EXPLANATION: &str = "Standard output has the answer, in the competition's 
   s OPTIMUM FOUND   exit status 30: the `v` line has a best solution, worth the last `o` line
   s SATISFIABLE     10: the `v` line has a solution; with an objective, perhaps not the best
   s UNSATISFIABLE   20: there is no solution
-  s UNKNOWN         0: a `c` line says why: limit (of conflicts), memory, unchecked
+  s UNKNOWN         0: a `c` line says why: limit (of conflicts or of ids), memory, unchecked
   s UNSUPPORTED     0: a `c` line says what FILE has that is not supported
   c refused ..      2, and no `s` line: FILE is no problem in the format
 Before an optimum or that there is no solution is said, the proof of it is checked.
 A command line that is refused ends with 64. A read or write that fails ends with 3 and
 `device failed` on standard error.
 
-Example: pbopt examples/cover.opb --proof cover.pbp && pbcheck examples/cover.opb cover.pbp";
+Example: pbopt examples/cover.opb --proof cover.pbp ; pbcheck examples/cover.opb cover.pbp";
 
-/// What the command line may be.
-fn command<'a>(alloc: Global) -> Result<Command<'a>, Error> {
-    let file = Arg::new(alloc, "FILE")
+/// The file of the problem.
+fn file<'a>(alloc: Global) -> Arg<'a> {
+    Arg::new(alloc, "FILE")
         .required(true)
         .action(ArgAction::Set)
-        .help(
-            "The problem: linear constraints over 0-1 variables, perhaps with an objective (OPB)",
-        );
-    let proof = Arg::new(alloc, "proof")
+        .help("The problem: linear constraints over 0-1 variables, perhaps with an objective (OPB)")
+}
+
+/// Where the proof goes.
+fn proof<'a>(alloc: Global) -> Arg<'a> {
+    Arg::new(alloc, "proof")
         .long("proof")
         .value_name("FILE")
         .action(ArgAction::Set)
-        .help("Where the proof goes (VeriPB, version 2.0)");
-    let conflicts = Arg::new(alloc, "conflicts")
+        .help("Where the proof goes (VeriPB, version 2.0)")
+}
+
+/// How many conflicts a search may meet.
+fn conflicts<'a>(alloc: Global) -> Arg<'a> {
+    Arg::new(alloc, "conflicts")
         .long("conflicts")
         .value_name("N")
         .action(ArgAction::Set)
         .value_parser(clap::value_parser!(u64).range(1..))
         .default_value(CONFLICTS)
-        .help("Stop at the conflict of this number, from 1");
+        .help("Stop at the conflict of this number, from 1")
+}
+
+/// What the command line may be.
+fn command<'a>(alloc: Global) -> Result<Command<'a>, Error> {
     Ok(
         Command::new(alloc, "pbopt")
             .version("0.1.0")
             .about("Solves a pseudo-Boolean problem and prints the answer, with a proof beside it.")
             .after_help(EXPLANATION)
-            .arg(file)?
-            .arg(proof)?
-            .arg(conflicts)?,
+            .arg(file(alloc))?
+            .arg(proof(alloc))?
+            .arg(conflicts(alloc))?,
     )
 }
 

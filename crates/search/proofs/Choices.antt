@@ -1,12 +1,13 @@
 -- What a table of values leaves free, and what is decided.
-use Rattle.std.proofs.Common.{◌≡◌, ◌≢◌, ℕ, zero, suc, ◌+◌, ◌<◌, ◌≤◌, Bool, true, false, not, eqb, ◌||◌, ◌==◌, ◌&&◌, List, [], ◌∷◌, ◌++◌, length, get_or, set, take, refl, sym, ap, subst, ◌∙◌, inl, inr, arith}
+use Rattle.std.proofs.Common.{◌≡◌, ◌≢◌, ℕ, zero, suc, ◌+◌, ◌<◌, ◌≤◌, Bool, true, false, not, eqb, ◌||◌, ◌==◌, ◌&&◌, List, [], ◌∷◌, ◌++◌, length, get_or, map, set, take, refl, sym, ap, subst, ◌∙◌, inl, inr, arith}
 use Rattle.std.proofs.lemmas.Bool.{false≢true}
 use Rattle.std.proofs.lemmas.Bool.Decides.{nat_tests}
+use Rattle.std.proofs.lemmas.List.{append_assoc, map-append, take_more}
 use mathlib.Core.Bool.{beq}
 use Rattle.linear.specs.declared.term.Lit.{Lit}
 use Rattle.propagate.specs.Literals.{among, lists}
 use Rattle.propagate.proofs.Consistency.{only_here}
-use Rattle.propagate.proofs.Listings.{among_cases}
+use Rattle.propagate.proofs.Listings.{among_cases, among_left}
 use Rattle.propagate.proofs.SearchEnds.{fewer_unset, unset_below}
 use Rattle.search.specs.declared.brancher.Value.{Value}
 use Rattle.search.specs.declared.brancher.Value.TheVariants.{Free}
@@ -77,3 +78,14 @@ pub fewer : (count : ℕ) (listing : List Lit) (values : List Value) (l : Lit) �
 fewer count listing values l leaves free inside =
     let less = fewer_unset count listing l inside (leaves (l.var.0) free l.negated) (leaves (l.var.0) free (not l.negated)) in
     omega (arith, less, same_count count listing, same_count count (listing ++ l ∷ []))
+
+-- what is noted of more literals leaves fewer variables free
+pub leaves_first : (first more : List Lit) (values : List Value) → LeavesFree (first ++ more) values → LeavesFree first values
+leaves_first first more values h v free s = is_none (among first v s) (λ e. false≢true (sym (h v free s) ∙ among_left first more v s e))
+
+-- one more of the literals that are forced
+pub forced_more : (before : List Lit) (forced : List (Lit × ℕ)) (place : ℕ) (d : Lit × ℕ) → place < length forced
+    → (before ++ map (λ p. p.0) (take place forced)) ++ (get_or forced place d).0 ∷ [] ≡ before ++ map (λ p. p.0) (take (place + 1) forced)
+forced_more before forced place d h =
+    append_assoc before (map (λ p. p.0) (take place forced)) ((get_or forced place d).0 ∷ [])
+    ∙ ap (λ (t : List Lit). before ++ t) (sym (map-append (λ p. p.0) (take place forced) (get_or forced place d ∷ [])) ∙ ap (map (λ p. p.0)) (sym (take_more forced place d h)))

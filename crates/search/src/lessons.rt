@@ -19,16 +19,21 @@ pub(crate) struct Lessons {
     ids: Vec<u64>,
 }
 
-/// Whether a literal of a trail is forced in the constraint of an id.
-fn is_reason(trail: &[Entry], id: u64) -> bool {
+/// The ids in whose constraints literals of a trail are forced, in rising order.
+fn reasons_of(alloc: Global, trail: &[Entry]) -> Result<Vec<u64>, AllocError> {
+    let mut reasons = Vec::new(alloc);
     for entry in trail {
         if let Some(reason) = entry.reason {
-            if u64::from(reason) == id {
-                return true;
-            }
+            reasons.push(u64::from(reason))?;
         }
     }
-    false
+    reasons.as_mut_slice().sort_unstable();
+    Ok(reasons)
+}
+
+/// Whether an id is among ids in rising order.
+fn is_among(ids: &[u64], id: u64) -> bool {
+    ids.binary_search(&id).is_ok()
 }
 
 impl Lessons {
@@ -44,10 +49,10 @@ impl Lessons {
     }
 
     /// Half of the number of those that are no reason, rounded down.
-    fn half(&self, trail: &[Entry]) -> usize {
+    fn half(&self, reasons: &[u64]) -> usize {
         let mut spare: usize = 0;
         for id in &self.ids {
-            if !is_reason(trail, *id) {
+            if !is_among(reasons, *id) {
                 spare = spare.saturating_add(1);
             }
         }
@@ -55,12 +60,12 @@ impl Lessons {
     }
 
     /// Takes out the older half of those that are no reason.
-    fn take_older(&mut self, alloc: Global, trail: &[Entry]) -> Result<Vec<i128>, AllocError> {
-        let half = self.half(trail);
+    fn take_older(&mut self, alloc: Global, reasons: &[u64]) -> Result<Vec<i128>, AllocError> {
+        let half = self.half(reasons);
         let mut older = Vec::new(alloc);
         let mut kept = Vec::new(alloc);
         for id in &self.ids {
-            if older.len() < half && !is_reason(trail, *id) {
+            if older.len() < half && !is_among(reasons, *id) {
                 older.push(i128::from(*id))?;
             } else {
                 kept.push(*id)?;
@@ -80,7 +85,8 @@ impl Lessons {
         ensures problem { log.new.problem ≡ log.old.problem }
         ensures next { OnOk result (log.new.state.next ≡ log.old.state.next) }
     {
-        let older = self.take_older(alloc, trail)?;
+        let reasons = reasons_of(alloc, trail)?;
+        let older = self.take_older(alloc, reasons.as_slice())?;
         if !older.is_empty() {
             log.apply(Step::Del(Seq::from_vec(older)))?;
         }

@@ -3,7 +3,8 @@
 //! A brancher is not believed: what it answers is looked up in the table, and replaced where the table does not have its
 //! variable as a free one. So no decision ever stands beside its opposite, which is all that a search needs to know.
 
-ghost use Rattle.std.specs.Prelude.{◌≡◌, ◌≢◌, ◌<◌, ℕ, IfOk, IfSome, IsTrue, length};
+ghost use Rattle.std.specs.Prelude.{◌≡◌, ◌≢◌, ◌<◌, ◌++◌, ℕ, List, IfOk, IfSome, IsTrue, length, map};
+ghost use Rattle.linear.specs.declared.term.Lit.{Lit};
 ghost use Rattle.search.specs.Values.{IsFree, LeavesFree};
 
 use super::brancher::Value;
@@ -36,7 +37,7 @@ fn note_decisions(values: &mut [Value], decisions: &[Lit])
 
 /// Notes the values that forced literals give their variables.
 fn note_forced(values: &mut [Value], forced: &[(Lit, Id)])
-    ensures { (v : ℕ) → IsFree values.new v → IsFree values.old v }
+    ensures { (before : List Lit) → LeavesFree before values.old → LeavesFree (before ++ map (λ p. p.0) forced.now) values.new }
 {
     for (literal, _) in forced {
         note(values, *literal);
@@ -50,7 +51,7 @@ pub(crate) fn values_of(
     decisions: &[Lit],
     forced: &[(Lit, Id)],
 ) -> Result<Vec<Value>, AllocError>
-    ensures free { IfOk result (λ values. LeavesFree decisions.now values.items) }
+    ensures free { IfOk result (λ values. LeavesFree (decisions.now ++ map (λ p. p.0) forced.now) values.items) }
     ensures count { IfOk result (λ values. length values.items ≡ count) }
 {
     let mut values = vec![in alloc; Value::Free; count as usize]?;

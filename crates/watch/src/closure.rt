@@ -4,8 +4,9 @@
 //! Above it stand the literals that were given last, with what they force: a listing that begins as that one goes on
 //! from where they part, and a question without given literals takes them back.
 //! It is found when something is asked: a constraint that comes in only waits, so that reading a database costs no
-//! walk. A constraint that goes takes with it what was found by way of it and after that, and nothing else. Its place
-//! stays empty, and its entries in the lists of literals stay and cost a little, until the places are made anew.
+//! walk. A constraint that goes takes with it what was given, and what was found from nothing by way of it and after
+//! that. Its place stays empty, and its entries in the lists of literals stay and cost a little, until the places are
+//! made anew.
 
 ghost use Rattle.std.specs.Prelude.{◌≡◌, ◌↔◌, ◌<◌, ◌++◌, ◌∷◌, [], All, IfOk};
 ghost use Rattle.std.specs.Prelude.{IsTrue, None, OnErr, OnOk, Some, length, slice_index_or, slice_set};

@@ -41,7 +41,7 @@ impl Model for Database {
     ghost use Rattle.std.specs.Coded.{coded_ℕ};
     ghost use Rattle.std.specs.FinMap as map;
     ghost use Rattle.propagate.specs.Content.{Content};
-    ghost use Rattle.watch.specs.Codes.{constraint_code};
+    ghost use Rattle.normal_form.specs.Codes.{constraint_code};
     ghost use Rattle.watch.specs.Named.{AreNamed, content_at};
 
     ghost Value = { Content };
@@ -103,14 +103,23 @@ impl Database {
         Ok(())
     }
 
+    // Puts in copies of the constraints of another database, where there is none yet.
+    fn fill_from(&mut self, other: &Database) -> Result<(), AllocError>
+        requires { self.old ≡ map.empty }
+        ensures { OnOk result (self.new ≡ other.now) }
+    {
+        for (id, _) in other.places.iter() {
+            self.put_from(*id, other)?;
+        }
+        Ok(())
+    }
+
     // The same constraints at places without gaps.
     fn made_anew(&self) -> Result<Database, AllocError>
         ensures { IfOk result (λ d. d ≡ self.now) }
     {
         let mut anew = Database::new(self.alloc);
-        for (id, _) in self.places.iter() {
-            anew.put_from(*id, self)?;
-        }
+        anew.fill_from(self)?;
         Ok(anew)
     }
 

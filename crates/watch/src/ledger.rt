@@ -1,10 +1,10 @@
 //! Constraints by place, the places of their literals, the literals that are taken as true, and what these leave
 //! open.
 //!
-//! A literal that comes or goes changes a counter exactly where its opposite stands, so what a step costs is the
-//! length of one list. A constraint that is taken out leaves its place and its entries behind: counted on, they cost
-//! little until the places are made anew, and searching the lists for them would cost more. What a place says then is
-//! nothing.
+//! A literal that comes or goes changes the counter of each counted constraint that has its opposite; of clauses, only
+//! those that the opposite watches are looked at, and only as it falls. A constraint that is taken out leaves its
+//! place and its entries behind: counted on, they cost little until the places are made anew, and searching the lists
+//! for them would cost more. What a place says then is nothing.
 //!
 //! That constraints which do not wait force nothing is no fact of this type: taking literals back breaks it midway.
 //! It is stated between the functions of a walk.

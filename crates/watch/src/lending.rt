@@ -1,7 +1,7 @@
 //! The ids of the constraints that have a literal, lent from the list that is kept for it.
 //!
-//! Nothing is copied: the list has an entry for each constraint that ever came with the literal, and those of
-//! constraints that are gone are passed over.
+//! Nothing is copied: the two lists, of constraints that are counted and of clauses that are watched, have an entry for each
+//! one that ever came with the literal, and those of constraints that are gone are passed over.
 
 ghost use Rattle.std.specs.Prelude.{◌≡◌, ◌+◌, ◌<◌, ◌≤◌, ◌∷◌, [], All, MatchOption, drop, length, slice_index_or};
 ghost use Rattle.watch.specs.declared.occurrence.Occurrence.{Occurrence};

@@ -2,7 +2,7 @@
 //!
 //! A constraint changes its slack exactly where the opposite of a new literal stands in it, so each literal has a
 //! list of the places where it stands, with its coefficient there: what is touched is found without a look at the
-//! rest, and without a look at the constraint.
+//! rest, and without a look at the constraint. Of clauses that are watched the list tells only which ones have a literal.
 
 ghost use Rattle.std.specs.Prelude.{◌≡◌, ◌<◌, length, slice_index_or};
 ghost use Rattle.propagate.specs.Literals.{opposite};

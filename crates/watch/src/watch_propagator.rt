@@ -1,4 +1,5 @@
-//! The propagator that keeps what it has found: counters, occurrences and the closure from nothing.
+//! The propagator that keeps what it has found: two literals of each watched clause, counters of all other constraints,
+//! occurrences and the closure from nothing.
 //!
 //! What it answers is what the plain propagator answers, since both meet the one contract. What it keeps between
 //! calls shows in the time alone: a question goes on from what the constraints force from nothing, and costs the
@@ -22,7 +23,7 @@ impl Model for WatchPropagator {
     ghost use Rattle.std.specs.Coded.{coded_ℕ};
     ghost use Rattle.std.specs.FinMap as map;
     ghost use Rattle.propagate.specs.Content.{Content};
-    ghost use Rattle.watch.specs.Codes.{constraint_code};
+    ghost use Rattle.normal_form.specs.Codes.{constraint_code};
 
     ghost Value = { Content };
 

@@ -1,8 +1,8 @@
-use Rattle.std.proofs.Common.{inr, [], refl, subst}
+use Rattle.std.proofs.Common.{inl, inr, [], refl, subst}
 use Rattle.search.specs.Solving.{BearsOut}
 use Rattle.pb_main.specs.Outcome.{unchecked}
 use Rattle.pb_main.proofs.BestSolutions.{optimum_least}
-use Rattle.pb_main.proofs.Outcomes.{open_unlogged, unsaid, unsat_unlogged}
+use Rattle.pb_main.proofs.Outcomes.{left_open, unsaid}
 use Rattle.pb_main.proofs.deciding.unproved.Goals as goal
 
 pub satisfiable-requires-clause-least : goal.satisfiable-requires-clause-least
@@ -17,11 +17,9 @@ returns-in-Optimum g c opb limit of_text bears =
 pub returns-in-Unsat : goal.returns-in-Unsat
 returns-in-Unsat g c opb limit of_text bears =
     let l = c.args.log.now in
-    let none = unsat_unlogged l c.requires.legal (subst (BearsOut limit l) c.in-Unsat.is bears) in
-    unsaid opb limit l c.args.why of_text none c.requires.unwritten
+    unsaid opb limit l c.args.why of_text (inl (subst (BearsOut limit l) c.in-Unsat.is bears)) c.requires.unwritten
 
 pub returns-in-Unknown : goal.returns-in-Unknown
 returns-in-Unknown g c opb limit of_text bears =
     let l = c.args.log.now in
-    let none = open_unlogged limit l c.in-Unknown.field-0 (subst (BearsOut limit l) c.in-Unknown.is bears) in
-    unsaid opb limit l c.args.why of_text none c.requires.unwritten
+    unsaid opb limit l c.args.why of_text (left_open limit l c.in-Unknown.field-0 (subst (BearsOut limit l) c.in-Unknown.is bears)) c.requires.unwritten
