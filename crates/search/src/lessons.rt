@@ -60,12 +60,13 @@ impl Lessons {
     }
 
     /// Takes out the older half of those that are no reason.
-    fn take_older(&mut self, alloc: Global, reasons: &[u64]) -> Result<Vec<i128>, AllocError> {
-        let half = self.half(reasons);
+    fn take_older(&mut self, alloc: Global, trail: &[Entry]) -> Result<Vec<i128>, AllocError> {
+        let reasons = reasons_of(alloc, trail)?;
+        let half = self.half(reasons.as_slice());
         let mut older = Vec::new(alloc);
         let mut kept = Vec::new(alloc);
         for id in &self.ids {
-            if older.len() < half && !is_among(reasons, *id) {
+            if older.len() < half && !is_among(reasons.as_slice(), *id) {
                 older.push(i128::from(*id))?;
             } else {
                 kept.push(*id)?;
@@ -85,8 +86,7 @@ impl Lessons {
         ensures problem { log.new.problem ≡ log.old.problem }
         ensures next { OnOk result (log.new.state.next ≡ log.old.state.next) }
     {
-        let reasons = reasons_of(alloc, trail)?;
-        let older = self.take_older(alloc, reasons.as_slice())?;
+        let older = self.take_older(alloc, trail)?;
         if !older.is_empty() {
             log.apply(Step::Del(Seq::from_vec(older)))?;
         }
