@@ -1,14 +1,12 @@
 -- What two parts have, as one map: at each id what those that wait have there, and else what is settled.
-use Rattle.std.proofs.Common.{◌≡◌, ◌↔◌, ◌⊎◌, ◌++◌, ◌-◌, ◌<◌, ℕ, min, Bool, true, false, cond, [], ◌∷◌, Option, None, Some, IsSome, OnErr, OnOk, Result, Ok, Err, refl, sym, ap, subst, ◌∙◌, inl, inr, arith}
+use Rattle.std.proofs.Common.{◌≡◌, ◌⊎◌, ◌++◌, ◌-◌, ◌<◌, ℕ, min, Bool, true, false, cond, [], ◌∷◌, Option, None, Some, IsSome, OnErr, OnOk, Result, Ok, Err, refl, sym, ap, subst, ◌∙◌, inl, inr, arith}
 use Rattle.std.specs.Ordering.{nat_cmp, eq_by_cmp, is_eq}
 use Rattle.std.specs.FinMap as fin
 use Rattle.std.proofs.lemmas.Bool.{cases_eq, cases_lt, false≢true}
 use Rattle.std.proofs.lemmas.Bool.Decides.{nat_tests}
 use Rattle.std.proofs.lemmas.Cmp.{nat_cmp_total}
-use Rattle.linear.specs.declared.term.Lit.{Lit}
 use Rattle.normal_form.specs.Normal.{NormalConstraint}
-use Rattle.propagate.specs.Content.{AddsOccurrences, Content, HasLiteral, IsLeastAbove}
-use Rattle.propagate.specs.Ids.{IdSet, HasId}
+use Rattle.propagate.specs.Content.{Content, IsLeastAbove}
 use Rattle.propagate.proofs.Entries.{Entries}
 use Rattle.deferred.specs.Joined.{AreApart, joined, least_of}
 
@@ -157,14 +155,6 @@ settled_apart w s id n apart k some = elim (here_or_not k id) [
 pub all_settled : (w s : Content) → ((k : ℕ) → fin.get w k ≡ None) → joined w s ≡ s
 all_settled w s none = same (joined w s) s (λ q. found_settled w s q (none q))
 
--- an id is in one of the parts
-one_of : (o p : Found) (n : NormalConstraint) → first_of o p ≡ Some n → (o ≡ Some n) ⊎ (p ≡ Some n)
-one_of (Some m) p n h = inl h
-one_of None p n h = inr h
-
-pub in_one : (w s : Content) (id : ℕ) (n : NormalConstraint) → fin.get (joined w s) id ≡ Some n → (fin.get w id ≡ Some n) ⊎ (fin.get s id ≡ Some n)
-in_one w s id n h = one_of (fin.get w id) (fin.get s id) n (sym (get_joined w s id) ∙ h)
-
 pub some_is : (o : Found) (n : NormalConstraint) → o ≡ Some n → IsSome o
 some_is o n h = subst IsSome (sym h) refl
 
@@ -177,16 +167,6 @@ none_waits w s id n apart is = by (fin.get w id) refl
 
 pub found_in_settled : (w s : Content) (id : ℕ) (n : NormalConstraint) → AreApart w s → fin.get s id ≡ Some n → fin.get (joined w s) id ≡ Some n
 found_in_settled w s id n apart is = found_settled w s id (none_waits w s id n apart is) ∙ is
-
--- the occurrences of a literal in both parts
-pub has_literal : (w s : Content) (l : Lit) (id : ℕ) → AreApart w s → HasLiteral (joined w s) l id ↔ (HasLiteral w l id ⊎ HasLiteral s l id)
-has_literal w s l id apart = (
-  λ h. elim (in_one w s id h.0 h.1) as (λ _. HasLiteral w l id ⊎ HasLiteral s l id) [ inl is ↦ inl (h.0, is, h.2) | inr is ↦ inr (h.0, is, h.2) ],
-  λ h. elim h as (λ _. HasLiteral (joined w s) l id) [
-    | inl x ↦ (x.0, found_waiting w s id x.0 x.1, x.2)
-    | inr x ↦ (x.0, found_in_settled w s id x.0 apart x.1, x.2)
-  ],
-)
 
 none_in_both : (w s : Content) (k : ℕ) → fin.get w k ≡ None → fin.get s k ≡ None → fin.get (joined w s) k ≡ None
 none_in_both w s k h g = found_settled w s k h ∙ g
@@ -218,23 +198,6 @@ none_removed w id none = same (fin.remove w id) w (λ q. fin.get-remove nat_cmp_
     at_or_not q = elim (here_or_not q id) [
       | inl e ↦ ap (λ (b : Bool). cond b None (fin.get w q)) e.1 ∙ sym (ap (fin.get w) e.0 ∙ none)
       | inr other ↦ ap (λ (b : Bool). cond b None (fin.get w q)) other
-    ]
-
--- the occurrences of both parts, one after the other
-pub adds_both : (w s : Content) (l : Lit) (before between after : IdSet) → AreApart w s → AddsOccurrences w l before between → AddsOccurrences s l between after → AddsOccurrences (joined w s) l before after
-adds_both w s l before between after apart first second id = (there, back)
-  where
-    there : HasId after id → HasId before id ⊎ HasLiteral (joined w s) l id
-    there h = elim ((second id).0 h) as (λ _. HasId before id ⊎ HasLiteral (joined w s) l id) [
-      | inl m ↦ elim ((first id).0 m) as (λ _. HasId before id ⊎ HasLiteral (joined w s) l id) [ inl b ↦ inl b | inr x ↦ inr ((has_literal w s l id apart).1 (inl x)) ]
-      | inr x ↦ inr ((has_literal w s l id apart).1 (inr x))
-    ]
-
-    back : HasId before id ⊎ HasLiteral (joined w s) l id → HasId after id
-    back (inl b) = (second id).1 (inl ((first id).1 (inl b)))
-    back (inr x) = elim ((has_literal w s l id apart).0 x) as (λ _. HasId after id) [
-      | inl y ↦ (second id).1 (inl ((first id).1 (inr y)))
-      | inr y ↦ (second id).1 (inr y)
     ]
 
 -- one less waits

@@ -81,8 +81,8 @@ impl<W: Propagator, P: Propagator> Propagator for Deferred<W, P> {
         earlier(self.waiting.after(id), self.settled.after(id))
     }
 
-    fn add_occurrences(&self, literal: Lit, ids: &mut Ids) -> Result<(), AllocError> {
-        self.waiting.add_occurrences(literal, ids)?;
+    fn add_occurrences(&mut self, literal: Lit, ids: &mut Ids) -> Result<(), AllocError> {
+        settle(self.alloc, &mut self.waiting, &mut self.settled)?;
         self.settled.add_occurrences(literal, ids)
     }
 

@@ -127,8 +127,9 @@ impl<P: Propagator> Database<P> {
     }
 
     // Adds the ids of the live constraints that have a variable to a set.
-    fn add_variable(&self, variable: Var, ids: &mut Ids) -> Result<(), AllocError>
-        ensures { OnOk result (AddsVariable self.now.live variable ids.old ids.new) }
+    fn add_variable(&mut self, variable: Var, ids: &mut Ids) -> Result<(), AllocError>
+        ensures same { self.new ≡ self.old }
+        ensures added { OnOk result (AddsVariable self.old.live variable ids.old ids.new) }
     {
         let literal = Lit {
             var: variable,
@@ -144,8 +145,13 @@ impl<P: Propagator> Database<P> {
     }
 
     /// The ids of the live constraints that have a variable of a witness.
-    pub(crate) fn touched(&self, alloc: Global, witness: &Substitution) -> Result<Ids, AllocError>
-        ensures { IfOk result (λ ids. (id : ℕ) → HasId ids id ↔ IsTouched self.now.live witness.now id) }
+    pub(crate) fn touched(
+        &mut self,
+        alloc: Global,
+        witness: &Substitution,
+    ) -> Result<Ids, AllocError>
+        ensures same { self.new ≡ self.old }
+        ensures touched { IfOk result (λ ids. (id : ℕ) → HasId ids id ↔ IsTouched self.old.live witness.now id) }
     {
         let mut ids = Ids::empty(alloc);
         for image in witness.as_slice() {

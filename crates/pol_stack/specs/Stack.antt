@@ -1,7 +1,7 @@
 -- The stack of a `pol` step, its top first.
-use Rattle.std.specs.Prelude.{◌≡◌, List, ◌∷◌, ◌++◌, map, reverse}
+use Rattle.std.specs.Prelude.{◌≡◌, ℕ, List, ◌∷◌, ◌++◌, map, reverse}
 use Rattle.normal_form.specs.Normal.{NormalConstraint, Fits}
-use Rattle.cut_rules.specs.Rules.{IsSum, IsTooLarge}
+use Rattle.cut_rules.specs.Rules.{IsSum, IsTooLarge, IsWeakening}
 use Rattle.proof_rules.specs.declared.fault.StepFault.{StepFault}
 use Rattle.proof_rules.specs.declared.fault.StepFault.TheVariants as faults
 use Rattle.pol_stack.specs.declared.stack.Held.{Held}
@@ -31,6 +31,10 @@ stacked above held sum below = stack_of above ++ with_sum held sum (stack_of bel
 -- the sum of two constraints, within the limits, on top of the others
 abbrev pub IsSumOnTop : NormalConstraint → NormalConstraint → List NormalConstraint → List NormalConstraint → Type 0
 IsSumOnTop d g old new = (n : NormalConstraint) × IsSum d g n × Fits n × (new ≡ n ∷ old)
+
+-- a constraint, weakened by a variable, on top of the others
+abbrev pub IsWeakeningOnTop : ℕ → NormalConstraint → List NormalConstraint → List NormalConstraint → Type 0
+IsWeakeningOnTop v d old new = (n : NormalConstraint) × IsWeakening v d n × (new ≡ n ∷ old)
 
 -- the sum of two constraints is not within the limits
 abbrev pub IsSumFault : NormalConstraint → NormalConstraint → StepFault → Type 0

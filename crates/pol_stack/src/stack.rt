@@ -3,12 +3,13 @@
 //!
 //! A sum to which more is added stands in an accumulator: so an addition costs what is added, and not what was summed
 //! up before. There is one accumulator, and it holds the sum that is nearest to the top; the other operands stand above
-//! and below it. Where two operands above it are to become such a sum themselves, it is read off first. Which of its
-//! ways an addition takes says nothing of what it gives, and is chosen by what it costs.
+//! and below it. Where two operands above it are to become such a sum themselves, it is read off first. A constraint that is
+//! weakened again and again stands in it too, so that each time costs one look and not the whole constraint. Which of its
+//! ways an addition or a weakening takes says nothing of what it gives, and is chosen by what it costs.
 
 ghost use Rattle.std.specs.Prelude.{◌≡◌, ◌<◌, ◌∷◌, [], length, IfErr, OnOk, OnErr, IsErrOf};
 ghost use Rattle.normal_form.specs.Normal.{Fits};
-ghost use Rattle.cut_rules.specs.Rules.{IsSum};
+ghost use Rattle.cut_rules.specs.Rules.{IsSum, IsWeakening};
 ghost use Rattle.proof_rules.specs.Expression.{Given, AppliesItem};
 ghost use Rattle.proof_steps.specs.declared.step.Item.TheVariants as items;
 ghost use Rattle.proof_rules.specs.Fault.{OrMemory, IsAddFault};
@@ -77,6 +78,14 @@ impl<'a> Operand<'a> {
         }
     }
 
+    // Whether it is lent.
+    fn is_live(&self) -> bool {
+        match self {
+            Operand::Live(_) => true,
+            _ => false,
+        }
+    }
+
     // What it becomes by weakening: a sum stays one.
     fn weakened(&self, made: Normal) -> Operand<'a>
         ensures { operand_value result ≡ made }
@@ -104,7 +113,7 @@ pub struct Stack<'a> {
     held: Held,
     sum: Accumulator,
     above: SmallVec<Operand<'a>, 8>,
-    // How many terms were added to the running sum. Only speed depends on it.
+    // How many terms were added to the running sum, less those of copies made above it since. Only speed depends on it.
     added: usize,
 }
 
@@ -120,7 +129,7 @@ impl<'a> Model for Stack<'a> {
 
 impl<'a> Stack<'a> {
     ghost use Rattle.std.specs.Prelude.{◌≡◌, [], ◌∷◌, MatchOption, IfOk, IfErr, OnOk, OnErr, IsErrOf};
-    ghost use Rattle.pol_stack.specs.Stack.{operand_value, IsSumOnTop, IsSumFault};
+    ghost use Rattle.pol_stack.specs.Stack.{operand_value, IsSumOnTop, IsSumFault, IsWeakeningOnTop};
     ghost use Rattle.proof_rules.specs.Expression.{Given, AppliesItem};
     ghost use Rattle.proof_steps.specs.declared.step.Item.TheVariants as items;
     ghost use Rattle.proof_rules.specs.Fault.{OrMemory, IsAddFault, IsShapeFault};
@@ -271,10 +280,58 @@ impl<'a> Stack<'a> {
         let Some(top) = self.pop(alloc)? else {
             return Err(StepFault::StackShape);
         };
+        if !self.is_cheap_to_weaken(&top) {
+            self.push_weakened(alloc, top.constraint(), var)?;
+            return Ok(());
+        }
         let made = weaken(alloc, top.constraint(), var)?;
+        self.added = self.added.saturating_sub(made.len());
         self.push(top.weakened(made))?;
         Ok(())
     }
+
+    // Whether an operand is weakened by a copy. A live one is, since it would have to be copied in any case; one that was made is
+    // likely to be weakened again. Above a running sum copies are cheaper than to read that off, until they have had as many terms as
+    // were added there.
+    fn is_cheap_to_weaken(&self, operand: &Operand<'a>) -> bool {
+        match self.held {
+            Held::Nothing => operand.is_live(),
+            Held::RunningSum => operand.constraint().len() <= self.added,
+        }
+    }
+
+    // Puts a constraint on top, weakened by a variable, as the running sum: to weaken that once more is one look. If there was one,
+    // it is read off.
+    fn push_weakened(
+        &mut self,
+        alloc: Global,
+        constraint: &Normal,
+        var: Var,
+    ) -> Result<(), CutFault>
+        ensures ok { OnOk result (IsWeakeningOnTop (var.0) constraint.now self.old self.new) }
+        ensures memory { OnErr result (IsErrOf result CutFault.OutOfMemory) }
+    {
+        put_away(
+            alloc,
+            self.held,
+            &mut self.sum,
+            &mut self.above,
+            &mut self.below,
+        )?;
+        load_weakened(&mut self.sum, constraint, var)?;
+        self.held = Held::RunningSum;
+        self.added = constraint.len();
+        Ok(())
+    }
+}
+
+// Makes a running sum of a constraint, weakened by a variable.
+fn load_weakened(sum: &mut Accumulator, constraint: &Normal, var: Var) -> Result<(), AllocError>
+    ensures { OnOk result (IsWeakening (var.0) constraint.now sum.new) }
+{
+    sum.load(constraint)?;
+    sum.weaken(var);
+    Ok(())
 }
 
 // Adds an operand to a running sum. How many terms it has.

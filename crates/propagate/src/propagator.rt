@@ -3,7 +3,7 @@
 //! A propagator is a finite map from ids to constraints that can be asked what follows by unit propagation. Its meaning is
 //! that map alone (`content`), so that a kernel that is proved over any propagator stays proved when a faster one takes
 //! the place of a plain one: counters, queues and trails that an implementation keeps between calls never show. That is
-//! also why the three questions take `&mut self`: they may change what is kept, and leave the content as it is.
+//! also why the four questions take `&mut self`: they may change what is kept, and leave the content as it is.
 //!
 //! The constraints count as a list by rising id, since the definitions of chains and of refutation are about lists; laws
 //! say that order and copies in the list do not matter.
@@ -57,8 +57,9 @@ pub trait Propagator: Drop {
         ensures { IsLeastAbove (content self.now) id result };
 
     /// Adds the ids of the constraints that have a literal to a set.
-    fn add_occurrences(&self, literal: Lit, ids: &mut Ids) -> Result<(), AllocError>
-        ensures { OnOk result (AddsOccurrences (content self.now) literal ids.old ids.new) };
+    fn add_occurrences(&mut self, literal: Lit, ids: &mut Ids) -> Result<(), AllocError>
+        ensures content { content self.new ≡ content self.old }
+        ensures added { OnOk result (AddsOccurrences (content self.old) literal ids.old ids.new) };
 
     /// Whether the constraints are refuted together with some extra ones: whether a chain from nothing leads to one of
     /// them with negative slack.

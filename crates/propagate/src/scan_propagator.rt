@@ -122,7 +122,7 @@ impl Propagator for ScanPropagator {
         }
     }
 
-    fn add_occurrences(&self, literal: Lit, ids: &mut Ids) -> Result<(), AllocError> {
+    fn add_occurrences(&mut self, literal: Lit, ids: &mut Ids) -> Result<(), AllocError> {
         for (id, constraint) in self.all.iter() {
             add_if_it_has(ids, *id, constraint, literal)?;
         }

@@ -71,7 +71,7 @@ impl Propagator for WatchPropagator {
         self.database.after(id)
     }
 
-    fn add_occurrences(&self, literal: Lit, ids: &mut Ids) -> Result<(), AllocError> {
+    fn add_occurrences(&mut self, literal: Lit, ids: &mut Ids) -> Result<(), AllocError> {
         let mut rest = self.occurrences(literal);
         while let Some(id) = rest.next() {
             ids.insert(id)?;

@@ -8,9 +8,9 @@ use Rattle.kernel.proofs.redundancy.judge_live.Goals as goal
 
 pub loop-id-init : goal.loop-id-init
 loop-id-init g c = (
+  c.in_ok-touched.ensures.same,
   refl,
-  refl,
-  judging_first c.args.database.now.live c.args.beside.now.items c.args.witness.now c.in_ok-touched.touched c.requires.normal c.in_ok-touched.ensures,
+  judging_first c.args.database.now.live c.args.beside.now.items c.args.witness.now c.in_ok-touched.touched c.requires.normal c.in_ok-touched.ensures.touched,
 )
 
 pub loop-id-preserved : goal.loop-id-preserved

@@ -1,12 +1,17 @@
 -- The occurrences of both literals are those of the variable.
-use Rattle.std.proofs.Common.{ap, subst}
+use Rattle.std.proofs.Common.{true, ap, subst}
 use Rattle.proof_rules.specs.State.{Live}
+use Rattle.propagate.specs.Content.{AddsOccurrences}
 use Rattle.kernel.specs.Database.{Constraints}
 use Rattle.kernel.specs.Redundancy.{AddsVariable}
 use Rattle.kernel.proofs.Touched.{both_literals}
 use Rattle.kernel.proofs.database.Database.add_variable.Goals as goal
 
-pub returns : goal.returns
-returns g c =
-    subst (λ (live : Live). AddsVariable live c.args.variable c.args.ids.now c.add_occurrences-2.new.ids) (ap (λ (d : Constraints). d.live) c.self.view_is)
-    (both_literals (g.P.Propagator.content c.self.inside.constraints) c.args.variable c.args.ids.now c.add_occurrences.new.ids c.add_occurrences-2.new.ids c.in_ok-add_occurrences.ensures c.in_ok-add_occurrences-2.ensures)
+pub returns-clause-added : goal.returns-clause-added
+returns-clause-added g c =
+    let content = g.P.Propagator.content in
+    let middle = c.add_occurrences.new.ids in
+    let ids = c.add_occurrences-2.new.ids in
+    let second = subst (λ (m : Live). AddsOccurrences m (record { var = c.args.variable; negated = true }) middle ids) c.in_ok-add_occurrences.ensures.content c.in_ok-add_occurrences-2.ensures.added in
+    subst (λ (live : Live). AddsVariable live c.args.variable c.args.ids.now ids) (ap (λ (d : Constraints). d.live) c.self.view_is)
+    (both_literals (content c.self.inside.constraints) c.args.variable c.args.ids.now middle ids c.in_ok-add_occurrences.ensures.added second)

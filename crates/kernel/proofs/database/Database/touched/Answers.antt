@@ -1,10 +1,11 @@
 -- One variable of the witness after another.
-use Rattle.std.proofs.Common.{false, get_or, length, sym, subst, ap, arith}
+use Rattle.std.proofs.Common.{false, get_or, length, refl, sym, subst, ap, ◌∙◌, arith}
 use Rattle.linear.specs.declared.term.Var.{Var}
 use Rattle.propagate.specs.Ids.{IdSet}
 use Rattle.substitution.specs.declared.image.Image.{Image}
 use Rattle.substitution.specs.declared.image.Image.TheVariants.{Lit}
 use Rattle.substitution.specs.Images.{Images}
+use Rattle.kernel.specs.Database.{Constraints}
 use Rattle.kernel.specs.Redundancy.{AddsVariable}
 use Rattle.kernel.proofs.Touched.{IsGatheringTouched, gathering_none, gathering_next, gathered_all}
 use Rattle.kernel.proofs.database.Database.touched.Goals as goal
@@ -12,8 +13,10 @@ use Rattle.kernel.proofs.database.Database.touched.Goals as goal
 pub loop-image-init : goal.loop-image-init
 loop-image-init g c =
     let live = c.args.self.now.live in
-    let images = c.args.witness.now in
-    subst (λ (ids : IdSet). IsGatheringTouched live images images ids) (sym c.empty-ids.ensures) (gathering_none live images)
+    let images = c.args.witness.now in (
+      refl,
+      subst (λ (ids : IdSet). IsGatheringTouched live images images ids) (sym c.empty-ids.ensures) (gathering_none live images),
+    )
 
 pub loop-image-preserved : goal.loop-image-preserved
 loop-image-preserved g c =
@@ -21,10 +24,14 @@ loop-image-preserved g c =
     let live = c.args.self.now.live in
     let i = c.loop-image.image-index in
     let count = ap length c.as_slice-image-items.ensures.images in
-    let adds = subst (λ (images : Images). AddsVariable live (get_or images i d).0 c.loop-image.ids c.add_variable.new.ids) c.as_slice-image-items.ensures.images c.in_ok-add_variable.ensures in
-    gathering_next live c.args.witness.now i d c.loop-image.ids c.add_variable.new.ids (omega (arith, count)) c.loop-image.invariant adds
+    let same = c.loop-image.invariant.0 in
+    let adds = subst (λ (images : Images). AddsVariable c.loop-image.self.live (get_or images i d).0 c.loop-image.ids c.add_variable.new.ids) c.as_slice-image-items.ensures.images c.in_ok-add_variable.ensures.added in
+    let adds_live = subst (λ (s : Constraints). AddsVariable s.live (get_or c.args.witness.now i d).0 c.loop-image.ids c.add_variable.new.ids) same adds in (
+      c.in_ok-add_variable.ensures.same ∙ same,
+      gathering_next live c.args.witness.now i d c.loop-image.ids c.add_variable.new.ids (omega (arith, count)) c.loop-image.invariant.1 adds_live,
+    )
 
-pub returns : goal.returns
-returns g c =
+pub returns-clause-touched : goal.returns-clause-touched
+returns-clause-touched g c =
     let count = ap length c.as_slice-image-items.ensures.images in
-    gathered_all c.args.self.now.live c.args.witness.now c.loop-image.image-index c.loop-image.ids (omega (arith, count)) c.loop-image.invariant
+    gathered_all c.args.self.now.live c.args.witness.now c.loop-image.image-index c.loop-image.ids (omega (arith, count)) c.loop-image.invariant.1

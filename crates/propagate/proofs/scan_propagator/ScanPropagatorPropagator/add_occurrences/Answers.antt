@@ -18,8 +18,8 @@ loop-id-preserved c =
     (subst (λ (rest : Entries). IsGathering all c.args.literal before rest c.loop-id.ids) c.in-Some.ensures.steps c.loop-id.invariant)
     c.in_ok-add_if_it_has.ensures.there c.in_ok-add_if_it_has.ensures.absent
 
-pub returns : goal.returns
-returns c =
+pub returns-clause-added : goal.returns-clause-added
+returns-clause-added c =
     let all : Entries = c.args.self.now.all.entries in
     gathered all c.args.literal c.args.ids.now c.loop-id.ids
     (subst (λ (rest : Entries). IsGathering all c.args.literal c.args.ids.now rest c.loop-id.ids) (c.in-None.ensures.steps).0 c.loop-id.invariant)

@@ -3,4 +3,4 @@ use Rattle.propagate.proofs.Gathered.{IsGathering}
 use Rattle.propagate.proofs.scan_propagator.ScanPropagatorPropagator.add_occurrences.Given as goal
 
 abbrev pub invariant-loop-id : goal.invariant-loop-id
-invariant-loop-id l = IsGathering l.self.all.entries l.literal l.fn.ids l.id-iterator l.ids
+invariant-loop-id l = IsGathering l.fn.self.all.entries l.literal l.fn.ids l.id-iterator l.ids

@@ -9,5 +9,5 @@ pub loop-id-preserved : goal.loop-id-preserved
 loop-id-preserved c =
     adding_more c.args.self.now c.args.literal c.args.ids.now c.loop-id.ids c.insert.new.self c.in-Some.id c.loop-id.rest c.next.new.self c.loop-id.invariant c.in-Some.ensures c.in_ok-insert.ensures.ok
 
-pub returns : goal.returns
-returns c = added c.args.self.now c.args.literal c.args.ids.now c.loop-id.ids c.loop-id.rest c.loop-id.invariant c.in_default.ensures.0
+pub returns-clause-added : goal.returns-clause-added
+returns-clause-added c = added c.args.self.now c.args.literal c.args.ids.now c.loop-id.ids c.loop-id.rest c.loop-id.invariant c.in_default.ensures.0

@@ -4,7 +4,7 @@ use Rattle.watch.proofs.AddedIds.{IsAdding}
 use Rattle.watch.proofs.watch_propagator.WatchPropagatorPropagator.add_occurrences.Given as goal
 
 abbrev pub invariant-loop-id : goal.invariant-loop-id
-invariant-loop-id l = IsAdding l.self l.fn.literal l.fn.ids l.rest l.ids
+invariant-loop-id l = IsAdding l.fn.self l.fn.literal l.fn.ids l.rest l.ids
 
 abbrev pub decreases-loop-id : goal.decreases-loop-id
 decreases-loop-id l = length l.rest
