@@ -1,3 +1,4 @@
 pub mod Biting
+pub mod Cases
 pub mod Lines
 pub mod Spots

@@ -12,6 +12,7 @@
 
 mod analysis;
 mod biting;
+pub mod cases;
 mod derivation;
 mod entry;
 mod learned;

@@ -1,5 +1,5 @@
-//! The solver from the bytes of a problem to the printed answer, with three rules of choice: none, the conflicts', and one that always
-//! answers a variable that is set. The proof that is handed out is judged once more as if it came from anybody.
+//! The solver from the bytes of a problem to the printed answer, with three rules of choice: none, the conflicts', and one that answers
+//! a variable that is set wherever there is one. The proof that is handed out is judged once more as if it came from anybody.
 
 use checker::{check, verdict_text};
 use linear::{Lit, Var};
@@ -9,16 +9,22 @@ use std::alloc::{AllocError, Global};
 use std::process::Abort;
 use std::test::Fail;
 
-/// Always answers the first variable, set or not.
+/// Answers the first variable that is set.
 #[derive(Drop)]
 struct Stubborn;
 
 impl Brancher for Stubborn {
-    fn pick(&mut self, _values: &[Value]) -> Option<Lit> {
-        Some(Lit {
-            var: Var(0),
-            negated: false,
-        })
+    fn pick(&mut self, values: &[Value]) -> Option<Lit> {
+        for (place, value) in values.iter().enumerate() {
+            if !matches!(value, Value::Free) {
+                let number = u32::try_from(place).ok()?;
+                return Some(Lit {
+                    var: Var(number),
+                    negated: false,
+                });
+            }
+        }
+        None
     }
 
     fn conflict(&mut self, _variables: &[Var]) {}
@@ -61,7 +67,11 @@ const FOUR_CLAUSES: &str =
 const PIGEONS: &str =
     "1 x1 1 x2 >= 1 ; 1 x3 1 x4 >= 1 ; 1 x5 1 x6 >= 1 ; -1 x1 -1 x3 -1 x5 >= -1 ; -1 x2 -1 x4 -1 x6 >= -1 ;";
 
-const CASES: [Case; 20] = [
+// eight pigeons in seven holes
+const EIGHT_PIGEONS: &str =
+    "1 x1 1 x2 1 x3 1 x4 1 x5 1 x6 1 x7 >= 1 ; 1 x8 1 x9 1 x10 1 x11 1 x12 1 x13 1 x14 >= 1 ; 1 x15 1 x16 1 x17 1 x18 1 x19 1 x20 1 x21 >= 1 ; 1 x22 1 x23 1 x24 1 x25 1 x26 1 x27 1 x28 >= 1 ; 1 x29 1 x30 1 x31 1 x32 1 x33 1 x34 1 x35 >= 1 ; 1 x36 1 x37 1 x38 1 x39 1 x40 1 x41 1 x42 >= 1 ; 1 x43 1 x44 1 x45 1 x46 1 x47 1 x48 1 x49 >= 1 ; 1 x50 1 x51 1 x52 1 x53 1 x54 1 x55 1 x56 >= 1 ; -1 x1 -1 x8 -1 x15 -1 x22 -1 x29 -1 x36 -1 x43 -1 x50 >= -1 ; -1 x2 -1 x9 -1 x16 -1 x23 -1 x30 -1 x37 -1 x44 -1 x51 >= -1 ; -1 x3 -1 x10 -1 x17 -1 x24 -1 x31 -1 x38 -1 x45 -1 x52 >= -1 ; -1 x4 -1 x11 -1 x18 -1 x25 -1 x32 -1 x39 -1 x46 -1 x53 >= -1 ; -1 x5 -1 x12 -1 x19 -1 x26 -1 x33 -1 x40 -1 x47 -1 x54 >= -1 ; -1 x6 -1 x13 -1 x20 -1 x27 -1 x34 -1 x41 -1 x48 -1 x55 >= -1 ; -1 x7 -1 x14 -1 x21 -1 x28 -1 x35 -1 x42 -1 x49 -1 x56 >= -1 ;";
+
+const CASES: [Case; 22] = [
     Case {
         opb: FOUR_CLAUSES,
         conflicts: 1000000,
@@ -95,6 +105,14 @@ const CASES: [Case; 20] = [
     Case {
         opb: PIGEONS,
         conflicts: 100,
+        ends: "s UNSATISFIABLE\n",
+        status: 20,
+        verdict: "accepted UNSAT\n",
+    },
+    // by resolution alone this takes thousands of conflicts
+    Case {
+        opb: EIGHT_PIGEONS,
+        conflicts: 30,
         ends: "s UNSATISFIABLE\n",
         status: 20,
         verdict: "accepted UNSAT\n",
@@ -174,6 +192,14 @@ const CASES: [Case; 20] = [
         ends: "o 2\ns OPTIMUM FOUND\nv x1 -x2\n",
         status: 30,
         verdict: "accepted BOUNDS 2 2\nv x1 -x2\n",
+    },
+    // the first solution has ~x1, and to improve on it there is a conflict under ~x1
+    Case {
+        opb: "min: 2 x1 3 x2 4 x3 ; 1 x1 1 x2 >= 1 ; 1 x2 1 x3 >= 1 ; 1 x1 1 x3 >= 1 ;",
+        conflicts: 1,
+        ends: "o 7\ns SATISFIABLE\nv -x1 x2 x3\n",
+        status: 10,
+        verdict: "accepted BOUNDS -INF 7\nv -x1 x2 x3\n",
     },
     Case {
         opb: "min: -1 x1 ;",

@@ -1,4 +1,4 @@
--- A walk that comes to the end has read a legal proof of the kinds that are judged: what is left of a proof is gathered section by
+-- A walk that comes to the end has read a legal proof: what is left of a proof is gathered section by
 -- section, from the last position back to the first.
 use Rattle.std.proofs.Common.{◌≡◌, ℕ, pos, inl, inr, Option, Some, None, List, [], ◌∷◌, ◌++◌, refl, sym, ap, subst, ◌∙◌}
 use Rattle.linear.specs.Opb.{Opb}

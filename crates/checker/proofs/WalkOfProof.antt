@@ -1,4 +1,4 @@
--- A legal proof of the kinds that are judged is a walk that comes to the end.
+-- A legal proof is a walk that comes to the end.
 use Rattle.std.proofs.Common.{ℕ, pos, Option, Some, None, List, [], ◌∷◌, ◌++◌, refl, subst}
 use Rattle.linear.specs.Opb.{Opb}
 use Rattle.kernel.specs.Accepted.{Judgement}

@@ -4,6 +4,7 @@ pub mod BitingClauses
 pub mod Ending
 pub mod Forgetting
 pub mod Growing
+pub mod Reasons
 pub mod Improving
 pub mod Solutions
 pub mod StaysBetter

@@ -2,4 +2,5 @@ pub mod Clause
 pub mod Log
 pub mod Presolving
 pub mod Solving
+pub mod Undoing
 pub mod Values

@@ -1,14 +1,20 @@
 //! Worked cases: the definitions computed on small logs.
 
-ghost use Rattle.std.specs.Prelude.{◌≡◌, [], ◌∷◌, pos};
+ghost use Rattle.std.specs.Prelude.{◌≡◌, [], ◌∷◌, None, Some, neg_ℤ, pos};
 ghost use Rattle.linear.specs.Opb.{Opb};
 ghost use Rattle.linear.specs.declared.constraint.Relation.TheVariants.{AtLeast};
 ghost use Rattle.normal_form.specs.Cases.{signed, signed_not};
 ghost use Rattle.propagate.specs.Cases.{x, not_x};
-ghost use Rattle.proof_rules.specs.State.{State};
-ghost use Rattle.proof_steps.specs.declared.step.Step.TheVariants.{Sol, Del};
+ghost use Rattle.proof_rules.specs.State.{HasRoom, State};
+ghost use Rattle.proof_steps.specs.declared.conclusion.Conclusion.TheVariants as conclusions;
+ghost use Rattle.proof_steps.specs.declared.conclusion.Lower.TheVariants as lowers;
+ghost use Rattle.proof_steps.specs.declared.conclusion.Upper.TheVariants as uppers;
+ghost use Rattle.proof_steps.specs.declared.step.Step.TheVariants.{Sol, Soli, Del};
 ghost use Rattle.search.specs.Clause.{negated_clause};
-ghost use Rattle.search.specs.Log.{LeadsBiting, StepBites};
+ghost use Rattle.search.specs.Log.{ImprovesNothing, IsFalling, LeadsBiting, LeadsImproving, Logbook, StepBites, improvement, last_of};
+ghost use Rattle.search.specs.Solving.{BearsOut, MayStop};
+ghost use Rattle.search.specs.declared.found.Found.TheVariants as founds;
+ghost use Rattle.search.specs.declared.found.Unfinished.TheVariants as reasons;
 
 /// No steps count nothing; a logged solution, or a deletion, never bites, so a log of one counts nothing either.
 pub fn nothing_counts_without_learning()
@@ -23,4 +29,39 @@ pub fn clause_of_two_literals()
     ensures none { negated_clause [] ≡ record { terms = []; relation = AtLeast; right = pos 1 } }
     ensures two { negated_clause (x 1 ∷ not_x 2 ∷ [])
         ≡ record { terms = signed_not (pos 1) 1 ∷ signed (pos 1) 2 ∷ []; relation = AtLeast; right = pos 1 } }
+{}
+
+/// A `soli` improves to the least value of the state that it leads to; a `sol` improves nothing, and no step no value.
+pub fn improved_by_soli_alone()
+    ensures better { (s : State) → s.improve ≡ Some (pos 7) → improvement (Soli (x 1 ∷ [])) s ≡ pos 7 ∷ [] }
+    ensures other { (s : State) → improvement (Sol (x 1 ∷ [])) s ≡ [] }
+    ensures none { (p : Opb) → (s t : State) → LeadsImproving p s [] t (pos 7 ∷ []) → ⊥ }
+    ensures logged { (p : Opb) → (s t : State) → LeadsImproving p s (Sol (x 1 ∷ []) ∷ []) t (pos 7 ∷ []) → ⊥ }
+    ensures nothing { ImprovesNothing (Soli (x 1 ∷ [])) → ⊥ }
+{}
+
+/// Values fall from 5 to 3 and to -1, and not from 3 to 3 or to 5; the last one counts.
+pub fn values_that_fall()
+    ensures falling { IsFalling (pos 5 ∷ pos 3 ∷ neg_ℤ (pos 1) ∷ []) }
+    ensures equal { IsFalling (pos 3 ∷ pos 3 ∷ []) → ⊥ }
+    ensures rising { IsFalling (pos 5 ∷ pos 1 ∷ pos 3 ∷ []) → ⊥ }
+    ensures last { last_of (pos 5 ∷ pos 3 ∷ []) ≡ Some (pos 3) }
+    ensures none { last_of [] ≡ None }
+{}
+
+/// With two conflicts to meet a search may stop where one taught it something, and not before, while an id is left.
+pub fn stops_after_conflicts()
+    ensures at_two { (l : Logbook) → l.biting ≡ 1 → MayStop 2 l }
+    ensures at_once { (l : Logbook) → l.biting ≡ 0 → HasRoom l.state → MayStop 2 l → ⊥ }
+{}
+
+/// A log that concludes nothing bears out neither that there is no solution nor an optimum, and one of an optimum of 7 not that
+/// there is no solution.
+pub fn borne_out()
+    ensures no_solution { (l : Logbook) → l.conclusion ≡ conclusions.Nothing → BearsOut 1 l founds.Unsat → ⊥ }
+    ensures optimum { (l : Logbook) → l.conclusion ≡ conclusions.Nothing → BearsOut 1 l founds.Optimum → ⊥ }
+    ensures best { (l : Logbook) → l.state.improve ≡ Some (pos 7) → l.conclusion ≡ conclusions.Bounds (lowers.At (pos 7)) (uppers.At (pos 7)) None → BearsOut 1 l founds.Optimum }
+    ensures other_bound { (l : Logbook) → l.state.improve ≡ Some (pos 7) → l.conclusion ≡ conclusions.Bounds (lowers.At (pos 6)) (uppers.At (pos 7)) None → BearsOut 1 l founds.Optimum → ⊥ }
+    ensures memory { (l : Logbook) → BearsOut 1 l (founds.Unknown reasons.Memory) → ⊥ }
+    ensures solved { (l : Logbook) → l.problem.objective ≡ None → l.state.logged ≡ [] → BearsOut 1 l founds.Sat → ⊥ }
 {}

@@ -3,7 +3,7 @@
 //! It is the least that a conflict teaches, and it is always at hand: it follows by propagation alone, no number in it grows,
 //! and it bites, since what comes before the last of these decisions was closed without a conflict.
 
-ghost use Rattle.std.specs.Prelude.{◌≡◌, ◌<◌, ◌≤◌, ◌+◌, IfOk, OnOk, false, length};
+ghost use Rattle.std.specs.Prelude.{◌≡◌, ◌<◌, ◌≤◌, ◌+◌, ◌-◌, IfOk, OnOk, false, length, take};
 ghost use Rattle.propagate.specs.Literals.{IsConsistent, lists, opposite};
 ghost use Rattle.search.specs.Clause.{negated_clause, opposite_term};
 ghost use Rattle.search.specs.Solving.{TakesId};
@@ -105,6 +105,7 @@ pub(crate) fn learn_clause<'a, P: Propagator>(
     ensures biting { OnOk result (log.new.biting ≡ log.old.biting + 1) }
     ensures id { OnOk result (TakesId log.old.state log.new.state) }
     ensures consistent { OnOk result (IsConsistent decisions.new.items) }
+    ensures undone { OnOk result (decisions.new.items ≡ take (count - 1) decisions.old.items) }
 {
     let kept = count - 1;
     let last = decisions[kept];

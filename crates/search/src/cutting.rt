@@ -7,6 +7,7 @@
 ghost use Rattle.std.specs.Prelude.{◌≡◌, IfOk, IsTrue, OnOk, false};
 ghost use Rattle.propagate.specs.Literals.{IsConsistent};
 ghost use Rattle.search.specs.Solving.{TakesId};
+ghost use Rattle.search.specs.Undoing.{IsUndone};
 
 use super::brancher::Brancher;
 use super::log::Log;
@@ -42,6 +43,8 @@ pub(crate) fn learn_constraint<'a, P: Propagator>(
     ensures learned { IfOk result (λ yes. IsTrue yes → TakesId log.old.state log.new.state) }
     ensures unchanged { IfOk result (λ yes. yes ≡ false → log.new ≡ log.old) }
     ensures consistent { OnOk result (IsConsistent decisions.new.items) }
+    ensures undone { IfOk result (λ yes. IsTrue yes → IsUndone decisions.old.items decisions.new.items) }
+    ensures kept { IfOk result (λ yes. yes ≡ false → decisions.new.items ≡ decisions.old.items) }
 {
     let Some(learned) = analyse(alloc, log.kernel(), trail, conflict)? else {
         return Ok(false);

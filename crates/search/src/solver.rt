@@ -3,6 +3,7 @@
 ghost use Rattle.std.specs.Prelude.{◌≡◌, ◌≤◌, IfOk, IfSome, IsNone, OnOk};
 ghost use Rattle.propagate.specs.Literals.{IsConsistent};
 ghost use Rattle.search.specs.Solving.{BearsOut, IsSolved, TakesId};
+ghost use Rattle.search.specs.Undoing.{IsUndone};
 
 use super::brancher::Brancher;
 use super::clause::{learn_clause, least_conflict};
@@ -44,6 +45,7 @@ fn resolve<'a, P: Propagator>(
     ensures found { IfOk result (λ end. IfSome end (BearsOut limit log.new)) }
     ensures learned { IfOk result (λ end. IsNone end → TakesId log.old.state log.new.state) }
     ensures consistent { OnOk result (IsConsistent decisions.new.items) }
+    ensures undone { IfOk result (λ end. IsNone end → IsUndone decisions.old.items decisions.new.items) }
 {
     if decisions.is_empty() {
         return Ok(Some(end_exhausted(log)?));

@@ -52,6 +52,11 @@ excess_total zero ts n = omega arith
 excess_total (suc i) [] n = omega arith
 excess_total (suc i) (t ∷ ts) n = omega (arith, excess_total i ts n)
 
+pub excess_first : (i : ℕ) (ts : List NormalTerm) (n : NormalConstraint) → term_excess (take i ts) n ≤ term_excess ts n
+excess_first zero ts n = omega arith
+excess_first (suc i) [] n = omega arith
+excess_first (suc i) (t ∷ ts) n = omega (arith, excess_first i ts n)
+
 -- all terms of lower variables than any that comes are before a place
 abbrev pub IsAhead : List NormalTerm → ℕ → ℕ → List NormalTerm → Type 0
 IsAhead es i place ns = (v : ℕ) (s : Bool) → variable_bound (take i es) ≤ v → sum_over (only v s) ns ≡ sum_over (only v s) (drop place ns)

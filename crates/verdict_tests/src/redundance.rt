@@ -41,8 +41,19 @@ fn redundant_constraints_are_added(rt: HostRuntime) -> Result<(), Fail> {
 }
 
 /// Third lines of proofs that are refused, and with what.
-const REFUSED: [(Problem, &str, &str); 16] = [
-    // a live constraint, before the new one, before the objective
+const REFUSED: [(Problem, &str, &str); 19] = [
+    // sums before goals; a live constraint before the new one and before the objective, and that after the new one
+    (
+        Problem::Either,
+        "red 1329227995784915872903807060280344576 x1 1 x2 >= 1 ; x1 -> 0",
+        "13 TooLarge",
+    ),
+    (
+        Problem::Triangle,
+        "red 1 ~x1 >= 1 ; x1 -> 0 x3 -> 1",
+        "15 GoalOpen",
+    ),
+    (Problem::Price, "red 1 x2 >= 1 ; x1 -> 1", "16 GoalOpenSelf"),
     (Problem::Either, "red 1 ~x1 >= 1 ; x1 -> 0", "15 GoalOpen"),
     (Problem::First, "red 1 ~x1 >= 1 ; x1 -> 0", "15 GoalOpen"),
     (

@@ -50,7 +50,14 @@ fn a_logged_solution_is_completed_and_meets_the_file(rt: HostRuntime) -> Result<
 }
 
 /// `soli`: an objective first, then as `sol`, then a value below the least one so far.
-const AN_IMPROVING_SOLUTION_HAS_AN_OBJECTIVE_AND_IS_BETTER: [Row; 7] = [
+const AN_IMPROVING_SOLUTION_HAS_AN_OBJECTIVE_AND_IS_BETTER: [Row; 8] = [
+    // it meets the file, before it is better
+    Row {
+        problem: Problem::FourAndOne,
+        steps: "soli ~x1 ~x2 ~x3 ~x4 ~x5\nsoli ~x1 ~x2 ~x3 ~x4 x5\n",
+        conclusion: "NONE",
+        printed: "refused line 4 code 18 SolutionFalse\n",
+    },
     Row {
         problem: Problem::Equal,
         steps: "soli x1 ~x2\npol 1 2 +\n",
@@ -188,7 +195,13 @@ fn what_is_deleted_is_gone(rt: HostRuntime) -> Result<(), Fail> {
 }
 
 /// `SAT` and its hint, which is one more `sol`.
-const SATISFIABLE_BY_WHAT_WAS_LOGGED: [Row; 7] = [
+const SATISFIABLE_BY_WHAT_WAS_LOGGED: [Row; 8] = [
+    Row {
+        problem: Problem::Cheaper,
+        steps: "",
+        conclusion: "SAT",
+        printed: "refused line 4 code 26 UpperNotLogged\n",
+    },
     Row {
         problem: Problem::Either,
         steps: "",
@@ -359,7 +372,20 @@ fn lower_bounds_are_shown(rt: HostRuntime) -> Result<(), Fail> {
 }
 
 /// The upper bound of `BOUNDS`, judged last; the best is of the least value, the earliest among equals.
-const UPPER_BOUNDS_ARE_LOGGED: [Row; 11] = [
+const UPPER_BOUNDS_ARE_LOGGED: [Row; 13] = [
+    // a lower bound above the best is refused before it is shown, and before the upper one is judged
+    Row {
+        problem: Problem::Reward,
+        steps: "soli x1\n",
+        conclusion: "BOUNDS 1329227995784915872903807060280344576 2",
+        printed: "refused line 5 code 25 LowerAboveBest\n",
+    },
+    Row {
+        problem: Problem::Cheaper,
+        steps: "soli x1 ~x2\n",
+        conclusion: "BOUNDS 3 1",
+        printed: "refused line 5 code 25 LowerAboveBest\n",
+    },
     Row {
         problem: Problem::Cheaper,
         steps: "soli ~x1 x2\nsoli x1 ~x2\n",

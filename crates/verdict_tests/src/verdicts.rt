@@ -90,7 +90,7 @@ fn whole_proofs(rt: HostRuntime) -> Result<(), Fail> {
 }
 
 /// Third lines of proofs that are legal there.
-const ACCEPTED: [(Problem, &str); 10] = [
+const ACCEPTED: [(Problem, &str); 11] = [
     // half of 2^120 twice: what cancels is gone before the limit is asked
     (
         Problem::NotBoth,
@@ -112,6 +112,7 @@ const ACCEPTED: [(Problem, &str); 10] = [
     (Problem::SecondEitherWay, "rup 1 x2 >= 1 ;"),
     (Problem::Weighted, "rup 1 x1 >= 1 ;"),
     (Problem::TwoOfThree, "u 1 x1 1 x2 1 x3 >= 2 ;"),
+    (Problem::TwoOfThree, "rup 1 x1 1 x2 1 x3 >= 2 ;"),
 ];
 
 #[test]
@@ -124,7 +125,13 @@ fn legal_lines_are_accepted(rt: HostRuntime) -> Result<(), Fail> {
 }
 
 /// Third lines of proofs that are refused, and with what.
-const REFUSED: [(Problem, &str, &str); 28] = [
+const REFUSED: [(Problem, &str, &str); 29] = [
+    // the sum is looked at before anything is shown
+    (
+        Problem::Weighted,
+        "rup 1329227995784915872903807060280344576 x1 1 x2 >= 1 ;",
+        "13 TooLarge",
+    ),
     // half of 2^120, twice
     (
         Problem::NotBoth,

@@ -5,5 +5,5 @@ use Rattle.substitution.proofs.covering.covers.Given as goal
 
 abbrev pub invariant-loop-index : goal.invariant-loop-index
 invariant-loop-index l =
-    (l.excess ≡ term_excess (take l.index l.constraint.terms) l.other) × (l.place ≤ length l.other.terms)
+    (l.excess ≡ term_excess (take l.index l.constraint.terms) l.other) × (l.excess ≤ l.allowed) × (l.place ≤ length l.other.terms)
     × IsAhead l.constraint.terms l.index l.place l.other.terms

@@ -1,0 +1,47 @@
+//! The definitions computed on a small trail, each the contract of a function that does nothing.
+
+ghost use Rattle.std.specs.Prelude.{◌≡◌, [], ◌∷◌, pos};
+ghost use Rattle.propagate.specs.Cases.{one_of_two, x, not_x};
+ghost use Rattle.proof_steps.specs.declared.step.Item.TheVariants.{Add, Id, Saturate};
+ghost use Rattle.analysis.specs.Biting.{BitesAt, RepeatsVariable, greatest_level, literals_up_to};
+ghost use Rattle.analysis.specs.Cases.{broken_since_one, forces_since_one, forces_since_two, two_decisions};
+ghost use Rattle.analysis.specs.Lines.{BeginsWith, GoesOnFrom};
+
+/// x1 was decided, ~x2 forced, and x3 decided next: two decisions are open, and the first two literals stand since the first.
+pub fn two_decisions_open()
+    ensures none { greatest_level [] ≡ 0 }
+    ensures two { greatest_level two_decisions ≡ 2 }
+    ensures before { literals_up_to 0 two_decisions ≡ [] }
+    ensures first { literals_up_to 1 two_decisions ≡ x 1 ∷ not_x 2 ∷ [] }
+    ensures second { literals_up_to 2 two_decisions ≡ x 1 ∷ not_x 2 ∷ x 3 ∷ [] }
+{}
+
+/// There `1 x2 1 x4 >= 1` forces x4 and `1 ~x1 1 x2 >= 1` has negative slack since the first decision, and neither says anything
+/// before. `1 ~x3 1 x4 >= 1` forces x4 since the second alone, and `1 x1 1 x2 >= 1` is true and never says anything.
+pub fn bites_since()
+    ensures forces { BitesAt two_decisions 1 forces_since_one }
+    ensures forces_nothing { BitesAt two_decisions 0 forces_since_one → ⊥ }
+    ensures broken { BitesAt two_decisions 1 broken_since_one }
+    ensures unbroken { BitesAt two_decisions 0 broken_since_one → ⊥ }
+    ensures second { BitesAt two_decisions 2 forces_since_two }
+    ensures not_first { BitesAt two_decisions 1 forces_since_two → ⊥ }
+    ensures satisfied { BitesAt two_decisions 2 one_of_two → ⊥ }
+{}
+
+/// A variable stands twice where both its literals do, and not beside another.
+pub fn variable_twice()
+    ensures both { RepeatsVariable (x 1 ∷ x 2 ∷ not_x 1 ∷ []) }
+    ensures apart { RepeatsVariable (x 1 ∷ x 2 ∷ []) → ⊥ }
+    ensures alone { RepeatsVariable (x 1 ∷ []) → ⊥ }
+{}
+
+/// The line `3 4 + s` begins with the constraint of id 3, and goes on from `3 4 +`; it neither begins with that of 4 nor goes on
+/// from `4`.
+pub fn line_of_two()
+    ensures begins { BeginsWith 3 (Id (pos 3) ∷ Id (pos 4) ∷ Add ∷ Saturate ∷ []) }
+    ensures other { BeginsWith 4 (Id (pos 3) ∷ Id (pos 4) ∷ Add ∷ Saturate ∷ []) → ⊥ }
+    ensures empty { BeginsWith 3 [] → ⊥ }
+    ensures goes_on { GoesOnFrom (Id (pos 3) ∷ Id (pos 4) ∷ Add ∷ []) (Id (pos 3) ∷ Id (pos 4) ∷ Add ∷ Saturate ∷ []) }
+    ensures elsewhere { GoesOnFrom (Id (pos 4) ∷ []) (Id (pos 3) ∷ Id (pos 4) ∷ Add ∷ Saturate ∷ []) → ⊥ }
+    ensures shorter { GoesOnFrom (Id (pos 3) ∷ Saturate ∷ []) (Id (pos 3) ∷ []) → ⊥ }
+{}
