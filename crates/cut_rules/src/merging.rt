@@ -7,10 +7,10 @@
 //! The sum of the result is added up on the way: what cancelled is half of what the sums of the two had more, and by it
 //! the degree falls.
 
-ghost use Rattle.std.specs.Prelude.{◌≡◌, ℕ, Bool, ◌+◌, ◌^◌, ◌≤◌, min, pos, ◌+ℤ◌, unsigned_abs, IfOk, OnOk, drop, [], if◌then◌else◌};
+ghost use Rattle.std.specs.Prelude.{◌≡◌, ℕ, Bool, ◌+◌, ◌<◌, ◌≤◌, ◌^◌, pos, ◌+ℤ◌, unsigned_abs, IfOk, OnOk, drop, [], if◌then◌else◌};
 ghost use Rattle.normal_form.specs.Normal.{largest_sum, total, variable_bound, Rises};
 ghost use Rattle.normal_form.specs.Balance.{rise_of, rises_of};
-ghost use Rattle.cut_rules.specs.Steps.{first_variable, SumBalances};
+ghost use Rattle.cut_rules.specs.Steps.{IsHead, SumBalances};
 
 use linear::Var;
 use normal_form::{Normal, NormalBuilder, NormalTerm};
@@ -32,59 +32,64 @@ fn rise(term: NormalTerm) -> i128
     }
 }
 
-// What the term at a place gives a variable, and the place after what was read.
+// The term that is next on one side, read once: its variable, or the end, what it gives that variable, and the place behind it.
+#[derive(Clone, Copy)]
+struct Head {
+    variable: u64,
+    net: i128,
+    behind: usize,
+}
+
+// The term at a place.
+fn head_at(constraint: &Normal, place: usize) -> Head
+    ensures { IsHead (drop place constraint.now.terms) (drop result.behind constraint.now.terms) result.variable result.net }
+{
+    if place >= constraint.len() {
+        return Head {
+            variable: END,
+            net: 0,
+            behind: place,
+        };
+    }
+    let term = constraint.term(place);
+    Head {
+        variable: term.var.0 as u64,
+        net: rise(term),
+        behind: place + 1,
+    }
+}
+
+// What one side gives a variable, the place after what was read, and the term there.
 #[derive(Clone, Copy)]
 struct Part {
     net: i128,
     next: usize,
+    head: Head,
 }
 
 // Reads the term at a place if it is one of this variable.
-fn read_part(constraint: &Normal, place: usize, variable: u64) -> Part
-    requires { Rises variable (drop place constraint.now.terms) }
+fn read_part(constraint: &Normal, place: usize, head: Head, variable: u64) -> Part
+    requires rises { Rises variable (drop place constraint.now.terms) }
+    requires head { IsHead (drop place constraint.now.terms) (drop head.behind constraint.now.terms) head.variable head.net }
+    requires variable { variable < 2 ^ 32 }
     ensures ahead { Rises (variable + 1) (drop result.next constraint.now.terms) }
     ensures gives { (set : ℕ → Bool) → rises_of set (drop place constraint.now.terms) ≡ (if set variable then result.net else pos 0) +ℤ rises_of set (drop result.next constraint.now.terms) }
     ensures total { total (drop place constraint.now.terms) ≡ unsigned_abs result.net + total (drop result.next constraint.now.terms) }
     ensures size { unsigned_abs result.net ≤ largest_sum }
+    ensures head { IsHead (drop result.next constraint.now.terms) (drop result.head.behind constraint.now.terms) result.head.variable result.head.net }
 {
-    if place >= constraint.len() {
+    if head.variable != variable {
         return Part {
             net: 0,
             next: place,
-        };
-    }
-    let term = constraint.term(place);
-    if term.var.0 as u64 != variable {
-        return Part {
-            net: 0,
-            next: place,
+            head,
         };
     }
     Part {
-        net: rise(term),
-        next: place + 1,
+        net: head.net,
+        next: head.behind,
+        head: head_at(constraint, head.behind),
     }
-}
-
-// The variable of the term at a place, or the end.
-fn variable_at(constraint: &Normal, place: usize) -> u64
-    ensures value { result ≡ first_variable (drop place constraint.now.terms) }
-    ensures end { 2 ^ 32 ≤ result → drop place constraint.now.terms ≡ [] }
-{
-    if place >= constraint.len() {
-        return END;
-    }
-    constraint.term(place).var.0 as u64
-}
-
-// The least variable of the terms at two places, or the end.
-fn least_variable(left: &Normal, i: usize, right: &Normal, j: usize) -> u64
-    ensures value { result ≡ min (first_variable (drop i left.now.terms)) (first_variable (drop j right.now.terms)) }
-    ensures end { 2 ^ 32 ≤ result → (drop i left.now.terms ≡ []) × (drop j right.now.terms ≡ []) }
-{
-    let first = variable_at(left, i);
-    let second = variable_at(right, j);
-    if first <= second { first } else { second }
 }
 
 /// The merged terms, and what their coefficients add up to.
@@ -105,16 +110,20 @@ pub(crate) fn merge(alloc: Global, left: &Normal, right: &Normal) -> Result<Merg
     let mut sum: u128 = 0;
     let mut i = 0;
     let mut j = 0;
-    let mut variable = least_variable(left, i, right, j);
+    let mut on_left = head_at(left, i);
+    let mut on_right = head_at(right, j);
+    let mut variable = on_left.variable.min(on_right.variable);
     while variable < END {
-        let from_left = read_part(left, i, variable);
-        let from_right = read_part(right, j, variable);
+        let from_left = read_part(left, i, on_left, variable);
+        let from_right = read_part(right, j, on_right, variable);
         let net = from_left.net + from_right.net;
         terms.push_net(Var(variable as u32), net)?;
         sum += net.unsigned_abs();
         i = from_left.next;
         j = from_right.next;
-        variable = least_variable(left, i, right, j);
+        on_left = from_left.head;
+        on_right = from_right.head;
+        variable = on_left.variable.min(on_right.variable);
     }
     Ok(Merged { terms, sum })
 }
