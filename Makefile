@@ -2,7 +2,7 @@
 # gate: every proof from nothing, the edits that must fail, and the tests; `make demo` finds an optimum and has its proof
 # checked, and runs the checker on three pigeons in two holes, an optimum, a symmetry and a new name; `make install` puts both
 # programs and their manual pages under PREFIX.
-.PHONY: all test demo check install layout refused-growths statuses bench differential optima pigeons wrong-edits wrong-bodies gate-minutes
+.PHONY: all test demo check install layout refused-growths statuses bench differential optima pigeons wrong-edits wrong-definitions wrong-bodies gate-minutes
 
 PREFIX ?= /usr/local
 
@@ -86,6 +86,10 @@ bench: bin/pbcheck
 # the contract of its crate, a definition that is turned a law or a worked case. `scripts/wrong-edits CRATE` tries those of one crate.
 wrong-edits:
 	scripts/wrong-edits
+
+# The same for the definitions alone.
+wrong-definitions:
+	scripts/wrong-edits definitions
 
 # Writes the lists of docs/wrong-bodies.md anew from the edits.
 wrong-bodies:
