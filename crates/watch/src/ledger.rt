@@ -120,6 +120,7 @@ impl Ledger {
         let _literals = self.trail.listing();
         self.reasons.push_reserved(reason);
         lower(
+            self.slots.as_slice(),
             &mut self.counters,
             self.limits.as_slice(),
             queue,
