@@ -17,6 +17,7 @@ pub mod Walking
 pub mod WatchMoves
 pub mod WatchedPlaces
 pub mod WatchedQuiet
+pub mod LastLiteral
 pub mod Forcing
 pub mod Deciding
 pub mod Apart
