@@ -20,7 +20,7 @@ ghost use Rattle.propagate.specs.Literals.{IsConsistent, IsOnce, lists, opposite
 ghost use Rattle.propagate.specs.Slack.{IsBroken};
 ghost use Rattle.propagate.specs.Walk.{IsQuiet};
 ghost use Rattle.watch.specs.Hints.{IsHint, IsHintWithin};
-ghost use Rattle.watch.specs.Lent.{AreEntriesOf, all_of};
+ghost use Rattle.watch.specs.Entered.{AreEntriesOf, all_of};
 ghost use Rattle.watch.specs.Ledgers.{AreReasons, IsReason, constraint_at, open_sum, shown};
 ghost use Rattle.watch.specs.Watched.{IsOpen, IsPairOf};
 
