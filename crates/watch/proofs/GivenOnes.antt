@@ -1,5 +1,5 @@
 -- Given literals, one after another, and where a walk over them ends.
-use Rattle.std.proofs.Common.{◌≡◌, ℕ, zero, suc, ◌+◌, ◌<◌, ◌⊎◌, inl, inr, Bool, true, false, Contains, Option, None, Some, is_some, MatchOption, not, List, [], ◌∷◌, ◌++◌, length, get_or, map, take, refl, ap, sym, subst, ◌∙◌, append-nil, append_assoc, length-append, arith}
+use Rattle.std.proofs.Common.{◌≡◌, ℕ, ◌+◌, ◌<◌, ◌⊎◌, inl, inr, Bool, true, false, Contains, Option, None, Some, is_some, MatchOption, not, List, [], ◌∷◌, ◌++◌, length, get_or, map, take, refl, ap, sym, subst, ◌∙◌, append-nil, append_assoc, length-append, arith}
 use Rattle.std.proofs.lemmas.Bool.{false≢true}
 use Rattle.std.proofs.lemmas.List.{take_more}
 use Rattle.std.proofs.Math.Seq.{take-append_seam}
@@ -13,7 +13,7 @@ use Rattle.propagate.proofs.ChainEnds.{by_set}
 use Rattle.propagate.proofs.Chains.{no_conflict_from}
 use Rattle.propagate.proofs.Closure.{more_literals}
 use Rattle.propagate.proofs.Consistency.{only_here}
-use Rattle.propagate.proofs.Listings.{among_cases, among_head, among_left, among_tail}
+use Rattle.propagate.proofs.Listings.{among_cases, among_left}
 use Rattle.propagate.proofs.ReasonedChains.{conflict_at}
 use Rattle.propagate.proofs.SearchEnds.{one_end_or_conflict}
 use Rattle.watch.specs.Givens.{HasAll, IsGiven, IsWholeEnd, Overlies}
@@ -68,11 +68,6 @@ given_both a b c xs ys zs g h left right = record {
     | inr x ↦ right v s (h.within v s x)
   ];
 }
-
-pub listed_at : (xs : List Lit) (k : ℕ) (d : Lit) → k < length xs → lists xs (get_or xs k d) ≡ true
-listed_at [] k d h = absurd (omega (arith, h))
-listed_at (x ∷ xs) zero d h = among_head x xs
-listed_at (x ∷ xs) (suc k) d h = among_tail x xs ((get_or xs k d).var.0) (get_or xs k d).negated (listed_at xs k d (omega (arith, h)))
 
 pub one_within : (xs : List Lit) (l : Lit) → lists xs l ≡ true → Within (among (l ∷ [])) (among xs)
 one_within xs l h v s e = let here = only_here l v s e in cc

@@ -16,7 +16,8 @@ use Rattle.watch.specs.Looking.{AreLookedAt, GoesOn}
 use Rattle.watch.specs.Roots.{AllForced, IsRoot}
 use Rattle.watch.specs.Steps.{AreGiven, Clashes}
 use Rattle.watch.proofs.Deciding.{reason_at}
-use Rattle.watch.proofs.GivenOnes.{listed_at, one_within}
+use Rattle.watch.proofs.GivenOnes.{one_within}
+use Rattle.watch.proofs.Positions.{listed_at}
 use Rattle.watch.proofs.ToldTrail.{HasEnd}
 
 some_is_not_none : (p : ℕ) (o : Option ℕ) → o ≡ Some p → o ≡ None → ⊥

@@ -1,8 +1,8 @@
 -- Which ids are lent for a literal: those of the live constraints that have it, each once.
-use Rattle.std.proofs.Common.{◌≡◌, ◌↔◌, ℕ, zero, suc, ◌+◌, ◌<◌, ◌==◌, ◌⊎◌, inl, inr, Bool, true, false, cond, is_some, All, Contains, drop, Option, None, Some, List, [], ◌∷◌, ◌++◌, length, get_or, map, refl, ap, sym, subst, ◌∙◌, arith}
+use Rattle.std.proofs.Common.{◌≡◌, ◌↔◌, ℕ, zero, suc, ◌+◌, ◌<◌, ◌==◌, ◌⊎◌, inl, inr, Bool, true, false, cond, is_some, Contains, drop, Option, None, Some, List, [], ◌∷◌, ◌++◌, length, get_or, map, refl, ap, sym, subst, ◌∙◌, arith}
 use Rattle.std.proofs.lemmas.Bool.Decides.{nat_tests}
 use Rattle.std.proofs.lemmas.List.{drop_more, map-append}
-use Rattle.std.proofs.lemmas.List.Elements.{All-append, Contains-append_cases, Contains-append_left, Contains-append_right, Contains-push_cases}
+use Rattle.std.proofs.lemmas.List.Elements.{Contains-append_cases, Contains-append_left, Contains-append_right, Contains-push_cases}
 use Rattle.std.specs.FinMap as fin
 use Rattle.linear.specs.declared.term.Lit.{Lit}
 use Rattle.normal_form.specs.Normal.{NormalConstraint}
@@ -10,11 +10,11 @@ use Rattle.propagate.specs.Content.{HasLiteral}
 use Rattle.propagate.specs.Literals.{coefficient_of}
 use Rattle.watch.specs.declared.occurrence.Occurrence.{Occurrence}
 use Rattle.watch.specs.declared.pair.Pair.{Pair}
-use Rattle.watch.specs.Ledgers.{AreParted, IsLedger, constraint_at}
-use Rattle.watch.specs.Lent.{AreEntriesOf, IsEachOnce, ids_at, live_places}
+use Rattle.watch.specs.Ledgers.{AreParted, constraint_at}
+use Rattle.watch.specs.Entered.{AreEntriesOf}
+use Rattle.watch.specs.Lent.{IsEachOnce, ids_at, live_places}
 use Rattle.watch.specs.Named.{AreNamed, content_at, place_of}
-use Rattle.watch.specs.Occurrences.{code, occurrences_of}
-use Rattle.watch.proofs.Entries.{places_from}
+use Rattle.watch.specs.Occurrences.{occurrences_of}
 use Rattle.watch.proofs.NamedPlaces.{below, got, got_none}
 
 abbrev Slots : Type 0
@@ -264,12 +264,6 @@ lent_once slots es ids l os a x =
     subst IsEachOnce (sym (ap (ids_at ids) (both_places slots l x.0 x.1 os x.4) ∙ ids_append ids (places_in slots l x.0) (places_in slots l x.1)))
     (once_append (ids_at ids (places_in slots l x.0)) (ids_at ids (places_in slots l x.1)) (each_once slots es ids l 0 x.0 a) (each_once slots es ids l 0 x.1 a) (apart_ids slots es ids l x.0 x.1 x.2 a x.3))
 
--- the entries are of places that are there
-pub entries_below : (slots : Slots) (l : Lit) (os : List Occurrence) → AreEntriesOf slots l os → All (λ e. e.place < length slots) os
-entries_below slots l os x =
-    subst (λ (ys : List Occurrence). All (λ e. e.place < length slots) ys) (sym x.4)
-    (All-append (λ (o : Occurrence). o.place < length slots) (occurrences_of l 0 x.0) (occurrences_of l 0 x.1) (places_from l 0 (length slots) x.0 (omega (arith, x.3.count))) (places_from l 0 (length slots) x.1 (omega (arith, x.3.watched_count))))
-
 -- one entry after another
 step_live : (slots : Slots) (o : Occurrence) (rest : List Occurrence) (b : Bool) → is_some (get_or slots o.place None) ≡ b → live_places slots (o ∷ rest) ≡ cond b (o.place ∷ live_places slots rest) (live_places slots rest)
 step_live slots o rest b e = ap (λ (d : Bool). cond d (o.place ∷ live_places slots rest) (live_places slots rest)) e
@@ -280,14 +274,3 @@ dropped os k d h = drop_more os k d h
 pub live_at : (slots : Slots) (os : List Occurrence) (k : ℕ) (d : Occurrence) (b : Bool) → k < length os → is_some (get_or slots (get_or os k d).place None) ≡ b
     → live_places slots (drop k os) ≡ cond b ((get_or os k d).place ∷ live_places slots (drop (k + 1) os)) (live_places slots (drop (k + 1) os))
 live_at slots os k d b h e = ap (live_places slots) (dropped os k d h) ∙ step_live slots (get_or os k d) (drop (k + 1) os) b e
-
--- a ledger's lists for a literal
-pub entries_are : (slots : Slots) (listing : List Lit) (variables : ℕ) (table clauses : List (List Occurrence)) (counters limits : List ℕ) (pairs : List (Option Pair)) (l : Lit) (number : ℕ) (os rest : List Occurrence) → IsLedger slots listing variables table clauses counters limits pairs
-    → number ≡ code l → os ≡ get_or table number [] → rest ≡ get_or clauses number [] → AreEntriesOf slots l (os ++ rest)
-entries_are slots listing variables table clauses counters limits pairs l number os rest e named is more = (
-  e.counted,
-  e.watched,
-  pairs,
-  e.slots_are,
-  ap (λ (xs : List Occurrence). xs ++ rest) (is ∙ ap (λ (k : ℕ). get_or table k []) named ∙ e.index.entries l) ∙ ap (λ (xs : List Occurrence). occurrences_of l 0 e.counted ++ xs) (more ∙ ap (λ (k : ℕ). get_or clauses k []) named ∙ e.watched_index.entries l),
-)

@@ -1,6 +1,7 @@
 pub mod Counters
 pub mod Places
 pub mod Marks
+pub mod Positions
 pub mod Opening
 pub mod QueuedRows
 pub mod RowPlaces
@@ -10,6 +11,7 @@ pub mod Entering
 pub mod ChosenLiterals
 pub mod Coefficients
 pub mod Standing
+pub mod EntryPlaces
 pub mod Reasons
 pub mod Attaching
 pub mod FallingRows
@@ -17,6 +19,7 @@ pub mod Walking
 pub mod WatchMoves
 pub mod WatchedPlaces
 pub mod WatchedQuiet
+pub mod LastLiteral
 pub mod Forcing
 pub mod Deciding
 pub mod Apart

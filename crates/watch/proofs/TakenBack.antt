@@ -10,15 +10,11 @@ use Rattle.propagate.specs.Slack.{IsForced}
 use Rattle.propagate.specs.Walk.{IsQuiet}
 use Rattle.propagate.proofs.Consistency.{only_here}
 use Rattle.propagate.proofs.Listings.{among_cases}
-use Rattle.watch.specs.declared.occurrence.Occurrence.{Occurrence}
-use Rattle.watch.specs.Ledgers.{State, IsIndex, constraint_at, constraint_in, nothing, shown}
+use Rattle.watch.specs.Ledgers.{State, constraint_at, constraint_in, nothing, shown}
 use Rattle.watch.specs.Looking.{AreLookedAt}
-use Rattle.watch.specs.Occurrences.{code, occurrences_of}
 use Rattle.watch.specs.Roots.{AllForced, IsRoot}
-use Rattle.watch.proofs.Entering.{code_below}
-use Rattle.watch.proofs.Entries.{places_from, shares_from}
 use Rattle.watch.proofs.Opening.{open_less}
-use Rattle.watch.proofs.Standing.{AreEntries, quiet_nothing, shown_at}
+use Rattle.watch.proofs.Standing.{quiet_nothing, shown_at}
 use Rattle.watch.proofs.Walking.{none_or_some}
 
 same_coefficient : (n : NormalConstraint) (v w : ℕ) (s b : Bool) → v ≡ w → s ≡ b → coefficient_of n (record { var = record { 0 = v }; negated = s }) ≡ coefficient_of n (record { var = record { 0 = w }; negated = b })
@@ -65,15 +61,6 @@ looked_back ns longer xs l q q' e unset all kept queued k low = elim (none_or_so
   ]
   | inr some ↦ queued k some
 ]
-
--- the entries of a literal
-pub entries_at : (ns : List NormalConstraint) (count : ℕ) (table : List (List Occurrence)) (l : Lit) (number : ℕ) (os : List Occurrence) → IsIndex ns count table → number ≡ code l → os ≡ get_or table number [] → AreEntries ns l os
-entries_at ns count table l number os x named is =
-    let there : os ≡ occurrences_of l 0 ns = is ∙ ap (λ (k : ℕ). get_or table k []) named ∙ x.entries l in
-    subst (λ (ys : List Occurrence). AreEntries ns l ys) (sym there) (places_from l 0 (length ns) ns (omega arith), λ k low. shares_from l 0 k k ns low (omega arith))
-
-pub inside_at : (ns : List NormalConstraint) (count : ℕ) (table : List (List Occurrence)) (l : Lit) (number : ℕ) → IsIndex ns count table → number ≡ code l → l.var.0 < count → number < length table
-inside_at ns count table l number x named h = omega (arith, named, code_below l count (length table) (omega (arith, h)) x.size)
 
 -- literals whose reasons are all there, and the first of them
 some_take : (places : List ℕ) (k : ℕ) → take k (map Some places) ≡ map Some (take k places)

@@ -131,6 +131,37 @@ step ns listing new place index slack q q' t low inside rises has looked is can 
           false≢true (sym again.1 ∙ ap (λ (u : NormalTerm). lists (listing ++ literal_of t ∷ []) (literal_of u)) same ∙ among_right listing (literal_of t ∷ []) (t.var.0) t.negated (among_head (literal_of t) []));
     })
 
+no_more_waits : (ns : List NormalConstraint) (listing : List Lit) (place : ℕ) (q : List ℕ) → IsQuiet listing (constraint_at ns place) → (k : ℕ) → Contains (place ∷ q) k → IsQuiet listing (constraint_at ns k) ⊎ Contains q k
+no_more_waits ns listing place q quiet k (zero, low, e) = inl (subst (λ (j : ℕ). IsQuiet listing (constraint_at ns j)) e quiet)
+no_more_waits ns listing place q quiet k (suc i, low, e) = inr (i, omega (arith, low), e)
+
+-- a place whose constraint is quiet waits no more
+pub visited : (ns : List NormalConstraint) (listing : List Lit) (place : ℕ) (q : List ℕ) → AreLookedAt ns listing (place ∷ q) → IsQuiet listing (constraint_at ns place) → AreLookedAt ns listing q
+visited ns listing place q looked quiet k low = elim (looked k low) [
+  | inl done ↦ inl done
+  | inr waits ↦ no_more_waits ns listing place q quiet k waits
+]
+
+-- a constraint forces its last literal, and is quiet then
+pub record IsTaken (ns : List NormalConstraint) (listing new : List Lit) (place : ℕ) (q : List ℕ) : Type 0 where
+  pub goes_on : IsContinued ns listing new
+  pub looked_at : AreLookedAt ns new q
+  pub waits : AreLookedAt ns new (place ∷ q)
+
+pub forced_last : (ns : List NormalConstraint) (listing new : List Lit) (l : Lit) (place : ℕ) (q q' : List ℕ) → place < length ns → IsForced listing l (constraint_at ns place) → IsQuiet (listing ++ l ∷ []) (constraint_at ns place)
+    → AreLookedAt ns listing (place ∷ q) → new ≡ listing ++ l ∷ []
+    → ((k : ℕ) → Contains q k → Contains q' k)
+    → ((k : ℕ) → 0 < coefficient_of (constraint_at ns k) (opposite l) → IsQuiet new (constraint_at ns k) ⊎ Contains q' k)
+    → IsTaken ns listing new place q'
+forced_last ns listing new l place q q' low f quiet looked e kept queued =
+    let queued' = rw e at queued in
+    let all : AreLookedAt ns (listing ++ l ∷ []) (place ∷ q') = looked_more ns listing l place q q' f.unset looked kept queued' in
+    rw e (record {
+      goes_on = goes_on_by_one ns listing l place low f;
+      looked_at = visited ns (listing ++ l ∷ []) place q' all quiet;
+      waits = all;
+    })
+
 -- nothing is added
 pub goes_nowhere : (s : State) → GoesOn s s
 goes_nowhere s = record { slots = refl; variables = refl; listing = goes_on_nowhere (shown s.slots) s.listing; reasons = ([], sym (append-nil s.reasons)) }

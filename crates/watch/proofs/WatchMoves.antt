@@ -3,10 +3,10 @@ use Rattle.std.proofs.Common.{◌≡◌, ◌<◌, ◌⊎◌, inl, inr, false, tr
 use Rattle.std.proofs.lemmas.Bool.{false≢true}
 use Rattle.linear.specs.declared.term.Lit.{Lit}
 use Rattle.normal_form.specs.Normal.{NormalConstraint}
-use Rattle.propagate.specs.Literals.{coefficient_of, lists}
+use Rattle.propagate.specs.Literals.{coefficient_of, lists, opposite}
 use Rattle.watch.specs.declared.pair.Pair.{Pair}
 use Rattle.watch.specs.Falls.{IsBeside, IsMoved, IsOneOf}
-use Rattle.watch.specs.Watched.{IsOpen, IsOpenBeside, IsPairOf, Tell}
+use Rattle.watch.specs.Watched.{AreOthersFalse, IsOpen, IsOpenBeside, IsPairOf, Tell}
 
 -- the literal beside one that falls is of the clause, another one, and open where a third one is
 pub record IsPartner (listing : List Lit) (n : NormalConstraint) (p : Pair) (fallen other : Lit) : Type 0 where
@@ -53,7 +53,7 @@ pub moved : (listing : List Lit) (n : NormalConstraint) (p : Pair) (fallen other
 moved listing n p fallen other l of_it tell beside x y o =
     let it = partner listing n p fallen other of_it beside in
     record {
-      of_it = record { clause = of_it.clause; first = o.occurs; second = it.occurs; differ = o.not_second };
+      of_it = record { clause = of_it.clause; asks = of_it.asks; first = o.occurs; second = it.occurs; differ = o.not_second };
       stays = it.one;
       not_first = o.not_first;
       not_second = it.differs;
@@ -64,3 +64,23 @@ moved listing n p fallen other l of_it tell beside x y o =
 pub beside_some : (o : Option Pair) (fallen other : Lit) → IsBeside o fallen other → (p : Pair) × (o ≡ Some p) × IsBeside (Some p) fallen other
 beside_some None fallen other b = absurd b
 beside_some (Some p) fallen other b = (p, refl, b)
+
+same_beside : (n : NormalConstraint) (p : Pair) (fallen other l : Lit) → IsPairOf n p → IsBeside (Some p) fallen other → IsBeside (Some p) fallen l → other ≡ l
+same_beside n p fallen other l of_it (inl (f, s)) (inl (g, t)) = sym s ∙ t
+same_beside n p fallen other l of_it (inl (f, s)) (inr (g, t)) = absurd (of_it.differ (f ∙ sym g))
+same_beside n p fallen other l of_it (inr (f, s)) (inl (g, t)) = absurd (of_it.differ (g ∙ sym f))
+same_beside n p fallen other l of_it (inr (f, s)) (inr (g, t)) = sym s ∙ t
+
+pub others_fallen : (listing : List Lit) (n : NormalConstraint) (p : Pair) (fallen other : Lit) → Tell listing n p → IsBeside (Some p) fallen other → lists listing fallen ≡ false → lists listing other ≡ false → lists listing (opposite other) ≡ true
+    → AreOthersFalse listing n p
+others_fallen listing n p fallen other (inl (a, b)) beside x y t = absurd (false≢true (sym (open_other listing p fallen other beside a b) ∙ t))
+others_fallen listing n p fallen other (inr (inl one)) beside x y t = absurd (none_true listing p fallen other beside x y one)
+others_fallen listing n p fallen other (inr (inr out)) beside x y t = out
+
+-- where the literal beside one that falls is made false, all others are
+pub broken_beside : (listing : List Lit) (n : NormalConstraint) (p : Pair) (fallen other : Lit) → IsPairOf n p → Tell listing n p → IsBeside (Some p) fallen other → lists listing fallen ≡ false → lists listing other ≡ false → lists listing (opposite other) ≡ true
+    → AreOthersFalse listing n p × ((l : Lit) → IsBeside (Some p) fallen l → lists listing (opposite l) ≡ true)
+broken_beside listing n p fallen other of_it tell beside x y t = (
+  others_fallen listing n p fallen other tell beside x y t,
+  λ l b. ap (λ (m : Lit). lists listing (opposite m)) (sym (same_beside n p fallen other l of_it beside b)) ∙ t,
+)

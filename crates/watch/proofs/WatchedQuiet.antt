@@ -71,12 +71,14 @@ not_both : (listing : List Lit) (l : Lit) (b : Bool) → IsConsistent listing �
 not_both listing l false c t e = e
 not_both listing l true c t e = absurd (c (l, t, e))
 
+pub quiet_open : (listing : List Lit) (n : NormalConstraint) (p : Pair) (l : Lit) → IsPairOf n p → 0 < coefficient_of n l → IsOpen listing l → lists listing l ≡ true → IsQuiet listing n
+quiet_open listing n p l of_it some o t = (
+  λ broken. not_broken listing n p l of_it some o (omega (arith, ints, broken)),
+  λ m f. none_forced listing n p l m of_it some o (λ e. false≢true (sym f.unset ∙ ap (lists listing) (sym e) ∙ t)) f,
+)
+
 quiet_true : (listing : List Lit) (n : NormalConstraint) (p : Pair) (l : Lit) → IsPairOf n p → IsConsistent listing → 0 < coefficient_of n l → lists listing l ≡ true → IsQuiet listing n
-quiet_true listing n p l of_it c some t =
-    let o : IsOpen listing l = not_both listing l (lists listing (opposite l)) c t refl in (
-      λ broken. not_broken listing n p l of_it some o (omega (arith, ints, broken)),
-      λ m f. none_forced listing n p l m of_it some o (λ e. false≢true (sym f.unset ∙ ap (lists listing) (sym e) ∙ t)) f,
-    )
+quiet_true listing n p l of_it c some t = quiet_open listing n p l of_it some (not_both listing l (lists listing (opposite l)) c t refl) t
 
 -- a clause one of whose two literals is true is quiet
 pub quiet_one : (listing : List Lit) (n : NormalConstraint) (p : Pair) → IsPairOf n p → IsConsistent listing → IsOneTrue listing p → IsQuiet listing n
@@ -87,11 +89,11 @@ quiet_one listing n p of_it c (inr t) = quiet_true listing n p p.second of_it c 
 pub take_long : (h : ℕ) (xs : List Lit) → length xs ≤ h → take h xs ≡ xs
 take_long h xs long = sym (append-nil (take h xs)) ∙ ap (λ (ys : List Lit). take h xs ++ ys) (sym (drop_of_length-le xs long)) ∙ take-append-drop h xs
 
-whole : (listing : List Lit) (n : NormalConstraint) (p : Pair) → ((h : ℕ) → Tell (take h listing) n p) → Tell listing n p
+pub whole : (listing : List Lit) (n : NormalConstraint) (p : Pair) → ((h : ℕ) → Tell (take h listing) n p) → Tell listing n p
 whole listing n p t = subst (λ (xs : List Lit). Tell xs n p) (take-length listing) (t (length listing))
 
 -- one literal more: what it leaves open, and what is so of it
-open_after : (listing : List Lit) (new l : Lit) (b : Bool) → IsOpen listing l → (l ≡ opposite new → ⊥) → lists (listing ++ new ∷ []) (opposite l) ≡ b → IsOpen (listing ++ new ∷ []) l
+pub open_after : (listing : List Lit) (new l : Lit) (b : Bool) → IsOpen listing l → (l ≡ opposite new → ⊥) → lists (listing ++ new ∷ []) (opposite l) ≡ b → IsOpen (listing ++ new ∷ []) l
 open_after listing new l false o other e = e
 open_after listing new l true o other e = elim (among_cases listing (new ∷ []) (l.var.0) (not l.negated) e) [
   | inl before ↦ absurd (false≢true (sym o ∙ before))

@@ -2,7 +2,7 @@
 use Rattle.std.specs.Prelude.{◌≡◌, ◌⊎◌, ℕ, ◌<◌, ◌≤◌, true, List, [], Option, Some, None, Contains, length, slice_index_or}
 use Rattle.linear.specs.declared.term.Lit.{Lit}
 use Rattle.normal_form.specs.Normal.{NormalConstraint}
-use Rattle.propagate.specs.Literals.{lists}
+use Rattle.propagate.specs.Literals.{lists, opposite}
 use Rattle.watch.specs.declared.finding.Finding.{Finding}
 use Rattle.watch.specs.declared.finding.Finding.TheVariants as findings
 use Rattle.watch.specs.declared.pair.Pair.{Pair}
@@ -38,7 +38,10 @@ IsAt slots pairs k n p = (slice_index_or slots k None ≡ Some n) × (slice_inde
 abbrev pub IsFound : List (Option NormalConstraint) → List Lit → List (Option Pair) → ℕ → Lit → Finding → Type 0
 IsFound slots listing pairs k fallen findings.Elsewhere = (n : NormalConstraint) (p : Pair) → IsAt slots pairs k n p → IsOneOf p fallen → ⊥
 IsFound slots listing pairs k fallen findings.Satisfied = (n : NormalConstraint) × (p : Pair) × IsAt slots pairs k n p × IsOneTrue listing p
-IsFound slots listing pairs k fallen findings.Last = (n : NormalConstraint) × (p : Pair) × IsAt slots pairs k n p × AreOthersFalse listing n p
+IsFound slots listing pairs k fallen findings.Broken =
+    (n : NormalConstraint) × (p : Pair) × IsAt slots pairs k n p × AreOthersFalse listing n p × ((l : Lit) → IsBeside (Some p) fallen l → lists listing (opposite l) ≡ true)
+IsFound slots listing pairs k fallen findings.Last =
+    (n : NormalConstraint) × (p : Pair) × IsAt slots pairs k n p × AreOthersFalse listing n p × ((l : Lit) → IsBeside (Some p) fallen l → IsOpen listing l)
 IsFound slots listing pairs k fallen (findings.Moved q) =
     (n : NormalConstraint) × (p : Pair) × IsAt slots pairs k n p × IsMoved listing n p fallen q
 

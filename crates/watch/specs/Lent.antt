@@ -1,12 +1,7 @@
 -- The ids of the constraints that have a literal.
-use Rattle.std.specs.Prelude.{◌≡◌, ℕ, List, [], ◌∷◌, ◌++◌, Option, None, Contains, is_some, if◌then◌else◌, map, slice_index_or}
-use Rattle.linear.specs.declared.term.Lit.{Lit}
+use Rattle.std.specs.Prelude.{ℕ, List, [], ◌∷◌, Option, None, Contains, is_some, if◌then◌else◌, map, slice_index_or}
 use Rattle.normal_form.specs.Normal.{NormalConstraint}
 use Rattle.watch.specs.declared.occurrence.Occurrence.{Occurrence}
-use Rattle.watch.specs.declared.occurrence.Entries.{Entries}
-use Rattle.watch.specs.declared.pair.Pair.{Pair}
-use Rattle.watch.specs.Ledgers.{AreParted}
-use Rattle.watch.specs.Occurrences.{occurrences_of}
 
 -- none stands twice
 abbrev pub IsEachOnce : List ℕ → Type 0
@@ -21,12 +16,3 @@ live_places slots (o ∷ os) = if is_some (slice_index_or slots o.place None) th
 -- the ids of places
 abbrev pub ids_at : List ℕ → List ℕ → List ℕ
 ids_at ids = map (λ k. slice_index_or ids k 0)
-
--- the entries of both kinds, those that are counted first
-abbrev pub all_of : Entries → List Occurrence
-all_of e = e.counted.now ++ e.watched.now
-
--- the entries of a literal, those of places that are empty among them
-abbrev pub AreEntriesOf : List (Option NormalConstraint) → Lit → List Occurrence → Type 0
-AreEntriesOf slots l os =
-    (counted : List NormalConstraint) × (watched : List NormalConstraint) × (pairs : List (Option Pair)) × AreParted slots counted watched pairs × (os ≡ occurrences_of l 0 counted ++ occurrences_of l 0 watched)

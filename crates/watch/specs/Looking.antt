@@ -1,11 +1,12 @@
 -- Constraints that are still to be looked at, and what a walk adds.
-use Rattle.std.specs.Prelude.{◌≡◌, ℕ, ◌+◌, ◌<◌, ◌⊎◌, false, List, ◌++◌, Some, Contains, length, map, slice_index_or}
+use Rattle.std.specs.Prelude.{◌≡◌, ℕ, ◌+◌, ◌<◌, ◌⊎◌, Bool, true, false, List, ◌++◌, Some, Contains, length, map, slice_index_or}
 use Rattle.linear.specs.declared.term.Lit.{Lit}
 use Rattle.normal_form.specs.declared.term.NormalTerm.{NormalTerm}
 use Rattle.normal_form.specs.Normal.{NormalConstraint}
 use Rattle.propagate.specs.Chain.{IsChain}
 use Rattle.propagate.specs.Literals.{lists, opposite}
 use Rattle.propagate.specs.Passes.{literal_of}
+use Rattle.propagate.specs.Slack.{IsBroken}
 use Rattle.propagate.specs.Walk.{IsQuiet}
 use Rattle.watch.specs.Ledgers.{State, constraint_at, open_sum, shown}
 
@@ -37,3 +38,8 @@ HasSlack constraints listing place slack =
 -- the term at a place of a constraint
 abbrev pub term_at : List NormalConstraint → ℕ → ℕ → NormalTerm
 term_at constraints place index = slice_index_or (constraint_at constraints place).terms index (record { coef = 0; var = record { 0 = 0 }; negated = false })
+
+-- the constraint at a place was looked at: it is broken, or no longer waits
+abbrev pub IsVisited : List NormalConstraint → List Lit → ℕ → List ℕ → Bool → Type 0
+IsVisited constraints listing place waiting true = IsBroken listing (constraint_at constraints place)
+IsVisited constraints listing place waiting false = AreLookedAt constraints listing waiting

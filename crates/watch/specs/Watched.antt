@@ -10,9 +10,10 @@ use Rattle.watch.specs.Occurrences.{code}
 abbrev pub IsClause : NormalConstraint → Type 0
 IsClause n = (l : Lit) → 0 < coefficient_of n l → n.degree ≤ coefficient_of n l
 
--- two literals of a clause
+-- two literals of a clause that asks for one
 pub record IsPairOf (n : NormalConstraint) (p : Pair) : Type 0 where
   pub clause : IsClause n
+  pub asks : 0 < n.degree
   pub first : 0 < coefficient_of n p.first
   pub second : 0 < coefficient_of n p.second
   pub differ : p.first ≡ p.second → ⊥

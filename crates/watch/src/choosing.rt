@@ -75,12 +75,15 @@ fn open_term(constraint: &Normal, trail: &Trail, from: usize) -> Option<usize>
     None
 }
 
-/// Two open literals by which a constraint can be watched: it is a clause, and has two.
+/// Two open literals by which a constraint can be watched: it is a clause that asks for one, and has two.
 pub(crate) fn open_pair(constraint: &Normal, trail: &Trail) -> Option<Pair>
     requires { variable_bound constraint.now.terms ≤ trail.now.1 }
     ensures { IfSome result (λ p. IsPairOf constraint.now p × IsOpen trail.now.0 p.first × IsOpen trail.now.0 p.second) }
 {
     let _count = constraint.len();
+    if constraint.degree() == 0 {
+        return None;
+    }
     if !is_clause(constraint) {
         return None;
     }

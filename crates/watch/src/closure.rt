@@ -15,7 +15,7 @@ ghost use Rattle.propagate.specs.Chain.{IsRefuted};
 ghost use Rattle.propagate.specs.Literals.{IsConsistent};
 ghost use Rattle.propagate.specs.Reach.{IsReach};
 ghost use Rattle.watch.specs.Ledgers.{constraint_at, shown};
-ghost use Rattle.watch.specs.Lent.{AreEntriesOf, all_of};
+ghost use Rattle.watch.specs.Entered.{AreEntriesOf, all_of};
 ghost use Rattle.watch.specs.Steps.{IsFound};
 
 use super::chain::Chain;

@@ -2,12 +2,13 @@
 
 use super::pair::Pair;
 
-/// It is not watched by that literal, one of the two that watch it is true, all its other literals are false, or it has
-/// another open literal, which watches it from now on beside the one that stays.
+/// It is not watched by that literal, one of the two that watch it is true, all its other literals are false, or all but
+/// the one that watches it beside, or another open literal watches it from now on beside the one that stays.
 #[derive(Clone, Copy, Debug)]
 pub(crate) enum Finding {
     Elsewhere,
     Satisfied,
+    Broken,
     Last,
     Moved(Pair),
 }

@@ -19,12 +19,14 @@ ghost use Rattle.normal_form.specs.Normal.{Rises, variable_bound};
 ghost use Rattle.propagate.specs.Literals.{IsConsistent, IsOnce, lists, opposite, coefficient_of};
 ghost use Rattle.propagate.specs.Slack.{IsBroken};
 ghost use Rattle.propagate.specs.Walk.{IsQuiet};
-ghost use Rattle.watch.specs.Lent.{AreEntriesOf, all_of};
+ghost use Rattle.watch.specs.Hints.{IsHint, IsHintWithin};
+ghost use Rattle.watch.specs.Entered.{AreEntriesOf, all_of};
 ghost use Rattle.watch.specs.Ledgers.{AreReasons, IsReason, constraint_at, open_sum, shown};
 ghost use Rattle.watch.specs.Watched.{IsOpen, IsPairOf};
 
 use super::choosing::open_pair;
 use super::entry_lists::{enter_counted, enter_watched, leave};
+use super::hint::{Hint, hint_of};
 use super::lowering::{lower, queue_below, raise};
 use super::measures::{largest, open_sum};
 use super::occurrence::{Entries, Occurrence, code_of, opposite_of};
@@ -120,6 +122,7 @@ impl Ledger {
         let _literals = self.trail.listing();
         self.reasons.push_reserved(reason);
         lower(
+            self.slots.as_slice(),
             &mut self.counters,
             self.limits.as_slice(),
             queue,
@@ -180,6 +183,23 @@ impl Ledger {
         match self.watchers.pair(place) {
             None => self.counters[place],
             Some(_) => open_sum(constraint, &self.trail),
+        }
+    }
+
+    /// What the two literals tell of the constraint at a place, where it is watched by two.
+    pub(crate) fn hint(&self, place: usize) -> Hint
+        requires { place < length self.now.slots }
+        ensures value { IsHint self.now.listing (constraint_at (shown self.now.slots) place) result }
+        ensures within { IsHintWithin self.now.variables result }
+    {
+        let Some(clause) = &self.slots[place] else {
+            return Hint::Quiet;
+        };
+        let _count = clause.len();
+        let _literals = self.trail.listing();
+        match self.watchers.pair(place) {
+            None => Hint::Unknown,
+            Some(pair) => hint_of(&self.trail, pair),
         }
     }
 

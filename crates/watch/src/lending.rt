@@ -5,7 +5,8 @@
 
 ghost use Rattle.std.specs.Prelude.{◌≡◌, ◌+◌, ◌<◌, ◌≤◌, ◌∷◌, [], All, MatchOption, drop, length, slice_index_or};
 ghost use Rattle.watch.specs.declared.occurrence.Occurrence.{Occurrence};
-ghost use Rattle.watch.specs.Lent.{all_of, ids_at, live_places};
+ghost use Rattle.watch.specs.Entered.{all_of};
+ghost use Rattle.watch.specs.Lent.{ids_at, live_places};
 
 use super::closure::Closure;
 use super::occurrence::Entries;
@@ -23,7 +24,8 @@ pub struct Occurrences<'a> {
 
 impl<'a> Model for Occurrences<'a> {
     ghost use Rattle.std.specs.Prelude.{◌≡◌, ◌<◌, ◌≤◌, ℕ, List, All, drop, length};
-    ghost use Rattle.watch.specs.Lent.{all_of, ids_at, live_places};
+    ghost use Rattle.watch.specs.Entered.{all_of};
+    ghost use Rattle.watch.specs.Lent.{ids_at, live_places};
 
     ghost Value = { List ℕ };
 

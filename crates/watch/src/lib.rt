@@ -12,6 +12,7 @@ mod extras;
 mod finding;
 mod following;
 mod giving;
+mod hint;
 mod ledger;
 mod lending;
 mod levels;

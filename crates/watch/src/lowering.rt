@@ -4,14 +4,51 @@
 //! from 0 on, so no sign is kept; and whether a constraint may be broken or force something is one comparison with a
 //! limit that is made when it comes in, its degree and its largest coefficient.
 
-ghost use Rattle.std.specs.Prelude.{◌≡◌, ◌+◌, ◌^◌, ◌<◌, ◌≤◌, ◌⊎◌, ℕ, All, Contains, length, slice_index_or};
+ghost use Rattle.std.specs.Prelude.{◌≡◌, ◌↔◌, ◌+◌, ◌^◌, ◌<◌, ◌≤◌, ◌⊎◌, ℕ, All, Contains, IsTrue, length, slice_index_or};
+ghost use Rattle.watch.specs.Ledgers.{constraint_at, shown};
 ghost use Rattle.watch.specs.Occurrences.{share_of};
 
 use super::occurrence::Occurrence;
 use super::queue::Queue;
+use normal_form::Normal;
+
+// Whether a number is less than the degree of the constraint at a place.
+fn falls_short(slots: &[Option<Normal>], place: usize, number: u128) -> bool
+    ensures { IsTrue result ↔ number < (constraint_at (shown slots.now) place).degree }
+{
+    match slots.get(place) {
+        Some(Some(constraint)) => number < constraint.degree(),
+        _ => false,
+    }
+}
+
+// Queues a place whose counter was lowered, where it is below a limit, and before all others where its constraint is
+// broken then.
+fn add_lowered(
+    slots: &[Option<Normal>],
+    queue: &mut Queue,
+    place: usize,
+    counter: u128,
+    limit: u128,
+)
+    requires { place < queue.old.1 }
+    ensures count { queue.new.1 ≡ queue.old.1 }
+    ensures there { (limit ≤ counter) ⊎ Contains queue.new.0 place }
+    ensures kept { (k : ℕ) → Contains queue.old.0 k → Contains queue.new.0 k }
+{
+    if counter >= limit {
+        return;
+    }
+    if falls_short(slots, place, counter) {
+        queue.add_first(place);
+    } else {
+        queue.add(place);
+    }
+}
 
 /// Lowers the counter at each place of a list, and queues the places whose counter falls below its limit.
 pub(crate) fn lower(
+    slots: &[Option<Normal>],
     counters: &mut Vec<u128>,
     limits: &[u128],
     queue: &mut Queue,
@@ -34,7 +71,7 @@ pub(crate) fn lower(
         let place = occurrence.place;
         let rest = counters[place] - occurrence.coef;
         counters[place] = rest;
-        add_below(queue, place, rest, limits[place]);
+        add_lowered(slots, queue, place, rest, limits[place]);
     }
 }
 

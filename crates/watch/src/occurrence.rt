@@ -7,7 +7,7 @@
 ghost use Rattle.std.specs.Prelude.{◌≡◌, ◌<◌, length, slice_index_or};
 ghost use Rattle.propagate.specs.Literals.{opposite};
 ghost use Rattle.watch.specs.declared.occurrence.Occurrence.{Occurrence};
-ghost use Rattle.watch.specs.Lent.{all_of};
+ghost use Rattle.watch.specs.Entered.{all_of};
 ghost use Rattle.watch.specs.Occurrences.{code};
 
 use linear::Lit;

@@ -2,6 +2,9 @@
 //!
 //! There is room for all places at once, so that a place is added without memory: a walk cannot fail midway, and what
 //! it changed is undone by the same steps backwards.
+//!
+//! A place that is known to be broken comes before all others, also where it waits already: a walk ends there, and what
+//! else waits is not forced in vain.
 
 ghost use Rattle.std.specs.Prelude.{◌≡◌, ◌+◌, ◌<◌, ◌≤◌, ◌∷◌, [], ℕ, IfSome, OnOk, OnErr, MatchOption, Contains, length};
 
@@ -9,24 +12,26 @@ use std::alloc::{AllocError, Global};
 use std::collections::VecDeque;
 use std::marker::Model;
 
-/// Places below a number, first come, first served, each once.
+/// Places below a number, first come, first served, each once, but for one that comes before them.
 #[derive(Drop)]
 pub(crate) struct Queue {
+    /// It may wait among the others, too.
+    first: Option<usize>,
     places: VecDeque<usize>,
     waiting: Vec<bool>,
 }
 
 impl Model for Queue {
-    ghost use Rattle.std.specs.Prelude.{◌≤◌, ◌<◌, ℕ, List, All, length};
+    ghost use Rattle.std.specs.Prelude.{◌≤◌, ◌<◌, ℕ, List, IfSome, length};
     ghost use Rattle.std.specs.VecDeque.{deque_capacity};
-    ghost use Rattle.watch.specs.Waiting.{IsQueue};
+    ghost use Rattle.watch.specs.Waiting.{IsQueue, with_first};
 
     ghost Value = { List ℕ × ℕ };
 
-    ghost view = { λ q. (q.places.items, length q.waiting.items) };
+    ghost view = { λ q. (with_first q.first q.places.items, length q.waiting.items) };
 
     ghost invariant = { λ q. IsQueue q.places.items q.waiting.items
-        × (length q.waiting.items ≤ deque_capacity q.places) };
+        × (length q.waiting.items ≤ deque_capacity q.places) × IfSome q.first (λ k. k < length q.waiting.items) };
 }
 
 impl Queue {
@@ -35,17 +40,21 @@ impl Queue {
         ensures { result ≡ ([], 0) }
     {
         Queue {
+            first: None,
             places: VecDeque::new(alloc),
             waiting: Vec::new(alloc),
         }
     }
 
-    /// No more places wait than there are.
+    /// At most one more waits than there are.
     pub(crate) fn len(&self) -> usize
         ensures value { result ≡ length self.now.0 }
-        ensures few { length self.now.0 ≤ self.now.1 }
+        ensures few { length self.now.0 ≤ self.now.1 + 1 }
     {
-        self.places.len()
+        match self.first {
+            None => self.places.len(),
+            Some(_) => self.places.len() + 1,
+        }
     }
 
     /// Adds a place, unless it waits already.
@@ -61,16 +70,37 @@ impl Queue {
         }
     }
 
+    /// Adds a place before all others, where none stands there, and else as any other.
+    pub(crate) fn add_first(&mut self, place: usize)
+        requires { place < self.old.1 }
+        ensures count { self.new.1 ≡ self.old.1 }
+        ensures there { Contains self.new.0 place }
+        ensures kept { (k : ℕ) → Contains self.old.0 k → Contains self.new.0 k }
+    {
+        match self.first {
+            None => self.first = Some(place),
+            Some(_) => self.add(place),
+        }
+    }
+
     /// Takes the first place away.
     pub(crate) fn take(&mut self) -> Option<usize>
         ensures count { self.new.1 ≡ self.old.1 }
         ensures value { MatchOption result ((self.old.0 ≡ []) × (self.new.0 ≡ [])) (λ k. self.old.0 ≡ k ∷ self.new.0) }
         ensures below { IfSome result (λ k. k < self.old.1) }
-        ensures few { length self.old.0 ≤ self.old.1 }
+        ensures few { length self.old.0 ≤ self.old.1 + 1 }
     {
-        let place = self.places.pop_front()?;
-        self.waiting[place] = false;
-        Some(place)
+        match self.first {
+            None => {
+                let place = self.places.pop_front()?;
+                self.waiting[place] = false;
+                Some(place)
+            }
+            Some(place) => {
+                self.first = None;
+                Some(place)
+            }
+        }
     }
 
     /// Makes room for one place more, which does not wait.

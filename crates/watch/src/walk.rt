@@ -8,8 +8,9 @@ ghost use Rattle.std.specs.Prelude.{◌≡◌, ◌<◌, ◌≤◌, ◌∷◌, �
 ghost use Rattle.propagate.specs.Chain.{IsSettled};
 ghost use Rattle.propagate.specs.Walk.{IsBrokenAt};
 ghost use Rattle.watch.specs.Ledgers.{constraint_at, shown};
-ghost use Rattle.watch.specs.Looking.{AreLookedAt, GoesOn, CanForce, HasSlack, term_at};
+ghost use Rattle.watch.specs.Looking.{AreLookedAt, GoesOn, CanForce, HasSlack, IsVisited, term_at};
 
+use super::hint::Hint;
 use super::ledger::Ledger;
 use super::queue::Queue;
 use std::alloc::AllocError;
@@ -69,6 +70,50 @@ fn force(
     Ok(())
 }
 
+// Looks at the constraint of a place by its terms: whether it is broken, and else all that it forces is there.
+fn look_through(ledger: &mut Ledger, queue: &mut Queue, place: usize) -> Result<bool, AllocError>
+    requires place { place < length ledger.old.slots }
+    requires count { queue.old.1 ≡ length ledger.old.slots }
+    requires looked_at { AreLookedAt (shown ledger.old.slots) ledger.old.listing (place ∷ queue.old.0) }
+    ensures goes_on { GoesOn ledger.old ledger.new }
+    ensures count { queue.new.1 ≡ queue.old.1 }
+    ensures progress { OnOk result ((queue.new.0 ≡ queue.old.0)
+        ⊎ (length ledger.old.listing < length ledger.new.listing)) }
+    ensures looked_at { IfOk result (IsVisited (shown ledger.old.slots) ledger.new.listing place queue.new.0) }
+    ensures waits { AreLookedAt (shown ledger.old.slots) ledger.new.listing (place ∷ queue.new.0) }
+{
+    match ledger.slack(place) {
+        None => Ok(true),
+        Some(slack) => {
+            force(ledger, queue, place, slack)?;
+            Ok(false)
+        }
+    }
+}
+
+// Looks at the constraint of a place, by the two literals that watch it where they tell: whether it is broken, and else
+// all that it forces is there.
+fn visit(ledger: &mut Ledger, queue: &mut Queue, place: usize) -> Result<bool, AllocError>
+    requires place { place < length ledger.old.slots }
+    requires count { queue.old.1 ≡ length ledger.old.slots }
+    requires looked_at { AreLookedAt (shown ledger.old.slots) ledger.old.listing (place ∷ queue.old.0) }
+    ensures goes_on { GoesOn ledger.old ledger.new }
+    ensures count { queue.new.1 ≡ queue.old.1 }
+    ensures progress { OnOk result ((queue.new.0 ≡ queue.old.0)
+        ⊎ (length ledger.old.listing < length ledger.new.listing)) }
+    ensures looked_at { IfOk result (IsVisited (shown ledger.old.slots) ledger.new.listing place queue.new.0) }
+    ensures waits { AreLookedAt (shown ledger.old.slots) ledger.new.listing (place ∷ queue.new.0) }
+{
+    match ledger.hint(place) {
+        Hint::Quiet => Ok(false),
+        Hint::Forces(literal) => {
+            ledger.set_true(literal, Some(place), queue)?;
+            Ok(false)
+        }
+        Hint::Unknown => look_through(ledger, queue, place),
+    }
+}
+
 /// Adds forced literals until a constraint is broken, whose place is returned and waits again, or nothing waits and
 /// nothing more is forced. Where memory ends, what was not looked at waits.
 pub(crate) fn settle(ledger: &mut Ledger, queue: &mut Queue) -> Result<Option<usize>, AllocError>
@@ -82,16 +127,16 @@ pub(crate) fn settle(ledger: &mut Ledger, queue: &mut Queue) -> Result<Option<us
         (IsBrokenAt (shown ledger.old.slots) ledger.new.listing)) }
 {
     while let Some(place) = queue.take() {
-        let Some(slack) = ledger.slack(place) else {
-            queue.add(place);
-            return Ok(Some(place));
-        };
-        match force(ledger, queue, place, slack) {
+        match visit(ledger, queue, place) {
             Err(_) => {
                 queue.add(place);
                 return Err(AllocError);
             }
-            Ok(()) => {}
+            Ok(true) => {
+                queue.add(place);
+                return Ok(Some(place));
+            }
+            Ok(false) => {}
         }
         let _waiting = queue.len();
         let _taken = ledger.len();

@@ -158,6 +158,9 @@ impl Watchers {
         if trail.has(other) {
             return Finding::Satisfied;
         }
+        if trail.has(opposite_of(other)) {
+            return Finding::Broken;
+        }
         match open_beside(
             clause,
             trail,
@@ -214,6 +217,10 @@ impl Watchers {
         let place = self.rows.row(code_of(fallen))[index];
         match self.look(slots, trail, fallen, place) {
             Finding::Satisfied => Ok(index + 1),
+            Finding::Broken => {
+                queue.add_first(place);
+                Ok(index + 1)
+            }
             Finding::Last => {
                 queue.add(place);
                 Ok(index + 1)
@@ -283,10 +290,10 @@ impl Watchers {
         ensures count { queue.new.1 ≡ queue.old.1 }
         ensures kept { (k : ℕ) → Contains queue.old.0 k → Contains queue.new.0 k }
     {
-        let Some(other) = self.beside(place, literal) else {
+        let Some(partner) = self.beside(place, literal) else {
             return;
         };
-        if trail.has(opposite_of(other)) {
+        if trail.has(opposite_of(partner)) {
             queue.add(place);
         }
     }

@@ -22,6 +22,7 @@ returns c =
     let before : t.var.0 < u.var.0 = omega (arith, variables_rise 0 n.terms c.in_ok-first.first c.in_ok-second.second t u rises (omega (arith, second.0)) second.1, ap (λ (x : NormalTerm). x.var.0) c.term.ensures.value, ap (λ (x : NormalTerm). x.var.0) c.term-2.ensures.value) in (
       record {
         clause = c.is_clause.ensures (search rules);
+        asks = search rules;
         first = subst (λ (l : Lit). 0 < coefficient_of n l) (sym one) (occurs_at n c.in_ok-first.first t rises first.1 c.term.ensures.value);
         second = subst (λ (l : Lit). 0 < coefficient_of n l) (sym two) (occurs_at n c.in_ok-second.second u rises second.1 c.term-2.ensures.value);
         differ = λ e. omega (arith, before, ap (λ (l : Lit). l.var.0) (sym one ∙ e ∙ two));

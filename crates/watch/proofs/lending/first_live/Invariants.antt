@@ -1,6 +1,7 @@
 -- What was passed over says nothing.
 use Rattle.std.proofs.Common.{◌≡◌, drop}
-use Rattle.watch.specs.Lent.{all_of, live_places}
+use Rattle.watch.specs.Entered.{all_of}
+use Rattle.watch.specs.Lent.{live_places}
 use Rattle.watch.proofs.lending.first_live.Given as goal
 
 abbrev pub invariant-loop-index : goal.invariant-loop-index

@@ -19,6 +19,6 @@ loop-occurrence-preserved c =
     let i = c.loop-occurrence.occurrence-index in
     let inside : (get_or c.args.list.now i none).place < length c.args.counters.now.items = All-get_or (λ (o : Occurrence). o.place < length c.args.counters.now.items) c.args.list.now i none (omega arith) c.requires.places in
     record {
-      lowered = lowered_more c.args.counters.now.items c.loop-occurrence.counters.items c.args.limits.now c.args.queue.now.0 c.loop-occurrence.queue.0 c.add_below.new.queue.0 c.args.list.now i none c.index.result.now _ (omega arith) inside c.loop-occurrence.invariant.lowered c.index.ensures refl c.add_below.ensures.kept c.add_below.ensures.there;
-      count = c.add_below.ensures.count ∙ c.loop-occurrence.invariant.count;
+      lowered = lowered_more c.args.counters.now.items c.loop-occurrence.counters.items c.args.limits.now c.args.queue.now.0 c.loop-occurrence.queue.0 c.add_lowered.new.queue.0 c.args.list.now i none c.index.result.now _ (omega arith) inside c.loop-occurrence.invariant.lowered c.index.ensures refl c.add_lowered.ensures.kept c.add_lowered.ensures.there;
+      count = c.add_lowered.ensures.count ∙ c.loop-occurrence.invariant.count;
     }

@@ -5,7 +5,7 @@ use Rattle.linear.specs.declared.term.Lit.{Lit}
 use Rattle.normal_form.specs.Normal.{NormalConstraint}
 use Rattle.propagate.specs.Literals.{lists}
 use Rattle.watch.specs.Ledgers.{IsReason, shown}
-use Rattle.watch.proofs.GivenOnes.{listed_at}
+use Rattle.watch.proofs.Positions.{listed_at}
 use Rattle.watch.proofs.ToldTrail.{reason_is, told_broken, told_given, told_one}
 use Rattle.watch.proofs.telling.tell.Goals as goal
 

@@ -12,4 +12,4 @@ invariant-loop-place l = record {
 }
 
 abbrev pub decreases-loop-place : goal.decreases-loop-place
-decreases-loop-place l = (l.ledger.variables - length l.ledger.listing) * (l.queue.1 + 1) + length l.queue.0
+decreases-loop-place l = (l.ledger.variables - length l.ledger.listing) * (l.queue.1 + 1 + 1) + length l.queue.0

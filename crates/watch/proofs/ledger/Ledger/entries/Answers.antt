@@ -3,7 +3,7 @@ use Rattle.std.proofs.Common.{◌<◌, ◌++◌, All, List, Option, ap, length, 
 use Rattle.normal_form.specs.Normal.{NormalConstraint}
 use Rattle.watch.specs.declared.occurrence.Occurrence.{Occurrence}
 use Rattle.watch.specs.Ledgers.{State}
-use Rattle.watch.proofs.LentIds.{entries_are, entries_below}
+use Rattle.watch.proofs.EntryPlaces.{entries_are, entries_below}
 use Rattle.watch.proofs.ledger.Ledger.entries.Goals as goal
 
 pub returns-clause-places : goal.returns-clause-places

@@ -5,8 +5,8 @@ use Rattle.propagate.specs.Walk.{IsQuiet}
 use Rattle.watch.specs.Ledgers.{State, constraint_at, shown}
 use Rattle.watch.specs.Occurrences.{share_of}
 use Rattle.watch.specs.Watched.{IsOpen}
+use Rattle.watch.proofs.EntryPlaces.{entries_at}
 use Rattle.watch.proofs.Standing.{each_kind}
-use Rattle.watch.proofs.TakenBack.{entries_at}
 use Rattle.watch.proofs.WatchedQuiet.{last_queued}
 use Rattle.watch.proofs.ledger.Ledger.queue_places.Goals as goal
 

@@ -67,7 +67,7 @@ returns-clause-queued c =
     let handled = rw c.as_slice.ensures.value at c.in_ok-fall.ensures.handled in
     let pushed : c.push.new.self.0 ≡ new = ap (λ (p : List Lit × ℕ). p.0) c.push.ensures.value in
     let apart : IsConsistent new = subst IsConsistent pushed c.listing-literals.ensures.consistent in
-    let lowered = rw c.as_slice-2.ensures.value at c.lower.ensures.queued in
+    let lowered = rw c.as_slice-3.ensures.value at c.lower.ensures.queued in
     let counts : (k : ℕ) → k < length i.counted → 0 < share_of k c.row.result.now → (get_or e.limits.items k 0 ≤ get_or c.lower.new.counters.items k 0) ⊎ Contains queue k = λ k low some. lowered k (omega (arith, low, i.counters_are.counted)) some in
     let watches : (k : ℕ) (n : NormalConstraint) (p : Pair) → IsAt e.slots.items c.fall.new.self.pairs k n p → 0 < coefficient_of n (opposite l) → IsQuiet new n ⊎ Contains queue k = λ k n p at some. elim (fallen_queued e.slots.items e.trail.0 e.trail.1 c.fall.new.self l c.opposite_of-fallen.result c.fall.new.queue.0 watched c.opposite_of-fallen.ensures handled apart unset k n p at some) [
       | inl quiet ↦ inl quiet

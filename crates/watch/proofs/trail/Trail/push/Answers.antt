@@ -4,7 +4,7 @@ use Rattle.std.proofs.lemmas.List.{length-set}
 use Rattle.linear.specs.declared.term.Lit.{Lit}
 use Rattle.watch.specs.Trails.{IsFree}
 use Rattle.watch.proofs.Marks.{room, pushed}
-use Rattle.watch.proofs.Reasoned.{positions_pushed}
+use Rattle.watch.proofs.Positions.{positions_pushed}
 use Rattle.watch.proofs.trail.Trail.push.Goals as goal
 
 pub push_reserved-requires : goal.push_reserved-requires

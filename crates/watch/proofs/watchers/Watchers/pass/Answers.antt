@@ -13,6 +13,14 @@ returns-in-Satisfied-clause-falling c =
     let is = place_is c.args.self.now.rows c.self.inside.rows c.row.result.now c.args.fallen c.code_of.result c.args.index c.row.ensures c.code_of.ensures (ap (λ (w : Watching). w.rows) c.self.view_is) c.requires.index in
     stays c.args.slots.now c.args.trail.now.0 c.args.trail.now.1 c.args.fallen c.args.self.now c.args.queue.now.0 c.args.queue.now.0 c.args.index place found.0 found.1 c.requires.falling c.requires.index is (λ k h. h) found.2 (inl found.3)
 
+pub returns-in-Broken-clause-falling : goal.returns-in-Broken-clause-falling
+returns-in-Broken-clause-falling c =
+    let found = c.in-Broken.ensures in
+    let place : ℕ = get_or c.row.result.now c.args.index 0 in
+    let is = place_is c.args.self.now.rows c.self.inside.rows c.row.result.now c.args.fallen c.code_of.result c.args.index c.row.ensures c.code_of.ensures (ap (λ (w : Watching). w.rows) c.self.view_is) c.requires.index in
+    stays c.args.slots.now c.args.trail.now.0 c.args.trail.now.1 c.args.fallen c.args.self.now c.args.queue.now.0 c.add_first.new.self.0 c.args.index place found.0 found.1 c.requires.falling c.requires.index is c.add_first.ensures.kept found.2
+    (inr (found.3, c.add_first.ensures.there))
+
 pub returns-in-Last-clause-falling : goal.returns-in-Last-clause-falling
 returns-in-Last-clause-falling c =
     let found = c.in-Last.ensures in
