@@ -1,11 +1,11 @@
--- There is one walk: lines say one thing, legal steps lead to one state, and what has a fault is not legal. So where a walk
--- stops, none comes to the end, and all walks stop at one position: on one line, and with one code of judging.
+-- There is one walk: lines say one thing, legal steps lead to one state, and what has a fault is not legal. So where a
+-- walk stops, none comes to the end, and all walks stop at one position: on one line, and with one code, but for the codes of
+-- a line that says nothing.
 use Rattle.std.proofs.Common.{◌≡◌, ◌≢◌, ℕ, Option, Some, None, List, [], ◌∷◌, length, refl, sym, ap, subst, ◌∙◌, arith}
 use Rattle.linear.specs.Opb.{Opb}
 use Rattle.kernel.specs.Accepted.{Judgement}
 use Rattle.proof_rules.specs.State.{State}
 use Rattle.proof_rules.proofs.NotLegal.{step_never, conclusion_never}
-use Rattle.proof_rules.specs.declared.fault.StepFault.{StepFault}
 use Rattle.proof_rules.proofs.OneConclusionFault.{one_conclusion_fault}
 use Rattle.proof_rules.proofs.OneStart.{one_start}
 use Rattle.proof_rules.proofs.OneStepFault.{one_step_fault}
@@ -22,7 +22,7 @@ use Rattle.proof_text.specs.declared.line.Line.{Line}
 use Rattle.proof_text.specs.declared.line.Line.TheVariants as lines
 use Rattle.proof_text.specs.declared.line.Place.{Place}
 use Rattle.proof_text.specs.declared.line.Place.TheVariants as places
-use Rattle.checker.specs.Stopped.{IsStopped, Refuses, Stops}
+use Rattle.checker.specs.Stopped.{IsLeftOpen, IsRefused, IsStopped, IsUnread, Refuses, Stops}
 use Rattle.checker.specs.Stopped.{truncated, unread, refused}
 use Rattle.checker.specs.Walk.{Accepts, Advances, IsOver, Next, Position, Reaches, Walks, beginning}
 use Rattle.checker.specs.declared.verdict.Code.{Code}
@@ -159,26 +159,87 @@ stop_line p at last line other code why (refused x) (truncated y) = absurd (none
 stop_line p at last line other code why (refused x) (unread y) = x.line_is ∙ ap (λ (k : Numbered). k.number) (same_first x.next.line y.next x.next.behind y.behind (sym x.next.in_order ∙ y.in_order)).0 ∙ sym y.line_is
 stop_line p at last line other code why (refused x) (refused y) = x.line_is ∙ ap (λ (k : Numbered). k.number) (one_next at x.next y.next).0 ∙ sym y.line_is
 
--- what is refused by judging has one fault
-refused_code : (p : Opb) (s : State) (said : Line) (f : StepFault) (code : Code) → Refuses p s said (Judging f) → Refuses p s said code → code ≡ Judging f
-refused_code p s lines.Header f code x y = absurd x
-refused_code p s (lines.Count count) f code x y = let other : Judging f ≡ Reading readings.BadCount = x.1 in absurd (cc)
-refused_code p s (lines.Step step) f code (g, is, sure, fault) (h, also, certain, other) = also ∙ ap Judging (one_step_fault p s step h g other fault) ∙ sym is
-refused_code p s lines.Output f code x y = absurd x
-refused_code p s (lines.Conclusion c) f code (g, is, sure, fault) (h, also, certain, other) = also ∙ ap Judging (one_conclusion_fault p s c h g other fault) ∙ sym is
-refused_code p s lines.End f code x y = absurd x
+-- what is refused has one fault
+refused_code : (p : Opb) (s : State) (said : Line) (code why : Code) → Refuses p s said code → Refuses p s said why → why ≡ code
+refused_code p s lines.Header code why x y = absurd x
+refused_code p s (lines.Count count) code why x y = y.1 ∙ sym x.1
+refused_code p s (lines.Step step) code why (g, is, sure, fault) (h, also, certain, other) =
+    also ∙ ap Judging (one_step_fault p s step h g other fault) ∙ sym is
+refused_code p s lines.Output code why x y = absurd x
+refused_code p s (lines.Conclusion c) code why (g, is, sure, fault) (h, also, certain, other) =
+    also ∙ ap Judging (one_conclusion_fault p s c h g other fault) ∙ sym is
+refused_code p s lines.End code why x y = absurd x
 
--- at one position judging stops with one code, where it is that of a fault of judging
-stop_code : (p : Opb) (at : Position) (last line other : ℕ) (f : StepFault) (code : Code) → Stops p at last line (Judging f) → Stops p at last other code → code ≡ Judging f
-stop_code p at last line other f code (truncated x) y = let not : Judging f ≡ Reading readings.Truncated = x.code_is in absurd (cc)
-stop_code p at last line other f code (unread x) y = let not : Judging f ≡ Reading x.fault = x.code_is in absurd (cc)
-stop_code p at last line other f code (refused x) (truncated y) = absurd (none_first x.next.line x.next.behind (sym y.left ∙ x.next.in_order))
-stop_code p at last line other f code (refused x) (unread y) =
-    let same = same_first y.next x.next.line y.behind x.next.behind (sym y.in_order ∙ x.next.in_order) in
-    let there = subst (λ (k : Numbered). IsLine at.section at.names (words k.text) x.next.said x.next.names) (sym same.0) x.next.is in
-    absurd (denied_never y.fault at.section at.names (words y.next.text) x.next.said x.next.names y.denied y.no_memory there)
-stop_code p at last line other f code (refused x) (refused y) =
-    refused_code p at.state x.next.said f code x.refuses (subst (λ said. Refuses p at.state said code) (sym (one_next at x.next y.next).1) y.refuses)
+-- where names are too many, the line is something, and its integers are small: no other fault denies it
+many_alone : (g : ProofFault) (place : Place) (old ws : List (List ℕ)) → DeniesPlaced readings.TooManyIds place old ws
+    → DeniesPlaced g place old ws → g ≢ readings.OutOfMemory → g ≡ readings.TooManyIds
+many_alone readings.UnknownRule place old ws x y sure = absurd (y x.1.0 x.1.1 x.1.2)
+many_alone readings.RuleLeftOut place old ws x y sure = absurd (y x.1.0 x.1.1 x.1.2)
+many_alone readings.BadLine place old ws x y sure = absurd (y x.1.0 x.1.1 x.1.2)
+many_alone readings.IntegerTooLarge place old ws x y sure = absurd (y x.0)
+many_alone readings.TooManyIds place old ws x y sure = refl
+many_alone readings.OutOfMemory place old ws x y sure = absurd (sure refl)
+many_alone readings.BadHeader place old ws x y sure = absurd y
+many_alone readings.BadCount place old ws x y sure = absurd y
+many_alone readings.Truncated place old ws x y sure = absurd y
+many_alone readings.TextAfterEnd place old ws x y sure = absurd y
+
+-- among the faults of a step, a conclusion or an end, those of a line that says nothing are left open
+placed_alone : (f g : ProofFault) (place : Place) (old ws : List (List ℕ)) → (IsLeftOpen (Reading f) → ⊥) → DeniesPlaced f place old ws
+    → f ≢ readings.OutOfMemory → DeniesPlaced g place old ws → g ≢ readings.OutOfMemory → g ≡ f
+placed_alone readings.UnknownRule g place old ws closed x sure y certain = absurd (closed tt)
+placed_alone readings.RuleLeftOut g place old ws closed x sure y certain = absurd (closed tt)
+placed_alone readings.BadLine g place old ws closed x sure y certain = absurd (closed tt)
+placed_alone readings.IntegerTooLarge g place old ws closed x sure y certain = absurd (closed tt)
+placed_alone readings.TooManyIds g place old ws closed x sure y certain = many_alone g place old ws x y certain
+placed_alone readings.OutOfMemory g place old ws closed x sure y certain = absurd (sure refl)
+placed_alone readings.BadHeader g place old ws closed x sure y certain = absurd x
+placed_alone readings.BadCount g place old ws closed x sure y certain = absurd x
+placed_alone readings.Truncated g place old ws closed x sure y certain = absurd x
+placed_alone readings.TextAfterEnd g place old ws closed x sure y certain = absurd x
+
+-- so each line has one fault of reading, but for those
+denied_alone : (f g : ProofFault) (place : Place) (old ws : List (List ℕ)) → (IsLeftOpen (Reading f) → ⊥) → DeniesLine f place old ws
+    → f ≢ readings.OutOfMemory → DeniesLine g place old ws → g ≢ readings.OutOfMemory → g ≡ f
+unfolding DeniesLine
+denied_alone f g places.Header old ws closed x sure y certain = y.0 ∙ sym x.0
+denied_alone f g places.Count old ws closed x sure y certain = y.0 ∙ sym x.0
+denied_alone f g places.Step old ws closed x sure y certain = placed_alone f g places.Step old ws closed x sure y certain
+denied_alone f g places.Conclusion old ws closed x sure y certain = placed_alone f g places.Conclusion old ws closed x.1 sure y.1 certain
+denied_alone f g places.End old ws closed x sure y certain = y.0 ∙ sym x.0
+denied_alone f g places.After old ws closed x sure y certain = y ∙ sym x
+
+unread_code : (at : Position) (line other : ℕ) (code why : Code) → (IsLeftOpen code → ⊥) → IsUnread at line code → IsUnread at other why → why ≡ code
+unread_code at line other code why closed x y =
+    let same = same_first y.next x.next y.behind x.behind (sym y.in_order ∙ x.in_order) in
+    let there = subst (λ (k : Numbered). DeniesLine y.fault at.section at.names (words k.text)) same.0 y.denied in
+    let open_not = subst (λ k. IsLeftOpen k → ⊥) x.code_is closed in
+    let fault = denied_alone x.fault y.fault at.section at.names (words x.next.text) open_not x.denied x.no_memory there y.no_memory in
+    y.code_is ∙ ap Reading fault ∙ sym x.code_is
+
+-- what is read is not denied
+read_never : (p : Opb) (at : Position) (line other : ℕ) (code why : Code) → IsUnread at line code → IsRefused p at other why → ⊥
+read_never p at line other code why x y =
+    let same = same_first x.next y.next.line x.behind y.next.behind (sym x.in_order ∙ y.next.in_order) in
+    let there = subst (λ (k : Numbered). IsLine at.section at.names (words k.text) y.next.said y.next.names) (sym same.0) y.next.is in
+    denied_never x.fault at.section at.names (words x.next.text) y.next.said y.next.names x.denied x.no_memory there
+
+-- at one position judging stops with one code, but for those that are left open
+stop_code : (p : Opb) (at : Position) (last line other : ℕ) (code why : Code) → (IsLeftOpen code → ⊥) → Stops p at last line code
+    → Stops p at last other why → why ≡ code
+stop_code p at last line other code why closed (truncated x) (truncated y) = y.code_is ∙ sym x.code_is
+stop_code p at last line other code why closed (truncated x) (unread y) = absurd (none_first y.next y.behind (sym x.left ∙ y.in_order))
+stop_code p at last line other code why closed (truncated x) (refused y) =
+    absurd (none_first y.next.line y.next.behind (sym x.left ∙ y.next.in_order))
+stop_code p at last line other code why closed (unread x) (truncated y) = absurd (none_first x.next x.behind (sym y.left ∙ x.in_order))
+stop_code p at last line other code why closed (unread x) (unread y) = unread_code at line other code why closed x y
+stop_code p at last line other code why closed (unread x) (refused y) = absurd (read_never p at line other code why x y)
+stop_code p at last line other code why closed (refused x) (truncated y) =
+    absurd (none_first x.next.line x.next.behind (sym y.left ∙ x.next.in_order))
+stop_code p at last line other code why closed (refused x) (unread y) = absurd (read_never p at other line why code y x)
+stop_code p at last line other code why closed (refused x) (refused y) =
+    let said = subst (λ said. Refuses p at.state said why) (sym (one_next at x.next y.next).1) y.refuses in
+    refused_code p at.state x.next.said code why x.refuses said
 
 -- two walks that stop, stop at one position
 one_stop : (p : Opb) (at a b : Position) (path more : List Position) (last line other : ℕ) (code why : Code) → Walks p at path a → Stops p a last line code → Walks p at more b → Stops p b last other why → a ≡ b
@@ -201,8 +262,10 @@ one_line_of_stop p proof line other code why x y =
     let last = (lines_of proof).last in
     stop_line p y.at last line other code why (subst (λ q. Stops p q last line code) (one_place p proof line other code why x y) x.stops) y.stops
 
--- and with one code, where it is that of a fault of judging
-pub one_code_of_stop : (p : Opb) (proof : List ℕ) (line other : ℕ) (f : StepFault) (code : Code) → IsStopped p proof line (Judging f) → IsStopped p proof other code → code ≡ Judging f
-one_code_of_stop p proof line other f code x y =
+-- and with one code, but for those that are left open
+pub one_code_of_stop : (p : Opb) (proof : List ℕ) (line other : ℕ) (code why : Code) → (IsLeftOpen code → ⊥) → IsStopped p proof line code
+    → IsStopped p proof other why → why ≡ code
+one_code_of_stop p proof line other code why closed x y =
     let last = (lines_of proof).last in
-    stop_code p y.at last line other f code (subst (λ q. Stops p q last line (Judging f)) (one_place p proof line other (Judging f) code x y) x.stops) y.stops
+    let there = subst (λ q. Stops p q last line code) (one_place p proof line other code why x y) x.stops in
+    stop_code p y.at last line other code why closed there y.stops

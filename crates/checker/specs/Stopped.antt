@@ -1,5 +1,5 @@
 -- Where judging a proof stops, and why: the walk comes to a position, and no line leads on from there.
-use Rattle.std.specs.Prelude.{◌≡◌, ◌≢◌, ℕ, pos, List, [], ◌∷◌}
+use Rattle.std.specs.Prelude.{◌≡◌, ◌≢◌, ℕ, pos, List, [], ◌∷◌, ⊤}
 use Rattle.linear.specs.Opb.{Opb}
 use Rattle.proof_rules.specs.Fault.{IsStepFault, IsConclusionFault}
 use Rattle.proof_rules.specs.Forms.{problem_ids}
@@ -64,3 +64,13 @@ pub record IsStopped (p : Opb) (proof : List ℕ) (line : ℕ) (code : Code) : T
   pub at : Position
   pub reached : Reaches p proof at
   pub stops : Stops p at (lines_of proof).last line code
+
+-- The codes among which the definitions leave the choice open: those of a line that says nothing, or whose integers are
+-- too large. A line that is nothing has no rule by which to tell what it fails to be, and it may have a large integer
+-- too.
+abbrev pub IsLeftOpen : Code → Type 0
+IsLeftOpen (Reading readings.UnknownRule) = ⊤
+IsLeftOpen (Reading readings.RuleLeftOut) = ⊤
+IsLeftOpen (Reading readings.BadLine) = ⊤
+IsLeftOpen (Reading readings.IntegerTooLarge) = ⊤
+IsLeftOpen _ = ⊥

@@ -16,8 +16,8 @@ use Rattle.proof_text.specs.declared.line.Line.TheVariants as lines
 use Rattle.proof_text.specs.declared.line.Place.{Place}
 use Rattle.proof_text.specs.declared.line.Place.TheVariants as places
 
--- Where judging has come to: the section of the proof that is due, the names so far, the lines that are left, the state,
--- and what was concluded.
+-- Where judging has come to: the section of the proof that is due, the names so far, the lines that are left, the
+-- state, and what was concluded.
 pub record Position : Type 0 where
   pub section : Place
   pub names : List (List ℕ)

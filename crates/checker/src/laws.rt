@@ -7,13 +7,11 @@ ghost use Rattle.opb_read.specs.Spells.{Spells};
 ghost use Rattle.kernel.specs.Accepted.{Judgement};
 ghost use Rattle.proof_rules.specs.Claim.{IsSolution};
 ghost use Rattle.checker.specs.Headline.{IsProved, IsTrueOf, IsVerdictOf};
-ghost use Rattle.checker.specs.Stopped.{IsStopped};
+ghost use Rattle.checker.specs.Stopped.{IsLeftOpen, IsStopped};
 ghost use Rattle.checker.specs.Printed.{IsPrinted, accepted_line, with_assignment};
-ghost use Rattle.checker.specs.declared.verdict.Code.TheVariants.{Judging};
 ghost use Rattle.checker.specs.declared.verdict.Verdict.TheVariants.{Accepted, NoMemory};
 
 use super::verdict::{Code, Verdict};
-use proof_rules::StepFault;
 
 /// Where judging stops at a line, the text is no legal proof: so `check` refuses only what it must.
 pub fn refused_is_not_proved()
@@ -27,13 +25,16 @@ pub fn one_line_where_judging_stops()
         → IsStopped p proof line code → IsStopped p proof other why → line ≡ other }
 {}
 
-/// Where judging stops since a step or a conclusion has a fault, that fault is the only code with which it stops.
+/// Judging a proof stops with one code, but for the codes among which the definitions leave the choice open: those of a
+/// line that says nothing. So where a step or a conclusion has a fault, where names are too many, where the text is too
+/// short or too long, or the header or the count is wrong, that is the only code with which judging stops.
 pub fn one_code_of_judging()
-    ensures { (p : Opb) → (proof : List ℕ) → (line other : ℕ) → (f : StepFault) → (code : Code)
-        → IsStopped p proof line (Judging f) → IsStopped p proof other code → code ≡ Judging f }
+    ensures { (p : Opb) → (proof : List ℕ) → (line other : ℕ) → (code why : Code) → (IsLeftOpen code → ⊥)
+        → IsStopped p proof line code → IsStopped p proof other why → why ≡ code }
 {}
 
-/// What a text proves of the problem is answered: accepted with just that conclusion and its best solution, or want of memory.
+/// What a text proves of the problem is answered: accepted with just that conclusion and its best solution, or want of
+/// memory.
 pub fn what_is_proved_is_accepted()
     ensures { (opb proof : List ℕ) → (p : Opb) → Spells opb p → IsWithin p → (a : Judgement) → IsProved p proof a
         → (v : Verdict) → IsVerdictOf opb proof v → (v ≡ Accepted a) ⊎ (v ≡ NoMemory) }
@@ -45,10 +46,10 @@ pub fn one_proof()
         → (x.steps ≡ y.steps) × (a ≡ b) }
 {}
 
-/// The `v` line that is printed for an accepted conclusion names the very assignment that is claimed, by the names of the
-/// one problem that the text spells; it satisfies that problem, and nothing else is printed behind the first line.
+/// The `v` line that is printed for an accepted conclusion names the very assignment that is claimed, by the names of
+/// the one problem that the text spells; it satisfies that problem, and nothing else is printed behind the first line.
 pub fn printed_assignment_is_claimed()
-    ensures { (opb proof : List ℕ) → (a : Judgement) → (t : IsTrueOf opb proof a) → (values : List Bool) → (text : List ℕ)
-        → a.best ≡ Some values → IsPrinted opb (Accepted a) text
+    ensures { (opb proof : List ℕ) → (a : Judgement) → (t : IsTrueOf opb proof a)
+        → (values : List Bool) → (text : List ℕ) → a.best ≡ Some values → IsPrinted opb (Accepted a) text
         → IsSolution t.problem values × (text ≡ with_assignment (accepted_line a.conclusion) t.problem.names values) }
 {}

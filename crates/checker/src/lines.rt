@@ -1,6 +1,7 @@
 //! Lines that both programs print: what is wrong with a text and where, and the values of an assignment.
 //!
-//! A planner's script reads the solver's `v` line and the checker's with the same eyes, so they are written by the same code.
+//! A planner's script reads the solver's `v` line and the checker's with the same eyes, so they are written by the same
+//! code.
 
 ghost use Rattle.std.specs.Prelude.{◌≡◌, ◌<◌, [], IfOk, OnOk, length, slice_index_or};
 ghost use Rattle.checker.specs.Printed.{with_assignment, with_fault, with_value, with_values};
@@ -31,8 +32,8 @@ pub fn fault_text(
     Ok(out)
 }
 
-/// The `v` line: `v`, then for each variable in the order of the table a space and its name, with `-` before it where the
-/// variable is false.
+/// The `v` line: `v`, then for each variable in the order of the table a space and its name, with `-` before it where
+/// the variable is false.
 pub fn write_value_line(
     out: &mut Vec<u8>,
     names: &Names,

@@ -2,6 +2,7 @@ pub mod Completing
 pub mod Concluding
 pub mod ConclusionJudged
 pub mod Deciding
+pub mod DelAtOnce
 pub mod DelJudged
 pub mod Determined
 pub mod Faults
@@ -23,6 +24,7 @@ pub mod ShownHolds
 pub mod ShownOrNot
 pub mod SmallCases
 pub mod SmallStates
+pub mod SmallSteps
 pub mod SolJudged
 pub mod StepJudged
 pub mod Values

@@ -11,7 +11,13 @@ use Rattle.propagate.specs.Chain.{IsRefuted}
 use Rattle.propagate.specs.Passes.{outcome, Conflict, Settled}
 use Rattle.propagate.proofs.SearchIsRight.{conflict_met, no_conflict_met}
 use Rattle.propagate.proofs.AnyOf.{none_from_test}
+use Rattle.linear.specs.declared.term.Term.{Term}
+use Rattle.normal_form.proofs.NormalForm.{one_form}
 use Rattle.substitution.specs.Covering.{Covers, excess}
+use Rattle.substitution.specs.Images.{Images}
+use Rattle.substitution.specs.Objective.{not_raised, IsObjectiveGoal}
+use Rattle.substitution.specs.Under.{substituted, IsUnder}
+use Rattle.proof_rules.specs.Legal.{IsShownUnder, IsShownNotRaised}
 use Rattle.proof_rules.specs.Shown.{IsShown}
 
 -- whether a constraint covers another
@@ -40,3 +46,18 @@ not_shown steps live n m closed t settled uncovered (inl covered) =
 not_shown steps live n m closed t settled uncovered (inr (j, negated, refuted)) =
     let same : j ≡ m = one_negation n j m t.rises negated (turned n m t) in
     no_conflict_met steps (live ++ m ∷ []) [] closed settled (subst (λ k. IsRefuted (live ++ k ∷ [])) same refuted)
+
+-- a constraint becomes one under a substitution that is not shown
+pub not_shown_under : (steps : ℕ) (from : List NormalConstraint) (images : Images) (n r m : NormalConstraint) (closed : List Lit) → IsUnder n images r → Turned r m
+    → outcome steps (from ++ m ∷ []) [] ≡ Settled closed → list_any (covering r) from ≡ false → IsShownUnder from images n → ⊥
+not_shown_under steps from images n r m closed under t settled uncovered (k, form, shown) =
+    let same : k ≡ r = one_form (substituted n images) k r form under in
+    not_shown steps from r m closed t settled uncovered (subst (IsShown from) same shown)
+
+-- that an objective does not rise is a constraint that is not shown
+pub not_shown_kept : (steps : ℕ) (from : List NormalConstraint) (images : Images) (objective : List Term) (r m : NormalConstraint) (closed : List Lit)
+    → IsObjectiveGoal objective images r → Turned r m → outcome steps (from ++ m ∷ []) [] ≡ Settled closed → list_any (covering r) from ≡ false
+    → IsShownNotRaised from images objective → ⊥
+not_shown_kept steps from images objective r m closed goal t settled uncovered (k, form, shown) =
+    let same : k ≡ r = one_form (not_raised objective images) k r form goal in
+    not_shown steps from r m closed t settled uncovered (subst (IsShown from) same shown)

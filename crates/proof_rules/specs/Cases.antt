@@ -4,7 +4,7 @@ use Rattle.linear.specs.declared.constraint.Relation.TheVariants.{AtLeast}
 use Rattle.linear.specs.declared.constraint.Signed.{Signed}
 use Rattle.linear.specs.declared.term.Term.{Term}
 use Rattle.linear.specs.Opb.{Opb}
-use Rattle.normal_form.specs.Cases.{signed, plain, negated, normal}
+use Rattle.normal_form.specs.Cases.{signed, signed_not, plain, negated, normal}
 use Rattle.normal_form.specs.Normal.{NormalConstraint}
 use Rattle.substitution.specs.declared.image.Image.TheVariants.{One}
 use Rattle.substitution.specs.Cases.{to_plain}
@@ -65,6 +65,10 @@ second_alone = false ∷ true ∷ []
 abbrev pub cover_state : Option ℤ → List (List Bool) → State
 cover_state improve logged = record (state_of (cover ∷ [])) { improve = improve; logged = logged }
 
+-- the state before the first step
+abbrev pub cover_start : State
+cover_start = cover_state None []
+
 -- 1 x0 1 ~x1 >= 1, and a state with that as a second constraint
 abbrev pub not_second_alone : NormalConstraint
 not_second_alone = normal (plain 1 0 ∷ negated 1 1 ∷ []) 1
@@ -83,6 +87,10 @@ full_state improve = record (cover_state improve []) { next = id_limit }
 -- 1 x0 >= 1, as a proof writes it
 abbrev pub first_written : Signed
 first_written = record { terms = signed (pos 1) 0 ∷ []; relation = AtLeast; right = pos 1 }
+
+-- 1 ~x0 >= 1
+abbrev pub not_first_written : Signed
+not_first_written = record { terms = signed_not (pos 1) 0 ∷ []; relation = AtLeast; right = pos 1 }
 
 -- 2^121 x0 >= 1: its coefficient is beyond the limits
 abbrev pub large_written : Signed

@@ -1,5 +1,9 @@
 -- The faults of steps and conclusions, in the order of judging: each one's condition says that none before it stands.
 -- Want of memory is no fault of a step.
+--
+-- A fault is a condition on the state and the step, as legality is, and not what some judge happens to find first. So the
+-- order of judging is part of each condition, and laws say that it works out: a step is legal or has one fault, never
+-- both. What is cheap is judged before what is dear: limits and ids before a search for what shows a constraint.
 use Rattle.std.specs.Prelude.{◌≡◌, ◌≢◌, ℕ, ◌<◌, ◌≤◌, ◌⊎◌, ℤ, pos, ◌<ℤ◌, ◌≤ℤ◌, Bool, true, List, [], ◌∷◌, ◌++◌, Option, None, Some, All, IfSome, length, unsigned_abs}
 use Rattle.std.specs.FinMap as map
 use Rattle.std.specs.FinSet as set

@@ -1,4 +1,11 @@
 -- The conclusions that a state entitles to.
+--
+-- The live constraints have an answer for each assignment that satisfies the file and is better than the best improving
+-- solution (`Preserved`); of the others nothing is kept. So `UNSAT` may be concluded from `0 >= 1` only while no solution
+-- is logged, and a lower bound has to be at most the least improving value: what is shown holds for the assignments that
+-- are better, and all others are worth that value or more. Where `0 >= 1` is shown after an improving solution, so is
+-- every bound, and the one at its value makes it the optimum. An upper bound needs no constraint, but a logged solution,
+-- which need not be an improving one. A hint is judged as one more solution, logged for the conclusion alone.
 use Rattle.std.specs.Prelude.{◌≡◌, ◌≢◌, ℤ, ◌<ℤ◌, ◌≤ℤ◌, Bool, List, [], ◌∷◌, ◌++◌, Option, None, Some, All, Any, IfSome, ⊤}
 use Rattle.linear.specs.declared.term.Lit.{Lit}
 use Rattle.linear.specs.declared.term.Term.{Term}

@@ -1,4 +1,14 @@
 -- The legal steps of a proof: `Legal p old step new` says that the step leads from one state to another.
+--
+-- The rules are those of the VeriPB proof format: cutting planes (Cook, Coullard and Turán) for `pol`, propagation for
+-- `rup`, redundance-based strengthening (Gocht and Nordström) for `red`, and solutions and deletions. A step is a
+-- relation of two states, so nothing is said of how it is judged; that it leads to one state at most is a law.
+--
+-- What `red` adds need not follow. Where it fails at an answer, the answer after the substitution takes that one's place:
+-- so it has to meet each live constraint and the new one, and to be worth no more. Since it is needed only where the new
+-- constraint fails, each goal may be shown beside the negation of that. A solution is judged by the file and not by the
+-- live constraints, which `red` and `soli` may have made narrower. `del id` takes out what steps derived alone: less
+-- than is sound here, since answers are those to the file, but the format has another rule for the file's own.
 use Rattle.std.specs.Prelude.{◌≡◌, ℕ, ◌<◌, ℤ, pos, ◌<ℤ◌, ◌-ℤ◌, Bool, false, List, [], ◌∷◌, ◌++◌, Some, All, IfSome, IsSome, length}
 use Rattle.std.specs.FinMap as map
 use Rattle.std.specs.FinSet as set
@@ -71,7 +81,8 @@ abbrev pub worth_of : Opb → List Bool → ℤ
 worth_of p g = value_of (valuation_of g) p
 
 -- soli: a solution that is better than the improving ones before is logged, and a constraint is added that asks for
--- still better ones
+-- still better ones. No limit is asked of that constraint: where the problem is within the limits of a file, its
+-- coefficients add up to at most 2^82, and its degree is at most 1 above their sum; a constraint may have 2^120.
 pub record Improves (p : Opb) (old : State) (objective : List Term) (listing : List Lit) (g : List Bool) (n : NormalConstraint) : Type 0 where
   pub minimises : p.objective ≡ Some objective
   pub logs : Logs p old listing g
@@ -98,7 +109,8 @@ pub record IsDeletable (p : Opb) (s : State) (id : ℕ) : Type 0 where
 abbrev pub without : ℕ → State → State
 without id s = record s { live = map.remove s.live id }
 
--- del id: each id is deletable in its turn, and its constraint goes
+-- del id: each id is deletable in its turn, and its constraint goes; by a law the ids differ, and each is deletable
+-- before the step
 abbrev pub LegalDel : Opb → State → List ℤ → State → Type 0
 LegalDel p old [] new = new ≡ old
 LegalDel p old (id ∷ ids) new = IsDeletable p old (id_of old.next id) × LegalDel p (without (id_of old.next id) old) ids new

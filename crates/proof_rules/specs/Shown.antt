@@ -1,4 +1,10 @@
--- When a constraint is shown from others.
+-- When a constraint is shown from others: what `rup`, each goal of `red` and each lower bound ask for.
+--
+-- It is the check of the VeriPB format: the negation is put beside the constraints, and propagation finds a conflict. That
+-- is quick to judge and finds what a solver learns, but it is no complete notion of what follows: that three pigeons do
+-- not fit into two holes is not shown. A constraint that covers the wanted one literal by literal serves too, since
+-- propagation may miss even a copy of a constraint with large coefficients. Which of the two is looked for first shows
+-- nowhere. A constraint of degree 0 is always shown, since its negation is a contradiction.
 use Rattle.std.specs.Prelude.{◌≡◌, ◌≤◌, ◌⊎◌, List, [], ◌∷◌, ◌++◌, Any}
 use Rattle.linear.specs.declared.constraint.Relation.TheVariants.{AtLeast}
 use Rattle.linear.specs.declared.constraint.Signed.{Signed}

@@ -1,4 +1,9 @@
 -- Solutions that a proof lists: how a listing of literals is completed, and what improving solutions ask for.
+--
+-- A solver may list its decisions alone, as in the VeriPB format: what is missing is what propagation over the live
+-- constraints forces. A listing that names every variable of the file needs no completion, and the live constraints are
+-- not asked then: a step of redundance may have ruled this solution out, and it is one of the file all the same. So
+-- chains serve to complete a listing and never to judge it; what is judged is whether the whole satisfies the file.
 use Rattle.std.specs.Prelude.{◌≡◌, ℕ, ◌<◌, ◌⊎◌, ℤ, pos, ◌-ℤ◌, Bool, true, false, not, List, map, length, slice_index_or}
 use Rattle.linear.specs.declared.constraint.Relation.TheVariants.{AtLeast}
 use Rattle.linear.specs.declared.constraint.Signed.{Signed}

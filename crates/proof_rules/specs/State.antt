@@ -1,4 +1,8 @@
 -- The state of a proof: the live constraints, and the solutions logged so far.
+--
+-- An id is given once and stays with its constraint, so what was deleted is not found again under it, and the next id
+-- rises by what is added alone. A number in a step names an id from the front, or from the end by a minus sign, as in
+-- the VeriPB format: -1 is the newest id, whether its constraint is live or not.
 use Rattle.std.specs.Prelude.{◌≡◌, ℕ, ◌+◌, ◌-◌, ◌<◌, ◌≤◌, ◌^◌, ℤ, pos, negsuc, Bool, List, [], ◌∷◌, Option, None, Some, length}
 use Rattle.std.specs.Ordering.{nat_cmp}
 use Rattle.std.specs.FinMap as map

@@ -1,7 +1,7 @@
 //! Laws of the definitions, each the contract of a function that does nothing: every legal step preserves an answer to
 //! the problem, so what a legal conclusion claims is true; and each step and each conclusion has one verdict.
 
-ghost use Rattle.std.specs.Prelude.{◌≡◌, ◌⊎◌, ℤ, Bool, List, Option, All};
+ghost use Rattle.std.specs.Prelude.{◌≡◌, ◌↔◌, ◌⊎◌, ℤ, Bool, List, Option, All};
 ghost use Rattle.linear.specs.Limits.{IsWithin};
 ghost use Rattle.linear.specs.Opb.{Opb};
 ghost use Rattle.linear.specs.Valuation.{Valuation};
@@ -10,6 +10,7 @@ ghost use Rattle.linear.specs.declared.term.Lit.{Lit};
 ghost use Rattle.normal_form.specs.Normal.{NormalConstraint, Holds, Rises};
 ghost use Rattle.substitution.specs.Images.{Images};
 ghost use Rattle.proof_rules.specs.Claim.{Claim};
+ghost use Rattle.proof_rules.specs.Deletion.{AreDeletableAtOnce};
 ghost use Rattle.proof_rules.specs.Expression.{Given, IsPostfixOf};
 ghost use Rattle.proof_rules.specs.Fault.{IsStepFault, IsConclusionFault};
 ghost use Rattle.proof_rules.specs.Justified.{IsJustified, IsLegalProof};
@@ -75,6 +76,12 @@ pub fn soli_preserves()
 pub fn del_preserves()
     ensures answer { (p : Opb) → (s t : State) → (ids : List ℤ) → IsPreserved p s → LegalDel p s ids t → IsPreserved p t }
     ensures normal { (p : Opb) → (s t : State) → (ids : List ℤ) → AreNormal s → LegalDel p s ids t → AreNormal t }
+{}
+
+/// A deletion is legal exactly where its ids differ and each may be deleted in the state before the step, a negative one
+/// counted from the end.
+pub fn deletion_is_judged_at_once()
+    ensures { (p : Opb) → (s : State) → (ids : List ℤ) → ((t : State) × LegalDel p s ids t) ↔ AreDeletableAtOnce p s ids }
 {}
 
 /// Every list of legal steps preserves an answer to the problem.

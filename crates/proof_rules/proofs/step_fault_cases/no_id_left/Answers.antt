@@ -2,11 +2,12 @@ use Rattle.std.proofs.Common.{pos, [], ◌∷◌, None, refl, arith}
 use Rattle.std.proofs.lemmas.Int.{ints}
 use Rattle.normal_form.proofs.NormalForm.{is_form}
 use Rattle.propagate.specs.Cases.{unit}
-use Rattle.proof_rules.specs.Cases.{cover, cover_written, first_written, full_state}
+use Rattle.proof_rules.specs.Cases.{cover, cover_written, full_state}
 use Rattle.proof_rules.specs.Expression.{cited}
 use Rattle.proof_rules.specs.Shown.{IsAdmitted}
 use Rattle.proof_rules.specs.State.{HasRoom}
 use Rattle.proof_rules.proofs.SmallStates.{found_in}
+use Rattle.proof_rules.proofs.SmallSteps.{first_admitted}
 use Rattle.proof_rules.proofs.step_fault_cases.no_id_left.Goals as goal
 
 full : HasRoom (full_state None) → ⊥
@@ -17,14 +18,6 @@ cover_admitted = record {
   relation = refl;
   sizes = omega arith;
   form = is_form cover_written cover (omega arith, omega arith, (omega arith, omega arith, tt)) (λ set. omega (arith, ints)) refl;
-  fits = record { sum = omega arith; degree = omega arith };
-}
-
-first_admitted : IsAdmitted first_written (unit 0)
-first_admitted = record {
-  relation = refl;
-  sizes = omega arith;
-  form = is_form first_written (unit 0) (omega arith, omega arith, tt) (λ set. omega (arith, ints)) refl;
   fits = record { sum = omega arith; degree = omega arith };
 }
 
