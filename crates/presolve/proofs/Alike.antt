@@ -2,10 +2,12 @@
 use Rattle.std.proofs.Common.{◌≡◌, ℕ, zero, suc, Bool, true, false, [], ◌∷◌, refl, sym, ap, subst, ◌∙◌, arith}
 use Rattle.std.proofs.lemmas.Bool.Decides.{nat_tests}
 use Rattle.linear.specs.declared.constraint.Signed.{Signed}
+use Rattle.std.proofs.lemmas.Int.{ints}
+use Rattle.normal_form.specs.Cases.{plain, normal}
 use Rattle.normal_form.specs.Normal.{NormalConstraint, coefficient}
 use Rattle.normal_form.specs.NormalOf.{IsNormalOf}
-use Rattle.normal_form.proofs.NormalForm.{form, form_is}
-use Rattle.presolve.specs.Cases.{one_of_two, weighted}
+use Rattle.normal_form.proofs.NormalForm.{form, form_is, is_form, one_form}
+use Rattle.presolve.specs.Cases.{first_alone, one_of_two, second_alone, weighted}
 use Rattle.presolve.specs.Standing.{IsFormOf}
 use Rattle.presolve.specs.Swapping.{IsExchange, IsFormIn, IsSymmetric, exchanged}
 
@@ -40,3 +42,53 @@ unlike_asymmetric symmetric =
     let other = symmetric (form weighted) (in_one weighted (form weighted) (form_is weighted)) in
     let is : IsNormalOf weighted other.0 = of_one weighted other.0 other.1 in
     omega (arith, is.plain 0, other.2.coefficients 0 false, (form_is weighted).plain 1)
+
+-- the forms of 1 x0 >= 1 and 1 x1 >= 1
+abbrev first_form : NormalConstraint
+first_form = normal (plain 1 0 ∷ []) 1
+
+abbrev second_form : NormalConstraint
+second_form = normal (plain 1 1 ∷ []) 1
+
+first_is : IsNormalOf first_alone first_form
+first_is = is_form first_alone first_form (omega arith, omega arith, tt) (λ set. omega (arith, ints)) refl
+
+second_is : IsNormalOf second_alone second_form
+second_is = is_form second_alone second_form (omega arith, omega arith, tt) (λ set. omega (arith, ints)) refl
+
+-- they become one another
+first_moved : IsExchange 0 1 first_form second_form
+first_moved = record { coefficients = by; degree = refl }
+  where
+    by : (v : ℕ) (s : Bool) → coefficient second_form v s ≡ coefficient first_form (exchanged 0 1 v) s
+    by zero s = refl
+    by (suc zero) s = by_sign s
+      where
+        by_sign : (s : Bool) → coefficient second_form 1 s ≡ coefficient first_form 0 s
+        by_sign true = refl
+        by_sign false = refl
+    by (suc (suc v)) s = grind (arith, nat_tests)
+
+second_moved : IsExchange 0 1 second_form first_form
+second_moved = record { coefficients = by; degree = refl }
+  where
+    by : (v : ℕ) (s : Bool) → coefficient first_form v s ≡ coefficient second_form (exchanged 0 1 v) s
+    by zero true = refl
+    by zero false = refl
+    by (suc zero) s = refl
+    by (suc (suc v)) s = grind (arith, nat_tests)
+
+pub each_symmetric : IsSymmetric (first_alone ∷ second_alone ∷ []) 0 1
+each_symmetric n (zero, c, lt, e, f) =
+    let same : n ≡ first_form = one_form first_alone n first_form (subst (λ x. IsFormOf x n) (sym e) f) first_is in
+    (second_form, (1, second_alone, omega arith, refl, second_is), subst (λ k. IsExchange 0 1 k second_form) (sym same) first_moved)
+each_symmetric n (suc zero, c, lt, e, f) =
+    let same : n ≡ second_form = one_form second_alone n second_form (subst (λ x. IsFormOf x n) (sym e) f) second_is in
+    (first_form, (0, first_alone, omega arith, refl, first_is), subst (λ k. IsExchange 0 1 k first_form) (sym same) second_moved)
+each_symmetric n (suc (suc i), c, lt, e, f) = absurd (omega (arith, lt))
+
+pub lopsided_asymmetric : IsSymmetric (first_alone ∷ []) 0 1 → ⊥
+lopsided_asymmetric symmetric =
+    let other = symmetric first_form (in_one first_alone first_form first_is) in
+    let is : IsNormalOf first_alone other.0 = of_one first_alone other.0 other.1 in
+    omega (arith, is.plain 0, other.2.coefficients 0 false)

@@ -46,3 +46,18 @@ unlike = record { names = names; objective = None; constraints = weighted ∷ []
 
 abbrev pub pair : ℕ → ℕ → Swap
 pair x y = record { first = record { 0 = x }; second = record { 0 = y } }
+
+-- 1 x0 >= 1, and 1 x1 >= 1
+abbrev pub first_alone : Signed
+first_alone = record { terms = signed (pos 1) 0 ∷ []; relation = AtLeast; right = pos 1 }
+
+abbrev pub second_alone : Signed
+second_alone = record { terms = signed (pos 1) 1 ∷ []; relation = AtLeast; right = pos 1 }
+
+-- 1 x0 >= 1 ; 1 x1 >= 1
+abbrev pub each_alone : Opb
+each_alone = record { names = names; objective = None; constraints = first_alone ∷ second_alone ∷ [] }
+
+-- 1 x0 >= 1, of two variables
+abbrev pub lopsided : Opb
+lopsided = record { names = names; objective = None; constraints = first_alone ∷ [] }
