@@ -328,6 +328,11 @@ impl Ledger {
         }
     }
 
+    /// How many places of clauses that are watched have a literal, empty ones among them. Only speed depends on it.
+    pub(crate) fn clause_count(&self, literal: Lit) -> usize {
+        self.clauses.row_or_none(code_of(literal)).len()
+    }
+
     /// Takes the constraint of a place out, if there is one, where it is no literal's reason. The place stays.
     pub(crate) fn take_out(&mut self, place: usize) -> Option<Normal>
         requires place { place < length self.old.slots }

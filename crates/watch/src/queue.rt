@@ -7,6 +7,7 @@
 //! else waits is not forced in vain.
 
 ghost use Rattle.std.specs.Prelude.{◌≡◌, ◌+◌, ◌<◌, ◌≤◌, ◌∷◌, [], ℕ, IfSome, OnOk, OnErr, MatchOption, Contains, length};
+ghost use Rattle.std.specs.VecDeque.{deque_capacity};
 
 use std::alloc::{AllocError, Global};
 use std::collections::VecDeque;
@@ -108,8 +109,7 @@ impl Queue {
         ensures ok { OnOk result (self.new ≡ (self.old.0, self.old.1 + 1)) }
         ensures err { OnErr result (self.new ≡ self.old) }
     {
-        let more = self.waiting.len() + 1 - self.places.len();
-        self.places.reserve(more)?;
+        make_room(&mut self.places, self.waiting.len() + 1)?;
         self.waiting.push(false)?;
         Ok(())
     }
@@ -122,4 +122,16 @@ impl Queue {
         while let Some(_) = self.take() {}
         self.waiting.truncate(count);
     }
+}
+
+// Makes room for so many places, and where there is none for as many again: a ring that grew by one place would be made anew for each.
+fn make_room(places: &mut VecDeque<usize>, count: usize) -> Result<(), AllocError>
+    ensures items { places.new.items ≡ places.old.items }
+    ensures more { deque_capacity places.old ≤ deque_capacity places.new }
+    ensures ok { OnOk result (count ≤ deque_capacity places.new) }
+{
+    if places.capacity() < count {
+        return places.reserve(count.saturating_add(count));
+    }
+    Ok(())
 }

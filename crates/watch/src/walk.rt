@@ -12,6 +12,7 @@ ghost use Rattle.watch.specs.Looking.{AreLookedAt, GoesOn, CanForce, HasSlack, I
 
 use super::hint::Hint;
 use super::ledger::Ledger;
+use super::occurrence::opposite_of;
 use super::queue::Queue;
 use std::alloc::AllocError;
 
@@ -45,8 +46,57 @@ fn force_term(
     Ok(())
 }
 
-// Forces all that the constraint at a place forces, where its slack is this; it waits no more, but where memory ends.
-fn force(
+// Constraints with more terms are not gone through once more to choose where to begin.
+const FEW_TERMS: usize = 64;
+
+// Which term of a constraint has the literal whose opposite stands in most clauses; behind the last one where none is chosen.
+fn widest(ledger: &Ledger, place: usize) -> usize
+    requires { place < length ledger.now.slots }
+{
+    let end = ledger.term_count(place);
+    if end > FEW_TERMS {
+        return end;
+    }
+    let mut chosen = end;
+    let mut most = 0;
+    for index in 0..end {
+        let count = ledger.clause_count(opposite_of(ledger.term(place, index).literal()));
+        if count > most {
+            chosen = index;
+            most = count;
+        }
+    }
+    chosen
+}
+
+// Forces a first literal of a constraint: one whose opposite stands in many clauses is best made true before the others, since these
+// clauses would else be watched by that opposite, each in place of another literal that falls, only to be looked at once more.
+fn force_widest(
+    ledger: &mut Ledger,
+    queue: &mut Queue,
+    place: usize,
+    slack: u128,
+) -> Result<(), AllocError>
+    requires place { place < length ledger.old.slots }
+    requires slack { HasSlack (shown ledger.old.slots) ledger.old.listing place slack }
+    requires count { queue.old.1 ≡ length ledger.old.slots }
+    requires looked_at { AreLookedAt (shown ledger.old.slots) ledger.old.listing (place ∷ queue.old.0) }
+    ensures goes_on { GoesOn ledger.old ledger.new }
+    ensures count { queue.new.1 ≡ queue.old.1 }
+    ensures progress { OnOk result ((queue.new.0 ≡ queue.old.0)
+        ⊎ (length ledger.old.listing < length ledger.new.listing)) }
+    ensures slack { HasSlack (shown ledger.old.slots) ledger.new.listing place slack }
+    ensures looked_at { AreLookedAt (shown ledger.old.slots) ledger.new.listing (place ∷ queue.new.0) }
+{
+    let index = widest(ledger, place);
+    if index >= ledger.term_count(place) {
+        return Ok(());
+    }
+    force_term(ledger, queue, place, index, slack)
+}
+
+// Forces all that the constraint at a place forces, term by term.
+fn force_each(
     ledger: &mut Ledger,
     queue: &mut Queue,
     place: usize,
@@ -67,6 +117,29 @@ fn force(
     for index in 0..end {
         force_term(ledger, queue, place, index, slack)?;
     }
+    Ok(())
+}
+
+// Forces all that the constraint at a place forces, where its slack is this; it waits no more, but where memory ends.
+fn force(
+    ledger: &mut Ledger,
+    queue: &mut Queue,
+    place: usize,
+    slack: u128,
+) -> Result<(), AllocError>
+    requires place { place < length ledger.old.slots }
+    requires slack { HasSlack (shown ledger.old.slots) ledger.old.listing place slack }
+    requires count { queue.old.1 ≡ length ledger.old.slots }
+    requires looked_at { AreLookedAt (shown ledger.old.slots) ledger.old.listing (place ∷ queue.old.0) }
+    ensures goes_on { GoesOn ledger.old ledger.new }
+    ensures count { queue.new.1 ≡ queue.old.1 }
+    ensures progress { OnOk result ((queue.new.0 ≡ queue.old.0)
+        ⊎ (length ledger.old.listing < length ledger.new.listing)) }
+    ensures looked_at { OnOk result (AreLookedAt (shown ledger.old.slots) ledger.new.listing queue.new.0) }
+    ensures waits { AreLookedAt (shown ledger.old.slots) ledger.new.listing (place ∷ queue.new.0) }
+{
+    force_widest(ledger, queue, place, slack)?;
+    force_each(ledger, queue, place, slack)?;
     Ok(())
 }
 

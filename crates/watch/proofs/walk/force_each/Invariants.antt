@@ -2,7 +2,7 @@
 use Rattle.std.proofs.Common.{◌≡◌, ℕ, ◌<◌, ◌⊎◌, ◌∷◌, length}
 use Rattle.watch.specs.Ledgers.{shown}
 use Rattle.watch.specs.Looking.{AreLookedAt, GoesOn, CanForce, HasSlack, term_at}
-use Rattle.watch.proofs.walk.force.Given as goal
+use Rattle.watch.proofs.walk.force_each.Given as goal
 
 abbrev pub invariant-loop-index : goal.invariant-loop-index
 invariant-loop-index l =
