@@ -8,8 +8,10 @@ ghost use Rattle.kernel.specs.Held.{HasAtLeast};
 
 use kernel::Kernel;
 use linear::{Lit, Names, Problem, Relation, Seq, Signed, Var};
+use opb_read::read;
 use proof_rules::StepFault;
 use proof_steps::{Conclusion, Item, Step};
+use proof_text::read_step;
 use propagate::ScanPropagator;
 use std::alloc::{AllocError, Global};
 use std::process::Abort;
@@ -189,6 +191,48 @@ fn answers_to_steps(rt: HostRuntime) {
     assert!(&rt; answers_are(rt.alloc(), 0, &DELETED) == Ok(true));
     assert!(&rt; answers_are(rt.alloc(), 0, &SOLUTION) == Ok(true));
     assert!(&rt; answers_are(rt.alloc(), 1, &NO_SOLUTION) == Ok(true));
+}
+
+/// What the kernel of a file answers to its first step. A text that is not read counts as want of memory.
+fn answer_to_first(alloc: Global, file: &str, line: &str) -> Result<Option<u32>, StepFault> {
+    let Ok(problem) = read(alloc, file.as_bytes()) else {
+        return Err(StepFault::OutOfMemory);
+    };
+    let mut names = problem.names().copy(alloc)?;
+    let Ok(step) = read_step(alloc, line.as_bytes(), &mut names) else {
+        return Err(StepFault::OutOfMemory);
+    };
+    let mut kernel: Kernel<'_, ScanPropagator> = Kernel::new(alloc, &problem)?;
+    Ok(kernel.apply(&step)?.id)
+}
+
+const TRIANGLE: &str = "min: 2 x1 3 x2 4 x3 ; 1 x1 1 x2 >= 1 ; 1 x2 1 x3 >= 1 ; 1 x1 1 x3 >= 1 ;";
+
+/// Steps of redundance on the triangle. The fault names the least id among the live constraints whose goals are open.
+const REDUNDANT: [(&str, Result<Option<u32>, StepFault>); 5] = [
+    // of the first and the third
+    ("red 1 ~x1 >= 1 ; x1 -> 0", Err(StepFault::GoalOpen(1))),
+    // of the second and the third
+    ("red 1 ~x3 >= 1 ; x3 -> 0", Err(StepFault::GoalOpen(2))),
+    // the third alone: the other two come to degree 0
+    (
+        "red 1 ~x1 >= 1 ; x1 -> 0 x2 -> 1",
+        Err(StepFault::GoalOpen(3)),
+    ),
+    // none but the new one: all three come to degree 0
+    (
+        "red 1 ~x1 >= 1 ; x1 -> 1 x2 -> 1",
+        Err(StepFault::GoalOpenSelf),
+    ),
+    // the swap turns the second into the third, and the cheaper one is taken
+    ("red 1 x1 1 ~x2 >= 1 ; x1 -> x2 x2 -> x1", Ok(Some(4))),
+];
+
+#[test]
+fn answers_to_redundance(rt: HostRuntime) {
+    for (line, answer) in &REDUNDANT {
+        assert!(&rt; answer_to_first(rt.alloc(), TRIANGLE, line) == *answer);
+    }
 }
 
 /// A conclusion without a hint.
