@@ -20,3 +20,14 @@ AreSpotsOf trail spots =
 abbrev pub AreSpotsBefore : List Entry → ℕ → List (Option Spot) → Type 0
 AreSpotsBefore trail place spots =
     (v : ℕ) → IsSome (slice_index_or spots v None) → (k : ℕ) × (k < place) × (slice_index_or (variables_of (map (λ e. e.literal) trail)) k 0 ≡ v)
+
+-- the first entries are of different variables
+abbrev pub AreApartBefore : List Entry → ℕ → Type 0
+AreApartBefore trail place =
+    let variables : List ℕ = variables_of (map (λ e. e.literal) trail) in
+    (i j : ℕ) → i < j → j < place → slice_index_or variables i 0 ≡ slice_index_or variables j 0 → ⊥
+
+-- the spots of the first entries are taken
+abbrev pub AreTakenBefore : List Entry → ℕ → List (Option Spot) → Type 0
+AreTakenBefore trail place spots =
+    (k : ℕ) → k < place → IsSome (slice_index_or spots (slice_index_or (variables_of (map (λ e. e.literal) trail)) k 0) None)

@@ -62,15 +62,16 @@ fn note(spots: &mut Vec<Option<Spot>>, entry: Entry, place: usize) -> bool
 }
 
 impl<'a> Standing<'a> {
-    ghost use Rattle.std.specs.Prelude.{◌≡◌, ℕ, Bool, IfOk, IfSome, IsNone, map};
+    ghost use Rattle.std.specs.Prelude.{◌≡◌, ℕ, Bool, IfOk, IfSome, IsNone, IsSome, map};
     ghost use Rattle.propagate.specs.Literals.{among, lists};
     ghost use Rattle.analysis.specs.Spots.{makes_true};
     ghost use Rattle.analysis.specs.Biting.{RepeatsVariable, literals_up_to};
 
-    /// The table of a trail, `None` where a variable stands on it twice.
+    /// The table of a trail, `None` just where a variable stands on it twice.
     pub(crate) fn of(alloc: Global, trail: &'a [Entry]) -> Result<Option<Self>, AllocError>
         ensures trail { IfOk result (λ made. IfSome made (λ s. s ≡ trail.now)) }
         ensures repeated { IfOk result (λ made. IsNone made → RepeatsVariable (map (λ e. e.literal) trail.now)) }
+        ensures apart { IfOk result (λ made. IsSome made → RepeatsVariable (map (λ e. e.literal) trail.now) → ⊥) }
     {
         let mut spots = vec![in alloc; None; variable_count(trail)]?;
         for place in 0..trail.len() {

@@ -3,7 +3,7 @@
 //! A trail may say less than propagation over what is live by now. So whoever goes back asks the propagator what the decisions
 //! that are left extend to, and then asks here.
 
-ghost use Rattle.std.specs.Prelude.{◌≡◌, ◌⊎◌, IfOk, IsTrue, map};
+ghost use Rattle.std.specs.Prelude.{◌≡◌, ◌↔◌, IfOk, IsTrue, map};
 ghost use Rattle.analysis.specs.Biting.{Bites, RepeatsVariable, literals_up_to};
 
 use super::biting::bites;
@@ -37,11 +37,10 @@ fn trail_of(alloc: Global, listing: &[Lit]) -> Result<Vec<Entry>, AllocError>
     Ok(trail)
 }
 
-/// Whether a constraint has negative slack, or forces a literal, under a listing. A listing in which a variable stands twice is not
-/// looked at, and is answered no.
+/// Whether a constraint has negative slack, or forces a literal, under a listing in which no variable stands twice. Of any other
+/// listing the answer is no.
 pub fn bites_under(alloc: Global, constraint: &Normal, listing: &[Lit]) -> Result<bool, AllocError>
-    ensures sound { IfOk result (λ yes. IsTrue yes → Bites listing.now constraint.now) }
-    ensures complete { IfOk result (λ yes. Bites listing.now constraint.now → IsTrue yes ⊎ RepeatsVariable listing.now) }
+    ensures { IfOk result (λ yes. IsTrue yes ↔ (Bites listing.now constraint.now × (RepeatsVariable listing.now → ⊥))) }
 {
     let trail = trail_of(alloc, listing)?;
     let Some(standing) = Standing::of(alloc, trail.as_slice())? else {

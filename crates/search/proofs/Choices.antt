@@ -1,27 +1,18 @@
 -- What a table of values leaves free, and what is decided.
-use Rattle.std.proofs.Common.{◌≡◌, ◌≢◌, ℕ, zero, suc, ◌+◌, ◌<◌, ◌≤◌, Bool, true, false, not, eqb, ◌||◌, ◌==◌, ◌&&◌, List, [], ◌∷◌, ◌++◌, length, get_or, map, set, take, refl, sym, ap, subst, ◌∙◌, inl, inr, arith}
-use Rattle.std.proofs.lemmas.Bool.{false≢true}
+use Rattle.std.proofs.Common.{◌≡◌, ◌≢◌, ℕ, zero, suc, ◌+◌, ◌<◌, ◌≤◌, Bool, true, false, not, eqb, cond, ◌||◌, ◌==◌, ◌&&◌, List, [], ◌∷◌, ◌++◌, length, get_or, map, set, take, refl, sym, ap, subst, ◌∙◌, inl, inr, arith}
+use Rattle.std.proofs.lemmas.Bool.{cases_eq, cases_lt, false≢true}
 use Rattle.std.proofs.lemmas.Bool.Decides.{nat_tests}
-use Rattle.std.proofs.lemmas.List.{append_assoc, map-append, take_more}
+use Rattle.std.proofs.lemmas.List.{append_assoc, get_or_default, get_or-set_other, get_or-set_same, length-set, map-append, take_more}
 use mathlib.Core.Bool.{beq}
 use Rattle.linear.specs.declared.term.Lit.{Lit}
+use Rattle.normal_form.specs.Normal.{same_sign}
 use Rattle.propagate.specs.Literals.{among, lists}
 use Rattle.propagate.proofs.Consistency.{only_here}
-use Rattle.propagate.proofs.Listings.{among_cases, among_left}
+use Rattle.propagate.proofs.Listings.{among_cases, among_left, among_right}
 use Rattle.propagate.proofs.SearchEnds.{fewer_unset, unset_below}
 use Rattle.search.specs.declared.brancher.Value.{Value}
-use Rattle.search.specs.declared.brancher.Value.TheVariants.{Free}
-use Rattle.search.specs.Values.{IsFree, LeavesFree, unlisted_below}
-
--- after a note
-pub noted : (values : List Value) (place : ℕ) (value : Value) → value ≢ Free → (v : ℕ) → IsFree (set values place value) v → IsFree values v × (v ≢ place)
-noted [] place value taken v h = absurd (cc)
-noted (x ∷ xs) zero value taken zero h = absurd (taken h)
-noted (x ∷ xs) zero value taken (suc v) h = (h, λ e. absurd (omega (arith, e)))
-noted (x ∷ xs) (suc place) value taken zero h = (h, λ e. absurd (omega (arith, e)))
-noted (x ∷ xs) (suc place) value taken (suc v) h =
-    let rest = noted xs place value taken v h in
-    (rest.0, λ e. rest.1 (omega (arith, e)))
+use Rattle.search.specs.declared.brancher.Value.TheVariants.{True, False, Free}
+use Rattle.search.specs.Values.{AreValuesUnder, IsFree, IsValueUnder, unlisted_below, value_given}
 
 -- a place behind the table is not free
 pub behind : (values : List Value) (v : ℕ) → length values ≤ v → IsFree values v → ⊥
@@ -33,21 +24,68 @@ is_none : (b : Bool) → (b ≡ true → ⊥) → b ≡ false
 is_none true h = absurd (h refl)
 is_none false h = refl
 
--- one more decision
-pub leaves_more : (listing : List Lit) (l : Lit) (old new : List Value) → ((v : ℕ) → IsFree new v → IsFree old v × (v ≢ l.var.0)) → LeavesFree listing old
-    → LeavesFree (listing ++ l ∷ []) new
-leaves_more listing l old new noted h v free s = is_none (among (listing ++ l ∷ []) v s) (λ e. elim (among_cases listing (l ∷ []) v s e) [
-  | inl a ↦ false≢true (sym (h v (noted v free).0 s) ∙ a)
-  | inr a ↦ (noted v free).1 (only_here l v s a).0
-])
+equal_number : (n : ℕ) → eqb n n ≡ true
+equal_number n = grind (arith, nat_tests)
+
+-- what the table has as free is not listed
+abbrev pub LeavesFree : List Lit → List Value → Type 0
+LeavesFree listing values = (v : ℕ) → IsFree values v → (s : Bool) → among listing v s ≡ false
+
+listed_last : (listing : List Lit) (l : Lit) (v : ℕ) → v ≡ l.var.0 → among (listing ++ l ∷ []) v l.negated ≡ true
+listed_last listing l v same = among_right listing (l ∷ []) v l.negated (ap (λ n. among (l ∷ []) n l.negated) same ∙ itself l)
+  where
+    itself : (l : Lit) → among (l ∷ []) (l.var.0) l.negated ≡ true
+    itself l = ap (λ b. b || false) (ap (λ b. b && same_sign l.negated l.negated) (equal_number (l.var.0)) ∙ own_sign l.negated)
+      where
+        own_sign : (b : Bool) → (true && same_sign b b) ≡ true
+        own_sign true = refl
+        own_sign false = refl
+
+-- by the literal that comes last
+given_last : (b : Bool) (listing : List Lit) (v : ℕ) → among listing v b ≡ true → IsValueUnder listing v (cond b False True)
+given_last true listing v h = h
+given_last false listing v h = h
+
+-- by those before, where the last literal is of another variable
+kept : (value : Value) (listing : List Lit) (l : Lit) (v : ℕ) → v ≢ l.var.0 → IsValueUnder listing v value → IsValueUnder (listing ++ l ∷ []) v value
+kept True listing l v other h = among_left listing (l ∷ []) v false h
+kept False listing l v other h = among_left listing (l ∷ []) v true h
+kept Free listing l v other h = (still false h.0, still true h.1)
+  where
+    still : (s : Bool) → among listing v s ≡ false → among (listing ++ l ∷ []) v s ≡ false
+    still s absent = is_none (among (listing ++ l ∷ []) v s) (λ e. elim (among_cases listing (l ∷ []) v s e) [
+      | inl a ↦ false≢true (sym absent ∙ a)
+      | inr a ↦ other (only_here l v s a).0
+    ])
+
+-- one more literal
+pub values_more : (listing : List Lit) (l : Lit) (values : List Value) → AreValuesUnder listing values → AreValuesUnder (listing ++ l ∷ []) (set values (l.var.0) (value_given l))
+values_more listing l values are v within =
+    let x : ℕ = l.var.0 in
+    let inside : v < length values = subst (λ n. v < n) (length-set values x (value_given l)) within in
+    elim (cases_eq v x) as (λ _. IsValueUnder (listing ++ l ∷ []) v (get_or (set values x (value_given l)) v Free)) [
+      | inl same ↦
+          subst (IsValueUnder (listing ++ l ∷ []) v) (sym (ap (λ n. get_or (set values x (value_given l)) n Free) same ∙ get_or-set_same values x (value_given l) Free (subst (λ n. n < length values) same inside)))
+          (given_last l.negated (listing ++ l ∷ []) v (listed_last listing l v same))
+      | inr other ↦
+          subst (IsValueUnder (listing ++ l ∷ []) v) (sym (get_or-set_other values x v (value_given l) Free other)) (kept (get_or values v Free) listing l v other (are v inside))
+    ]
+
+-- what a table of what is listed has as free is not listed
+pub values_leave_free : (listing : List Lit) (values : List Value) → AreValuesUnder listing values → LeavesFree listing values
+values_leave_free listing values are v free s = elim (cases_lt v (length values)) as (λ _. among listing v s ≡ false) [
+  | inl inside ↦ neither s (subst (IsValueUnder listing v) (get_or_default values v Free True inside ∙ free) (are v inside))
+  | inr outside ↦ absurd (behind values v (omega (arith, outside)) free)
+]
+  where
+    neither : (s : Bool) → IsValueUnder listing v Free → among listing v s ≡ false
+    neither true h = h.1
+    neither false h = h.0
 
 -- a literal that is none of those before, nor the next one
 same_literal : (x l : Lit) → x.var.0 ≡ l.var.0 → x.negated ≡ l.negated → x ≡ l
 same_literal x l e f =
     ap (λ (n : ℕ). record { var = record { 0 = n }; negated = x.negated }) e ∙ ap (λ (b : Bool). record { var = l.var; negated = b }) f
-
-equal_number : (n : ℕ) → eqb n n ≡ true
-equal_number n = grind (arith, nat_tests)
 
 equal_sign : (b : Bool) → beq b b ≡ true
 equal_sign true = refl

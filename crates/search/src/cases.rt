@@ -1,10 +1,13 @@
 //! Worked cases: the definitions computed on small logs.
 
-ghost use Rattle.std.specs.Prelude.{◌≡◌, [], ◌∷◌, None, Some, neg_ℤ, pos};
+ghost use Rattle.std.specs.Prelude.{◌≡◌, ℕ, [], ◌∷◌, List, None, Some, false, neg_ℤ, pos, true};
 ghost use Rattle.linear.specs.Opb.{Opb};
+ghost use Rattle.linear.specs.declared.term.Lit.{Lit};
 ghost use Rattle.linear.specs.declared.constraint.Relation.TheVariants.{AtLeast};
 ghost use Rattle.normal_form.specs.Cases.{signed, signed_not};
 ghost use Rattle.propagate.specs.Cases.{x, not_x};
+ghost use Rattle.propagate.specs.Literals.{IsConsistent, among};
+ghost use Rattle.proof_rules.specs.Legal.{Legal};
 ghost use Rattle.proof_rules.specs.State.{HasRoom, State};
 ghost use Rattle.proof_steps.specs.declared.conclusion.Conclusion.TheVariants as conclusions;
 ghost use Rattle.proof_steps.specs.declared.conclusion.Lower.TheVariants as lowers;
@@ -13,6 +16,9 @@ ghost use Rattle.proof_steps.specs.declared.step.Step.TheVariants.{Sol, Soli, De
 ghost use Rattle.search.specs.Clause.{negated_clause};
 ghost use Rattle.search.specs.Log.{ImprovesNothing, IsFalling, LeadsBiting, LeadsImproving, Logbook, StepBites, improvement, last_of};
 ghost use Rattle.search.specs.Solving.{BearsOut, MayStop};
+ghost use Rattle.search.specs.Values.{AreValuesUnder, IsValueUnder};
+ghost use Rattle.search.specs.declared.brancher.Value.{Value};
+ghost use Rattle.search.specs.declared.brancher.Value.TheVariants as values;
 ghost use Rattle.search.specs.declared.found.Found.TheVariants as founds;
 ghost use Rattle.search.specs.declared.found.Unfinished.TheVariants as reasons;
 
@@ -37,6 +43,8 @@ pub fn improved_by_soli_alone()
     ensures other { (s : State) → improvement (Sol (x 1 ∷ [])) s ≡ [] }
     ensures none { (p : Opb) → (s t : State) → LeadsImproving p s [] t (pos 7 ∷ []) → ⊥ }
     ensures logged { (p : Opb) → (s t : State) → LeadsImproving p s (Sol (x 1 ∷ []) ∷ []) t (pos 7 ∷ []) → ⊥ }
+    ensures leads { (p : Opb) → (s t : State) → Legal p s (Soli (x 1 ∷ [])) t → t.improve ≡ Some (pos 7) → LeadsImproving p s (Soli (x 1 ∷ []) ∷ []) t (pos 7 ∷ []) }
+    ensures other_value { (p : Opb) → (s t : State) → t.improve ≡ Some (pos 7) → LeadsImproving p s (Soli (x 1 ∷ []) ∷ []) t (pos 8 ∷ []) → ⊥ }
     ensures nothing { ImprovesNothing (Soli (x 1 ∷ [])) → ⊥ }
 {}
 
@@ -64,4 +72,16 @@ pub fn borne_out()
     ensures other_bound { (l : Logbook) → l.state.improve ≡ Some (pos 7) → l.conclusion ≡ conclusions.Bounds (lowers.At (pos 6)) (uppers.At (pos 7)) None → BearsOut 1 l founds.Optimum → ⊥ }
     ensures memory { (l : Logbook) → BearsOut 1 l (founds.Unknown reasons.Memory) → ⊥ }
     ensures solved { (l : Logbook) → l.problem.objective ≡ None → l.state.logged ≡ [] → BearsOut 1 l founds.Sat → ⊥ }
+{}
+
+/// Under x0 and ~x2 the first of three variables is true, the second one free, and the third one false. A value that is turned, or
+/// left out, is none; and where no literal stands beside its opposite there is one.
+pub fn values_of_a_listing()
+    ensures told { AreValuesUnder (x 0 ∷ not_x 2 ∷ []) (values.True ∷ values.Free ∷ values.False ∷ []) }
+    ensures turned { AreValuesUnder (x 0 ∷ not_x 2 ∷ []) (values.False ∷ values.Free ∷ values.True ∷ []) → ⊥ }
+    ensures left_out { AreValuesUnder (x 0 ∷ []) (values.Free ∷ []) → ⊥ }
+    ensures one_true { (listing : List Lit) → (v : ℕ) → (value : Value) → IsConsistent listing → among listing v false ≡ true
+        → IsValueUnder listing v value → value ≡ values.True }
+    ensures one_false { (listing : List Lit) → (v : ℕ) → (value : Value) → IsConsistent listing → among listing v true ≡ true
+        → IsValueUnder listing v value → value ≡ values.False }
 {}

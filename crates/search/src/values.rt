@@ -3,32 +3,41 @@
 //! A brancher is not believed: what it answers is looked up in the table, and replaced where the table does not have its
 //! variable as a free one. So no decision ever stands beside its opposite, which is all that a search needs to know.
 
-ghost use Rattle.std.specs.Prelude.{◌≡◌, ◌≢◌, ◌<◌, ◌++◌, ℕ, List, IfOk, IfSome, IsTrue, length, map};
+ghost use Rattle.std.specs.Prelude.{◌≡◌, ◌<◌, ◌++◌, List, [], IfOk, IfSome, IsTrue, length, map, slice_set};
 ghost use Rattle.linear.specs.declared.term.Lit.{Lit};
-ghost use Rattle.search.specs.Values.{IsFree, LeavesFree};
+ghost use Rattle.search.specs.Values.{AreValuesUnder, IsFree, value_given};
 
 use super::brancher::Value;
 use linear::{Lit, Var};
 use propagate::Id;
 use std::alloc::{AllocError, Global};
 
+/// The value that a literal gives its variable.
+fn value_given(literal: Lit) -> Value
+    ensures { result ≡ value_given literal }
+{
+    if literal.negated {
+        Value::False
+    } else {
+        Value::True
+    }
+}
+
 /// Notes the value that a literal gives its variable, where the table has that variable.
 fn note(values: &mut [Value], literal: Lit)
-    ensures { (v : ℕ) → IsFree values.new v → IsFree values.old v × (v ≢ literal.var.0) }
+    ensures { values.new ≡ slice_set values.old (literal.var.0) (value_given literal) }
 {
     let place = literal.var.0 as usize;
     if place < values.len() {
-        values[place] = if literal.negated {
-            Value::False
-        } else {
-            Value::True
-        };
+        values[place] = value_given(literal);
     }
 }
 
 /// Notes the values that decisions give their variables.
 fn note_decisions(values: &mut [Value], decisions: &[Lit])
-    ensures { LeavesFree decisions.now values.new }
+    requires { AreValuesUnder [] values.old }
+    ensures count { length values.new ≡ length values.old }
+    ensures values { AreValuesUnder decisions.now values.new }
 {
     for decision in decisions {
         note(values, *decision);
@@ -37,7 +46,8 @@ fn note_decisions(values: &mut [Value], decisions: &[Lit])
 
 /// Notes the values that forced literals give their variables.
 fn note_forced(values: &mut [Value], forced: &[(Lit, Id)])
-    ensures { (before : List Lit) → LeavesFree before values.old → LeavesFree (before ++ map (λ p. p.0) forced.now) values.new }
+    ensures count { length values.new ≡ length values.old }
+    ensures values { (before : List Lit) → AreValuesUnder before values.old → AreValuesUnder (before ++ map (λ p. p.0) forced.now) values.new }
 {
     for (literal, _) in forced {
         note(values, *literal);
@@ -51,7 +61,7 @@ pub(crate) fn values_of(
     decisions: &[Lit],
     forced: &[(Lit, Id)],
 ) -> Result<Vec<Value>, AllocError>
-    ensures free { IfOk result (λ values. LeavesFree (decisions.now ++ map (λ p. p.0) forced.now) values.items) }
+    ensures values { IfOk result (λ values. AreValuesUnder (decisions.now ++ map (λ p. p.0) forced.now) values.items) }
     ensures count { IfOk result (λ values. length values.items ≡ count) }
 {
     let mut values = vec![in alloc; Value::Free; count as usize]?;

@@ -24,6 +24,6 @@ learn-requires-clause-bites g c =
     subst (λ r. IsReach live given r) c.in-Closed.is
     (subst (λ xs. IsReach live (take learned.level xs) c.in_ok-closed.field-0) c.as_slice.ensures.value c.in_ok-closed.ensures.value) in
     let bites : IsBroken closed learned.constraint ⊎ ((l : Lit) × IsForced closed l learned.constraint) =
-    subst (λ xs. IsBroken xs learned.constraint ⊎ ((l : Lit) × IsForced xs l learned.constraint)) c.as_slice-2.ensures (c.in_ok-bites_under.ensures.sound c.if-not-branch.false) in
+    subst (λ xs. IsBroken xs learned.constraint ⊎ ((l : Lit) × IsForced xs l learned.constraint)) c.as_slice-2.ensures (c.in_ok-bites_under.ensures.0 c.if-not-branch.false).0 in
     subst (λ (l : Logbook). StepBites l.state (kinds.Pol learned.items)) (sym c.extend.ensures.same)
     (learned.constraint, derived, settled_bites live given closed learned.constraint reach bites)

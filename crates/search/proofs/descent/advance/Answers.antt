@@ -2,15 +2,15 @@ use Rattle.std.proofs.Common.{◌<◌, List, length, not, subst, sym, arith}
 use Rattle.linear.specs.declared.term.Lit.{Lit}
 use Rattle.propagate.specs.Literals.{IsConsistent}
 use Rattle.propagate.proofs.Consistency.{push_consistent}
-use Rattle.search.specs.Values.{IsFree, LeavesFree, unlisted_below}
-use Rattle.search.proofs.Choices.{fewer, leaves_first}
+use Rattle.search.specs.Values.{IsFree, unlisted_below}
+use Rattle.search.proofs.Choices.{LeavesFree, fewer, leaves_first, values_leave_free}
 use Rattle.search.proofs.descent.advance.Given.{Over}
 use Rattle.search.proofs.descent.advance.Goals as goal
 
 -- the chosen literal's variable is free, and so not decided
 chosen : (g : Over) (c : goal.After-drop-trace-2 g) → LeavesFree c.args.decisions.now.items c.in_ok-values.values.items × IsFree c.in_ok-values.values.items (c.in-Some-choose.literal.var.0)
 chosen g c = (
-  subst (λ xs. LeavesFree xs c.in_ok-values.values.items) c.as_slice-4.ensures.value (leaves_first _ _ c.in_ok-values.values.items c.in_ok-values.ensures.free),
+  subst (λ xs. LeavesFree xs c.in_ok-values.values.items) c.as_slice-4.ensures.value (leaves_first _ _ c.in_ok-values.values.items (values_leave_free _ c.in_ok-values.values.items c.in_ok-values.ensures.values)),
   subst (λ vs. IsFree vs (c.in-Some-choose.literal.var.0)) c.as_slice-7.ensures.value c.in-Some-choose.ensures.free,
 )
 

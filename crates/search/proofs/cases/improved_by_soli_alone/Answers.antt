@@ -1,0 +1,17 @@
+use Rattle.std.proofs.Common.{◌≡◌, pos, [], ◌∷◌, ◌++◌, List, ℤ, refl, sym, ap, ◌∙◌, arith}
+use Rattle.std.proofs.lemmas.Int.{ints}
+use Rattle.search.specs.Log.{value_list}
+use Rattle.search.proofs.cases.improved_by_soli_alone.Goals as goal
+
+pub returns-clause-leads : goal.returns-clause-leads
+returns-clause-leads c p s t legal improve = (t, legal, ([], sym (ap (λ o. value_list o ++ []) improve), (refl, refl)))
+
+first_of : List ℤ → ℤ
+first_of [] = pos 0
+first_of (value ∷ values) = value
+
+pub returns-clause-other_value : goal.returns-clause-other_value
+unfolding first_of
+returns-clause-other_value c p s t improve (between, legal, (later, is, (same, none))) =
+    let seven : pos 8 ∷ [] ≡ pos 7 ∷ later = is ∙ ap (λ u. value_list u.improve ++ later) (sym same) ∙ ap (λ o. value_list o ++ later) improve in
+    omega (arith, ints, ap first_of seven)
