@@ -3,6 +3,7 @@
 
 mod answer;
 mod best;
+pub mod cases;
 mod deciding;
 mod outcome;
 mod proof;
