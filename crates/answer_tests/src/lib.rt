@@ -3,4 +3,20 @@
 #![tactic(auto)]
 
 #[cfg(test)]
+mod lines;
+#[cfg(test)]
+mod made;
+#[cfg(test)]
+mod plain;
+#[cfg(test)]
+mod restarts;
+#[cfg(test)]
+mod rules;
+#[cfg(test)]
+mod seen;
+#[cfg(test)]
+mod small;
+#[cfg(test)]
 mod solved;
+#[cfg(test)]
+mod spelled;

@@ -1,54 +1,11 @@
-//! The solver from the bytes of a problem to the printed answer, with three rules of choice: none, the conflicts', and one that answers
-//! a variable that is set wherever there is one. The proof that is handed out is judged once more as if it came from anybody.
+//! The solver from the bytes of a problem to the printed answer, on cases whose answers are known, with every rule of choice. The proof
+//! that is handed out is judged once more as if it came from anybody.
 
-use checker::{check, verdict_text};
-use linear::{Lit, Var};
+use super::rules::{RULES, Rule, brancher};
+use super::seen::solve;
 use pb_main::{Decided, answer_text, decide, status};
-use search::{Activity, Brancher, First, Value};
-use std::alloc::{AllocError, Global};
 use std::process::Abort;
 use std::test::Fail;
-
-/// Answers the first variable that is set.
-#[derive(Drop)]
-struct Stubborn;
-
-impl Brancher for Stubborn {
-    fn pick(&mut self, values: &[Value]) -> Option<Lit> {
-        for (place, value) in values.iter().enumerate() {
-            if !matches!(value, Value::Free) {
-                let number = u32::try_from(place).ok()?;
-                return Some(Lit {
-                    var: Var(number),
-                    negated: false,
-                });
-            }
-        }
-        None
-    }
-
-    fn conflict(&mut self, _variables: &[Var]) {}
-
-    fn restarted(&mut self) {}
-}
-
-/// A rule of choice.
-#[derive(Clone, Copy, Debug)]
-enum Rule {
-    First,
-    Activity,
-    Stubborn,
-}
-
-const RULES: [Rule; 3] = [Rule::First, Rule::Activity, Rule::Stubborn];
-
-fn brancher(alloc: Global, rule: Rule) -> Result<Box<dyn Brancher>, AllocError> {
-    Ok(match rule {
-        Rule::First => Box::new(alloc, First)?,
-        Rule::Activity => Box::new(alloc, Activity::new(alloc))?,
-        Rule::Stubborn => Box::new(alloc, Stubborn)?,
-    })
-}
 
 /// A problem, how many conflicts the search may meet, what the answer ends with, its exit status, and how the verdict about its proof
 /// begins.
@@ -240,32 +197,8 @@ const CASES: [Case; 22] = [
     },
 ];
 
-/// What is printed, the exit status, and the verdict about the proof.
-#[derive(Drop)]
-struct Seen {
-    answer: Vec<u8>,
-    status: u8,
-    verdict: Vec<u8>,
-}
-
-fn solve(alloc: Global, case: Case, rule: Rule) -> Result<Seen, Fail> {
-    let opb = case.opb.as_bytes();
-    let Decided { outcome, proof } = decide(
-        alloc,
-        opb,
-        case.conflicts.max(1),
-        brancher(alloc, rule)?,
-    );
-    let verdict = check(alloc, opb, proof.as_slice());
-    Ok(Seen {
-        answer: answer_text(alloc, &outcome)?,
-        status: status(&outcome),
-        verdict: verdict_text(alloc, opb, &verdict)?,
-    })
-}
-
 fn is_answered<R: Abort + AllocGlobal>(rt: &R, case: Case, rule: Rule) -> Result<(), Fail> {
-    let seen = solve(rt.alloc(), case, rule)?;
+    let seen = solve(rt.alloc(), case.opb.as_bytes(), case.conflicts, rule)?;
     assert!(rt;
         seen.answer.as_slice().ends_with(case.ends.as_bytes()) && seen.status == case.status,
         "for {} with {rule:?}",
