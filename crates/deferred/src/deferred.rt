@@ -100,4 +100,9 @@ impl<W: Propagator, P: Propagator> Propagator for Deferred<W, P> {
         settle(self.alloc, &mut self.waiting, &mut self.settled)?;
         self.settled.trace(given)
     }
+
+    fn trace_last(&mut self, before: &[Lit], last: Lit) -> Result<Trace, AllocError> {
+        settle(self.alloc, &mut self.waiting, &mut self.settled)?;
+        self.settled.trace_last(before, last)
+    }
 }

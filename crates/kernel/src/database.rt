@@ -37,10 +37,10 @@ impl<P: Propagator> Model for Database<P> {
 
 impl<P: Propagator> Database<P> {
     ghost use Rattle.kernel.specs.Redundancy.{AddsVariable, BecomesBeyond, IsTouched};
-    ghost use Rattle.std.specs.Prelude.{◌≡◌, ◌↔◌, ◌<◌, ◌++◌, ℕ, IfOk, IsSome, IsSomeAnd, MatchOption, None, IsTrue, OnErr, OnOk};
+    ghost use Rattle.std.specs.Prelude.{◌≡◌, ◌↔◌, ◌<◌, [], ◌∷◌, ◌++◌, ℕ, IfOk, IsSome, IsSomeAnd, MatchOption, None, IsTrue, OnErr, OnOk};
     ghost use Rattle.normal_form.specs.Normal.{NormalConstraint};
     ghost use Rattle.propagate.specs.Chain.{IsRefuted};
-    ghost use Rattle.propagate.specs.Content.{IsLeastAbove, IsTrace};
+    ghost use Rattle.propagate.specs.Content.{IsLeastAbove, IsTrace, IsTraceOfLast};
     ghost use Rattle.propagate.specs.Ids.{HasId};
     ghost use Rattle.propagate.specs.Literals.{IsConsistent};
     ghost use Rattle.propagate.specs.Reach.{IsReach};
@@ -203,6 +203,15 @@ impl<P: Propagator> Database<P> {
         ensures trace { IfOk result (IsTrace self.old.live listing.now) }
     {
         self.constraints.trace(listing)
+    }
+
+    /// The same for a listing and one literal more, where what follows from the listing may be left out.
+    pub(crate) fn trace_last(&mut self, before: &[Lit], last: Lit) -> Result<Trace, AllocError>
+        requires { IsConsistent (before.now ++ last ∷ []) }
+        ensures same { self.new ≡ self.old }
+        ensures trace { IfOk result (IsTraceOfLast self.old.live before.now last) }
+    {
+        self.constraints.trace_last(before, last)
     }
 
     /// The live constraint that a number in a step means, if there is one: `-k` is the next id less `k`.

@@ -4,10 +4,10 @@
 //! no second copy of the constraints, and what it derives from these answers is derived from just the constraints that
 //! its next step is judged by.
 
-ghost use Rattle.std.specs.Prelude.{◌≡◌, IfOk};
+ghost use Rattle.std.specs.Prelude.{◌≡◌, [], ◌∷◌, ◌++◌, IfOk};
 ghost use Rattle.std.specs.FinMap as map;
 ghost use Rattle.std.specs.Option.{option_copied};
-ghost use Rattle.propagate.specs.Content.{IsTrace};
+ghost use Rattle.propagate.specs.Content.{IsTrace, IsTraceOfLast};
 ghost use Rattle.propagate.specs.Literals.{IsConsistent};
 ghost use Rattle.propagate.specs.Reach.{IsReach};
 ghost use Rattle.proof_rules.specs.State.{constraints};
@@ -43,5 +43,15 @@ impl<'a, P: Propagator> Kernel<'a, P> {
         ensures value { IfOk result (IsTrace self.old.state.live given.now) }
     {
         self.database.trace(given)
+    }
+
+    /// The same for a listing and one literal more, where what follows from the listing alone may be left out. So whoever
+    /// asks about one literal after another is told of each what it forces.
+    pub fn trace_last(&mut self, before: &[Lit], last: Lit) -> Result<Trace, AllocError>
+        requires { IsConsistent (before.now ++ last ∷ []) }
+        ensures same { self.new ≡ self.old }
+        ensures value { IfOk result (IsTraceOfLast self.old.state.live before.now last) }
+    {
+        self.database.trace_last(before, last)
     }
 }

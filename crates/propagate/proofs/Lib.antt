@@ -23,3 +23,4 @@ pub mod PassSteps
 pub mod TraceMeaning
 pub mod Members
 pub mod Gathered
+pub mod LastTraced

@@ -54,3 +54,9 @@ pub record IsEnd (content : Content) (given listing : List Lit) : Type 0 where
 pub record IsTrace (content : Content) (given : List Lit) (t : Trace) : Type 0 where
   pub chain : AreForcedIn content given t.forced
   pub end : MatchOption t.conflict (IsEnd content given (given ++ traced t.forced)) (IsBrokenIn content (given ++ traced t.forced))
+
+-- a trace of literals and one more behind them, which may leave out what a chain from those before the last one has
+pub record IsTraceOfLast (content : Content) (before : List Lit) (last : Lit) (t : Trace) : Type 0 where
+  pub left_out : List (Lit × ℕ)
+  pub chain : AreForcedIn content before left_out
+  pub trace : IsTrace content ((before ++ traced left_out) ++ last ∷ []) t

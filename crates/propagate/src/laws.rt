@@ -8,7 +8,7 @@ ghost use Rattle.normal_form.specs.Negation.{IsNegation};
 ghost use Rattle.normal_form.specs.Normal.{NormalConstraint, Holds, Rises, total};
 ghost use Rattle.propagate.specs.Biting.{Bites};
 ghost use Rattle.propagate.specs.Chain.{IsConflict, IsChain, LeadsToConflict, IsRefuted, IsWholeChain, IsSettled, IsReached, IsClosure};
-ghost use Rattle.propagate.specs.Content.{Content, IsTrace, traced};
+ghost use Rattle.propagate.specs.Content.{Content, IsEnd, IsTrace, IsTraceOfLast, traced};
 ghost use Rattle.propagate.specs.declared.trace.Trace.{Trace};
 ghost use Rattle.propagate.specs.Literals.{coefficient_of, IsConsistent, MakesTrue, lists};
 ghost use Rattle.propagate.specs.Passes.{outcome, Conflict, Settled};
@@ -80,6 +80,16 @@ pub fn trace_meaning()
         → t.conflict ≡ None → LeadsToConflict (fin.values content) given → ⊥ }
     ensures closure { (content : Content) → (given : List Lit) → (t : Trace) → IsTrace content given t
         → t.conflict ≡ None → IsClosure (fin.values content) given (given ++ traced t.forced) }
+{}
+
+/// What a trace of a listing and one literal more leaves out is known to whoever knows what follows from the listing: it
+/// names a conflict where a chain leads to one and nowhere else, and without a conflict what followed from the listing,
+/// with the last literal and those that are traced, is what follows from all.
+pub fn last_traced()
+    ensures conflict { (content : Content) → (before : List Lit) → (last : Lit) → (t : Trace) → (id : ℕ) → IsTraceOfLast content before last t
+        → t.conflict ≡ Some id → LeadsToConflict (fin.values content) (before ++ last ∷ []) }
+    ensures end { (content : Content) → (before listing : List Lit) → (last : Lit) → (t : Trace) → IsEnd content before listing
+        → IsTraceOfLast content before last t → t.conflict ≡ None → IsEnd content (before ++ last ∷ []) (listing ++ last ∷ traced t.forced) }
 {}
 
 /// Two chains that cannot go on lead to a conflict both, or have the same literals with what is given: in which

@@ -6,6 +6,7 @@ pub mod cases;
 mod forced;
 mod ids;
 pub mod laws;
+mod listing;
 mod pass;
 mod propagator;
 mod reach;
@@ -17,6 +18,7 @@ mod trail;
 mod walk;
 
 pub use ids::Ids;
+pub use listing::with_last;
 pub use propagator::{Id, Propagator};
 pub use reach::Reach;
 pub use scan_propagator::ScanPropagator;

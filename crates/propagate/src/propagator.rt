@@ -8,13 +8,13 @@
 //! The constraints count as a list by rising id, since the definitions of chains and of refutation are about lists; laws
 //! say that order and copies in the list do not matter.
 
-ghost use Rattle.std.specs.Prelude.{◌≡◌, ◌++◌, ◌↔◌, IfOk, IsTrue, OnErr, OnOk, None};
+ghost use Rattle.std.specs.Prelude.{◌≡◌, [], ◌∷◌, ◌++◌, ◌↔◌, IfOk, IsTrue, OnErr, OnOk, None};
 ghost use Rattle.std.specs.Option.{option_copied};
 ghost use Rattle.std.specs.FinMap as map;
 ghost use Rattle.std.specs.Ordering.{nat_cmp};
 ghost use Rattle.normal_form.specs.Normal.{NormalConstraint};
 ghost use Rattle.propagate.specs.Chain.{IsRefuted};
-ghost use Rattle.propagate.specs.Content.{AddsOccurrences, IsLeastAbove, IsTrace};
+ghost use Rattle.propagate.specs.Content.{AddsOccurrences, IsLeastAbove, IsTrace, IsTraceOfLast};
 ghost use Rattle.propagate.specs.Literals.{IsConsistent};
 ghost use Rattle.propagate.specs.Reach.{IsReach};
 
@@ -79,4 +79,12 @@ pub trait Propagator: Drop {
         requires { IsConsistent given.now }
         ensures content { content self.new ≡ content self.old }
         ensures value { IfOk result (IsTrace (content self.old) given.now) };
+
+    /// The same for a listing and one literal more, where what follows from the listing alone may be left out: so where the
+    /// literals of the listing were asked about before, a propagator that keeps what it found tells what the last one
+    /// forces, and no more. A search that decides one literal after another asks this.
+    fn trace_last(&mut self, before: &[Lit], last: Lit) -> Result<Trace, AllocError>
+        requires { IsConsistent (before.now ++ last ∷ []) }
+        ensures content { content self.new ≡ content self.old }
+        ensures value { IfOk result (IsTraceOfLast (content self.old) before.now last) };
 }

@@ -12,6 +12,7 @@ ghost use Rattle.std.specs.Ordering.{nat_cmp};
 ghost use Rattle.propagate.specs.Literals.{coefficient_of};
 
 use super::ids::Ids;
+use super::listing::with_last;
 use super::propagator::{Id, Propagator};
 use super::reach::Reach;
 use super::refutation::refuted;
@@ -143,5 +144,11 @@ impl Propagator for ScanPropagator {
         let constraints = lent(self.alloc, &self.all)?;
         let ids = ids(self.alloc, &self.all)?;
         Trace::of(self.alloc, constraints.as_slice(), ids.as_slice(), given)
+    }
+
+    // It keeps nothing, so nothing is left out.
+    fn trace_last(&mut self, before: &[Lit], last: Lit) -> Result<Trace, AllocError> {
+        let given = with_last(self.alloc, before, last)?;
+        self.trace(given.as_slice())
     }
 }

@@ -79,7 +79,7 @@ impl<'a, P: Propagator> Log<'a, P> {
     ghost use Rattle.std.specs.FinMap as map;
     ghost use Rattle.std.specs.Option.{option_copied};
     ghost use Rattle.kernel.specs.Held.{HasAtLeast, given_id};
-    ghost use Rattle.propagate.specs.Content.{IsTrace};
+    ghost use Rattle.propagate.specs.Content.{IsTrace, IsTraceOfLast};
     ghost use Rattle.propagate.specs.Literals.{IsConsistent};
     ghost use Rattle.propagate.specs.Reach.{IsReach};
     ghost use Rattle.proof_rules.specs.Claim.{IsSolution};
@@ -281,6 +281,15 @@ impl<'a, P: Propagator> Log<'a, P> {
         ensures value { IfOk result (IsTrace self.old.state.live given.now) }
     {
         self.kernel.trace(given)
+    }
+
+    /// The same for a listing and one literal more, where what follows from the listing alone may be left out.
+    pub fn trace_last(&mut self, before: &[Lit], last: Lit) -> Result<Trace, AllocError>
+        requires { IsConsistent (before.now ++ last ∷ []) }
+        ensures same { self.new ≡ self.old }
+        ensures value { IfOk result (IsTraceOfLast self.old.state.live before.now last) }
+    {
+        self.kernel.trace_last(before, last)
     }
 
     /// The kernel that the steps have led to its state.

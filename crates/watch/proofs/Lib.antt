@@ -27,6 +27,7 @@ pub mod Kept
 pub mod GivenOnes
 pub mod TakenBack
 pub mod ToldTrail
+pub mod ToldTail
 pub mod GivenReasons
 pub mod LiveOnes
 pub mod NamedPlaces

@@ -8,7 +8,7 @@ use Rattle.linear.specs.declared.term.Lit.{Lit}
 use Rattle.normal_form.specs.Normal.{NormalConstraint}
 use Rattle.propagate.specs.declared.trace.Trace.{Trace}
 use Rattle.propagate.specs.Chain.{IsChain, IsSettled}
-use Rattle.propagate.specs.Content.{AreForcedIn, IsBrokenIn, IsEnd, IsTrace, traced}
+use Rattle.propagate.specs.Content.{AreForcedIn, IsBrokenIn, IsEnd, IsTrace, IsTraceOfLast, traced}
 use Rattle.propagate.specs.Slack.{IsBroken, IsForced}
 use Rattle.propagate.specs.Walk.{IsBrokenAt}
 use Rattle.propagate.proofs.ChainEnds.{given_within}
@@ -19,7 +19,7 @@ use Rattle.watch.specs.declared.chain.Step.{Step}
 use Rattle.watch.specs.declared.chain.Chain.{Chain}
 use Rattle.watch.specs.Ledgers.{constraint_at, constraint_in, nothing, shown}
 use Rattle.watch.specs.Named.{AreNamed, content_at}
-use Rattle.watch.specs.Steps.{AreSteps, IsFound, IsTraceOf, literals_of, step_named}
+use Rattle.watch.specs.Steps.{AreSteps, IsFound, IsFoundOfLast, IsTraceOf, literals_of, step_named}
 use Rattle.watch.proofs.LiveContent.{live_content}
 use Rattle.watch.proofs.LiveOnes.{live_settled}
 use Rattle.watch.proofs.NamedPlaces.{got, shows}
@@ -88,6 +88,18 @@ trace_named slots es ids given c t a f n =
       end =
           subst (λ (o : Option ℕ). MatchOption o (IsEnd content given (given ++ traced t.forced)) (IsBrokenIn content (given ++ traced t.forced))) (sym n.conflict)
           (subst (λ (ls : List Lit). MatchOption (option_map (λ place. get_or ids place 0) c.broken) (IsEnd content given (given ++ ls)) (IsBrokenIn content (given ++ ls))) (sym same) end);
+    }
+
+-- and one that leaves out what stands before the last literal
+pub last_named : (slots : Slots) (es : Places) (ids : List ℕ) (before : List Lit) (last : Lit) (c : Chain) (t : Trace) → AreNamed es ids slots → IsFoundOfLast (shown slots) before last c → IsTraceOf ids c t → IsTraceOfLast (content_at slots es) before last t
+last_named slots es ids before last c t a f n =
+    let content = content_at slots es in
+    record {
+      left_out = map (step_named ids) f.left_out;
+      chain = steps_named slots es ids a before f.left_out f.chain;
+      trace =
+          subst (λ (ls : List Lit). IsTrace content ((before ++ ls) ++ last ∷ []) t) (sym (literals_named ids f.left_out))
+          (trace_named slots es ids ((before ++ literals_of f.left_out) ++ last ∷ []) c t a f.found n);
     }
 
 -- each place of a chain has an id

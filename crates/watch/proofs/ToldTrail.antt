@@ -34,16 +34,16 @@ still_forced n xs ys l h f e k = record {
 now_broken : (n : NormalConstraint) (xs ys : List Lit) (l : Lit) → Within (among xs) (among ys) → IsForced xs l n → lists ys (opposite l) ≡ true → IsBroken ys n
 now_broken n xs ys l h f k = omega (arith, ints, f.above, sum_apart (not_false ys) (not_false xs) (l.var.0) l.negated (fewer_not_false xs ys h) (ap not k) (ap not f.opposite_unset) n.terms)
 
-literals_push : (ss : List Step) (s : Step) → literals_of (ss ++ s ∷ []) ≡ literals_of ss ++ s.literal ∷ []
+pub literals_push : (ss : List Step) (s : Step) → literals_of (ss ++ s ∷ []) ≡ literals_of ss ++ s.literal ∷ []
 literals_push [] s = refl
 literals_push (x ∷ xs) s = ap (λ (ls : List Lit). x.literal ∷ ls) (literals_push xs s)
 
-steps_push : (ns : List NormalConstraint) (given : List Lit) (ss : List Step) (s : Step) → AreSteps ns given ss → IsReason ns (given ++ literals_of ss) s.literal (Some s.place) → AreSteps ns given (ss ++ s ∷ [])
+pub steps_push : (ns : List NormalConstraint) (given : List Lit) (ss : List Step) (s : Step) → AreSteps ns given ss → IsReason ns (given ++ literals_of ss) s.literal (Some s.place) → AreSteps ns given (ss ++ s ∷ [])
 steps_push ns given [] s c f = (subst (λ (xs : List Lit). IsReason ns xs s.literal (Some s.place)) (append-nil given) f, tt)
 steps_push ns given (x ∷ xs) s c f =
     (c.0, steps_push ns (given ++ x.literal ∷ []) xs s c.1 (subst (λ (ls : List Lit). IsReason ns ls s.literal (Some s.place)) (sym (append_assoc given (x.literal ∷ []) (literals_of xs))) f))
 
-not_listed : (xs : List Lit) (l : Lit) (b : Bool) → lists xs l ≡ b → (lists xs l ≡ true → ⊥) → lists xs l ≡ false
+pub not_listed : (xs : List Lit) (l : Lit) (b : Bool) → lists xs l ≡ b → (lists xs l ≡ true → ⊥) → lists xs l ≡ false
 not_listed xs l true e h = absurd (h e)
 not_listed xs l false e h = e
 
@@ -144,7 +144,7 @@ pub reason_is : (ns : List NormalConstraint) (xs : List Lit) (l : Lit) (r s : Op
 reason_is ns xs l r s f e = subst (λ (o : Option ℕ). IsReason ns xs l o) e f
 
 -- literals with the same set
-same_steps : (ns : List NormalConstraint) (xs ys : List Lit) (steps : List Step) → SameLiterals xs ys → AreSteps ns xs steps → AreSteps ns ys steps
+pub same_steps : (ns : List NormalConstraint) (xs ys : List Lit) (steps : List Step) → SameLiterals xs ys → AreSteps ns xs steps → AreSteps ns ys steps
 same_steps ns xs ys [] same c = tt
 same_steps ns xs ys (s ∷ ss) same c =
     ((c.0.0, same_forced xs ys (constraint_at ns s.place) s.literal same c.0.1), same_steps ns (xs ++ s.literal ∷ []) (ys ++ s.literal ∷ []) ss (same_pushed xs ys (s.literal ∷ []) same) c.1)

@@ -1,5 +1,5 @@
 -- Literals that are given beside those that are there, and what comes of them.
-use Rattle.std.specs.Prelude.{◌≡◌, ℕ, ◌≤◌, Bool, true, List, ◌++◌, Option, length, take}
+use Rattle.std.specs.Prelude.{◌≡◌, ℕ, ◌≤◌, Bool, true, List, [], ◌∷◌, ◌++◌, Option, None, Some, length, map, take}
 use Rattle.linear.specs.declared.term.Lit.{Lit}
 use Rattle.normal_form.specs.Normal.{NormalConstraint}
 use Rattle.propagate.specs.Chain.{IsClosure, IsSettled}
@@ -14,6 +14,18 @@ pub record IsGiven (old new : State) (given : List Lit) : Type 0 where
   pub listing : new.listing ≡ old.listing ++ added
   pub reasons : (rest : List (Option ℕ)) × (new.reasons ≡ old.reasons ++ rest) × (length rest ≡ length added)
   pub within : (v : ℕ) (s : Bool) → among added v s ≡ true → among given v s ≡ true
+
+-- one literal is added, without a reason
+pub record IsPushed (old new : State) (literal : Lit) : Type 0 where
+  pub listing : new.listing ≡ old.listing ++ literal ∷ []
+  pub reasons : new.reasons ≡ old.reasons ++ None ∷ []
+
+-- one literal is added without a reason, and behind it what it forces, each with its reason
+pub record IsDecided (old new : State) (literal : Lit) : Type 0 where
+  pub chain : List Lit
+  pub listing : new.listing ≡ (old.listing ++ literal ∷ []) ++ chain
+  pub places : List ℕ
+  pub reasons : new.reasons ≡ (old.reasons ++ None ∷ []) ++ map Some places
 
 -- each literal of the one is in the other
 abbrev pub HasAll : List Lit → List Lit → Type 0

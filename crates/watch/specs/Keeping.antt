@@ -1,5 +1,5 @@
 -- Given literals that are kept between calls, one above the other, each with what is forced then.
-use Rattle.std.specs.Prelude.{◌≡◌, ℕ, ◌≤◌, List, Option, None, Some, length, slice_index_or, take}
+use Rattle.std.specs.Prelude.{◌≡◌, ℕ, ◌≤◌, List, Option, None, Some, MatchOption, length, slice_index_or, take}
 use Rattle.linear.specs.declared.term.Lit.{Lit}
 use Rattle.normal_form.specs.Normal.{NormalConstraint}
 use Rattle.propagate.specs.Chain.{IsSettled}
@@ -44,3 +44,7 @@ abbrev pub broken_place : Ascent → Option ℕ
 broken_place ascents.Whole = None
 broken_place (ascents.Broken place) = Some place
 broken_place ascents.Clash = None
+
+-- all is settled, or the constraint at this place is broken
+abbrev pub IsSettledOrBroken : List NormalConstraint → List Lit → Option ℕ → Type 0
+IsSettledOrBroken constraints listing broken = MatchOption broken (IsSettled constraints listing) (IsBrokenAt constraints listing)

@@ -26,6 +26,12 @@ pub record IsFound (constraints : List NormalConstraint) (given : List Lit) (c :
   pub chain : AreSteps constraints given c.steps.items
   pub end : MatchOption c.broken (IsSettled constraints (given ++ literals_of c.steps.items)) (IsBrokenAt constraints (given ++ literals_of c.steps.items))
 
+-- the same from some literals and one more behind them, where what follows from those before it may be left out
+pub record IsFoundOfLast (constraints : List NormalConstraint) (before : List Lit) (last : Lit) (c : Chain) : Type 0 where
+  pub left_out : List Step
+  pub chain : AreSteps constraints before left_out
+  pub found : IsFound constraints ((before ++ literals_of left_out) ++ last ∷ []) c
+
 -- a literal without a reason is a given one
 abbrev pub AreGiven : List Lit → List (Option ℕ) → List Lit → Type 0
 AreGiven listing reasons given = (k : ℕ) (d : Lit) → k < length listing → slice_index_or reasons k None ≡ None → lists given (slice_index_or listing k d) ≡ true

@@ -16,9 +16,10 @@ ghost use Rattle.propagate.specs.Literals.{IsConsistent};
 ghost use Rattle.propagate.specs.Reach.{IsReach};
 ghost use Rattle.watch.specs.Ledgers.{constraint_at, shown};
 ghost use Rattle.watch.specs.Entered.{AreEntriesOf, all_of};
-ghost use Rattle.watch.specs.Steps.{IsFound};
+ghost use Rattle.watch.specs.Steps.{IsFound, IsFoundOfLast};
 
 use super::chain::Chain;
+use super::continuing::chain_of_last;
 use super::extension::reach_over;
 use super::extras::attach_waiting;
 use super::following::go_back;
@@ -158,6 +159,22 @@ impl Closure {
             &mut self.queue,
             &mut self.levels,
             given,
+        )
+    }
+
+    /// The same for a listing and one literal more, where what follows from the listing alone may be left out.
+    pub(crate) fn trace_last(&mut self, before: &[Lit], last: Lit) -> Result<Chain, AllocError>
+        requires { IsConsistent (before.now ++ last ∷ []) }
+        ensures slots { self.new ≡ self.old }
+        ensures value { IfOk result (IsFoundOfLast (shown self.old) before.now last) }
+    {
+        chain_of_last(
+            self.alloc,
+            &mut self.ledger,
+            &mut self.queue,
+            &mut self.levels,
+            before,
+            last,
         )
     }
 }

@@ -4,11 +4,11 @@
 //! by id; the id of a place names a reason when a chain is told. Where more stands empty than not, an insertion makes
 //! the places anew: it may fail, as a removal may not, and what it copies is paid for by the removals before it.
 
-ghost use Rattle.std.specs.Prelude.{◌≡◌, ◌↔◌, ◌++◌, ℕ, Contains, IfOk, IsTrue, OnErr, OnOk, None};
+ghost use Rattle.std.specs.Prelude.{◌≡◌, ◌↔◌, ◌++◌, ◌∷◌, [], ℕ, Contains, IfOk, IsTrue, OnErr, OnOk, None};
 ghost use Rattle.std.specs.FinMap as map;
 ghost use Rattle.std.specs.Option.{option_copied};
 ghost use Rattle.propagate.specs.Chain.{IsRefuted};
-ghost use Rattle.propagate.specs.Content.{HasLiteral, IsLeastAbove, IsTrace};
+ghost use Rattle.propagate.specs.Content.{HasLiteral, IsLeastAbove, IsTrace, IsTraceOfLast};
 ghost use Rattle.propagate.specs.Literals.{IsConsistent};
 ghost use Rattle.propagate.specs.Reach.{IsReach};
 ghost use Rattle.watch.specs.Lent.{IsEachOnce};
@@ -196,6 +196,16 @@ impl Database {
         ensures value { IfOk result (IsTrace self.old given.now) }
     {
         let chain = self.closure.trace(given)?;
+        trace_of(self.alloc, chain, self.ids.as_slice())
+    }
+
+    /// The same for a listing and one literal more, where what follows from the listing alone may be left out.
+    pub(crate) fn trace_last(&mut self, before: &[Lit], last: Lit) -> Result<Trace, AllocError>
+        requires { IsConsistent (before.now ++ last ∷ []) }
+        ensures content { self.new ≡ self.old }
+        ensures value { IfOk result (IsTraceOfLast self.old before.now last) }
+    {
+        let chain = self.closure.trace_last(before, last)?;
         trace_of(self.alloc, chain, self.ids.as_slice())
     }
 

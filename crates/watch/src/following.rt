@@ -7,8 +7,9 @@
 ghost use Rattle.std.specs.Prelude.{◌≡◌, ◌<◌, ◌≤◌, ◌⊎◌, ◌++◌, ◌∷◌, [], ℕ, List, false, All, IfOk, OnErr, OnOk, length, take};
 ghost use Rattle.linear.specs.declared.term.Lit.{Lit};
 ghost use Rattle.propagate.specs.Literals.{lists, opposite};
-ghost use Rattle.watch.specs.Looking.{AreLookedAt};
-ghost use Rattle.watch.specs.Keeping.{IsAscent, IsKept};
+ghost use Rattle.watch.specs.Givens.{IsDecided, IsPushed};
+ghost use Rattle.watch.specs.Looking.{AreLookedAt, GoesOn};
+ghost use Rattle.watch.specs.Keeping.{IsAscent, IsKept, IsSettledOrBroken, broken_place};
 ghost use Rattle.watch.specs.Ledgers.{shown};
 ghost use Rattle.watch.specs.Steps.{AreGiven};
 ghost use Rattle.propagate.specs.Chain.{IsSettled};
@@ -44,8 +45,10 @@ fn settle_kept(ledger: &mut Ledger, queue: &mut Queue) -> Result<Ascent, AllocEr
     requires looked_at { AreLookedAt (shown ledger.old.slots) ledger.old.listing queue.old.0 }
     ensures slots { ledger.new.slots ≡ ledger.old.slots }
     ensures variables { ledger.new.variables ≡ ledger.old.variables }
+    ensures goes_on { GoesOn ledger.old ledger.new }
     ensures kept { (levels : List Lit × List ℕ) → IsKept ledger.old levels queue.old.0 queue.old.1
         → IsKept ledger.new levels queue.new.0 queue.new.1 }
+    ensures broken { IfOk result (λ a. IsSettledOrBroken (shown ledger.old.slots) ledger.new.listing (broken_place a)) }
     ensures end { (levels : List Lit × List ℕ) → IsKept ledger.old levels queue.old.0 queue.old.1
         → IfOk result (IsAscent (shown ledger.old.slots) levels.0 ledger.new.listing) }
 {
@@ -72,6 +75,7 @@ fn open_level(
     ensures variables { ledger.new.variables ≡ ledger.old.variables }
     ensures levels { OnOk result (levels.new.0 ≡ levels.old.0 ++ literal ∷ []) }
     ensures no_levels { OnErr result (levels.new ≡ levels.old) }
+    ensures pushed { OnOk result (lists ledger.old.listing literal ≡ false → IsPushed ledger.old ledger.new literal) }
     ensures kept { IsKept ledger.new levels.new queue.new.0 queue.new.1 }
 {
     levels.push(literal, ledger.len())?;
@@ -105,6 +109,26 @@ fn step_up(
     if ledger.has(opposite_of(literal)) {
         return Ok(Ascent::Clash);
     }
+    open_level(ledger, queue, levels, literal)?;
+    settle_kept(ledger, queue)
+}
+
+/// Gives a literal that is free, with what is forced then.
+pub(crate) fn decide(
+    ledger: &mut Ledger,
+    queue: &mut Queue,
+    levels: &mut Levels,
+    literal: Lit,
+) -> Result<Ascent, AllocError>
+    requires kept { IsKept ledger.old levels.old queue.old.0 queue.old.1 }
+    requires variable { literal.var.0 < ledger.old.variables }
+    requires unset { lists ledger.old.listing literal ≡ false }
+    requires opposite_unset { lists ledger.old.listing (opposite literal) ≡ false }
+    ensures slots { ledger.new.slots ≡ ledger.old.slots }
+    ensures kept { IsKept ledger.new levels.new queue.new.0 queue.new.1 }
+    ensures decided { OnOk result (IsDecided ledger.old ledger.new literal) }
+    ensures broken { IfOk result (λ a. IsSettledOrBroken (shown ledger.old.slots) ledger.new.listing (broken_place a)) }
+{
     open_level(ledger, queue, levels, literal)?;
     settle_kept(ledger, queue)
 }

@@ -5,7 +5,7 @@
 
 ghost use Rattle.std.specs.Prelude.{◌≡◌, ◌<◌, ◌∷◌, [], false, true, OnErr, OnOk, length};
 ghost use Rattle.propagate.specs.Literals.{lists, opposite};
-ghost use Rattle.watch.specs.Givens.{IsGiven};
+ghost use Rattle.watch.specs.Givens.{IsGiven, IsPushed};
 ghost use Rattle.watch.specs.Ledgers.{shown};
 ghost use Rattle.watch.specs.Looking.{AreLookedAt};
 
@@ -25,6 +25,7 @@ pub(crate) fn give(ledger: &mut Ledger, queue: &mut Queue, literal: Lit) -> Resu
     ensures count { queue.new.1 ≡ queue.old.1 }
     ensures looked_at { AreLookedAt (shown ledger.old.slots) ledger.new.listing queue.new.0 }
     ensures there { OnOk result (lists ledger.new.listing literal ≡ true) }
+    ensures pushed { OnOk result (lists ledger.old.listing literal ≡ false → IsPushed ledger.old ledger.new literal) }
 {
     if ledger.has(literal) {
         return Ok(());

@@ -5,6 +5,7 @@ mod ascent;
 mod chain;
 mod choosing;
 mod closure;
+mod continuing;
 mod database;
 mod entry_lists;
 mod extension;

@@ -31,8 +31,8 @@ fn with_end(told: Chain, broken: Option<usize>) -> Chain
     }
 }
 
-// The place of what is broken at the end of a way up.
-fn broken_place(ascent: Ascent) -> Option<usize>
+/// The place of what is broken at the end of a way up.
+pub(crate) fn broken_place(ascent: Ascent) -> Option<usize>
     ensures { result ≡ broken_place ascent }
 {
     match ascent {

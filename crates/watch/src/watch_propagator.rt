@@ -90,4 +90,8 @@ impl Propagator for WatchPropagator {
     fn trace(&mut self, given: &[Lit]) -> Result<Trace, AllocError> {
         self.database.trace(given)
     }
+
+    fn trace_last(&mut self, before: &[Lit], last: Lit) -> Result<Trace, AllocError> {
+        self.database.trace_last(before, last)
+    }
 }
