@@ -6,7 +6,7 @@ use Rattle.proof_rules.proofs.Concluding.{justified_claim}
 use Rattle.proof_rules.proofs.FileForms.{start_preserved, start_normal}
 use Rattle.proof_rules.proofs.Preserving.{steps_preserve}
 use Rattle.proof_rules.specs.Claim.{Claim}
-use Rattle.checker.specs.Headline.{IsProved}
+use Rattle.checker.specs.Verdicts.{IsProved}
 
 pub proved_claim : (p : Opb) (proof : List ℕ) (a : Judgement) → IsProved p proof a → Claim p a.conclusion a.best
 proved_claim p proof a proved =

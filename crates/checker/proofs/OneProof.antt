@@ -11,7 +11,7 @@ use Rattle.proof_rules.specs.State.{State}
 use Rattle.proof_steps.specs.declared.conclusion.Conclusion.{Conclusion}
 use Rattle.proof_steps.specs.declared.step.Step.{Step}
 use Rattle.proof_text.proofs.OneReading.{one_proof}
-use Rattle.checker.specs.Headline.{IsProved}
+use Rattle.checker.specs.Verdicts.{IsProved}
 
 -- legal steps lead to one state
 one_end : (p : Opb) (s t u : State) (steps : List Step) → Leads p s steps t → Leads p s steps u → t ≡ u

@@ -3,7 +3,7 @@ use Rattle.std.proofs.Common.{◌≡◌, inl, inr, ℕ, Bool, Some, MatchOption,
 use Rattle.linear.specs.Opb.{Opb}
 use Rattle.kernel.specs.Accepted.{Judgement}
 use Rattle.proof_rules.specs.Claim.{IsSolution}
-use Rattle.checker.specs.Headline.{IsTrueOf}
+use Rattle.checker.specs.Verdicts.{IsTrueOf}
 use Rattle.checker.specs.Printed.{IsPrinted, IsWithBest, accepted_line, with_assignment}
 use Rattle.checker.specs.declared.verdict.Verdict.TheVariants as verdicts
 

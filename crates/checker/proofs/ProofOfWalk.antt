@@ -16,7 +16,7 @@ use Rattle.proof_text.specs.declared.line.Line.{Line}
 use Rattle.proof_text.specs.declared.line.Line.TheVariants as lines
 use Rattle.proof_text.specs.declared.line.Place.{Place}
 use Rattle.proof_text.specs.declared.line.Place.TheVariants as places
-use Rattle.checker.specs.Headline.{IsProved}
+use Rattle.checker.specs.Verdicts.{IsProved}
 use Rattle.checker.specs.Walk.{Accepts, Advances, IsOver, Next, Position, Reaches, Walks, beginning}
 use Rattle.checker.proofs.Sections.{Says, says}
 

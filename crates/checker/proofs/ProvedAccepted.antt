@@ -8,7 +8,7 @@ use Rattle.opb_read.specs.declared.fault.OpbCode.{OpbCode}
 use Rattle.opb_read.specs.declared.fault.OpbCode.TheVariants as problems
 use Rattle.opb_read.proofs.Spelled.{one_problem}
 use Rattle.kernel.specs.Accepted.{Judgement}
-use Rattle.checker.specs.Headline.{IsProved, IsVerdictOf}
+use Rattle.checker.specs.Verdicts.{IsProved, IsVerdictOf}
 use Rattle.checker.specs.declared.verdict.Verdict.{Verdict}
 use Rattle.checker.specs.declared.verdict.Verdict.TheVariants as verdicts
 use Rattle.checker.proofs.OneProof.{one_proof_of}

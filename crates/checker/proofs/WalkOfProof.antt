@@ -14,7 +14,7 @@ use Rattle.proof_text.specs.Words.{words}
 use Rattle.proof_text.specs.declared.line.Line.TheVariants as lines
 use Rattle.proof_text.specs.declared.line.Place.{Place}
 use Rattle.proof_text.specs.declared.line.Place.TheVariants as places
-use Rattle.checker.specs.Headline.{IsProved}
+use Rattle.checker.specs.Verdicts.{IsProved}
 use Rattle.checker.specs.Walk.{Advances, IsOver, Position, Reaches, Walks, beginning}
 
 -- the walk comes to the end from here

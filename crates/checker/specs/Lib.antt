@@ -1,4 +1,4 @@
-pub mod Headline
+pub mod Verdicts
 pub mod Printed
 pub mod Stopped
 pub mod StopsBy

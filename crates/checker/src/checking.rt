@@ -3,7 +3,7 @@
 ghost use Rattle.std.specs.Prelude.{ℕ, List};
 ghost use Rattle.opb_read.specs.Faults.{Denies};
 ghost use Rattle.opb_read.specs.FaultPlace.{IsFaultAt};
-ghost use Rattle.checker.specs.Headline.{IsVerdictOf};
+ghost use Rattle.checker.specs.Verdicts.{IsVerdictOf};
 
 use super::judge::judge;
 use super::stop::Stop;

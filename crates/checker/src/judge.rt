@@ -1,7 +1,7 @@
 //! Judging a proof: the walk from its first line to behind its end.
 
 ghost use Rattle.std.specs.Prelude.{IfOk, IfErr};
-ghost use Rattle.checker.specs.Headline.{IsProved};
+ghost use Rattle.checker.specs.Verdicts.{IsProved};
 ghost use Rattle.checker.specs.Stopped.{IsStopped};
 ghost use Rattle.checker.specs.StopsBy.{StopsBy};
 

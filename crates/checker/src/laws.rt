@@ -6,7 +6,7 @@ ghost use Rattle.linear.specs.Limits.{IsWithin};
 ghost use Rattle.opb_read.specs.Spells.{Spells};
 ghost use Rattle.kernel.specs.Accepted.{Judgement};
 ghost use Rattle.proof_rules.specs.Claim.{IsSolution};
-ghost use Rattle.checker.specs.Headline.{IsProved, IsTrueOf, IsVerdictOf};
+ghost use Rattle.checker.specs.Verdicts.{IsProved, IsTrueOf, IsVerdictOf};
 ghost use Rattle.checker.specs.Stopped.{IsLeftOpen, IsStopped};
 ghost use Rattle.checker.specs.Printed.{IsPrinted, accepted_line, with_assignment};
 ghost use Rattle.checker.specs.declared.verdict.Verdict.TheVariants.{Accepted, NoMemory};

@@ -15,7 +15,7 @@ use Rattle.proof_steps.specs.declared.conclusion.Conclusion.{Conclusion}
 use Rattle.proof_steps.specs.declared.conclusion.Conclusion.TheVariants as conclusions
 use Rattle.proof_steps.specs.declared.conclusion.Lower.TheVariants as lowers
 use Rattle.proof_steps.specs.declared.conclusion.Upper.TheVariants as uppers
-use Rattle.checker.specs.Headline.{IsProved, IsVerdictOf}
+use Rattle.checker.specs.Verdicts.{IsProved, IsVerdictOf}
 use Rattle.checker.specs.declared.verdict.Code.{Code}
 use Rattle.checker.specs.declared.verdict.Verdict.{Verdict}
 use Rattle.checker.specs.declared.verdict.Verdict.TheVariants as verdicts

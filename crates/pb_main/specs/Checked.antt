@@ -7,7 +7,7 @@ use Rattle.proof_rules.specs.Forms.{problem_ids}
 use Rattle.proof_rules.specs.Justified.{IsBest, hint_of}
 use Rattle.proof_text.specs.ProofSpells.{SpellsProof}
 use Rattle.proof_text.specs.Writable.{IsStepWritable}
-use Rattle.checker.specs.Headline.{IsTrueOf}
+use Rattle.checker.specs.Verdicts.{IsTrueOf}
 use Rattle.search.specs.Log.{Logbook, IsProof}
 use Rattle.search.specs.Solving.{BearsOut}
 use Rattle.search.specs.declared.found.Found.{Found}

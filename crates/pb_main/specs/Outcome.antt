@@ -10,7 +10,7 @@ use Rattle.proof_rules.specs.Legal.{worth_of}
 use Rattle.proof_steps.specs.declared.conclusion.Conclusion.TheVariants as conclusions
 use Rattle.proof_steps.specs.declared.conclusion.Lower.TheVariants as lowers
 use Rattle.proof_steps.specs.declared.conclusion.Upper.TheVariants as uppers
-use Rattle.checker.specs.Headline.{IsTrueOf, IsBadProblem}
+use Rattle.checker.specs.Verdicts.{IsTrueOf, IsBadProblem}
 use Rattle.search.specs.Log.{Logbook, IsFalling, last_of}
 use Rattle.search.specs.Solving.{IsBestSoFar, IsOpen, IsOptimum, IsSolvedByAny}
 use Rattle.pb_main.specs.declared.outcome.Outcome.{Outcome}
