@@ -1,14 +1,14 @@
 -- What a table of values leaves free, and what is decided.
-use Rattle.std.proofs.Common.{◌≡◌, ◌≢◌, ℕ, zero, suc, ◌+◌, ◌<◌, ◌≤◌, Bool, true, false, not, eqb, cond, ◌||◌, ◌==◌, ◌&&◌, List, [], ◌∷◌, ◌++◌, length, get_or, map, set, take, refl, sym, ap, subst, ◌∙◌, inl, inr, arith}
+use Rattle.std.proofs.Common.{◌≡◌, ◌≢◌, ℕ, zero, suc, ◌+◌, ◌<◌, ◌≤◌, Bool, true, false, not, eqb, cond, ◌||◌, ◌==◌, ◌&&◌, List, [], ◌∷◌, ◌++◌, length, get_or, map, set, drop, take, refl, sym, ap, subst, ◌∙◌, inl, inr, arith}
 use Rattle.std.proofs.lemmas.Bool.{cases_eq, cases_lt, false≢true}
 use Rattle.std.proofs.lemmas.Bool.Decides.{nat_tests}
-use Rattle.std.proofs.lemmas.List.{append_assoc, get_or_default, get_or-set_other, get_or-set_same, length-set, map-append, take_more}
+use Rattle.std.proofs.lemmas.List.{append_assoc, get_or_default, get_or-set_other, get_or-set_same, length-set, map-append, take-append-drop, take_more}
 use mathlib.Core.Bool.{beq}
 use Rattle.linear.specs.declared.term.Lit.{Lit}
 use Rattle.normal_form.specs.Normal.{same_sign}
 use Rattle.propagate.specs.Literals.{among, lists}
 use Rattle.propagate.proofs.Consistency.{only_here}
-use Rattle.propagate.proofs.Listings.{among_cases, among_left, among_right}
+use Rattle.propagate.proofs.Listings.{among_cases, among_head, among_left, among_right}
 use Rattle.propagate.proofs.SearchEnds.{fewer_unset, unset_below}
 use Rattle.search.specs.declared.brancher.Value.{Value}
 use Rattle.search.specs.declared.brancher.Value.TheVariants.{True, False, Free}
@@ -127,3 +127,29 @@ pub forced_more : (before : List Lit) (forced : List (Lit × ℕ)) (place : ℕ)
 forced_more before forced place d h =
     append_assoc before (map (λ p. p.0) (take place forced)) ((get_or forced place d).0 ∷ [])
     ∙ ap (λ (t : List Lit). before ++ t) (sym (map-append (λ p. p.0) (take place forced) (get_or forced place d ∷ [])) ∙ ap (map (λ p. p.0)) (sym (take_more forced place d h)))
+
+-- what stands at a place is listed
+pub listed_at : (xs : List Lit) (k : ℕ) (d : Lit) → k < length xs → lists xs (get_or xs k d) ≡ true
+listed_at xs k d low =
+    let x : Lit = get_or xs k d in
+    let up_to : lists (take (k + 1) xs) x ≡ true =
+    ap (λ (ys : List Lit). lists ys x) (take_more xs k d low) ∙ among_right (take k xs) (x ∷ []) (x.var.0) x.negated (among_head x []) in
+    ap (λ (ys : List Lit). lists ys x) (sym (take-append-drop (k + 1) xs)) ∙ among_left (take (k + 1) xs) (drop (k + 1) xs) (x.var.0) x.negated up_to
+
+-- the program's test, where it says yes
+pub alike : (x l : Lit) → (eqb (x.var.0) (l.var.0) && beq x.negated l.negated) ≡ true → x ≡ l
+alike x l h = same_literal x l (number (eqb (x.var.0) (l.var.0)) (beq x.negated l.negated) refl h) (sign x.negated l.negated (second (eqb (x.var.0) (l.var.0)) (beq x.negated l.negated) h))
+  where
+    number : (b d : Bool) → eqb (x.var.0) (l.var.0) ≡ b → (b && d) ≡ true → x.var.0 ≡ l.var.0
+    number true d e h = grind (arith, nat_tests, e)
+    number false d e h = absurd (false≢true h)
+
+    second : (b d : Bool) → (b && d) ≡ true → d ≡ true
+    second true d h = h
+    second false d h = absurd (false≢true h)
+
+    sign : (b d : Bool) → beq b d ≡ true → b ≡ d
+    sign true true h = refl
+    sign false false h = refl
+    sign true false h = absurd (false≢true h)
+    sign false true h = absurd (false≢true h)

@@ -10,3 +10,5 @@ pub mod Solutions
 pub mod StaysBetter
 pub mod Trying
 pub mod StaysLive
+pub mod UpToDate
+pub mod Descending

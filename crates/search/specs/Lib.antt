@@ -1,4 +1,5 @@
 pub mod Clause
+pub mod Descents
 pub mod Log
 pub mod Presolving
 pub mod Solving

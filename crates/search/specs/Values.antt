@@ -5,6 +5,10 @@ use Rattle.propagate.specs.Literals.{among}
 use Rattle.search.specs.declared.brancher.Value.{Value}
 use Rattle.search.specs.declared.brancher.Value.TheVariants.{True, False, Free}
 
+-- the value of each of the first variables
+abbrev pub Table : Type 0
+Table = List Value
+
 -- the table has the variable, as a free one
 abbrev pub IsFree : List Value → ℕ → Type 0
 IsFree values v = slice_index_or values v True ≡ Free

@@ -1,13 +1,21 @@
 //! Deciding one literal after another, until there is a conflict or every variable has a value.
+//!
+//! What the open decisions force is asked once. From there on each question is about one literal more, and its answer, and
+//! what is noted of it, are as long as what that literal forces.
 
-ghost use Rattle.std.specs.Prelude.{◌≡◌, ◌<◌, ◌++◌, IfOk, IsNone, OnOk, map};
+ghost use Rattle.std.specs.Prelude.{◌≡◌, [], ◌∷◌, ◌++◌, IfOk, MatchOption, OnOk, length};
+ghost use Rattle.propagate.specs.Chain.{LeadsToConflict};
+ghost use Rattle.propagate.specs.Content.{IsEnd};
 ghost use Rattle.propagate.specs.Literals.{IsConsistent};
-ghost use Rattle.search.specs.Values.{unlisted_below};
+ghost use Rattle.proof_rules.specs.State.{constraints};
+ghost use Rattle.search.specs.Descents.{IfConflict};
+ghost use Rattle.search.specs.Undoing.{AreUpToDate};
 
 use super::brancher::Brancher;
+use super::choice::choose;
 use super::log::Log;
+use super::standing::Standing;
 use super::trail::{Trail, level_of};
-use super::values::{choose, values_of};
 use linear::{Lit, Seq};
 use propagate::{Id, Propagator};
 use std::alloc::{AllocError, Global};
@@ -21,49 +29,55 @@ pub(crate) enum Descent {
     Settled(Seq<Lit>),
 }
 
-/// The decisions, and behind them what they force.
-fn listing_of(
-    alloc: Global,
+/// Notes what the open decisions force; the id of a constraint with negative slack, if they lead to one.
+fn stand<'a, P: Propagator>(
+    log: &mut Log<'a, P>,
     decisions: &[Lit],
-    forced: &[(Lit, Id)],
-) -> Result<Seq<Lit>, AllocError>
-    ensures { IfOk result (λ listing. listing ≡ decisions.now ++ map (λ p. p.0) forced.now) }
+    standing: &mut Standing,
+    trail: &mut Trail,
+) -> Result<Option<Id>, AllocError>
+    requires consistent { IsConsistent decisions.now }
+    requires nothing { standing.old.0 ≡ [] }
+    ensures same { log.new ≡ log.old }
+    ensures count { length standing.new.1 ≡ length standing.old.1 }
+    ensures end { IfOk result (λ broken. MatchOption broken (IsEnd log.old.state.live decisions.now standing.new.0)
+        (λ id. LeadsToConflict (constraints log.old.state) decisions.now)) }
 {
-    let mut listing = decisions.to_vec(alloc)?;
-    for (literal, _) in forced {
-        listing.push(*literal)?;
+    let trace = log.trace(decisions)?;
+    trail.force(trace.forced.as_slice(), level_of(decisions))?;
+    if trace.conflict.is_none() {
+        standing.add_all(decisions)?;
+        standing.add_forced(trace.forced.as_slice())?;
     }
-    Ok(Seq::from_vec(listing))
+    Ok(trace.conflict)
 }
 
-/// Propagates the open decisions, and decides one literal more, unless they end there.
-fn advance<'a, P: Propagator>(
-    alloc: Global,
+/// Decides a literal that is free, and notes what it forces; the id of a constraint with negative slack, if there is one then.
+fn decide<'a, P: Propagator>(
     log: &mut Log<'a, P>,
     decisions: &mut Vec<Lit>,
+    standing: &mut Standing,
     trail: &mut Trail,
-    count: u32,
-    brancher: &mut Box<dyn Brancher>,
-) -> Result<Option<Descent>, AllocError>
-    requires { IsConsistent decisions.old.items }
+    literal: Lit,
+) -> Result<Option<Id>, AllocError>
+    requires consistent { IsConsistent (decisions.old.items ++ literal ∷ []) }
+    requires end { IsEnd log.old.state.live decisions.old.items standing.old.0 }
     ensures same { log.new ≡ log.old }
-    ensures consistent { OnOk result (IsConsistent decisions.new.items) }
-    ensures fewer { IfOk result (λ end. IsNone end → unlisted_below count decisions.new.items < unlisted_below count decisions.old.items) }
+    ensures count { length standing.new.1 ≡ length standing.old.1 }
+    ensures decided { OnOk result (decisions.new.items ≡ decisions.old.items ++ literal ∷ []) }
+    ensures end { IfOk result (λ broken. MatchOption broken (IsEnd log.old.state.live decisions.new.items standing.new.0)
+        (λ id. LeadsToConflict (constraints log.old.state) decisions.new.items)) }
 {
-    let trace = log.trace(decisions.as_slice())?;
-    trail.force(trace.forced.as_slice(), level_of(decisions.as_slice()))?;
-    if let Some(conflict) = trace.conflict {
-        return Ok(Some(Descent::Conflict(conflict)));
-    }
-    let values = values_of(alloc, count, decisions.as_slice(), trace.forced.as_slice())?;
-    let picked = brancher.pick(values.as_slice());
-    let Some(literal) = choose(values.as_slice(), count, picked) else {
-        let listing = listing_of(alloc, decisions.as_slice(), trace.forced.as_slice())?;
-        return Ok(Some(Descent::Settled(listing)));
-    };
+    let trace = log.trace_last(decisions.as_slice(), literal)?;
     decisions.push(literal)?;
-    trail.decide(literal, level_of(decisions.as_slice()))?;
-    Ok(None)
+    let level = level_of(decisions.as_slice());
+    trail.decide(literal, level)?;
+    trail.force(trace.forced.as_slice(), level)?;
+    if trace.conflict.is_none() {
+        standing.add(literal)?;
+        standing.add_forced(trace.forced.as_slice())?;
+    }
+    Ok(trace.conflict)
 }
 
 /// Decides until there is a conflict or every variable has a value.
@@ -78,10 +92,20 @@ pub(crate) fn descend<'a, P: Propagator>(
     requires { IsConsistent decisions.old.items }
     ensures same { log.new ≡ log.old }
     ensures consistent { OnOk result (IsConsistent decisions.new.items) }
+    ensures up_to_date { OnOk result (AreUpToDate (constraints log.old.state) (length decisions.old.items) decisions.new.items) }
+    ensures conflict { IfOk result (λ end. IfConflict end (LeadsToConflict (constraints log.old.state) decisions.new.items)) }
 {
+    let mut standing = Standing::new(alloc, count)?;
+    if let Some(conflict) = stand(log, decisions.as_slice(), &mut standing, trail)? {
+        return Ok(Descent::Conflict(conflict));
+    }
     loop {
-        if let Some(end) = advance(alloc, log, decisions, trail, count, brancher)? {
-            return Ok(end);
+        let picked = brancher.pick(standing.values());
+        let Some(literal) = choose(standing.values(), count, picked) else {
+            return Ok(Descent::Settled(standing.into_listing()));
+        };
+        if let Some(conflict) = decide(log, decisions, &mut standing, trail, literal)? {
+            return Ok(Descent::Conflict(conflict));
         }
     }
 }

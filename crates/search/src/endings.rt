@@ -1,6 +1,7 @@
 //! How a search ends: each way with the conclusion that bears it out.
 
-ghost use Rattle.std.specs.Prelude.{◌≡◌, ℕ, IfOk, IsTrue, None};
+ghost use Rattle.std.specs.Prelude.{◌≡◌, ℕ, false, IfOk, IsTrue, None};
+ghost use Rattle.proof_rules.specs.State.{HasRoom};
 ghost use Rattle.search.specs.Solving.{BearsOut, MayStop};
 
 use super::found::{Found, Unfinished};
@@ -35,7 +36,8 @@ pub(crate) fn end_solved<'a, P: Propagator>(log: &mut Log<'a, P>) -> Result<Foun
 
 /// Whether a search may stop before its end.
 pub(crate) fn may_stop<'a, P: Propagator>(log: &Log<'a, P>, limit: u64) -> bool
-    ensures { IsTrue result → MayStop limit log.now }
+    ensures stop { IsTrue result → MayStop limit log.now }
+    ensures room { result ≡ false → HasRoom log.now.state }
 {
     limit.saturating_sub(1) <= log.biting() || !log.has_room()
 }

@@ -9,6 +9,7 @@
 mod activity;
 mod brancher;
 pub mod cases;
+mod choice;
 mod clause;
 mod cutting;
 mod descent;
@@ -20,8 +21,8 @@ mod log;
 mod presolving;
 mod restarts;
 mod solver;
+mod standing;
 mod trail;
-mod values;
 
 pub use activity::Activity;
 pub use brancher::{Brancher, First, Value};

@@ -1,12 +1,14 @@
 //! The search.
 
-ghost use Rattle.std.specs.Prelude.{◌≡◌, ◌≤◌, IfOk, IfSome, IsNone, OnOk};
+ghost use Rattle.std.specs.Prelude.{◌≡◌, ◌<◌, ◌≤◌, ℕ, IfOk, IfSome, IsNone, IsSome, OnOk, Some, length};
+ghost use Rattle.propagate.specs.Chain.{LeadsToConflict};
 ghost use Rattle.propagate.specs.Literals.{IsConsistent};
+ghost use Rattle.proof_rules.specs.State.{HasRoom, constraints};
 ghost use Rattle.search.specs.Solving.{BearsOut, IsSolved, TakesId};
-ghost use Rattle.search.specs.Undoing.{IsUndone};
+ghost use Rattle.search.specs.Undoing.{Advances, AreUpToDate, IsUndone};
 
 use super::brancher::Brancher;
-use super::clause::{learn_clause, least_conflict};
+use super::clause::{Lesson, learn_clause, least_conflict};
 use super::cutting::learn_constraint;
 use super::descent::{Descent, descend};
 use super::endings::{end_exhausted, end_solved, end_stopped, may_stop};
@@ -30,41 +32,38 @@ pub struct Solved<'a, P: Propagator> {
     pub log: Option<Log<'a, P>>,
 }
 
-/// Learns from a conflict, or ends.
+/// Learns from a conflict under some decisions, as long as an id is left; none where no decision is needed for it.
 fn resolve<'a, P: Propagator>(
     alloc: Global,
     log: &mut Log<'a, P>,
     decisions: &mut Vec<Lit>,
     trail: &mut Trail,
     conflict: Id,
-    limit: u64,
     brancher: &mut Box<dyn Brancher>,
-) -> Result<Option<Found>, StepFault>
-    requires { IsConsistent decisions.old.items }
+) -> Result<Option<Lesson>, StepFault>
+    requires consistent { IsConsistent decisions.old.items }
+    requires conflict { LeadsToConflict (constraints log.old.state) decisions.old.items }
+    requires room { HasRoom log.old.state }
     ensures problem { log.new.problem ≡ log.old.problem }
-    ensures found { IfOk result (λ end. IfSome end (BearsOut limit log.new)) }
-    ensures learned { IfOk result (λ end. IsNone end → TakesId log.old.state log.new.state) }
+    ensures learned { IfOk result (λ lesson. lesson ≡ Some Lesson.Learned → TakesId log.old.state log.new.state) }
+    ensures same { IfOk result (λ lesson. lesson ≡ Some Lesson.Undone → log.new ≡ log.old) }
+    ensures fewer { (first : ℕ) → AreUpToDate (constraints log.old.state) first decisions.old.items
+        → IfOk result (λ lesson. lesson ≡ Some Lesson.Undone → length decisions.new.items < first) }
     ensures consistent { OnOk result (IsConsistent decisions.new.items) }
-    ensures undone { IfOk result (λ end. IsNone end → IsUndone decisions.old.items decisions.new.items) }
+    ensures undone { IfOk result (λ lesson. IsSome lesson → IsUndone decisions.old.items decisions.new.items) }
 {
-    if decisions.is_empty() {
-        return Ok(Some(end_exhausted(log)?));
-    }
-    if may_stop(log, limit) {
-        return Ok(Some(end_stopped(log, limit)?));
-    }
     let learned = learn_constraint(alloc, log, decisions, trail.entries(), conflict, brancher)?;
     if learned {
         trail.go_back(level_of(decisions.as_slice()));
-        return Ok(None);
+        return Ok(Some(Lesson::Learned));
     }
     let count = least_conflict(log, decisions.as_slice())?;
     if count == 0 {
-        return Ok(Some(end_exhausted(log)?));
+        return Ok(None);
     }
-    learn_clause(alloc, log, decisions, count, brancher)?;
+    let lesson = learn_clause(alloc, log, decisions, count, brancher)?;
     trail.go_back(level_of(decisions.as_slice()));
-    Ok(None)
+    Ok(Some(lesson))
 }
 
 /// Logs a solution. Where there is an objective the search goes on for a better one, with no decision open.
@@ -129,16 +128,25 @@ fn turn<'a, P: Propagator>(
     requires { IsConsistent decisions.old.items }
     ensures problem { log.new.problem ≡ log.old.problem }
     ensures found { IfOk result (λ end. IfSome end (BearsOut limit log.new)) }
-    ensures goes_on { IfOk result (λ end. IsNone end → TakesId log.old.state log.new.state) }
+    ensures goes_on { IfOk result (λ end. IsNone end → Advances log.old decisions.old.items log.new decisions.new.items) }
     ensures consistent { OnOk result (IsConsistent decisions.new.items) }
 {
     match descend(alloc, log, decisions, trail, count, brancher)? {
         Descent::Conflict(conflict) => {
-            let end = resolve(alloc, log, decisions, trail, conflict, limit, brancher)?;
-            if end.is_none() {
-                restart_if_due(alloc, log, restarts, lessons, decisions, trail, brancher)?;
+            if decisions.is_empty() {
+                return Ok(Some(end_exhausted(log)?));
             }
-            Ok(end)
+            if may_stop(log, limit) {
+                return Ok(Some(end_stopped(log, limit)?));
+            }
+            match resolve(alloc, log, decisions, trail, conflict, brancher)? {
+                None => return Ok(Some(end_exhausted(log)?)),
+                Some(Lesson::Learned) => {
+                    restart_if_due(alloc, log, restarts, lessons, decisions, trail, brancher)?
+                }
+                Some(Lesson::Undone) => {}
+            }
+            Ok(None)
         }
         Descent::Settled(listing) => {
             decisions.clear();

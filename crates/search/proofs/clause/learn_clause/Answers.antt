@@ -1,17 +1,39 @@
-use Rattle.std.proofs.Common.{◌≡◌, ◌-◌, List, take, false, refl, sym, ap, subst, ◌∙◌}
+-- Under the decisions before the last one the clause forces the opposite of that one, unless it follows already.
+use Rattle.std.proofs.Common.{◌≡◌, ◌-◌, ◌<◌, List, length, get_or, take, true, false, refl, sym, ap, subst, ◌∙◌, inl, inr, arith}
+use Rattle.std.proofs.lemmas.List.{get_or_default}
 use Rattle.linear.specs.declared.term.Lit.{Lit}
-use Rattle.propagate.specs.Literals.{lists, opposite}
+use Rattle.propagate.specs.Chain.{IsReached, LeadsToConflict}
+use Rattle.propagate.specs.Literals.{IsConsistent, lists, opposite}
 use Rattle.propagate.specs.Reach.{IsReach}
 use Rattle.propagate.specs.declared.reach.Reach.TheVariants as reaches
 use Rattle.proof_rules.specs.State.{constraints}
+use Rattle.proof_steps.specs.declared.step.Step.TheVariants as kinds
 use Rattle.search.specs.Clause.{negated_clause}
 use Rattle.search.specs.Log.{Logbook, StepBites}
-use Rattle.proof_steps.specs.declared.step.Step.TheVariants as kinds
-use Rattle.search.proofs.BitingClauses.{learned_bites}
+use Rattle.search.specs.Undoing.{IsOvertaken}
+use Rattle.search.specs.declared.clause.Lesson.{Lesson}
+use Rattle.search.specs.declared.clause.Lesson.TheVariants as lessons
+use Rattle.search.proofs.BitingClauses.{learned_bites, take_consistent}
 use Rattle.search.proofs.clause.learn_clause.Goals as goal
+use Rattle.search.proofs.clause.learn_clause.Goals.{then-is_listed, else-is_listed+in_ok-log_clause}
 
-pub learn-requires-clause-bites : goal.learn-requires-clause-bites
-learn-requires-clause-bites g c =
+pub log_clause-requires-clause-consistent : goal.log_clause-requires-clause-consistent
+log_clause-requires-clause-consistent g c =
+    subst (λ xs. IsConsistent (take c.args.count xs)) (sym c.as_slice-else-is_listed.ensures.value) (take_consistent c.args.count c.args.decisions.now.items c.requires.consistent)
+
+pub log_clause-requires-clause-conflict : goal.log_clause-requires-clause-conflict
+log_clause-requires-clause-conflict g c =
+    let items : List Lit = c.args.decisions.now.items in
+    let live = constraints c.args.log.now.state in
+    let conflict : LeadsToConflict live (take c.args.count items) = elim c.requires.conflict [
+      | inl both ↦ absurd (take_consistent c.args.count items c.requires.consistent both)
+      | inr conflict ↦ conflict
+    ] in
+    subst (λ (l : Logbook). LeadsToConflict (constraints l.state) (take c.args.count c.as_slice-else-is_listed.result.now)) (sym c.extend.ensures.same)
+    (subst (λ xs. LeadsToConflict live (take c.args.count xs)) (sym c.as_slice-else-is_listed.ensures.value) conflict)
+
+pub log_clause-requires-clause-bites : goal.log_clause-requires-clause-bites
+log_clause-requires-clause-bites g c =
     let items : List Lit = c.args.decisions.now.items in
     let closed : List Lit = c.in-Closed.closed in
     let last : Lit = c.index-last.result.now in
@@ -20,8 +42,28 @@ learn-requires-clause-bites g c =
     subst (λ r. IsReach live (take (c.args.count - 1) items) r) c.in-Closed.is
     (subst (λ xs. IsReach live (take (c.args.count - 1) xs) c.in_ok-closed.field-0) c.as_slice.ensures.value c.in_ok-closed.ensures.value) in
     let unset : lists closed (opposite last) ≡ false =
-    subst (λ xs. lists xs (opposite last) ≡ false) c.as_slice-2.ensures (c.if-is_listed.ensures refl) in
-    let clause : c.in_ok-clause.clause ≡ negated_clause (take c.args.count items) =
-    c.in_ok-clause.ensures ∙ ap (λ xs. negated_clause (take c.args.count xs)) c.as_slice-3.ensures.value in
-    subst (λ (l : Logbook). StepBites l.state (kinds.Rup c.in_ok-clause.clause)) (sym c.extend.ensures.same)
-    (learned_bites live c.args.count items closed last c.in_ok-clause.clause c.requires.consistent c.requires.some c.requires.within c.index-last.ensures clause reach unset)
+    subst (λ xs. lists xs (opposite last) ≡ false) c.as_slice-2.ensures (sym c.is_listed.ensures ∙ c.if-is_listed.false) in
+    let clause = negated_clause (take c.args.count c.as_slice-else-is_listed.result.now) in
+    let is : clause ≡ negated_clause (take c.args.count items) = ap (λ xs. negated_clause (take c.args.count xs)) c.as_slice-else-is_listed.ensures.value in
+    subst (λ (l : Logbook). StepBites l.state (kinds.Rup clause)) (sym c.extend.ensures.same)
+    (learned_bites live c.args.count items closed last clause c.requires.consistent c.requires.some c.requires.within c.index-last.ensures is reach unset)
+
+other : {P : Type 0} → lessons.Learned ≡ lessons.Undone → P
+other h = absurd (cc)
+
+pub returns-clause-overtaken : goal.returns-clause-overtaken
+returns-clause-overtaken g c =
+    let items : List Lit = c.args.decisions.now.items in
+    let closed : List Lit = c.in-Closed.closed in
+    let last : Lit = c.index-last.result.now in
+    let live = constraints c.args.log.now.state in
+    let reach : IsReach live (take (c.args.count - 1) items) (reaches.Closed closed) =
+    subst (λ r. IsReach live (take (c.args.count - 1) items) r) c.in-Closed.is
+    (subst (λ xs. IsReach live (take (c.args.count - 1) xs) c.in_ok-closed.field-0) c.as_slice.ensures.value c.in_ok-closed.ensures.value) in
+    let inside : c.args.count - 1 < length items = omega (arith, c.requires.some, c.requires.within) in
+    let listed : lists closed (opposite last) ≡ true → IsOvertaken live items (c.args.count - 1) =
+    λ h d. subst (λ x. IsReached live (take (c.args.count - 1) items) (opposite x)) (c.index-last.ensures ∙ get_or_default items (c.args.count - 1) last d inside) ((reach.1 (opposite last)).0 h) in
+    elim c.if-is_listed.branch as (λ _. c.if-is_listed.lesson ≡ lessons.Undone → IsOvertaken live items (c.args.count - 1)) [
+      | then-is_listed w ↦ λ _. listed (subst (λ xs. lists xs (opposite last) ≡ true) c.as_slice-2.ensures (sym c.is_listed.ensures ∙ w.if-is_listed.true))
+      | else-is_listed+in_ok-log_clause w ↦ λ is. other (sym w.lesson-is ∙ is)
+    ]

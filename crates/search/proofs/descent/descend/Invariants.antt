@@ -1,10 +1,16 @@
-use Rattle.std.proofs.Common.{◌≡◌}
+use Rattle.std.proofs.Common.{◌≡◌, length}
+use Rattle.propagate.specs.Content.{IsEnd}
 use Rattle.propagate.specs.Literals.{IsConsistent}
+use Rattle.proof_rules.specs.State.{constraints}
+use Rattle.search.specs.Undoing.{AreUpToDate}
 use Rattle.search.specs.Values.{unlisted_below}
 use Rattle.search.proofs.descent.descend.Given as goal
 
-abbrev pub invariant-loop-end : goal.invariant-loop-end
-invariant-loop-end g l = (l.log ≡ l.initial.log) × IsConsistent l.decisions.items
+abbrev pub invariant-loop-literal : goal.invariant-loop-literal
+invariant-loop-literal g l =
+    (l.log ≡ l.initial.log) × IsConsistent l.decisions.items × (length l.standing.1 ≡ l.count)
+    × IsEnd l.log.state.live l.decisions.items l.standing.0
+    × AreUpToDate (constraints l.log.state) (length l.initial.decisions.items) l.decisions.items
 
-abbrev pub decreases-loop-end : goal.decreases-loop-end
-decreases-loop-end g l = unlisted_below l.count l.decisions.items
+abbrev pub decreases-loop-literal : goal.decreases-loop-literal
+decreases-loop-literal g l = unlisted_below l.count l.decisions.items

@@ -1,4 +1,4 @@
-use Rattle.std.proofs.Common.{◌≡◌, ◌-◌}
+use Rattle.std.proofs.Common.{◌≡◌, ◌-◌, ◌*◌, ◌+◌, length}
 use Rattle.propagate.specs.Literals.{IsConsistent}
 use Rattle.proof_rules.specs.State.{id_limit}
 use Rattle.search.proofs.solver.search.Given as goal
@@ -6,5 +6,6 @@ use Rattle.search.proofs.solver.search.Given as goal
 abbrev pub invariant-turns : goal.invariant-turns
 invariant-turns g l = (l.log.problem ≡ l.initial.log.problem) × IsConsistent l.decisions.items
 
+-- ids that are left; and where none is taken, decisions that are open
 abbrev pub decreases-turns : goal.decreases-turns
-decreases-turns g l = id_limit - l.log.state.next
+decreases-turns g l = (id_limit - l.log.state.next) * 18446744073709551616 + length l.decisions.items
