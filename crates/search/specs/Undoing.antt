@@ -20,9 +20,9 @@ IsOvertaken live decisions k = (d : Lit) → IsReached live (take k decisions) (
 abbrev pub AreUpToDate : List NormalConstraint → ℕ → List Lit → Type 0
 AreUpToDate live first decisions = (k : ℕ) → first ≤ k → k < length decisions → IsOvertaken live decisions k → ⊥
 
--- one more id is taken, or fewer decisions are open and all else is as it was
-abbrev pub Advances : Logbook → List Lit → Logbook → List Lit → Type 0
-Advances old before new after = TakesId old.state new.state ⊎ ((new ≡ old) × (length after < length before))
+-- a search nears its end: one more id is taken, or fewer decisions are open and all else is as it was
+abbrev pub NearsEnd : Logbook → List Lit → Logbook → List Lit → Type 0
+NearsEnd old before new after = TakesId old.state new.state ⊎ ((new ≡ old) × (length after < length before))
 
 -- no literal of the trail is forced in the constraint of the id
 abbrev pub IsNoReason : List Entry → ℤ → Type 0

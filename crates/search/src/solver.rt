@@ -5,7 +5,7 @@ ghost use Rattle.propagate.specs.Chain.{LeadsToConflict};
 ghost use Rattle.propagate.specs.Literals.{IsConsistent};
 ghost use Rattle.proof_rules.specs.State.{HasRoom, constraints};
 ghost use Rattle.search.specs.Solving.{BearsOut, IsSolved, TakesId};
-ghost use Rattle.search.specs.Undoing.{Advances, AreUpToDate, IsUndone};
+ghost use Rattle.search.specs.Undoing.{AreUpToDate, IsUndone, NearsEnd};
 
 use super::brancher::Brancher;
 use super::clause::{Lesson, learn_clause, least_conflict};
@@ -128,7 +128,7 @@ fn turn<'a, P: Propagator>(
     requires { IsConsistent decisions.old.items }
     ensures problem { log.new.problem ≡ log.old.problem }
     ensures found { IfOk result (λ end. IfSome end (BearsOut limit log.new)) }
-    ensures goes_on { IfOk result (λ end. IsNone end → Advances log.old decisions.old.items log.new decisions.new.items) }
+    ensures goes_on { IfOk result (λ end. IsNone end → NearsEnd log.old decisions.old.items log.new decisions.new.items) }
     ensures consistent { OnOk result (IsConsistent decisions.new.items) }
 {
     match descend(alloc, log, decisions, trail, count, brancher)? {
