@@ -8,16 +8,14 @@ ghost use Rattle.proof_text.specs.Writable.{IsConstraintWritable, IsImageWritabl
 ghost use Rattle.proof_text.specs.Writable.{IsLitWritable, IsPairWritable, IsStepWritable, IsTermWritable, IsWritable};
 
 use linear::{Lit, Relation, Signed, Term, Var};
+use pb_text::LARGEST_NUMBER;
 use proof_steps::{Item, Step};
 use substitution::Image;
-
-/// The largest size of an integer of a proof.
-const LARGEST_INTEGER: u128 = 1 << 120;
 
 fn is_writable(number: i128) -> bool
     ensures { IsTrue result ↔ IsWritable number }
 {
-    number.unsigned_abs() <= LARGEST_INTEGER
+    number.unsigned_abs() <= LARGEST_NUMBER
 }
 
 fn is_named(count: usize, var: Var) -> bool

@@ -10,6 +10,7 @@ use proof_text::read_step;
 use propagate::{Propagator, ScanPropagator};
 use std::alloc::Global;
 use std::process::Abort;
+use std::test::Fail;
 use watch::WatchPropagator;
 
 /// What a kernel answers to a step: the id of what it added, if anything, or the fault.
@@ -21,17 +22,17 @@ struct Run {
     lines: &'static [&'static str],
 }
 
-/// What a kernel answers to a line.
+/// What a kernel answers to a line; none where the line does not read as a step.
 fn answer<P: Propagator>(
     alloc: Global,
     kernel: &mut Kernel<'_, P>,
     names: &mut Names,
     line: &str,
-) -> Answer {
-    match read_step(alloc, line.as_bytes(), names) {
-        Ok(step) => Ok(kernel.apply(&step)?.id),
-        Err(_) => Err(StepFault::OutOfMemory),
-    }
+) -> Option<Answer> {
+    let Ok(step) = read_step(alloc, line.as_bytes(), names) else {
+        return None;
+    };
+    Some(kernel.apply(&step).map(|applied| applied.id))
 }
 
 /// What a kernel of the problem answers to the lines.
@@ -39,7 +40,7 @@ fn answers<P: Propagator>(
     alloc: Global,
     problem: &Problem,
     lines: &[&str],
-) -> Result<Vec<Answer>, StepFault> {
+) -> Result<Vec<Option<Answer>>, StepFault> {
     let mut kernel: Kernel<'_, P> = Kernel::new(alloc, problem)?;
     let mut names = problem.names().copy(alloc)?;
     let mut answers = Vec::new(alloc);
@@ -49,16 +50,27 @@ fn answers<P: Propagator>(
     Ok(answers)
 }
 
-/// Whether kernels over all three answer alike, and never that memory is wanted.
-fn agree(alloc: Global, run: &Run) -> Result<bool, StepFault> {
-    let Ok(problem) = read(alloc, run.problem.as_bytes()) else {
-        return Ok(false);
+/// How many lines read as steps, where kernels over all three answer alike, and never that memory is wanted.
+fn agree(alloc: Global, problem: &Problem, lines: &[&str]) -> Result<Option<usize>, StepFault> {
+    let plain = answers::<ScanPropagator>(alloc, problem, lines)?;
+    let fast = answers::<WatchPropagator>(alloc, problem, lines)?;
+    let waiting = answers::<Deferred<ScanPropagator, WatchPropagator>>(alloc, problem, lines)?;
+    let wanted = Some(Err(StepFault::OutOfMemory));
+    if plain == fast && plain == waiting && !plain.contains(&wanted) {
+        Ok(Some(plain.iter().filter(|answer| answer.is_some()).count()))
+    } else {
+        Ok(None)
+    }
+}
+
+/// Whether they answer alike to all lines of a proof that read as steps, whatever is wrong with some of them. Of a text that is
+/// no problem nothing is asked.
+pub(crate) fn agree_on(alloc: Global, opb: &[u8], proof: &[u8]) -> Result<bool, Fail> {
+    let (Ok(problem), Ok(text)) = (read(alloc, opb), str::from_utf8(proof)) else {
+        return Ok(true);
     };
-    let plain = answers::<ScanPropagator>(alloc, &problem, run.lines)?;
-    let fast = answers::<WatchPropagator>(alloc, &problem, run.lines)?;
-    let waiting = answers::<Deferred<ScanPropagator, WatchPropagator>>(alloc, &problem, run.lines)?;
-    let wanted = Err(StepFault::OutOfMemory);
-    Ok(plain == fast && plain == waiting && !plain.contains(&wanted))
+    let lines: Vec<&str> = text.lines().collect(alloc)?;
+    Ok(matches!(agree(alloc, &problem, lines.as_slice()), Ok(Some(_))))
 }
 
 const RUNS: [Run; 4] = [
@@ -147,6 +159,7 @@ const RUNS: [Run; 4] = [
 #[test]
 fn answers_over_each_propagator(rt: HostRuntime) {
     for run in &RUNS {
-        assert!(&rt; agree(rt.alloc(), run) == Ok(true));
+        let problem = read(rt.alloc(), run.problem.as_bytes()).expect(&rt, "a problem");
+        assert!(&rt; agree(rt.alloc(), &problem, run.lines) == Ok(Some(run.lines.len())));
     }
 }

@@ -1,5 +1,6 @@
-//! What is asked of each case of these tests: what is printed, and that what is claimed is so.
+//! What is asked of each case of these tests: what is printed, that what is claimed is so, and that no propagator answers otherwise.
 
+use super::agreement::agree_on;
 use super::claims::is_claim_true;
 use checker::{Verdict, check, verdict_status, verdict_text};
 use std::alloc::Global;
@@ -12,19 +13,22 @@ struct Answer {
     printed: Vec<u8>,
     status: u8,
     is_true: bool,
+    agree: bool,
 }
 
-/// Judges a proof, and, where it is accepted, the claim by all assignments.
+/// Judges a proof, and, where it is accepted, the claim by all assignments; and has its steps judged over each propagator.
 fn judge(alloc: Global, opb: &[u8], proof: &[u8]) -> Result<Answer, Fail> {
     let verdict = check(alloc, opb, proof);
     Ok(Answer {
         printed: verdict_text(alloc, opb, &verdict)?,
         status: verdict_status(&verdict),
         is_true: is_true(alloc, opb, &verdict)?,
+        agree: agree_on(alloc, opb, proof)?,
     })
 }
 
-/// Checks what is printed for a problem and a proof, the exit status, and that what is claimed is so.
+/// Checks what is printed for a problem and a proof, the exit status, that what is claimed is so, and that kernels over each
+/// propagator answer alike.
 pub(crate) fn answers<R: Abort + AllocGlobal>(
     rt: &R,
     opb: &[u8],
@@ -38,7 +42,7 @@ pub(crate) fn answers<R: Abort + AllocGlobal>(
         "for {opb:?} and {proof:?}"
     );
     assert!(rt;
-        answer.status == status(text) && answer.is_true,
+        answer.status == status(text) && answer.is_true && answer.agree,
         "for {opb:?} and {proof:?}"
     );
     Ok(())
