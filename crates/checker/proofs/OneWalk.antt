@@ -20,8 +20,8 @@ use Rattle.proof_text.specs.declared.fault.ProofFault.{ProofFault}
 use Rattle.proof_text.specs.declared.fault.ProofFault.TheVariants as readings
 use Rattle.proof_text.specs.declared.line.Line.{Line}
 use Rattle.proof_text.specs.declared.line.Line.TheVariants as lines
-use Rattle.proof_text.specs.declared.line.Place.{Place}
-use Rattle.proof_text.specs.declared.line.Place.TheVariants as places
+use Rattle.proof_text.specs.declared.line.Section.{Section}
+use Rattle.proof_text.specs.declared.line.Section.TheVariants as sections
 use Rattle.checker.specs.Stopped.{IsLeftOpen, IsRefused, IsStopped, IsUnread, Refuses, Stops}
 use Rattle.checker.specs.Stopped.{truncated, unread, refused}
 use Rattle.checker.specs.Walk.{Accepts, Advances, IsOver, Next, Position, Reaches, Walks, beginning}
@@ -62,7 +62,7 @@ same_position a b section names left state concluded =
     ∙ ap (λ x. made b.section b.names b.left x a.concluded) state
     ∙ ap (λ x. made b.section b.names b.left b.state x) concluded
   where
-    made : Place → List (List ℕ) → List Numbered → State → Option Judgement → Position
+    made : Section → List (List ℕ) → List Numbered → State → Option Judgement → Position
     made section names left state concluded = record { section = section; names = names; left = left; state = state; concluded = concluded }
 
 -- there is one next position
@@ -73,13 +73,13 @@ one_advance p old a b x y =
     same_position a b both.0 (x.names ∙ same.2 ∙ sym y.names) (x.left ∙ same.3 ∙ sym y.left) both.1 both.2
 
 -- what a fault denies is no line
-placed_never : (f : ProofFault) (place : Place) (old ws : List (List ℕ)) (line : Line) (new : List (List ℕ)) → DeniesPlaced f place old ws → f ≢ readings.OutOfMemory → IsLine place old ws line new → ⊥
-placed_never f place old ws line new denies sure is = by f denies sure
+placed_never : (f : ProofFault) (section : Section) (old ws : List (List ℕ)) (line : Line) (new : List (List ℕ)) → DeniesPlaced f section old ws → f ≢ readings.OutOfMemory → IsLine section old ws line new → ⊥
+placed_never f section old ws line new denies sure is = by f denies sure
   where
-    says : line_of place (names_in old (naming place ws)) ws ≡ Some line
-    says = ap (λ t. line_of place t ws) (sym is.names) ∙ is.says
+    says : line_of section (names_in old (naming section ws)) ws ≡ Some line
+    says = ap (λ t. line_of section t ws) (sym is.names) ∙ is.says
 
-    by : (g : ProofFault) → DeniesPlaced g place old ws → g ≢ readings.OutOfMemory → ⊥
+    by : (g : ProofFault) → DeniesPlaced g section old ws → g ≢ readings.OutOfMemory → ⊥
     by readings.UnknownRule d n = d line says is.proper
     by readings.RuleLeftOut d n = d line says is.proper
     by readings.BadLine d n = d line says is.proper
@@ -91,14 +91,14 @@ placed_never f place old ws line new denies sure is = by f denies sure
     by readings.Truncated d n = absurd d
     by readings.TextAfterEnd d n = absurd d
 
-denied_never : (f : ProofFault) (place : Place) (old ws : List (List ℕ)) (line : Line) (new : List (List ℕ)) → DeniesLine f place old ws → f ≢ readings.OutOfMemory → IsLine place old ws line new → ⊥
+denied_never : (f : ProofFault) (section : Section) (old ws : List (List ℕ)) (line : Line) (new : List (List ℕ)) → DeniesLine f section old ws → f ≢ readings.OutOfMemory → IsLine section old ws line new → ⊥
 unfolding DeniesLine
-denied_never f places.Header old ws line new d sure is = d.1 line (ap (λ t. line_of places.Header t ws) (sym is.names) ∙ is.says) is.proper
-denied_never f places.Count old ws line new d sure is = d.1 line (ap (λ t. line_of places.Count t ws) (sym is.names) ∙ is.says) is.small
-denied_never f places.Step old ws line new d sure is = placed_never f places.Step old ws line new d sure is
-denied_never f places.Conclusion old ws line new d sure is = placed_never f places.Conclusion old ws line new d.1 sure is
-denied_never f places.End old ws line new d sure is = d.1 line (ap (λ t. line_of places.End t ws) (sym is.names) ∙ is.says) is.proper
-denied_never f places.After old ws line new d sure is = let none : ◌≡◌ {A = Option Line} None (Some line) = is.says in cc
+denied_never f sections.Header old ws line new d sure is = d.1 line (ap (λ t. line_of sections.Header t ws) (sym is.names) ∙ is.says) is.proper
+denied_never f sections.Count old ws line new d sure is = d.1 line (ap (λ t. line_of sections.Count t ws) (sym is.names) ∙ is.says) is.small
+denied_never f sections.Step old ws line new d sure is = placed_never f sections.Step old ws line new d sure is
+denied_never f sections.Conclusion old ws line new d sure is = placed_never f sections.Conclusion old ws line new d.1 sure is
+denied_never f sections.End old ws line new d sure is = d.1 line (ap (λ t. line_of sections.End t ws) (sym is.names) ∙ is.says) is.proper
+denied_never f sections.After old ws line new d sure is = let none : ◌≡◌ {A = Option Line} None (Some line) = is.says in cc
 
 -- what is accepted is not refused
 refuses_never : (p : Opb) (old new : Position) (said : Line) (code : Code) → Accepts p old said new → Refuses p old.state said code → ⊥
@@ -171,43 +171,43 @@ refused_code p s (lines.Conclusion c) code why (g, is, sure, fault) (h, also, ce
 refused_code p s lines.End code why x y = absurd x
 
 -- where names are too many, the line is something, and its integers are small: no other fault denies it
-many_alone : (g : ProofFault) (place : Place) (old ws : List (List ℕ)) → DeniesPlaced readings.TooManyIds place old ws
-    → DeniesPlaced g place old ws → g ≢ readings.OutOfMemory → g ≡ readings.TooManyIds
-many_alone readings.UnknownRule place old ws x y sure = absurd (y x.1.0 x.1.1 x.1.2)
-many_alone readings.RuleLeftOut place old ws x y sure = absurd (y x.1.0 x.1.1 x.1.2)
-many_alone readings.BadLine place old ws x y sure = absurd (y x.1.0 x.1.1 x.1.2)
-many_alone readings.IntegerTooLarge place old ws x y sure = absurd (y x.0)
-many_alone readings.TooManyIds place old ws x y sure = refl
-many_alone readings.OutOfMemory place old ws x y sure = absurd (sure refl)
-many_alone readings.BadHeader place old ws x y sure = absurd y
-many_alone readings.BadCount place old ws x y sure = absurd y
-many_alone readings.Truncated place old ws x y sure = absurd y
-many_alone readings.TextAfterEnd place old ws x y sure = absurd y
+many_alone : (g : ProofFault) (section : Section) (old ws : List (List ℕ)) → DeniesPlaced readings.TooManyIds section old ws
+    → DeniesPlaced g section old ws → g ≢ readings.OutOfMemory → g ≡ readings.TooManyIds
+many_alone readings.UnknownRule section old ws x y sure = absurd (y x.1.0 x.1.1 x.1.2)
+many_alone readings.RuleLeftOut section old ws x y sure = absurd (y x.1.0 x.1.1 x.1.2)
+many_alone readings.BadLine section old ws x y sure = absurd (y x.1.0 x.1.1 x.1.2)
+many_alone readings.IntegerTooLarge section old ws x y sure = absurd (y x.0)
+many_alone readings.TooManyIds section old ws x y sure = refl
+many_alone readings.OutOfMemory section old ws x y sure = absurd (sure refl)
+many_alone readings.BadHeader section old ws x y sure = absurd y
+many_alone readings.BadCount section old ws x y sure = absurd y
+many_alone readings.Truncated section old ws x y sure = absurd y
+many_alone readings.TextAfterEnd section old ws x y sure = absurd y
 
 -- among the faults of a step, a conclusion or an end, those of a line that says nothing are left open
-placed_alone : (f g : ProofFault) (place : Place) (old ws : List (List ℕ)) → (IsLeftOpen (Reading f) → ⊥) → DeniesPlaced f place old ws
-    → f ≢ readings.OutOfMemory → DeniesPlaced g place old ws → g ≢ readings.OutOfMemory → g ≡ f
-placed_alone readings.UnknownRule g place old ws closed x sure y certain = absurd (closed tt)
-placed_alone readings.RuleLeftOut g place old ws closed x sure y certain = absurd (closed tt)
-placed_alone readings.BadLine g place old ws closed x sure y certain = absurd (closed tt)
-placed_alone readings.IntegerTooLarge g place old ws closed x sure y certain = absurd (closed tt)
-placed_alone readings.TooManyIds g place old ws closed x sure y certain = many_alone g place old ws x y certain
-placed_alone readings.OutOfMemory g place old ws closed x sure y certain = absurd (sure refl)
-placed_alone readings.BadHeader g place old ws closed x sure y certain = absurd x
-placed_alone readings.BadCount g place old ws closed x sure y certain = absurd x
-placed_alone readings.Truncated g place old ws closed x sure y certain = absurd x
-placed_alone readings.TextAfterEnd g place old ws closed x sure y certain = absurd x
+placed_alone : (f g : ProofFault) (section : Section) (old ws : List (List ℕ)) → (IsLeftOpen (Reading f) → ⊥) → DeniesPlaced f section old ws
+    → f ≢ readings.OutOfMemory → DeniesPlaced g section old ws → g ≢ readings.OutOfMemory → g ≡ f
+placed_alone readings.UnknownRule g section old ws closed x sure y certain = absurd (closed tt)
+placed_alone readings.RuleLeftOut g section old ws closed x sure y certain = absurd (closed tt)
+placed_alone readings.BadLine g section old ws closed x sure y certain = absurd (closed tt)
+placed_alone readings.IntegerTooLarge g section old ws closed x sure y certain = absurd (closed tt)
+placed_alone readings.TooManyIds g section old ws closed x sure y certain = many_alone g section old ws x y certain
+placed_alone readings.OutOfMemory g section old ws closed x sure y certain = absurd (sure refl)
+placed_alone readings.BadHeader g section old ws closed x sure y certain = absurd x
+placed_alone readings.BadCount g section old ws closed x sure y certain = absurd x
+placed_alone readings.Truncated g section old ws closed x sure y certain = absurd x
+placed_alone readings.TextAfterEnd g section old ws closed x sure y certain = absurd x
 
 -- so each line has one fault of reading, but for those
-denied_alone : (f g : ProofFault) (place : Place) (old ws : List (List ℕ)) → (IsLeftOpen (Reading f) → ⊥) → DeniesLine f place old ws
-    → f ≢ readings.OutOfMemory → DeniesLine g place old ws → g ≢ readings.OutOfMemory → g ≡ f
+denied_alone : (f g : ProofFault) (section : Section) (old ws : List (List ℕ)) → (IsLeftOpen (Reading f) → ⊥) → DeniesLine f section old ws
+    → f ≢ readings.OutOfMemory → DeniesLine g section old ws → g ≢ readings.OutOfMemory → g ≡ f
 unfolding DeniesLine
-denied_alone f g places.Header old ws closed x sure y certain = y.0 ∙ sym x.0
-denied_alone f g places.Count old ws closed x sure y certain = y.0 ∙ sym x.0
-denied_alone f g places.Step old ws closed x sure y certain = placed_alone f g places.Step old ws closed x sure y certain
-denied_alone f g places.Conclusion old ws closed x sure y certain = placed_alone f g places.Conclusion old ws closed x.1 sure y.1 certain
-denied_alone f g places.End old ws closed x sure y certain = y.0 ∙ sym x.0
-denied_alone f g places.After old ws closed x sure y certain = y ∙ sym x
+denied_alone f g sections.Header old ws closed x sure y certain = y.0 ∙ sym x.0
+denied_alone f g sections.Count old ws closed x sure y certain = y.0 ∙ sym x.0
+denied_alone f g sections.Step old ws closed x sure y certain = placed_alone f g sections.Step old ws closed x sure y certain
+denied_alone f g sections.Conclusion old ws closed x sure y certain = placed_alone f g sections.Conclusion old ws closed x.1 sure y.1 certain
+denied_alone f g sections.End old ws closed x sure y certain = y.0 ∙ sym x.0
+denied_alone f g sections.After old ws closed x sure y certain = y ∙ sym x
 
 unread_code : (at : Position) (line other : ℕ) (code why : Code) → (IsLeftOpen code → ⊥) → IsUnread at line code → IsUnread at other why → why ≡ code
 unread_code at line other code why closed x y =

@@ -10,17 +10,17 @@ use Rattle.proof_text.specs.Steps.{step_of}
 use Rattle.proof_text.specs.Words.{are_words, unclosed}
 use Rattle.proof_text.specs.declared.line.Line.{Line}
 use Rattle.proof_text.specs.declared.line.Line.TheVariants as lines
-use Rattle.proof_text.specs.declared.line.Place.{Place}
-use Rattle.proof_text.specs.declared.line.Place.TheVariants as places
+use Rattle.proof_text.specs.declared.line.Section.{Section}
+use Rattle.proof_text.specs.declared.line.Section.TheVariants as sections
 
 -- what can be said at a section
-abbrev pub Says : Place → Line → Type 0
-Says places.Header said = said ≡ lines.Header
-Says places.Count said = (n : ℤ) × (said ≡ lines.Count n)
-Says places.Step said = (said ≡ lines.Output) ⊎ ((step : Step) × (said ≡ lines.Step step))
-Says places.Conclusion said = (c : Conclusion) × (said ≡ lines.Conclusion c)
-Says places.End said = said ≡ lines.End
-Says places.After said = ⊥
+abbrev pub Says : Section → Line → Type 0
+Says sections.Header said = said ≡ lines.Header
+Says sections.Count said = (n : ℤ) × (said ≡ lines.Count n)
+Says sections.Step said = (said ≡ lines.Output) ⊎ ((step : Step) × (said ≡ lines.Step step))
+Says sections.Conclusion said = (c : Conclusion) × (said ≡ lines.Conclusion c)
+Says sections.End said = said ≡ lines.End
+Says sections.After said = ⊥
 
 if_some : (b : Bool) (x said : Line) → (if b then Some x else None) ≡ Some said → said ≡ x
 if_some true x said e = cc
@@ -33,21 +33,21 @@ mapped f None said e = let none : ◌≡◌ {A = Option Line} None (Some said) =
     by : ◌≡◌ {A = Option Line} None (Some said) → ⊥
     by n = cc
 
-step_or_output : (b : Bool) (o : Option Step) (said : Line) → (if b then Some lines.Output else option_map (λ s. lines.Step s) o) ≡ Some said → Says places.Step said
+step_or_output : (b : Bool) (o : Option Step) (said : Line) → (if b then Some lines.Output else option_map (λ s. lines.Step s) o) ≡ Some said → Says sections.Step said
 step_or_output true o said e = inl (if_some true lines.Output said e)
 step_or_output false o said e = inr (mapped (λ s. lines.Step s) o said e)
 
-says_at : (place : Place) (names ws : List (List ℕ)) (said : Line) → line_of place names ws ≡ Some said → Says place said
-says_at places.Header names ws said e = if_some (are_words frame.header (unclosed ws)) lines.Header said e
-says_at places.Count names ws said e = mapped (λ n. lines.Count n) (frame.count_of (unclosed ws)) said e
-says_at places.Step names ws said e = step_or_output (are_words frame.output (unclosed ws)) (step_of names ws) said e
-says_at places.Conclusion names ws said e = mapped (λ c. lines.Conclusion c) (conclusion_of names ws) said e
-says_at places.End names ws said e = if_some (are_words frame.ending (unclosed ws)) lines.End said e
-says_at places.After names ws said e = by e
+says_at : (section : Section) (names ws : List (List ℕ)) (said : Line) → line_of section names ws ≡ Some said → Says section said
+says_at sections.Header names ws said e = if_some (are_words frame.header (unclosed ws)) lines.Header said e
+says_at sections.Count names ws said e = mapped (λ n. lines.Count n) (frame.count_of (unclosed ws)) said e
+says_at sections.Step names ws said e = step_or_output (are_words frame.output (unclosed ws)) (step_of names ws) said e
+says_at sections.Conclusion names ws said e = mapped (λ c. lines.Conclusion c) (conclusion_of names ws) said e
+says_at sections.End names ws said e = if_some (are_words frame.ending (unclosed ws)) lines.End said e
+says_at sections.After names ws said e = by e
   where
     by : ◌≡◌ {A = Option Line} None (Some said) → ⊥
     by n = cc
 
 -- a line says what can be said at its section
-pub says : (place : Place) (old ws : List (List ℕ)) (said : Line) (new : List (List ℕ)) → IsLine place old ws said new → Says place said
-says place old ws said new is = says_at place new ws said is.says
+pub says : (section : Section) (old ws : List (List ℕ)) (said : Line) (new : List (List ℕ)) → IsLine section old ws said new → Says section said
+says section old ws said new is = says_at section new ws said is.says

@@ -12,7 +12,7 @@ use Rattle.proof_text.specs.declared.fault.ProofFault.{ProofFault}
 use Rattle.proof_text.specs.declared.fault.ProofFault.TheVariants as readings
 use Rattle.proof_text.specs.declared.line.Line.{Line}
 use Rattle.proof_text.specs.declared.line.Line.TheVariants as lines
-use Rattle.proof_text.specs.declared.line.Place.TheVariants as places
+use Rattle.proof_text.specs.declared.line.Section.TheVariants as sections
 use Rattle.checker.specs.Stopped.{IsStopped, Refuses, Stops}
 use Rattle.checker.specs.Stopped.{refused}
 use Rattle.checker.specs.StopsBy.{StopsBy, reading_stop}
@@ -107,7 +107,7 @@ shorter p old new on = let long = ap length on.next.in_order in let left = ap le
 
 -- the walk before the first line
 pub begins : (p : Opb) (proof : List ℕ) (names : List (List ℕ)) (left : List Numbered) (start : State) → names ≡ p.names → left ≡ (lines_of proof).lines → IsStart p start
-    → Reaches p proof (record { section = places.Header; names = names; left = left; state = start; concluded = None })
+    → Reaches p proof (record { section = sections.Header; names = names; left = left; state = start; concluded = None })
 begins p proof names left start named all starts = record {
   start = start;
   starts = starts;
@@ -116,7 +116,7 @@ begins p proof names left start named all starts = record {
 }
   where
     at_header : List (List ℕ) → List Numbered → Position
-    at_header n ls = record { section = places.Header; names = n; left = ls; state = start; concluded = None }
+    at_header n ls = record { section = sections.Header; names = n; left = ls; state = start; concluded = None }
 
 -- the count of the state of a file
 pub counts_file : (p : Opb) (s : State) (count : ℕ) → IsStart p s → count + 1 ≡ s.next → count ≡ problem_ids p.constraints
@@ -127,9 +127,9 @@ counts_file p s count start next =
     omega (arith, next, at, long)
 
 -- behind the end, what stands is denied
-pub denied_behind : (at : Position) (ws : List (List ℕ)) → at.section ≡ places.After → DeniesLine readings.TextAfterEnd at.section at.names ws
+pub denied_behind : (at : Position) (ws : List (List ℕ)) → at.section ≡ sections.After → DeniesLine readings.TextAfterEnd at.section at.names ws
 unfolding DeniesLine
 denied_behind at ws section = subst (λ q. DeniesLine readings.TextAfterEnd q at.names ws) (sym section) (by at.names ws)
   where
-    by : (names words : List (List ℕ)) → DeniesLine readings.TextAfterEnd places.After names words
+    by : (names words : List (List ℕ)) → DeniesLine readings.TextAfterEnd sections.After names words
     by names words = refl

@@ -13,14 +13,14 @@ use Rattle.proof_text.specs.declared.fault.ProofFault.{ProofFault}
 use Rattle.proof_text.specs.declared.fault.ProofFault.TheVariants as readings
 use Rattle.proof_text.specs.declared.line.Line.{Line}
 use Rattle.proof_text.specs.declared.line.Line.TheVariants as lines
-use Rattle.proof_text.specs.declared.line.Place.TheVariants as places
+use Rattle.proof_text.specs.declared.line.Section.TheVariants as sections
 use Rattle.checker.specs.Walk.{Position, Next, Reaches}
 use Rattle.checker.specs.declared.verdict.Code.{Code}
 use Rattle.checker.specs.declared.verdict.Code.TheVariants.{Reading, Judging}
 
 -- a line is due, and the text ends, which is so on the line `last`
 pub record IsTruncated (at : Position) (last line : ℕ) (code : Code) : Type 0 where
-  pub due : at.section ≢ places.After
+  pub due : at.section ≢ sections.After
   pub left : at.left ≡ []
   pub line_is : line ≡ last
   pub code_is : code ≡ Reading readings.Truncated

@@ -13,20 +13,20 @@ use Rattle.proof_text.specs.Spells.{IsLine}
 use Rattle.proof_text.specs.Words.{words}
 use Rattle.proof_text.specs.declared.line.Line.{Line}
 use Rattle.proof_text.specs.declared.line.Line.TheVariants as lines
-use Rattle.proof_text.specs.declared.line.Place.{Place}
-use Rattle.proof_text.specs.declared.line.Place.TheVariants as places
+use Rattle.proof_text.specs.declared.line.Section.{Section}
+use Rattle.proof_text.specs.declared.line.Section.TheVariants as sections
 
 -- Where judging has come to: the section of the proof that is due, the names so far, the lines that are left, the
 -- state, and what was concluded.
 pub record Position : Type 0 where
-  pub section : Place
+  pub section : Section
   pub names : List (List ℕ)
   pub left : List Numbered
   pub state : State
   pub concluded : Option Judgement
 
 -- another section is due, and nothing that was judged changes
-pub record Moves (old new : Position) (section : Place) : Type 0 where
+pub record Moves (old new : Position) (section : Section) : Type 0 where
   pub section_is : new.section ≡ section
   pub state : new.state ≡ old.state
   pub concluded : new.concluded ≡ old.concluded
@@ -39,7 +39,7 @@ pub record TakesStep (p : Opb) (old new : Position) (step : Step) : Type 0 where
 
 -- a conclusion that the state entitles to
 pub record TakesConclusion (p : Opb) (old new : Position) (c : Conclusion) : Type 0 where
-  pub section_is : new.section ≡ places.End
+  pub section_is : new.section ≡ sections.End
   pub best : Option (List Bool)
   pub justified : IsJustified p old.state c best
   pub state : new.state ≡ old.state
@@ -47,12 +47,12 @@ pub record TakesConclusion (p : Opb) (old new : Position) (c : Conclusion) : Typ
 
 -- what a line says is accepted at one position, and leads to another
 abbrev pub Accepts : Opb → Position → Line → Position → Type 0
-Accepts p old lines.Header new = Moves old new places.Count
-Accepts p old (lines.Count count) new = (count ≡ pos (problem_ids p.constraints)) × Moves old new places.Step
+Accepts p old lines.Header new = Moves old new sections.Count
+Accepts p old (lines.Count count) new = (count ≡ pos (problem_ids p.constraints)) × Moves old new sections.Step
 Accepts p old (lines.Step step) new = TakesStep p old new step
-Accepts p old lines.Output new = Moves old new places.Conclusion
+Accepts p old lines.Output new = Moves old new sections.Conclusion
 Accepts p old (lines.Conclusion c) new = TakesConclusion p old new c
-Accepts p old lines.End new = Moves old new places.After
+Accepts p old lines.End new = Moves old new sections.After
 
 -- the next line of a position, what it says at the section that is due, the names up to there, and the lines behind
 pub record Next (at : Position) : Type 0 where
@@ -78,7 +78,7 @@ Walks p old (next ∷ path) new = Advances p old next × Walks p next path new
 -- the position before the first line, in this state
 abbrev pub beginning : Opb → List ℕ → State → Position
 beginning p proof start = record {
-  section = places.Header;
+  section = sections.Header;
   names = p.names;
   left = (lines_of proof).lines;
   state = start;
@@ -94,5 +94,5 @@ pub record Reaches (p : Opb) (proof : List ℕ) (at : Position) : Type 0 where
 
 -- no section is due, and nothing is left
 pub record IsOver (at : Position) : Type 0 where
-  pub section_is : at.section ≡ places.After
+  pub section_is : at.section ≡ sections.After
   pub left : at.left ≡ []

@@ -53,7 +53,7 @@ fn write_values(out: &mut Vec<u8>, names: &Names, best: &Assignment) -> Result<(
     ensures { OnOk result (out.new.items ≡ with_values out.old.items names.now best.now) }
 {
     // That the numbers of a table's names fit into 32 bits is known by its type; this makes it known here.
-    let _count = names.len();
+    names.reveal();
     for (number, value) in best.as_slice().iter().enumerate() {
         write_value(out, names, Var(number as u32), *value)?;
     }

@@ -14,7 +14,7 @@ use super::stop::{Stop, judging, reading};
 use kernel::{Accepted, Kernel};
 use linear::{Names, Problem};
 use proof_steps::{Conclusion, Step};
-use proof_text::{Line, Place, ProofFault, ProofReader, read_line};
+use proof_text::{Line, ProofFault, ProofReader, Section, read_line};
 use propagate::Propagator;
 use std::alloc::Global;
 
@@ -30,7 +30,7 @@ struct Read {
 #[derive(Drop)]
 pub(crate) struct Walk<'a, P: Propagator> {
     allocator: Global,
-    section: Place,
+    section: Section,
     names: Names,
     reader: ProofReader<'a>,
     kernel: Kernel<'a, P>,
@@ -54,7 +54,7 @@ impl<'a, P: Propagator> Walk<'a, P> {
         };
         Ok(Walk {
             allocator: alloc,
-            section: Place::Header,
+            section: Section::Header,
             names: problem.names().copy(alloc)?,
             reader: ProofReader::new(proof),
             count: kernel.last_id(),
@@ -65,14 +65,14 @@ impl<'a, P: Propagator> Walk<'a, P> {
 
     /// Whether no section is due any more.
     pub(crate) fn is_over(&self) -> bool
-        ensures { IsTrue result ↔ self.now.section ≡ Place.After }
+        ensures { IsTrue result ↔ self.now.section ≡ Section.After }
     {
-        matches!(self.section, Place::After)
+        matches!(self.section, Section::After)
     }
 
     /// Reads the next line and judges what it says.
     pub(crate) fn advance(&mut self) -> Result<(), Stop>
-        requires due { self.old.section ≢ Place.After }
+        requires due { self.old.section ≢ Section.After }
         requires count { self.old.count ≡ problem_ids self.old.kernel.problem.constraints }
         ensures count { self.new.count ≡ self.old.count }
         ensures problem { self.new.kernel.problem ≡ self.old.kernel.problem }
@@ -86,7 +86,7 @@ impl<'a, P: Propagator> Walk<'a, P> {
 
     /// The next line, as what it says at the section that is due.
     fn read(&mut self) -> Result<Read, Stop>
-        requires due { self.old.section ≢ Place.After }
+        requires due { self.old.section ≢ Section.After }
         ensures count { self.new.count ≡ self.old.count }
         ensures kernel { self.new.kernel ≡ self.old.kernel }
         ensures last { self.new.reader.last ≡ self.old.reader.last }
@@ -118,12 +118,12 @@ impl<'a, P: Propagator> Walk<'a, P> {
         ensures stop { IfErr result (IsRefusal number self.old line.now) }
     {
         match line {
-            Line::Header => self.section = Place::Count,
+            Line::Header => self.section = Section::Count,
             Line::Count(count) => self.take_count(*count, number)?,
             Line::Step(step) => self.step(step, number)?,
-            Line::Output => self.section = Place::Conclusion,
+            Line::Output => self.section = Section::Conclusion,
             Line::Conclusion(conclusion) => self.conclude(conclusion, number)?,
-            Line::End => self.section = Place::After,
+            Line::End => self.section = Section::After,
         }
         Ok(())
     }
@@ -141,7 +141,7 @@ impl<'a, P: Propagator> Walk<'a, P> {
         if count != i128::from(self.count) {
             return Err(reading(number, ProofFault::BadCount));
         }
-        self.section = Place::Step;
+        self.section = Section::Step;
         Ok(())
     }
 
@@ -173,7 +173,7 @@ impl<'a, P: Propagator> Walk<'a, P> {
         match self.kernel.conclude(conclusion) {
             Ok(accepted) => {
                 self.concluded = Some(accepted);
-                self.section = Place::End;
+                self.section = Section::End;
                 Ok(())
             }
             Err(fault) => Err(judging(number, fault)),
@@ -182,7 +182,7 @@ impl<'a, P: Propagator> Walk<'a, P> {
 
     /// Behind the end line nothing that counts is left.
     pub(crate) fn finish(&mut self) -> Result<(), Stop>
-        requires over { self.old.section ≡ Place.After }
+        requires over { self.old.section ≡ Section.After }
         ensures none { OnOk result (self.old.reader.lines ≡ []) }
         ensures concluded { self.new.concluded ≡ self.old.concluded }
         ensures stop { IfErr result (IsStopOf self.old) }

@@ -50,12 +50,12 @@ not_below (Some least) v fails = (least, refl, elim (less_or_not v least) as (λ
 
 pub assembled : (k : Held) (p : Opb) (s : State) (listing : List Lit) (g : List Bool) (ts us : List Term) (n : NormalConstraint) (v w : ℤ)
     → p ≡ k.problem → s ≡ k.state → Some ts ≡ p.objective → us ≡ ts → Logs k.problem k.state listing g → v ≡ worth_of p g → w ≡ v
-    → IfSome s.improve (λ least. w <ℤ least) → IsNormalOf (at_most us (w -ℤ pos 1)) n → HasRoom s → Improves k.problem k.state ts listing g n
+    → IfSome s.least (λ least. w <ℤ least) → IsNormalOf (at_most us (w -ℤ pos 1)) n → HasRoom s → Improves k.problem k.state ts listing g n
 assembled k p s listing g ts us n v w problem state is same logs value kept less form room =
     let worth : w ≡ worth_of k.problem g = kept ∙ value ∙ ap (λ q. worth_of q g) problem in record {
       minimises = sym (is ∙ ap (λ (q : Opb). q.objective) problem);
       logs = logs;
-      better = subst (λ (t : State). IfSome t.improve (λ least. worth_of k.problem g <ℤ least)) state (subst (λ z. IfSome s.improve (λ least. z <ℤ least)) worth less);
+      better = subst (λ (t : State). IfSome t.least (λ least. worth_of k.problem g <ℤ least)) state (subst (λ z. IfSome s.least (λ least. z <ℤ least)) worth less);
       form = subst (λ z. IsNormalOf (at_most ts (z -ℤ pos 1)) n) worth (subst (λ xs. IsNormalOf (at_most xs (w -ℤ pos 1)) n) same form);
       room = subst HasRoom state room;
     }

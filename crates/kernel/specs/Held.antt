@@ -34,7 +34,7 @@ abbrev pub state_with : Constraints → Logged → State
 state_with d l = record {
   live = d.live;
   next = d.next;
-  improve = l.improve;
+  least = l.least;
   logged = l.logged;
   improving = l.improving;
 }

@@ -16,7 +16,7 @@ use propagate::Propagator;
 impl<'a, P: Propagator> Kernel<'a, P> {
     /// The least value of an improving solution, none where there is none.
     pub fn least_value(&self) -> Option<i128>
-        ensures { result ≡ self.now.state.improve }
+        ensures { result ≡ self.now.state.least }
     {
         self.log.least()
     }

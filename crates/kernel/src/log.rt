@@ -19,7 +19,7 @@ use std::marker::Model;
 pub(crate) struct Log {
     solutions: Vec<Assignment>,
     least: Option<i128>,
-    asked: Ids,
+    improving: Ids,
 }
 
 impl Model for Log {
@@ -29,7 +29,7 @@ impl Model for Log {
 
     ghost coded = { logged_code };
 
-    ghost view = { λ l. record { logged = l.solutions.items; improve = l.least; improving = l.asked } };
+    ghost view = { λ l. record { logged = l.solutions.items; least = l.least; improving = l.improving } };
 }
 
 impl Log {
@@ -40,7 +40,7 @@ impl Log {
         Log {
             solutions: Vec::new(alloc),
             least: None,
-            asked: Ids::empty(alloc),
+            improving: Ids::empty(alloc),
         }
     }
 
@@ -64,7 +64,7 @@ impl Log {
         ensures err { OnErr result (self.new ≡ self.old) }
     {
         self.solutions.push(solution)?;
-        if let Err(refused) = self.asked.insert(id) {
+        if let Err(refused) = self.improving.insert(id) {
             self.solutions.pop();
             return Err(refused);
         }
@@ -74,14 +74,14 @@ impl Log {
 
     /// The least value of the improving solutions, if there is one.
     pub(crate) fn least(&self) -> Option<i128>
-        ensures { result ≡ self.now.improve }
+        ensures { result ≡ self.now.least }
     {
         self.least
     }
 
     /// Whether a value is below the least one of the improving solutions, if there is one.
     pub(crate) fn improves(&self, value: i128) -> bool
-        ensures { IsTrue result ↔ IfSome self.now.improve (λ least. value <ℤ least) }
+        ensures { IsTrue result ↔ IfSome self.now.least (λ least. value <ℤ least) }
     {
         match self.least {
             None => true,
@@ -91,7 +91,7 @@ impl Log {
 
     /// Whether a bound is at most the least value of the improving solutions, if there is one.
     pub(crate) fn admits(&self, bound: i128) -> bool
-        ensures { IsTrue result ↔ IfSome self.now.improve (λ least. bound ≤ℤ least) }
+        ensures { IsTrue result ↔ IfSome self.now.least (λ least. bound ≤ℤ least) }
     {
         match self.least {
             None => true,
@@ -100,10 +100,10 @@ impl Log {
     }
 
     /// Whether an id is that of a constraint that an improving solution added.
-    pub(crate) fn is_asked(&self, id: Id) -> bool
+    pub(crate) fn is_improving(&self, id: Id) -> bool
         ensures { result ≡ set.contains self.now.improving id }
     {
-        self.asked.contains(id)
+        self.improving.contains(id)
     }
 
     /// Whether no solution is logged.

@@ -3,7 +3,8 @@
 //! constraint. The kernel lends its accumulator to the stack for the time of a step.
 
 ghost use Rattle.std.specs.Prelude.{◌≡◌, [], IfOk, IfErr, OnOk, OnErr, Some};
-ghost use Rattle.proof_rules.specs.Expression.{IsPostfixOf, AppliesItem};
+ghost use Rattle.proof_rules.specs.Expression.{IsPostfixOf};
+ghost use Rattle.proof_rules.specs.Running.{AppliesItem};
 ghost use Rattle.proof_rules.specs.Fault.{OrMemory, IsItemFault, IsIdFault, IsWritingFault, IsPolFault};
 ghost use Rattle.proof_rules.specs.Legal.{LegalPol};
 ghost use Rattle.kernel.specs.Database.{found};

@@ -97,7 +97,7 @@ pub checked_optimum : (opb proof : List ℕ) (l : Logbook) (a : Judgement) (s : 
 checked_optimum opb proof l a s (v, improve, concluded) of_text written accepted best =
     let p = of_text.legal in
     let asked = bounds_ask l.problem l.state v p.entitled.0 (subst (λ c. IsJustified l.problem l.state c p.entitled.0) concluded p.entitled.1) in
-    let worth : v ≡ worth_of l.problem s.values = same_value v (worth_of l.problem s.values) l.state.improve improve (with_objective l.problem.objective asked.0 asked.1 best.least) in
+    let worth : v ≡ worth_of l.problem s.values = same_value v (worth_of l.problem s.values) l.state.least improve (with_objective l.problem.objective asked.0 asked.1 best.least) in
     let there : v ≡ worth_of accepted.is_true.problem s.values = worth ∙ ap (λ q. worth_of q s.values) (sym accepted.problem) in
     record {
       is_true = accepted.is_true;

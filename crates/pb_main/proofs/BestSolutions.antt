@@ -74,7 +74,7 @@ sat_is_outdone limit l bears fails = by l.problem.objective refl bears
   where
     by : (o : Option (List Term)) → l.problem.objective ≡ o → FoundBy limit l o → IsUncheckable limit l
     by None none any =
-        absurd (fails (λ values best. subst (λ o. MatchOption o ⊤ (λ _. l.state.improve ≡ Some (worth_of l.problem values))) (sym none) tt))
+        absurd (fails (λ values best. subst (λ o. MatchOption o ⊤ (λ _. l.state.least ≡ Some (worth_of l.problem values))) (sym none) tt))
     by (Some objective) is far = outdone far fails
 
 -- an optimum's best solution is worth its least improving value, since none is worth less
@@ -115,10 +115,10 @@ same_value (Some w) v =
 
 -- where there is an objective, it serves to compare the best solution's worth
 pub best_is_least : (l : Logbook) (best : List Bool) (equal : Bool) → IsBest l.problem l.state.logged (Some best) → is_some l.problem.objective ≡ true
-    → equal ≡ option_eq int_eq l.state.improve (Some (worth_of l.problem best)) → IsTrue equal ↔ BestIsLeast l
+    → equal ≡ option_eq int_eq l.state.least (Some (worth_of l.problem best)) → IsTrue equal ↔ BestIsLeast l
 best_is_least l best equal is some e =
-    let same : Decides (option_eq int_eq l.state.improve (Some (worth_of l.problem best))) (l.state.improve ≡ Some (worth_of l.problem best)) =
-    same_value l.state.improve (worth_of l.problem best) in (
+    let same : Decides (option_eq int_eq l.state.least (Some (worth_of l.problem best))) (l.state.least ≡ Some (worth_of l.problem best)) =
+    same_value l.state.least (worth_of l.problem best) in (
       λ holds values also. subst (IsWorthLeast l) (same_solution (one_best l.problem l.state.logged (Some best) (Some values) is also))
           (if_asked l.problem.objective (same.0 (sym e ∙ holds))),
       λ least. e ∙ same.1 (if_there l.problem.objective some (least best is)),
@@ -159,7 +159,7 @@ nothing_improves p s t (step ∷ rest) values none (between, legal, (later, is, 
 improved_to : (l : Logbook) → IsProof l → (values : List Bool) → IsWorthLeast l values → AreImprovedTo l.problem values l.improved
 improved_to l p values least = by l.problem.objective refl least
   where
-    by : (o : Option (List Term)) → l.problem.objective ≡ o → MatchOption o ⊤ (λ _. l.state.improve ≡ Some (worth_of l.problem values))
+    by : (o : Option (List Term)) → l.problem.objective ≡ o → MatchOption o ⊤ (λ _. l.state.least ≡ Some (worth_of l.problem values))
         → MatchOption o (l.improved ≡ []) (λ _. IsFalling l.improved × (last_of l.improved ≡ Some (worth_of l.problem values)))
     by None none least = nothing_improves l.problem p.start l.state l.steps l.improved none p.improves
     by (Some objective) is least = let falls = values_fall l p in (falls.0, falls.1 ∙ least)

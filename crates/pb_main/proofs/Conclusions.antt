@@ -19,13 +19,13 @@ use Rattle.search.specs.declared.found.Unfinished.TheVariants as ends
 use Rattle.pb_main.proofs.BestSolutions.{log_preserved}
 
 -- the least improving value, where bounds are concluded from it
-bound_writable : (l : Logbook) → IsProof l → IsWithin l.problem → (lower : Lower) (v : ℤ) → l.state.improve ≡ Some v → l.conclusion ≡ conclusions.Bounds lower (uppers.At v) None
+bound_writable : (l : Logbook) → IsProof l → IsWithin l.problem → (lower : Lower) (v : ℤ) → l.state.least ≡ Some v → l.conclusion ≡ conclusions.Bounds lower (uppers.At v) None
     → IsWritable v
 bound_writable l p within lower v improve is =
     let justified = subst (λ c. IsJustified l.problem l.state c p.entitled.0) is p.entitled.1 in
     let objective : List Term = justified.2.0 in
     let asked : l.problem.objective ≡ Some objective = justified.2.1 in
-    let least = subst (λ o. IfSome o (λ w. Any (λ g. worth_of l.problem g ≡ w) l.state.logged)) improve (log_preserved l p).improve in
+    let least = subst (λ o. IfSome o (λ w. Any (λ g. worth_of l.problem g ≡ w) l.state.logged)) improve (log_preserved l p).least in
     let small = worth_small l.problem least.1 objective (sym asked) within in
     let same : unsigned_abs (worth_of l.problem least.1) ≡ unsigned_abs v = ap unsigned_abs least.4 in
     omega (arith, small, same)

@@ -32,7 +32,7 @@ pub record IsSolutionOf (p : Opb) (s : NamedValues) : Type 0 where
 
 -- where there is an objective, the assignment is worth the least value that the log improved to
 abbrev pub IsWorthLeast : Logbook → List Bool → Type 0
-IsWorthLeast l values = MatchOption l.problem.objective ⊤ (λ _. l.state.improve ≡ Some (worth_of l.problem values))
+IsWorthLeast l values = MatchOption l.problem.objective ⊤ (λ _. l.state.least ≡ Some (worth_of l.problem values))
 
 -- so is the best solution of the log, if it has one
 abbrev pub BestIsLeast : Logbook → Type 0

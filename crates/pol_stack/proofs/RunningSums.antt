@@ -6,7 +6,8 @@ use Rattle.cut_rules.specs.Rules.{IsSum, IsTooLarge, both_at, cancelled}
 use Rattle.proof_rules.specs.declared.fault.StepFault.{StepFault}
 use Rattle.proof_rules.specs.declared.fault.StepFault.TheVariants as faults
 use Rattle.proof_steps.specs.declared.step.Item.TheVariants as items
-use Rattle.proof_rules.specs.Expression.{Given, AppliesItem}
+use Rattle.proof_rules.specs.Expression.{Given}
+use Rattle.proof_rules.specs.Running.{AppliesItem}
 use Rattle.proof_rules.specs.Fault.{IsAddFault}
 use Rattle.pol_stack.specs.declared.stack.Operand.{Operand}
 use Rattle.pol_stack.specs.declared.stack.Held.{Held}

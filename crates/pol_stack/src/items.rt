@@ -6,7 +6,8 @@
 //! addition and a weakening stand there, since they change a sum where it is, and what is here reads it off.
 
 ghost use Rattle.std.specs.Prelude.{◌≡◌, ◌≢◌, ◌∷◌, [], length, IfOk, IfErr, OnOk};
-ghost use Rattle.proof_rules.specs.Expression.{Given, AppliesItem};
+ghost use Rattle.proof_rules.specs.Expression.{Given};
+ghost use Rattle.proof_rules.specs.Running.{AppliesItem};
 ghost use Rattle.proof_rules.specs.Fault.{OrMemory, IsMultiplyFault, IsFactorFault, IsShapeFault};
 ghost use Rattle.proof_steps.specs.declared.step.Item.TheVariants as items;
 

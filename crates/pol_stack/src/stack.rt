@@ -10,7 +10,8 @@
 ghost use Rattle.std.specs.Prelude.{◌≡◌, ◌<◌, ◌∷◌, [], length, IfErr, OnOk, OnErr, IsErrOf};
 ghost use Rattle.normal_form.specs.Normal.{Fits};
 ghost use Rattle.cut_rules.specs.Rules.{IsSum, IsWeakening};
-ghost use Rattle.proof_rules.specs.Expression.{Given, AppliesItem};
+ghost use Rattle.proof_rules.specs.Expression.{Given};
+ghost use Rattle.proof_rules.specs.Running.{AppliesItem};
 ghost use Rattle.proof_steps.specs.declared.step.Item.TheVariants as items;
 ghost use Rattle.proof_rules.specs.Fault.{OrMemory, IsAddFault};
 ghost use Rattle.pol_stack.specs.Stack.{operand_value, stack_of, with_sum, stacked, IsSumFault};
@@ -130,7 +131,8 @@ impl<'a> Model for Stack<'a> {
 impl<'a> Stack<'a> {
     ghost use Rattle.std.specs.Prelude.{◌≡◌, [], ◌∷◌, MatchOption, IfOk, IfErr, OnOk, OnErr, IsErrOf};
     ghost use Rattle.pol_stack.specs.Stack.{operand_value, IsSumOnTop, IsSumFault, IsWeakeningOnTop};
-    ghost use Rattle.proof_rules.specs.Expression.{Given, AppliesItem};
+    ghost use Rattle.proof_rules.specs.Expression.{Given};
+    ghost use Rattle.proof_rules.specs.Running.{AppliesItem};
     ghost use Rattle.proof_steps.specs.declared.step.Item.TheVariants as items;
     ghost use Rattle.proof_rules.specs.Fault.{OrMemory, IsAddFault, IsShapeFault};
 

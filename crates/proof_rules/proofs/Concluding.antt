@@ -38,8 +38,8 @@ less_or_not x y = by (int_le y x) refl
     by false h = inl (grind (arith, ints, nat_tests))
 
 -- where nothing is logged there is no improving value
-none_improves : (p : Opb) (s : State) (a : Valuation) → IsPreserved p s → s.logged ≡ [] → IfSome s.improve (λ least. value_of a p <ℤ least)
-none_improves p s a kept empty = by s.improve kept.improve
+none_improves : (p : Opb) (s : State) (a : Valuation) → IsPreserved p s → s.logged ≡ [] → IfSome s.least (λ least. value_of a p <ℤ least)
+none_improves p s a kept empty = by s.least kept.least
   where
     by : (o : Option ℤ) → IfSome o (λ least. Any (λ g. worth_of p g ≡ least) s.logged) → IfSome o (λ least. value_of a p <ℤ least)
     by None h = tt
@@ -62,9 +62,9 @@ no_greater x y z h k = omega (arith, ints, h, k)
 
 lower_bound : (p : Opb) (s : State) (objective : List Term) (bound : ℤ) (n : NormalConstraint) → IsPreserved p s → AreNormal s → p.objective ≡ Some objective
     → IsLowerBound s objective bound n → (a : Valuation) → Satisfies a p → bound ≤ℤ value_of a p
-lower_bound p s objective bound n kept normal minimises low a satisfies = by s.improve low.below (λ below. shown below)
+lower_bound p s objective bound n kept normal minimises low a satisfies = by s.least low.below (λ below. shown below)
   where
-    shown : IfSome s.improve (λ least. value_of a p <ℤ least) → bound ≤ℤ value_of a p
+    shown : IfSome s.least (λ least. value_of a p <ℤ least) → bound ≤ℤ value_of a p
     shown below =
         let b = kept.answer a satisfies below in
         let holds = shown_holds (constraints s) n normal low.form.rises low.shown b.0 b.1.meets in

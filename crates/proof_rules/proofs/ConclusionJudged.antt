@@ -77,7 +77,7 @@ exhausted_judged s = exhausted_from s (empty_decided s.logged) (shown_decided (c
 abbrev BoundJudged : State → List Term → ℤ → Type 0
 BoundJudged s objective bound = Or ((n : NormalConstraint) × IsLowerBound s objective bound n) (IsBoundFault s objective bound)
 
-bound_from : (s : State) (objective : List Term) (bound : ℤ) → IfSome s.improve (λ least. bound ≤ℤ least) → Decided (Fits (form (at_least objective bound)))
+bound_from : (s : State) (objective : List Term) (bound : ℤ) → IfSome s.least (λ least. bound ≤ℤ least) → Decided (Fits (form (at_least objective bound)))
     → Decided (IsShown (constraints s) (form (at_least objective bound))) → BoundJudged s objective bound
 bound_from s objective bound below (inl fits) (inl shown) =
     let c = at_least objective bound in inl (form c, record { below = below; form = form_is c; fits = fits; shown = shown })
@@ -87,16 +87,16 @@ bound_from s objective bound below (inr breaks) d =
     let c = at_least objective bound in inr (faults.TooLarge, (below, λ n is fits. breaks (subst Fits (one_form c n (form c) is (form_is c)) fits)))
 
 -- a bound is at most the least improving value, or above it
-below_or_above : (s : State) (bound : ℤ) (o : Option ℤ) → s.improve ≡ o → IfSome s.improve (λ least. bound ≤ℤ least) ⊎ ((least : ℤ) × (s.improve ≡ Some least) × (least <ℤ bound))
+below_or_above : (s : State) (bound : ℤ) (o : Option ℤ) → s.least ≡ o → IfSome s.least (λ least. bound ≤ℤ least) ⊎ ((least : ℤ) × (s.least ≡ Some least) × (least <ℤ bound))
 below_or_above s bound None is = inl (subst (λ o. IfSome o (λ least. bound ≤ℤ least)) (sym is) tt)
 below_or_above s bound (Some least) is =
-    elim (less_or_not least bound) as (λ _. IfSome s.improve (λ least. bound ≤ℤ least) ⊎ ((least : ℤ) × (s.improve ≡ Some least) × (least <ℤ bound))) [
+    elim (less_or_not least bound) as (λ _. IfSome s.least (λ least. bound ≤ℤ least) ⊎ ((least : ℤ) × (s.least ≡ Some least) × (least <ℤ bound))) [
       | inl above ↦ inr (least, is, above)
       | inr below ↦ inl (subst (λ o. IfSome o (λ least. bound ≤ℤ least)) (sym is) below)
     ]
 
 bound_judged : (s : State) (objective : List Term) (bound : ℤ) → BoundJudged s objective bound
-bound_judged s objective bound = elim (below_or_above s bound s.improve refl) as (λ _. BoundJudged s objective bound) [
+bound_judged s objective bound = elim (below_or_above s bound s.least refl) as (λ _. BoundJudged s objective bound) [
   | inr above ↦ inr (faults.LowerAboveBest, above)
   | inl below ↦
       let c = at_least objective bound in

@@ -9,9 +9,9 @@ use Rattle.proof_rules.specs.declared.fault.StepFault.{StepFault}
 use Rattle.proof_rules.specs.declared.fault.StepFault.TheVariants as faults
 use Rattle.proof_steps.specs.declared.step.Item.{Item}
 use Rattle.proof_steps.specs.declared.step.Item.TheVariants as items
-use Rattle.proof_rules.specs.Expression.{Given, Expression, cited, axiom_of, sum, multiple, quotient, saturated, weakened, postfix, HasValue, IsPostfixOf, AppliesItem}
+use Rattle.proof_rules.specs.Expression.{Given, Expression, cited, axiom_of, sum, multiple, quotient, saturated, weakened, postfix, HasValue, IsPostfixOf}
+use Rattle.proof_rules.specs.Running.{AppliesItem, Runs}
 use Rattle.proof_rules.specs.Fault.{IsItemFault, StopsAtItem, IsWritingFault}
-use Rattle.proof_rules.specs.Running.{Runs}
 
 abbrev Stack : Type 0
 Stack = List NormalConstraint

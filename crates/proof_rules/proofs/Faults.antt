@@ -6,9 +6,9 @@ use Rattle.proof_rules.specs.declared.fault.StepFault.{StepFault}
 use Rattle.proof_rules.specs.declared.fault.StepFault.TheVariants as faults
 use Rattle.proof_steps.specs.declared.step.Item.{Item}
 use Rattle.proof_steps.specs.declared.step.Item.TheVariants as items
-use Rattle.proof_rules.specs.Expression.{Given, AppliesItem}
+use Rattle.proof_rules.specs.Expression.{Given}
+use Rattle.proof_rules.specs.Running.{AppliesItem, Runs}
 use Rattle.proof_rules.specs.Fault.{OrMemory, IsItemFault, StopsAtItem, LeavesOther, IsWritingFault, IsPolFault}
-use Rattle.proof_rules.specs.Running.{Runs}
 use Rattle.proof_rules.specs.State.{State, constraint_of}
 
 pub or_memory : (f : StepFault) (P Q : Type 0) → (P → Q) → OrMemory f P → OrMemory f Q

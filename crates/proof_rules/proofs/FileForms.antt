@@ -102,7 +102,7 @@ pub start_preserved : (p : Opb) (s : State) → IsStart p s → IsPreserved p s
 start_preserved p s (ns, forms, is) = subst (IsPreserved p) (sym is) (record {
   answer = λ a satisfies below. (a, record { meets = All-numbered (Holds a) 1 ns (all_hold a p.constraints ns forms satisfies); value = omega (arith, ints) });
   logged = All-nil (IsSolution p);
-  improve = tt;
+  least = tt;
 })
 
 pub start_normal : (p : Opb) (s : State) → IsStart p s → AreNormal s

@@ -61,7 +61,7 @@ state_push ns n =
     ∙ fin.from_entries_push nat_cmp_total fin.nat_cmp-IsAntisymmetric (numbered 1 ns) (1 + length ns) n new
     ∙ ap (λ k. fin.insert (fin.from_entries {R = nat_cmp} (numbered 1 ns)) k n) key in
     let next : length (ns ++ n ∷ []) + 1 ≡ (length ns + 1) + 1 = omega (arith, length-append ns (n ∷ [])) in
-    λ i. record { live = live i; next = next i; improve = None; logged = []; improving = set.empty }
+    λ i. record { live = live i; next = next i; least = None; logged = []; improving = set.empty }
 
 -- one more constraint
 by_key : (live : Live) (next id : ℕ) (n m : NormalConstraint) (b : Bool) → AreNumbered live next → eq_by_cmp nat_cmp id next ≡ b

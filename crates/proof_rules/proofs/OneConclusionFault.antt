@@ -36,7 +36,7 @@ bound_is s objective bound faults.TooLarge h = inr (inl (refl, h))
 bound_is s objective bound faults.LowerNotShown h = inr (inr (refl, h))
 bound_is s objective bound _ h = absurd h
 
-above_never : (s : State) (bound : ℤ) → (least : ℤ) × (s.improve ≡ Some least) × (least <ℤ bound) → IfSome s.improve (λ least. bound ≤ℤ least) → ⊥
+above_never : (s : State) (bound : ℤ) → (least : ℤ) × (s.least ≡ Some least) × (least <ℤ bound) → IfSome s.least (λ least. bound ≤ℤ least) → ⊥
 above_never s bound (least, is, above) below = less_never least bound above (subst (λ o. IfSome o (λ x. bound ≤ℤ x)) is below)
 
 unfit_never : (s : State) (objective : List Term) (bound : ℤ) → IsBoundFault s objective bound faults.TooLarge → IsBoundFault s objective bound faults.LowerNotShown → ⊥

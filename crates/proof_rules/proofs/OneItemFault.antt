@@ -6,9 +6,9 @@ use Rattle.proof_rules.specs.declared.fault.StepFault.{StepFault}
 use Rattle.proof_rules.specs.declared.fault.StepFault.TheVariants as faults
 use Rattle.proof_steps.specs.declared.step.Item.{Item}
 use Rattle.proof_steps.specs.declared.step.Item.TheVariants as items
-use Rattle.proof_rules.specs.Expression.{Given, IsPostfixOf, AppliesItem}
+use Rattle.proof_rules.specs.Expression.{Given, IsPostfixOf}
+use Rattle.proof_rules.specs.Running.{AppliesItem, Runs}
 use Rattle.proof_rules.specs.Fault.{IsFactorFault, IsShapeFault, IsIdFault, IsAddFault, IsMultiplyFault, IsItemFault, StopsAtItem, LeavesOther, IsPolFault}
-use Rattle.proof_rules.specs.Running.{Runs}
 use Rattle.proof_rules.specs.State.{State, constraint_of}
 use Rattle.proof_rules.proofs.Determined.{one_step, one_run, parts, stuck, empty_top, writing_never}
 use Rattle.proof_rules.proofs.Faults.{stops_writing, leaves_writing}

@@ -159,7 +159,7 @@ abbrev NotBetter : Opb → State → List Lit → Type 0
 NotBetter p s listing = ((g : List Bool) × Logs p s listing g) × ((g : List Bool) → Logs p s listing g → IsNotBetter p s g)
 
 abbrev Better : Opb → State → List Lit → Type 0
-Better p s listing = (g : List Bool) × Logs p s listing g × IfSome s.improve (λ least. worth_of p g <ℤ least)
+Better p s listing = (g : List Bool) × Logs p s listing g × IfSome s.least (λ least. worth_of p g <ℤ least)
 
 not_better : (p : Opb) (s : State) (listing : List Lit) → NotBetter p s listing → Better p s listing → ⊥
 not_better p s listing (some, all) (g, logs, better) =

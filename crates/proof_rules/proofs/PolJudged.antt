@@ -9,16 +9,16 @@ use Rattle.proof_rules.specs.declared.fault.StepFault.{StepFault}
 use Rattle.proof_rules.specs.declared.fault.StepFault.TheVariants as faults
 use Rattle.proof_steps.specs.declared.step.Item.{Item}
 use Rattle.proof_steps.specs.declared.step.Item.TheVariants as items
-use Rattle.proof_rules.specs.Expression.{Given, IsPostfixOf, IsWritten, AppliesItem}
+use Rattle.proof_rules.specs.Expression.{Given, IsPostfixOf}
+use Rattle.proof_rules.specs.Running.{LeavesStack, AppliesItem, Runs}
 use Rattle.proof_rules.specs.Fault.{IsItemFault, IsPolFault}
 use Rattle.proof_rules.specs.Legal.{LegalPol}
 use Rattle.proof_rules.specs.Preserved.{AreNormal}
-use Rattle.proof_rules.specs.Running.{Runs}
 use Rattle.proof_rules.specs.State.{State, constraint_of, id_of, HasRoom, with_constraint}
 use Rattle.proof_rules.proofs.Deciding.{Decided, Judged, less_or_not}
 use Rattle.proof_rules.proofs.Faults.{stops_writing, leaves_writing, writing_pol}
 use Rattle.proof_rules.proofs.LiveConstraints.{All-get}
-use Rattle.proof_rules.proofs.Postfix.{IsWritten-push, IsPostfixOf-from_IsWritten}
+use Rattle.proof_rules.proofs.Postfix.{LeavesStack-push, IsPostfixOf-from_LeavesStack}
 use Rattle.proof_rules.proofs.ResultsExist.{sum_exists, multiple_exists, quotient_exists, saturation_exists, weakening_exists, axiom_exists}
 use Rattle.proof_rules.proofs.ShownOrNot.{fits_decided, room_decided}
 
@@ -119,11 +119,11 @@ run_judged given each (i ∷ rest) old up = elim (item_judged given each i old u
   | inr h ↦ inr (h.0, ([], i, rest, old, refl, refl, h.1))
 ]
 
-written_on : (given : Given) (before written : List Item) (old new : Stack) → IsWritten given before old → Runs given written old new → IsWritten given (before ++ written) new
-written_on given before [] old new w is = subst (λ text. IsWritten given text new) (sym (append-nil before)) (subst (IsWritten given before) (sym is) w)
+written_on : (given : Given) (before written : List Item) (old new : Stack) → LeavesStack given before old → Runs given written old new → LeavesStack given (before ++ written) new
+written_on given before [] old new w is = subst (λ text. LeavesStack given text new) (sym (append-nil before)) (subst (LeavesStack given before) (sym is) w)
 written_on given before (i ∷ rest) old new w (between, step, runs) =
-    subst (λ text. IsWritten given text new) (append_assoc before (i ∷ []) rest)
-    (written_on given (before ++ i ∷ []) rest between new (IsWritten-push given before i old between step w) runs)
+    subst (λ text. LeavesStack given text new) (append_assoc before (i ∷ []) rest)
+    (written_on given (before ++ i ∷ []) rest between new (LeavesStack-push given before i old between step w) runs)
 
 other : (s : State) (written : List Item) (stack : Stack) → Runs (constraint_of s) written [] stack → (length stack ≢ 1) → Judged (LegalPol s written) (IsPolFault s written)
 other s written stack runs not_one =
@@ -136,7 +136,7 @@ one_left s written n polish (inr full) = inr (faults.TooManyIds, (n, polish, ful
 left : (s : State) (written : List Item) (stack : Stack) → Runs (constraint_of s) written [] stack → Judged (LegalPol s written) (IsPolFault s written)
 left s written [] runs = other s written [] runs (λ h. omega (arith, h))
 left s written (n ∷ []) runs =
-    one_left s written n (IsPostfixOf-from_IsWritten (constraint_of s) written n (written_on (constraint_of s) [] written [] (n ∷ []) refl runs)) (room_decided s)
+    one_left s written n (IsPostfixOf-from_LeavesStack (constraint_of s) written n (written_on (constraint_of s) [] written [] (n ∷ []) refl runs)) (room_decided s)
 left s written (n ∷ m ∷ rest) runs = other s written (n ∷ m ∷ rest) runs (λ h. omega (arith, h))
 
 from_run : (s : State) (written : List Item) → RunJudged (constraint_of s) written [] → Judged (LegalPol s written) (IsPolFault s written)

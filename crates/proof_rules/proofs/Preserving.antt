@@ -45,7 +45,7 @@ added p s t n kept change is = subst (IsPreserved p) (sym is) (record {
       let c = change a b.0 b.1 in
       (c.0, record { meets = All-insert (Holds c.0) s.live s.next n c.2 c.1.meets; value = c.1.value });
   logged = kept.logged;
-  improve = kept.improve;
+  least = kept.least;
 })
 
 -- a constraint was added that holds wherever the live ones do
@@ -122,7 +122,7 @@ pub sol_preserves : (p : Opb) (s t : State) (listing : List Lit) → IsPreserved
 sol_preserves p s t listing kept (g, logs, is) = subst (IsPreserved p) (sym is) (record {
   answer = λ a satisfies below. let b = kept.answer a satisfies below in (b.0, record { meets = b.1.meets; value = b.1.value });
   logged = All-push (IsSolution p) s.logged g kept.logged (solution_of p s listing g logs);
-  improve = IfSome_then s.improve kept.improve (λ least some. any_before (λ h. worth_of p h ≡ least) s.logged g some);
+  least = IfSome_then s.least kept.least (λ least some. any_before (λ h. worth_of p h ≡ least) s.logged g some);
 })
 
 pub sol_normal : (p : Opb) (s t : State) (listing : List Lit) → AreNormal s → LegalSol p s listing t → AreNormal t
@@ -145,11 +145,11 @@ less_then x y z h k = omega (arith, ints, h, k)
 pub soli_preserves : (p : Opb) (s t : State) (listing : List Lit) → IsPreserved p s → LegalSoli p s listing t → IsPreserved p t
 soli_preserves p s t listing kept (objective, g, n, better, is) = subst (IsPreserved p) (sym is) (record {
   answer = λ a satisfies below.
-      let b = kept.answer a satisfies (IfSome_then s.improve better.better (λ least h. less_then (value_of a p) (worth_of p g) least below h)) in
+      let b = kept.answer a satisfies (IfSome_then s.least better.better (λ least h. less_then (value_of a p) (worth_of p g) least below h)) in
       let holds = improved p objective n (worth_of p g) b.0 better.minimises better.form (between (value_of b.0 p) (value_of a p) (worth_of p g) b.1.value below) in
       (b.0, record { meets = All-insert (Holds b.0) s.live s.next n holds b.1.meets; value = b.1.value });
   logged = All-push (IsSolution p) s.logged g kept.logged (solution_of p s listing g better.logs);
-  improve = Any-push (λ h. worth_of p h ≡ worth_of p g) s.logged g refl;
+  least = Any-push (λ h. worth_of p h ≡ worth_of p g) s.logged g refl;
 })
 
 pub soli_normal : (p : Opb) (s t : State) (listing : List Lit) → AreNormal s → LegalSoli p s listing t → AreNormal t
@@ -162,7 +162,7 @@ gone_preserves p s id kept = record {
       let b = kept.answer a satisfies below in
       (b.0, record { meets = All-remove (Holds b.0) s.live id b.1.meets; value = b.1.value });
   logged = kept.logged;
-  improve = kept.improve;
+  least = kept.least;
 }
 
 pub del_preserves : (p : Opb) (s t : State) (ids : List ℤ) → IsPreserved p s → LegalDel p s ids t → IsPreserved p t

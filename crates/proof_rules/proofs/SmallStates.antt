@@ -108,7 +108,7 @@ second_completes =
     (both_reached 4 (cover ∷ []) (not_x 0 ∷ []) (not_x 0 ∷ x 1 ∷ []) false true (one_consistent (not_x 0)) (second_unnamed (not_x 0 ∷ []) (λ b. refl)) refl refl refl)
 
 -- that the objective `1 x0 1 x1` is at least 0 needs no constraint
-pub zero_is_bound : (s : State) → IfSome s.improve (λ least. pos 0 ≤ℤ least) → EntitlesLower s min_both (lowers.At (pos 0))
+pub zero_is_bound : (s : State) → IfSome s.least (λ least. pos 0 ≤ℤ least) → EntitlesLower s min_both (lowers.At (pos 0))
 zero_is_bound s below = (
   normal (plain 1 0 ∷ plain 1 1 ∷ []) 0,
   record {

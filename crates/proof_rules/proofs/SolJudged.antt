@@ -52,9 +52,9 @@ pub sol_judged : (p : Opb) (s : State) (listing : List Lit) → Judged (LegalSol
 sol_judged p s listing = sol_from p s listing (log_judged p s listing)
 
 -- better than the least value so far, or not
-better_or_not : (p : Opb) (s : State) (g : List Bool) (o : Option ℤ) → s.improve ≡ o → IfSome s.improve (λ least. worth_of p g <ℤ least) ⊎ IsNotBetter p s g
+better_or_not : (p : Opb) (s : State) (g : List Bool) (o : Option ℤ) → s.least ≡ o → IfSome s.least (λ least. worth_of p g <ℤ least) ⊎ IsNotBetter p s g
 better_or_not p s g None is = inl (subst (λ o. IfSome o (λ least. worth_of p g <ℤ least)) (sym is) tt)
-better_or_not p s g (Some least) is = elim (less_or_not (worth_of p g) least) as (λ _. IfSome s.improve (λ least. worth_of p g <ℤ least) ⊎ IsNotBetter p s g) [
+better_or_not p s g (Some least) is = elim (less_or_not (worth_of p g) least) as (λ _. IfSome s.least (λ least. worth_of p g <ℤ least) ⊎ IsNotBetter p s g) [
   | inl less ↦ inl (subst (λ o. IfSome o (λ least. worth_of p g <ℤ least)) (sym is) less)
   | inr not ↦ inr (least, is, not)
 ]
@@ -66,7 +66,7 @@ abbrev SoliJudged : Opb → State → List Lit → Type 0
 SoliJudged p s listing = Judged (LegalSoli p s listing) (IsSoliFault p s listing)
 
 room_or_full : (p : Opb) (s : State) (objective : List Term) (listing : List Lit) (g : List Bool) → p.objective ≡ Some objective → Logs p s listing g
-    → IfSome s.improve (λ least. worth_of p g <ℤ least) → Decided (HasRoom s) → SoliJudged p s listing
+    → IfSome s.least (λ least. worth_of p g <ℤ least) → Decided (HasRoom s) → SoliJudged p s listing
 room_or_full p s objective listing g is logs better (inl room) =
     let c = at_most objective (worth_of p g -ℤ pos 1) in
     inl (
@@ -76,7 +76,7 @@ room_or_full p s objective listing g is logs better (inl room) =
 room_or_full p s objective listing g is logs better (inr full) = inr (faults.TooManyIds, (is_there p objective is, (g, logs, better), full))
 
 logged_better : (p : Opb) (s : State) (objective : List Term) (listing : List Lit) (g : List Bool) → p.objective ≡ Some objective → Logs p s listing g
-    → IfSome s.improve (λ least. worth_of p g <ℤ least) ⊎ IsNotBetter p s g → SoliJudged p s listing
+    → IfSome s.least (λ least. worth_of p g <ℤ least) ⊎ IsNotBetter p s g → SoliJudged p s listing
 logged_better p s objective listing g is logs (inl better) = room_or_full p s objective listing g is logs better (room_decided s)
 logged_better p s objective listing g is logs (inr not) =
     inr (faults.NotImproving, (is_there p objective is, (g, logs), λ h also. subst (IsNotBetter p s) (one_log p s listing g h logs also) not))
@@ -89,7 +89,7 @@ soli_fault p s listing faults.TooManyIds some h = absurd h
 soli_fault p s listing _ some h = (some, h)
 
 soli_from : (p : Opb) (s : State) (objective : List Term) (listing : List Lit) → p.objective ≡ Some objective → LogJudged p s listing → SoliJudged p s listing
-soli_from p s objective listing is (inl (g, logs)) = logged_better p s objective listing g is logs (better_or_not p s g s.improve refl)
+soli_from p s objective listing is (inl (g, logs)) = logged_better p s objective listing g is logs (better_or_not p s g s.least refl)
 soli_from p s objective listing is (inr (f, h)) = inr (f, soli_fault p s listing f (is_there p objective is) h)
 
 with_objective : (p : Opb) (s : State) (listing : List Lit) (o : Option (List Term)) → p.objective ≡ o → SoliJudged p s listing

@@ -63,7 +63,7 @@ second_alone = false ∷ true ∷ []
 
 -- a state of such a file: the least improving value, and the solutions that are logged
 abbrev pub cover_state : Option ℤ → List (List Bool) → State
-cover_state improve logged = record (state_of (cover ∷ [])) { improve = improve; logged = logged }
+cover_state least logged = record (state_of (cover ∷ [])) { least = least; logged = logged }
 
 -- the state before the first step
 abbrev pub cover_start : State
@@ -82,7 +82,7 @@ below_one = normal (negated 1 0 ∷ negated 1 1 ∷ []) 2
 
 -- a state in which all ids are taken
 abbrev pub full_state : Option ℤ → State
-full_state improve = record (cover_state improve []) { next = id_limit }
+full_state least = record (cover_state least []) { next = id_limit }
 
 -- 1 x0 >= 1, as a proof writes it
 abbrev pub first_written : Signed

@@ -12,6 +12,6 @@ abbrev pub state_code : Coded State
 state_code =
     code_by (Live × (ℕ × (Option ℤ × (List (List Bool) × set.FinSet nat_cmp))))
     (coded× (map.code coded_ℕ constraint_code) (coded× coded_ℕ (coded× (coded_option coded_ℤ) (coded× (coded_list (coded_list coded_bool)) (set.code coded_ℕ)))))
-    (λ s. (s.live, (s.next, (s.improve, (s.logged, s.improving)))))
-    (λ p. record { live = p.0; next = p.1.0; improve = p.1.1.0; logged = p.1.1.1.0; improving = p.1.1.1.1 })
+    (λ s. (s.live, (s.next, (s.least, (s.logged, s.improving)))))
+    (λ p. record { live = p.0; next = p.1.0; least = p.1.1.0; logged = p.1.1.1.0; improving = p.1.1.1.1 })
     (λ _. refl)

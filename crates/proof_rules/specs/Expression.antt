@@ -46,29 +46,3 @@ HasValue given (weakened x e) n = (d : NormalConstraint) × HasValue given e d �
 -- the items write one expression, and this is its value
 abbrev pub IsPostfixOf : Given → List Item → NormalConstraint → Type 0
 IsPostfixOf given written n = (e : Expression) × (postfix e ≡ written) × HasValue given e n
-
--- the items write these constraints one after another, the last one first: each is the value of an expression
-abbrev pub IsWritten : Given → List Item → List NormalConstraint → Type 0
-IsWritten given written [] = written ≡ []
-IsWritten given written (n ∷ ns) =
-    (before : List Item) × (e : Expression) × (written ≡ before ++ postfix e) × HasValue given e n × IsWritten given before ns
-
--- what an item does to the constraints on a stack, its top first
-abbrev pub AppliesItem : Given → Item → List NormalConstraint → List NormalConstraint → Type 0
-AppliesItem given (items.Id id) old new = (n : NormalConstraint) × (given id ≡ Some n) × (new ≡ n ∷ old)
-AppliesItem given (items.Axiom l) old new = (n : NormalConstraint) × IsAxiom l n × (new ≡ n ∷ old)
-AppliesItem given items.Add old new =
-    (d : NormalConstraint) × (g : NormalConstraint) × (n : NormalConstraint) × (rest : List NormalConstraint)
-    × (old ≡ g ∷ d ∷ rest) × IsSum d g n × Fits n × (new ≡ n ∷ rest)
-AppliesItem given (items.Multiply k) old new =
-    (d : NormalConstraint) × (n : NormalConstraint) × (rest : List NormalConstraint)
-    × (old ≡ d ∷ rest) × (pos 0 <ℤ k) × IsMultiple (unsigned_abs k) d n × Fits n × (new ≡ n ∷ rest)
-AppliesItem given (items.Divide k) old new =
-    (d : NormalConstraint) × (n : NormalConstraint) × (rest : List NormalConstraint)
-    × (old ≡ d ∷ rest) × (pos 0 <ℤ k) × IsQuotient (unsigned_abs k) d n × (new ≡ n ∷ rest)
-AppliesItem given items.Saturate old new =
-    (d : NormalConstraint) × (n : NormalConstraint) × (rest : List NormalConstraint)
-    × (old ≡ d ∷ rest) × IsSaturation d n × (new ≡ n ∷ rest)
-AppliesItem given (items.Weaken x) old new =
-    (d : NormalConstraint) × (n : NormalConstraint) × (rest : List NormalConstraint)
-    × (old ≡ d ∷ rest) × IsWeakening (x.0) d n × (new ≡ n ∷ rest)

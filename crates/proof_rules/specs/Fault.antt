@@ -148,14 +148,14 @@ IsSolFault p s listing _ = ⊥
 
 -- what a logged solution is worth is not below the least so far
 abbrev pub IsNotBetter : Opb → State → List Bool → Type 0
-IsNotBetter p s g = (least : ℤ) × (s.improve ≡ Some least) × (least ≤ℤ worth_of p g)
+IsNotBetter p s g = (least : ℤ) × (s.least ≡ Some least) × (least ≤ℤ worth_of p g)
 
 abbrev pub IsSoliFault : Opb → State → List Lit → StepFault → Type 0
 IsSoliFault p s listing faults.NoObjective = p.objective ≡ None
 IsSoliFault p s listing faults.NotImproving =
     (p.objective ≢ None) × ((g : List Bool) × Logs p s listing g) × ((g : List Bool) → Logs p s listing g → IsNotBetter p s g)
 IsSoliFault p s listing faults.TooManyIds =
-    (p.objective ≢ None) × ((g : List Bool) × Logs p s listing g × IfSome s.improve (λ least. worth_of p g <ℤ least)) × (HasRoom s → ⊥)
+    (p.objective ≢ None) × ((g : List Bool) × Logs p s listing g × IfSome s.least (λ least. worth_of p g <ℤ least)) × (HasRoom s → ⊥)
 IsSoliFault p s listing f = (p.objective ≢ None) × IsSolFault p s listing f
 
 -- an id that is not live, or that is not to be deleted
@@ -186,11 +186,11 @@ IsUnsatFault s _ = ⊥
 
 -- a lower bound: above the least value, then not within the limits, then not shown
 abbrev pub IsBoundFault : State → List Term → ℤ → StepFault → Type 0
-IsBoundFault s objective bound faults.LowerAboveBest = (least : ℤ) × (s.improve ≡ Some least) × (least <ℤ bound)
+IsBoundFault s objective bound faults.LowerAboveBest = (least : ℤ) × (s.least ≡ Some least) × (least <ℤ bound)
 IsBoundFault s objective bound faults.TooLarge =
-    IfSome s.improve (λ least. bound ≤ℤ least) × ((n : NormalConstraint) → IsNormalOf (at_least objective bound) n → Fits n → ⊥)
+    IfSome s.least (λ least. bound ≤ℤ least) × ((n : NormalConstraint) → IsNormalOf (at_least objective bound) n → Fits n → ⊥)
 IsBoundFault s objective bound faults.LowerNotShown =
-    IfSome s.improve (λ least. bound ≤ℤ least)
+    IfSome s.least (λ least. bound ≤ℤ least)
     × ((n : NormalConstraint) × IsNormalOf (at_least objective bound) n × Fits n × (IsShown (constraints s) n → ⊥))
 IsBoundFault s objective bound _ = ⊥
 

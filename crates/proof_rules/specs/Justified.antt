@@ -31,7 +31,7 @@ pub record IsExhausted (s : State) : Type 0 where
 
 -- objective >= bound, where the bound is at most the least improving value: its normal form fits and is shown
 pub record IsLowerBound (s : State) (objective : List Term) (bound : ℤ) (n : NormalConstraint) : Type 0 where
-  pub below : IfSome s.improve (λ least. bound ≤ℤ least)
+  pub below : IfSome s.least (λ least. bound ≤ℤ least)
   pub form : IsNormalOf (at_least objective bound) n
   pub fits : Fits n
   pub shown : IsShown (constraints s) n

@@ -86,13 +86,13 @@ worth_of p g = value_of (valuation_of g) p
 pub record Improves (p : Opb) (old : State) (objective : List Term) (listing : List Lit) (g : List Bool) (n : NormalConstraint) : Type 0 where
   pub minimises : p.objective ≡ Some objective
   pub logs : Logs p old listing g
-  pub better : IfSome old.improve (λ least. worth_of p g <ℤ least)
+  pub better : IfSome old.least (λ least. worth_of p g <ℤ least)
   pub form : IsNormalOf (at_most objective (worth_of p g -ℤ pos 1)) n
   pub room : HasRoom old
 
 abbrev pub with_improvement : Opb → List Bool → NormalConstraint → State → State
 with_improvement p g n s = record (with_constraint n (with_solution g s)) {
-  improve = Some (worth_of p g);
+  least = Some (worth_of p g);
   improving = set.insert s.improving s.next;
 }
 

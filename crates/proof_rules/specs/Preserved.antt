@@ -26,9 +26,9 @@ pub record IsAsGood (p : Opb) (s : State) (a b : Valuation) : Type 0 where
 -- one as good meets all live constraints. Each logged assignment satisfies the problem, and the least improving value
 -- is that of a logged one. The live side may lose assignments; the problem's side is the file, whatever is deleted.
 pub record IsPreserved (p : Opb) (s : State) : Type 0 where
-  pub answer : (a : Valuation) → Satisfies a p → IfSome s.improve (λ least. value_of a p <ℤ least) → (b : Valuation) × IsAsGood p s a b
+  pub answer : (a : Valuation) → Satisfies a p → IfSome s.least (λ least. value_of a p <ℤ least) → (b : Valuation) × IsAsGood p s a b
   pub logged : All (IsSolution p) s.logged
-  pub improve : IfSome s.improve (λ least. Any (λ g. worth_of p g ≡ least) s.logged)
+  pub least : IfSome s.least (λ least. Any (λ g. worth_of p g ≡ least) s.logged)
 
 -- Each live constraint is in normal form: no variable stands twice in it, so no literal beside its opposite, and no
 -- coefficient is 0. `Rises` says so by the order in which terms are kept. The laws on negations, on covering and on

@@ -21,7 +21,7 @@ pub record State : Type 0 where
   -- the id that the next constraint takes; ids count from 1
   pub next : ℕ
   -- the least value of an improving solution, if there is one
-  pub improve : Option ℤ
+  pub least : Option ℤ
   -- the solutions, the first one first: the values of the file's variables
   pub logged : List (List Bool)
   -- the ids of the constraints that improving solutions added
@@ -68,7 +68,7 @@ abbrev pub state_of : List NormalConstraint → State
 state_of ns = record {
   live = map.from_entries (numbered 1 ns);
   next = length ns + 1;
-  improve = None;
+  least = None;
   logged = [];
   improving = set.empty;
 }

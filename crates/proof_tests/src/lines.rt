@@ -3,304 +3,304 @@
 use crate::asking::{fault_at, lit};
 use linear::Names;
 use proof_steps::{Conclusion, Lower, Upper};
-use proof_text::{Line, Place, ProofFault, ProofReader, read_line};
+use proof_text::{Line, ProofFault, ProofReader, Section, read_line};
 
-/// A line at its place, and the number of its fault, 0 where it has none.
+/// A line at its section, and the number of its fault, 0 where it has none.
 #[derive(Clone, Copy, Debug)]
 struct Placed {
-    place: Place,
+    section: Section,
     line: &'static [u8],
     fault: u8,
 }
 
 const LINES: [Placed; 58] = [
     Placed {
-        place: Place::Header,
+        section: Section::Header,
         line: b"pseudo-Boolean proof version 2.0",
         fault: 0,
     },
     Placed {
-        place: Place::Header,
+        section: Section::Header,
         line: b"  pseudo-Boolean\tproof version 2.0;\r",
         fault: 0,
     },
     Placed {
-        place: Place::Header,
+        section: Section::Header,
         line: b"pseudo-Boolean proof version 2.1",
         fault: 1,
     },
     Placed {
-        place: Place::Header,
+        section: Section::Header,
         line: b"pseudo-Boolean proof version 2.0 3",
         fault: 1,
     },
     Placed {
-        place: Place::Header,
+        section: Section::Header,
         line: b"pseudo-Boolean proof version 2.0;;",
         fault: 1,
     },
     Placed {
-        place: Place::Header,
+        section: Section::Header,
         line: b"f 1",
         fault: 1,
     },
     Placed {
-        place: Place::Count,
+        section: Section::Count,
         line: b"f 3",
         fault: 0,
     },
     Placed {
-        place: Place::Count,
+        section: Section::Count,
         line: b"f -3 ;",
         fault: 0,
     },
     Placed {
-        place: Place::Count,
+        section: Section::Count,
         line: b"f",
         fault: 2,
     },
     Placed {
-        place: Place::Count,
+        section: Section::Count,
         line: b"f 3 3",
         fault: 2,
     },
     Placed {
-        place: Place::Count,
+        section: Section::Count,
         line: b"f - 3",
         fault: 2,
     },
     Placed {
-        place: Place::Count,
+        section: Section::Count,
         line: b"g 3",
         fault: 2,
     },
     Placed {
-        place: Place::Count,
+        section: Section::Count,
         line: b"f 1329227995784915872903807060280344577",
         fault: 2,
     },
     Placed {
-        place: Place::Step,
+        section: Section::Step,
         line: b"output NONE",
         fault: 0,
     },
     Placed {
-        place: Place::Step,
+        section: Section::Step,
         line: b"output NONE ;",
         fault: 0,
     },
     Placed {
-        place: Place::Step,
+        section: Section::Step,
         line: b"pol 1",
         fault: 0,
     },
     Placed {
-        place: Place::Step,
+        section: Section::Step,
         line: b"output DERIVABLE",
         fault: 4,
     },
     Placed {
-        place: Place::Step,
+        section: Section::Step,
         line: b"output 1",
         fault: 4,
     },
     Placed {
-        place: Place::Step,
+        section: Section::Step,
         line: b"output",
         fault: 5,
     },
     Placed {
-        place: Place::Step,
+        section: Section::Step,
         line: b"output ;",
         fault: 5,
     },
     Placed {
-        place: Place::Step,
+        section: Section::Step,
         line: b"output NONE NONE",
         fault: 5,
     },
     Placed {
-        place: Place::Step,
+        section: Section::Step,
         line: b"f 1",
         fault: 5,
     },
     Placed {
-        place: Place::Step,
+        section: Section::Step,
         line: b"solx x1",
         fault: 4,
     },
     Placed {
-        place: Place::Conclusion,
+        section: Section::Conclusion,
         line: b"conclusion NONE",
         fault: 0,
     },
     Placed {
-        place: Place::Conclusion,
+        section: Section::Conclusion,
         line: b"conclusion SAT",
         fault: 0,
     },
     Placed {
-        place: Place::Conclusion,
+        section: Section::Conclusion,
         line: b"conclusion SAT :",
         fault: 0,
     },
     Placed {
-        place: Place::Conclusion,
+        section: Section::Conclusion,
         line: b"conclusion SAT : x1 ~x2 ;",
         fault: 0,
     },
     Placed {
-        place: Place::Conclusion,
+        section: Section::Conclusion,
         line: b"conclusion UNSAT",
         fault: 0,
     },
     Placed {
-        place: Place::Conclusion,
+        section: Section::Conclusion,
         line: b"conclusion UNSAT : 3",
         fault: 0,
     },
     Placed {
-        place: Place::Conclusion,
+        section: Section::Conclusion,
         line: b"conclusion UNSAT : -1 ;",
         fault: 0,
     },
     Placed {
-        place: Place::Conclusion,
+        section: Section::Conclusion,
         line: b"conclusion BOUNDS 1 2",
         fault: 0,
     },
     Placed {
-        place: Place::Conclusion,
+        section: Section::Conclusion,
         line: b"conclusion BOUNDS 1 : 3 1",
         fault: 0,
     },
     Placed {
-        place: Place::Conclusion,
+        section: Section::Conclusion,
         line: b"conclusion BOUNDS -INF INF",
         fault: 0,
     },
     Placed {
-        place: Place::Conclusion,
+        section: Section::Conclusion,
         line: b"conclusion BOUNDS INF INF ;",
         fault: 0,
     },
     Placed {
-        place: Place::Conclusion,
+        section: Section::Conclusion,
         line: b"conclusion BOUNDS -0 : 1 +002 : x1",
         fault: 0,
     },
     Placed {
-        place: Place::Conclusion,
+        section: Section::Conclusion,
         line: b"conclusion BOUNDS 1 2 :",
         fault: 0,
     },
     Placed {
-        place: Place::Conclusion,
+        section: Section::Conclusion,
         line: b"conclusion",
         fault: 5,
     },
     Placed {
-        place: Place::Conclusion,
+        section: Section::Conclusion,
         line: b"conclusion NONE NONE",
         fault: 5,
     },
     Placed {
-        place: Place::Conclusion,
+        section: Section::Conclusion,
         line: b"conclusion SAT x1",
         fault: 5,
     },
     Placed {
-        place: Place::Conclusion,
+        section: Section::Conclusion,
         line: b"conclusion SAT : 1",
         fault: 5,
     },
     Placed {
-        place: Place::Conclusion,
+        section: Section::Conclusion,
         line: b"conclusion UNSAT :",
         fault: 5,
     },
     Placed {
-        place: Place::Conclusion,
+        section: Section::Conclusion,
         line: b"conclusion UNSAT : x1",
         fault: 5,
     },
     Placed {
-        place: Place::Conclusion,
+        section: Section::Conclusion,
         line: b"conclusion UNSAT : 1 1",
         fault: 5,
     },
     Placed {
-        place: Place::Conclusion,
+        section: Section::Conclusion,
         line: b"conclusion BOUNDS",
         fault: 5,
     },
     Placed {
-        place: Place::Conclusion,
+        section: Section::Conclusion,
         line: b"conclusion BOUNDS 1",
         fault: 5,
     },
     Placed {
-        place: Place::Conclusion,
+        section: Section::Conclusion,
         line: b"conclusion BOUNDS 1 : 3",
         fault: 5,
     },
     Placed {
-        place: Place::Conclusion,
+        section: Section::Conclusion,
         line: b"conclusion BOUNDS 1 : x1 1",
         fault: 5,
     },
     Placed {
-        place: Place::Conclusion,
+        section: Section::Conclusion,
         line: b"conclusion BOUNDS INF -INF",
         fault: 5,
     },
     Placed {
-        place: Place::Conclusion,
+        section: Section::Conclusion,
         line: b"conclusion BOUNDS 1 2 3",
         fault: 5,
     },
     Placed {
-        place: Place::Conclusion,
+        section: Section::Conclusion,
         line: b"conclusion OPTIMAL",
         fault: 5,
     },
     Placed {
-        place: Place::Conclusion,
+        section: Section::Conclusion,
         line: b"pol 1",
         fault: 5,
     },
     Placed {
-        place: Place::Conclusion,
+        section: Section::Conclusion,
         line: b"end pseudo-Boolean proof",
         fault: 5,
     },
     Placed {
-        place: Place::Conclusion,
+        section: Section::Conclusion,
         line: b"conclusion UNSAT : 1329227995784915872903807060280344577",
         fault: 8,
     },
     Placed {
-        place: Place::Conclusion,
+        section: Section::Conclusion,
         line: b"conclusion BOUNDS 1329227995784915872903807060280344577 1",
         fault: 8,
     },
     Placed {
-        place: Place::Conclusion,
+        section: Section::Conclusion,
         line: b"conclusion BOUNDS 1 : 1329227995784915872903807060280344577 1",
         fault: 8,
     },
     Placed {
-        place: Place::End,
+        section: Section::End,
         line: b"end pseudo-Boolean proof ;",
         fault: 0,
     },
     Placed {
-        place: Place::End,
+        section: Section::End,
         line: b"end pseudo-Boolean",
         fault: 5,
     },
     Placed {
-        place: Place::After,
+        section: Section::After,
         line: b"end pseudo-Boolean proof",
         fault: 7,
     },
@@ -310,7 +310,7 @@ const LINES: [Placed; 58] = [
 fn faults_by_place(rt: HostRuntime) {
     for case in &LINES {
         assert_eq!(&rt;
-            fault_at(rt.alloc(), case.place, case.line),
+            fault_at(rt.alloc(), case.section, case.line),
             case.fault,
             "{case:?}"
         );
@@ -339,17 +339,17 @@ fn hint_length(line: &Line) -> Option<usize> {
 fn bounds_and_hints(rt: HostRuntime) -> Result<(), ProofFault> {
     let alloc = rt.alloc();
     let mut names = Names::new(alloc);
-    let place = Place::Conclusion;
+    let section = Section::Conclusion;
     let bounds = b"conclusion BOUNDS -3 : 7 INF : x1 ~x2";
-    assert!(&rt; is_hinted_bounds(&read_line(alloc, place, bounds, &mut names)?));
+    assert!(&rt; is_hinted_bounds(&read_line(alloc, section, bounds, &mut names)?));
     let empty = b"conclusion SAT :";
     assert_eq!(&rt;
-        hint_length(&read_line(alloc, place, empty, &mut names)?),
+        hint_length(&read_line(alloc, section, empty, &mut names)?),
         Some(0)
     );
     let none = b"conclusion SAT";
     assert_eq!(&rt;
-        hint_length(&read_line(alloc, place, none, &mut names)?),
+        hint_length(&read_line(alloc, section, none, &mut names)?),
         None
     );
     Ok(())

@@ -2,7 +2,7 @@
 
 use crate::asking::fault_at;
 use linear::Names;
-use proof_text::{Line, Place, ProofFault, ProofReader, read_line, read_step};
+use proof_text::{Line, ProofFault, ProofReader, Section, read_line, read_step};
 use proof_write::{write_end, write_step};
 use std::alloc::Global;
 
@@ -32,7 +32,7 @@ fn rewrite_end(
     names: &mut Names,
     out: &mut Vec<u8>,
 ) -> Result<(), ProofFault> {
-    match read_line(alloc, Place::Conclusion, line, names)? {
+    match read_line(alloc, Section::Conclusion, line, names)? {
         Line::Conclusion(conclusion) => Ok(write_end(&conclusion, names, out)?),
         _ => Err(ProofFault::BadLine),
     }
@@ -203,7 +203,7 @@ fn written_ends(rt: HostRuntime) -> Result<(), ProofFault> {
             "{case:?}"
         );
     }
-    assert_eq!(&rt; fault_at(rt.alloc(), Place::Step, b"output NONE"), 0);
+    assert_eq!(&rt; fault_at(rt.alloc(), Section::Step, b"output NONE"), 0);
     Ok(())
 }
 
@@ -220,18 +220,18 @@ fn a_written_proof(rt: HostRuntime) -> Result<(), ProofFault> {
         b"pseudo-Boolean proof version 2.0\nf 1\nsoli x1 ~x2\npol 1 2 +\noutput NONE\nconclusion BOUNDS 1 1\nend pseudo-Boolean proof\n";
     assert_eq!(&rt; out.as_slice(), wanted.as_slice());
     let mut reader = ProofReader::new(wanted);
-    let places = [
-        Place::Header,
-        Place::Count,
-        Place::Step,
-        Place::Step,
-        Place::Step,
-        Place::Conclusion,
-        Place::End,
+    let sections = [
+        Section::Header,
+        Section::Count,
+        Section::Step,
+        Section::Step,
+        Section::Step,
+        Section::Conclusion,
+        Section::End,
     ];
-    for place in &places {
+    for section in &sections {
         if let Some(line) = reader.next() {
-            assert_eq!(&rt; fault_at(alloc, *place, line.text), 0);
+            assert_eq!(&rt; fault_at(alloc, *section, line.text), 0);
         } else {
             assert!(&rt; false);
         }

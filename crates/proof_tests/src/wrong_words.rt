@@ -7,7 +7,7 @@
 //! the word may stand and the line is cut behind it.
 
 use crate::asking::fault_at;
-use proof_text::{Place, ProofFault};
+use proof_text::{ProofFault, Section};
 use std::alloc::Global;
 
 /// The words that are tried at each place, one for each kind: misspelt names, a name, a negated literal, integers, one that
@@ -42,7 +42,7 @@ const WORDS: [&[u8]; 24] = [
 /// What stands before the word, and the code for each of the words, in their order.
 #[derive(Clone, Copy, Debug)]
 struct Row {
-    place: Place,
+    section: Section,
     before: &'static [u8],
     codes: &'static [u8],
 }
@@ -50,487 +50,487 @@ struct Row {
 const ROWS: [Row; 96] = [
     // the first word of a line, and what stands behind one that is no rule or belongs elsewhere
     Row {
-        place: Place::Header,
+        section: Section::Header,
         before: b"",
         codes: b"111111111111111111111111",
     },
     Row {
-        place: Place::Count,
+        section: Section::Count,
         before: b"",
         codes: b"222222222222222222222222",
     },
     Row {
-        place: Place::Step,
+        section: Section::Step,
         before: b"",
         codes: b"333333333345555555555333",
     },
     Row {
-        place: Place::Conclusion,
+        section: Section::Conclusion,
         before: b"",
         codes: b"555555555555555555555555",
     },
     Row {
-        place: Place::End,
+        section: Section::End,
         before: b"",
         codes: b"555555555555555555555555",
     },
     Row {
-        place: Place::After,
+        section: Section::After,
         before: b"",
         codes: b"777777777777777777777777",
     },
     Row {
-        place: Place::Step,
+        section: Section::Step,
         before: b"foo",
         codes: b"333333333333333333333333",
     },
     Row {
-        place: Place::Step,
+        section: Section::Step,
         before: b"solx",
         codes: b"444444444444444444444444",
     },
     Row {
-        place: Place::Step,
+        section: Section::Step,
         before: b"begin",
         codes: b"444444444444444444444444",
     },
     Row {
-        place: Place::Step,
+        section: Section::Step,
         before: b"proofgoal",
         codes: b"444444444444444444444444",
     },
     Row {
-        place: Place::Step,
+        section: Section::Step,
         before: b"pseudo-Boolean",
         codes: b"555555555555555555555555",
     },
     Row {
-        place: Place::Step,
+        section: Section::Step,
         before: b"f",
         codes: b"555555555555555555555555",
     },
     Row {
-        place: Place::Step,
+        section: Section::Step,
         before: b"conclusion",
         codes: b"555555555555555555555555",
     },
     Row {
-        place: Place::Step,
+        section: Section::Step,
         before: b"end",
         codes: b"555555555555555555555555",
     },
     Row {
-        place: Place::Step,
+        section: Section::Step,
         before: b";",
         codes: b"555555555555555555555555",
     },
     Row {
-        place: Place::Step,
+        section: Section::Step,
         before: b">",
         codes: b"555555555555555555555555",
     },
     Row {
-        place: Place::Conclusion,
+        section: Section::Conclusion,
         before: b"pol",
         codes: b"555555555555555555555555",
     },
     Row {
-        place: Place::Conclusion,
+        section: Section::Conclusion,
         before: b"foo",
         codes: b"555555555555555555555555",
     },
     Row {
-        place: Place::Conclusion,
+        section: Section::Conclusion,
         before: b"solx",
         codes: b"555555555555555555555555",
     },
     Row {
-        place: Place::Conclusion,
+        section: Section::Conclusion,
         before: b"output",
         codes: b"555555555555555555555555",
     },
     Row {
-        place: Place::End,
+        section: Section::End,
         before: b"pol",
         codes: b"555555555555555555555555",
     },
     Row {
-        place: Place::End,
+        section: Section::End,
         before: b"conclusion",
         codes: b"555555555555555555555555",
     },
     Row {
-        place: Place::After,
+        section: Section::After,
         before: b"pol",
         codes: b"777777777777777777777777",
     },
     Row {
-        place: Place::After,
+        section: Section::After,
         before: b"end",
         codes: b"777777777777777777777777",
     },
     // the lines around the steps
     Row {
-        place: Place::Header,
+        section: Section::Header,
         before: b"pseudo-Boolean",
         codes: b"111111111111111111111111",
     },
     Row {
-        place: Place::Header,
+        section: Section::Header,
         before: b"pseudo-Boolean proof version",
         codes: b"111111111111111111111111",
     },
     Row {
-        place: Place::Header,
+        section: Section::Header,
         before: b"pseudo-Boolean proof version 2.0",
         codes: b"111111111110111111101111",
     },
     Row {
-        place: Place::Header,
+        section: Section::Header,
         before: b"pseudo-Boolean proof version 2.0 ;",
         codes: b"111111111111111111101111",
     },
     Row {
-        place: Place::Count,
+        section: Section::Count,
         before: b"f",
         codes: b"222200222222222222222222",
     },
     Row {
-        place: Place::Count,
+        section: Section::Count,
         before: b"f 3",
         codes: b"222222222220222222202222",
     },
     Row {
-        place: Place::Count,
+        section: Section::Count,
         before: b"f 3 ;",
         codes: b"222222222222222222202222",
     },
     Row {
-        place: Place::Step,
+        section: Section::Step,
         before: b"output",
         codes: b"444444444445555555554444",
     },
     Row {
-        place: Place::Step,
+        section: Section::Step,
         before: b"output NONE",
         codes: b"555555555550555555505555",
     },
     Row {
-        place: Place::Step,
+        section: Section::Step,
         before: b"output NONE ;",
         codes: b"555555555555555555505555",
     },
     Row {
-        place: Place::End,
+        section: Section::End,
         before: b"end",
         codes: b"555555555555555555555555",
     },
     Row {
-        place: Place::End,
+        section: Section::End,
         before: b"end pseudo-Boolean",
         codes: b"555555555555555555555555",
     },
     Row {
-        place: Place::End,
+        section: Section::End,
         before: b"end pseudo-Boolean proof",
         codes: b"555555555550555555505555",
     },
     Row {
-        place: Place::End,
+        section: Section::End,
         before: b"end pseudo-Boolean proof ;",
         codes: b"555555555555555555505555",
     },
     // `pol`, `sol`, `soli` and `del`
     Row {
-        place: Place::Step,
+        section: Section::Step,
         before: b"pol",
         codes: b"550000850500555555505505",
     },
     Row {
-        place: Place::Step,
+        section: Section::Step,
         before: b"p 1 *",
         codes: b"550000850500555555505505",
     },
     Row {
-        place: Place::Step,
+        section: Section::Step,
         before: b"pol 1 +",
         codes: b"550000850500555555505505",
     },
     Row {
-        place: Place::Step,
+        section: Section::Step,
         before: b"pol ~x1",
         codes: b"550000850500555555505505",
     },
     Row {
-        place: Place::Step,
+        section: Section::Step,
         before: b"pol 1",
         codes: b"550000850500555555500005",
     },
     Row {
-        place: Place::Step,
+        section: Section::Step,
         before: b"pol x1",
         codes: b"550000850500555555505500",
     },
     Row {
-        place: Place::Step,
+        section: Section::Step,
         before: b"pol 1 ;",
         codes: b"555555555555555555505555",
     },
     Row {
-        place: Place::Step,
+        section: Section::Step,
         before: b"pol x",
         codes: b"555555555555555555555555",
     },
     Row {
-        place: Place::Step,
+        section: Section::Step,
         before: b"sol",
         codes: b"550055555500555555505555",
     },
     Row {
-        place: Place::Step,
+        section: Section::Step,
         before: b"sol ~x1",
         codes: b"550055555500555555505555",
     },
     Row {
-        place: Place::Step,
+        section: Section::Step,
         before: b"sol x1 ;",
         codes: b"555555555555555555505555",
     },
     Row {
-        place: Place::Step,
+        section: Section::Step,
         before: b"soli",
         codes: b"550055555500555555505555",
     },
     Row {
-        place: Place::Step,
+        section: Section::Step,
         before: b"soli x3",
         codes: b"550055555500555555505555",
     },
     Row {
-        place: Place::Step,
+        section: Section::Step,
         before: b"soli ;",
         codes: b"555555555555555555505555",
     },
     Row {
-        place: Place::Step,
+        section: Section::Step,
         before: b"del",
         codes: b"555555555555555555555555",
     },
     Row {
-        place: Place::Step,
+        section: Section::Step,
         before: b"del range",
         codes: b"444444444444444444444444",
     },
     Row {
-        place: Place::Step,
+        section: Section::Step,
         before: b"del spec",
         codes: b"444444444444444444444444",
     },
     Row {
-        place: Place::Step,
+        section: Section::Step,
         before: b"del id",
         codes: b"555500855550555555505555",
     },
     Row {
-        place: Place::Step,
+        section: Section::Step,
         before: b"del id 3",
         codes: b"555500855550555555505555",
     },
     Row {
-        place: Place::Step,
+        section: Section::Step,
         before: b"del id ;",
         codes: b"555555555555555555505555",
     },
     // `rup` and `red`, up to the `;` behind the constraint and behind it
     Row {
-        place: Place::Step,
+        section: Section::Step,
         before: b"rup",
         codes: b"555555855555554455555555",
     },
     Row {
-        place: Place::Step,
+        section: Section::Step,
         before: b"u",
         codes: b"555555855555554455555555",
     },
     Row {
-        place: Place::Step,
+        section: Section::Step,
         before: b"red",
         codes: b"555555855555554455555555",
     },
     Row {
-        place: Place::Step,
+        section: Section::Step,
         before: b"rup 2",
         codes: b"555555555555555555555555",
     },
     Row {
-        place: Place::Step,
+        section: Section::Step,
         before: b"red 2",
         codes: b"555555555555555555555555",
     },
     Row {
-        place: Place::Step,
+        section: Section::Step,
         before: b"rup 2 ~x1",
         codes: b"555555855555554455555555",
     },
     Row {
-        place: Place::Step,
+        section: Section::Step,
         before: b"red 2 x1",
         codes: b"555555855555554455555555",
     },
     Row {
-        place: Place::Step,
+        section: Section::Step,
         before: b"rup 2 x1 >=",
         codes: b"555555855555555555555555",
     },
     Row {
-        place: Place::Step,
+        section: Section::Step,
         before: b"red >=",
         codes: b"555555855555555555555555",
     },
     Row {
-        place: Place::Step,
+        section: Section::Step,
         before: b"rup 2 x1 >= 1",
         codes: b"555555555550055555555555",
     },
     Row {
-        place: Place::Step,
+        section: Section::Step,
         before: b"red 2 x1 >= 1",
         codes: b"555555555550555555555555",
     },
     Row {
-        place: Place::Step,
+        section: Section::Step,
         before: b"rup 2 x1 >= 1 ;",
         codes: b"000000000000000000000000",
     },
     Row {
-        place: Place::Step,
+        section: Section::Step,
         before: b"rup >= 1 ; 7 ;",
         codes: b"000000000000000000000000",
     },
     // the substitution of `red`
     Row {
-        place: Place::Step,
+        section: Section::Step,
         before: b"red >= 1 ;",
         codes: b"555555555550455555505555",
     },
     Row {
-        place: Place::Step,
+        section: Section::Step,
         before: b"red >= 1 ; x3",
         codes: b"550005555505555555555555",
     },
     Row {
-        place: Place::Step,
+        section: Section::Step,
         before: b"red >= 1 ; x3 ->",
         codes: b"550005555505555555555555",
     },
     Row {
-        place: Place::Step,
+        section: Section::Step,
         before: b"red >= 1 ; x3 -> 1",
         codes: b"555555555550455555505555",
     },
     Row {
-        place: Place::Step,
+        section: Section::Step,
         before: b"red >= 1 ; x3 ~x4",
         codes: b"555555555550455555505555",
     },
     Row {
-        place: Place::Step,
+        section: Section::Step,
         before: b"red >= 1 ; x3 -> 1 x3",
         codes: b"555555555555555555555555",
     },
     Row {
-        place: Place::Step,
+        section: Section::Step,
         before: b"red >= 1 ; x3 0 x4 x3 x3 ->",
         codes: b"555555555555555555555555",
     },
     Row {
-        place: Place::Step,
+        section: Section::Step,
         before: b"red >= 1 ; x3 -> 1 ;",
         codes: b"555555555545555555505555",
     },
     Row {
-        place: Place::Step,
+        section: Section::Step,
         before: b"red >= 1 ; ;",
         codes: b"555555555545555555505555",
     },
     // conclusions
     Row {
-        place: Place::Conclusion,
+        section: Section::Conclusion,
         before: b"conclusion",
         codes: b"555555555555555555555555",
     },
     Row {
-        place: Place::Conclusion,
+        section: Section::Conclusion,
         before: b"conclusion NONE",
         codes: b"555555555550555555505555",
     },
     Row {
-        place: Place::Conclusion,
+        section: Section::Conclusion,
         before: b"conclusion NONE ;",
         codes: b"555555555555555555505555",
     },
     Row {
-        place: Place::Conclusion,
+        section: Section::Conclusion,
         before: b"conclusion SAT",
         codes: b"555555555550505555505555",
     },
     Row {
-        place: Place::Conclusion,
+        section: Section::Conclusion,
         before: b"conclusion SAT :",
         codes: b"550055555500555555505555",
     },
     Row {
-        place: Place::Conclusion,
+        section: Section::Conclusion,
         before: b"conclusion SAT : x1",
         codes: b"550055555500555555505555",
     },
     Row {
-        place: Place::Conclusion,
+        section: Section::Conclusion,
         before: b"conclusion UNSAT",
         codes: b"555555555550555555505555",
     },
     Row {
-        place: Place::Conclusion,
+        section: Section::Conclusion,
         before: b"conclusion UNSAT :",
         codes: b"555500855555555555555555",
     },
     Row {
-        place: Place::Conclusion,
+        section: Section::Conclusion,
         before: b"conclusion UNSAT : 3",
         codes: b"555555555550555555505555",
     },
     Row {
-        place: Place::Conclusion,
+        section: Section::Conclusion,
         before: b"conclusion BOUNDS",
         codes: b"555555855555555555555555",
     },
     Row {
-        place: Place::Conclusion,
+        section: Section::Conclusion,
         before: b"conclusion BOUNDS -INF",
         codes: b"555500855555555555555555",
     },
     Row {
-        place: Place::Conclusion,
+        section: Section::Conclusion,
         before: b"conclusion BOUNDS 3",
         codes: b"555500855555555555555555",
     },
     Row {
-        place: Place::Conclusion,
+        section: Section::Conclusion,
         before: b"conclusion BOUNDS 3 :",
         codes: b"555555855555555555555555",
     },
     Row {
-        place: Place::Conclusion,
+        section: Section::Conclusion,
         before: b"conclusion BOUNDS 3 : 4",
         codes: b"555500855555555555555555",
     },
     Row {
-        place: Place::Conclusion,
+        section: Section::Conclusion,
         before: b"conclusion BOUNDS 3 5",
         codes: b"555555555550505555505555",
     },
     Row {
-        place: Place::Conclusion,
+        section: Section::Conclusion,
         before: b"conclusion BOUNDS INF : 4 INF :",
         codes: b"550055555500555555505555",
     },
@@ -539,7 +539,7 @@ const ROWS: [Row; 96] = [
 /// The number of the fault of a line of these parts, with spaces between them.
 fn fault_of_parts(
     alloc: Global,
-    place: Place,
+    section: Section,
     before: &[u8],
     word: &[u8],
     behind: &[u8],
@@ -550,7 +550,7 @@ fn fault_of_parts(
     line.extend_from_slice(word)?;
     line.push(b' ')?;
     line.extend_from_slice(behind)?;
-    Ok(fault_at(alloc, place, line.as_slice()))
+    Ok(fault_at(alloc, section, line.as_slice()))
 }
 
 /// The code of a line that goes on with a word which stands nowhere: where the line was complete, that word is the first
@@ -559,9 +559,9 @@ fn code_with_more(row: &Row, code: u8) -> u8 {
     if code != 0 || row.before.starts_with(b"rup") {
         return code;
     }
-    match row.place {
-        Place::Header => 1,
-        Place::Count => 2,
+    match row.section {
+        Section::Header => 1,
+        Section::Count => 2,
         _ => 5,
     }
 }
@@ -570,8 +570,8 @@ fn code_with_more(row: &Row, code: u8) -> u8 {
 fn first_difference(alloc: Global, row: &Row) -> Result<Option<usize>, ProofFault> {
     for (i, (word, code)) in WORDS.iter().zip(row.codes.iter()).enumerate() {
         let wanted = code.wrapping_sub(b'0');
-        let found = fault_of_parts(alloc, row.place, row.before, word, b"")?;
-        let more = fault_of_parts(alloc, row.place, row.before, word, b"<")?;
+        let found = fault_of_parts(alloc, row.section, row.before, word, b"")?;
+        let more = fault_of_parts(alloc, row.section, row.before, word, b"<")?;
         if found != wanted || more != code_with_more(row, wanted) {
             return Ok(Some(i));
         }

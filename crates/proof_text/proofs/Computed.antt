@@ -19,13 +19,13 @@ use Rattle.proof_text.specs.Words.{words, IsSmall, AreSmall}
 use Rattle.proof_text.specs.Spells.{line_of, measured, IsProperLine, IsLine}
 use Rattle.proof_text.specs.declared.line.Line.{Line}
 use Rattle.proof_text.specs.declared.line.Line.TheVariants as lines
-use Rattle.proof_text.specs.declared.line.Place.{Place}
+use Rattle.proof_text.specs.declared.line.Section.{Section}
 use Rattle.proof_text.specs.Numbering.{names_in}
 use Rattle.proof_text.specs.Spells.{naming}
 use Rattle.proof_text.specs.Cases.{variable, SpellsNothing}
 
-pub nothing : (place : Place) (text : List ℕ) → ((names : List (List ℕ)) → line_of place names (words text) ≡ None) → SpellsNothing place text
-nothing place text h old line new l =
+pub nothing : (section : Section) (text : List ℕ) → ((names : List (List ℕ)) → line_of section names (words text) ≡ None) → SpellsNothing section text
+nothing section text h old line new l =
     let both : ◌≡◌ {A = Option Line} None (Some line) = sym (h new) ∙ l.says in
     absurd cc
 
@@ -73,7 +73,7 @@ twice_left c x line says proper =
     once 0 1 (x, images.One) (omega arith) (omega arith) refl
 
 -- a line is what its words say, each condition by computing
-pub spells : {place : Place} {old ws : List (List ℕ)} {line : Line} {new : List (List ℕ)}
-    → new ≡ names_in old (naming place ws) → line_of place new ws ≡ Some line → IsProperLine line → list_all is_small (measured place ws) ≡ true → length new ≤ most_names
-    → IsLine place old ws line new
-spells {place} {old} {ws} n s p m few = record { names = n; few = few; says = s; proper = p; small = all_small (measured place ws) m }
+pub spells : {section : Section} {old ws : List (List ℕ)} {line : Line} {new : List (List ℕ)}
+    → new ≡ names_in old (naming section ws) → line_of section new ws ≡ Some line → IsProperLine line → list_all is_small (measured section ws) ≡ true → length new ≤ most_names
+    → IsLine section old ws line new
+spells {section} {old} {ws} n s p m few = record { names = n; few = few; says = s; proper = p; small = all_small (measured section ws) m }

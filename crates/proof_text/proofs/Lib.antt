@@ -14,7 +14,7 @@ pub mod NamesOnLeft
 pub mod StepsRead
 pub mod CountLine
 pub mod ConclusionsRead
-pub mod LinesAtPlaces
+pub mod LinesOfSections
 pub mod OneReading
 pub mod Computed
 mod ProofsComputed

@@ -4,8 +4,8 @@ use Rattle.proof_steps.specs.declared.step.Step.{Step}
 use Rattle.proof_steps.specs.declared.conclusion.Conclusion.{Conclusion}
 use Rattle.proof_text.specs.declared.line.Line.{Line}
 use Rattle.proof_text.specs.declared.line.Line.TheVariants as lines
-use Rattle.proof_text.specs.declared.line.Place.{Place}
-use Rattle.proof_text.specs.declared.line.Place.TheVariants as places
+use Rattle.proof_text.specs.declared.line.Section.{Section}
+use Rattle.proof_text.specs.declared.line.Section.TheVariants as sections
 use Rattle.proof_text.specs.Lines.{Numbered}
 use Rattle.proof_text.specs.Words.{words}
 use Rattle.proof_text.specs.Spells.{line_of, IsLine}
@@ -14,10 +14,10 @@ use Rattle.proof_text.specs.ProofSpells.{AreSteps, SpellsProof}
 one_value : (x y : Line) → ◌≡◌ {A = Option Line} (Some x) (Some y) → x ≡ y
 one_value x y e = cc
 
-pub one_line : (place : Place) (old ws : List (List ℕ)) (x y : Line) (n m : List (List ℕ)) → IsLine place old ws x n → IsLine place old ws y m → (x ≡ y) × (n ≡ m)
-one_line place old ws x y n m a b =
+pub one_line : (section : Section) (old ws : List (List ℕ)) (x y : Line) (n m : List (List ℕ)) → IsLine section old ws x n → IsLine section old ws y m → (x ≡ y) × (n ≡ m)
+one_line section old ws x y n m a b =
     let names : n ≡ m = a.names ∙ sym b.names in
-    (one_value x y (sym a.says ∙ ap (λ t. line_of place t ws) names ∙ b.says), names)
+    (one_value x y (sym a.says ∙ ap (λ t. line_of section t ws) names ∙ b.says), names)
 
 one_step : (x y : Step) → lines.Step x ≡ lines.Step y → x ≡ y
 one_step x y e = cc
@@ -38,7 +38,7 @@ one_list_of_steps old [] (x ∷ xs) ys n m a b = absurd a
 one_list_of_steps old (l ∷ ls) [] ys n m a b = absurd a
 one_list_of_steps old (l ∷ ls) (x ∷ xs) [] n m a b = absurd b
 one_list_of_steps old (l ∷ ls) (x ∷ xs) (y ∷ ys) n m a b =
-    let first = one_line places.Step old (words l.text) (lines.Step x) (lines.Step y) a.0 b.0 a.1 b.1 in
+    let first = one_line sections.Step old (words l.text) (lines.Step x) (lines.Step y) a.0 b.0 a.1 b.1 in
     let rest = one_list_of_steps a.0 ls xs ys n m a.2 (subst (λ t. AreSteps t ls ys m) (sym first.1) b.2) in
     (same_lists x y xs ys (one_step x y first.0) rest.0, rest.1)
 
@@ -72,12 +72,12 @@ pub one_proof : (text : List ℕ) (file : List (List ℕ)) (count other : ℤ) (
 one_proof text file count other xs ys c d p q =
     let two = behind_two p.header p.counted q.header q.counted (p.between ++ p.output ∷ p.concluded ∷ p.ended ∷ []) (q.between ++ q.output ∷ q.concluded ∷ q.ended ∷ []) (sym p.in_order ∙ q.in_order) in
     let parts = one_parting p.between q.between p.output p.concluded p.ended q.output q.concluded q.ended two.1 in
-    let counted = one_line places.Count file (words p.counted.text) (lines.Count count) (lines.Count other) file file p.count_is
-    (subst (λ (l : Numbered). IsLine places.Count file (words l.text) (lines.Count other) file) (sym two.0) q.count_is) in
+    let counted = one_line sections.Count file (words p.counted.text) (lines.Count count) (lines.Count other) file file p.count_is
+    (subst (λ (l : Numbered). IsLine sections.Count file (words l.text) (lines.Count other) file) (sym two.0) q.count_is) in
     let steps = one_list_of_steps file p.between xs ys p.named q.named p.steps_are (subst (λ ls. AreSteps file ls ys q.named) (sym parts.0) q.steps_are) in
-    let output = one_line places.Step p.named (words p.output.text) lines.Output lines.Output p.after q.after p.output_is
-    (subst (λ n. IsLine places.Step n (words p.output.text) lines.Output q.after) (sym steps.1) (subst (λ (l : Numbered). IsLine places.Step q.named (words l.text) lines.Output q.after) (sym parts.1) q.output_is)) in
-    let concluded = one_line places.Conclusion p.after (words p.concluded.text) (lines.Conclusion c) (lines.Conclusion d) p.all q.all p.conclusion_is
-    (subst (λ n. IsLine places.Conclusion n (words p.concluded.text) (lines.Conclusion d) q.all) (sym output.1)
-    (subst (λ (l : Numbered). IsLine places.Conclusion q.after (words l.text) (lines.Conclusion d) q.all) (sym parts.2) q.conclusion_is)) in
+    let output = one_line sections.Step p.named (words p.output.text) lines.Output lines.Output p.after q.after p.output_is
+    (subst (λ n. IsLine sections.Step n (words p.output.text) lines.Output q.after) (sym steps.1) (subst (λ (l : Numbered). IsLine sections.Step q.named (words l.text) lines.Output q.after) (sym parts.1) q.output_is)) in
+    let concluded = one_line sections.Conclusion p.after (words p.concluded.text) (lines.Conclusion c) (lines.Conclusion d) p.all q.all p.conclusion_is
+    (subst (λ n. IsLine sections.Conclusion n (words p.concluded.text) (lines.Conclusion d) q.all) (sym output.1)
+    (subst (λ (l : Numbered). IsLine sections.Conclusion q.after (words l.text) (lines.Conclusion d) q.all) (sym parts.2) q.conclusion_is)) in
     (one_number count other counted.0, steps.0, one_conclusion c d concluded.0)

@@ -16,7 +16,7 @@ use Rattle.proof_text.specs.Spells.{line_of, measured, IsLine}
 use Rattle.proof_text.specs.ProofSpells.{SpellsProof}
 use Rattle.proof_text.specs.declared.line.Line.{Line}
 use Rattle.proof_text.specs.declared.line.Line.TheVariants as lines
-use Rattle.proof_text.specs.declared.line.Place.TheVariants.{Step as StepPlace, Conclusion as ConclusionPlace, End}
+use Rattle.proof_text.specs.declared.line.Section.TheVariants.{Step as StepPlace, Conclusion as ConclusionPlace, End}
 use Rattle.proof_text.specs.Cases.{file, variable, plain, negated, line_at, improving_proof, improving_steps, one_and_one, growing_proof, growing_steps, growing_conclusion, IsNoProof}
 use Rattle.proof_text.proofs.Computed.{spells, all_small}
 

@@ -32,8 +32,8 @@ use Rattle.proof_text.specs.Steps.{constraint_of, rup_by, red_by, red_with, is_d
 use Rattle.proof_text.specs.Conclusions.{conclusion_kind_of, is_hint, hint_of, hinted, past_id, is_id_hint, is_lower, lower_of, is_upper, upper_of, bounds_by, bounds_of, conclusion_by, literals_by, conclusion_said, literals_said, conclusion_of, conclusion_literals}
 use Rattle.proof_text.specs.declared.line.Line.{Line}
 use Rattle.proof_text.specs.declared.line.Line.TheVariants as lines
-use Rattle.proof_text.specs.declared.line.Place.{Place}
-use Rattle.proof_text.specs.declared.line.Place.TheVariants as places
+use Rattle.proof_text.specs.declared.line.Section.{Section}
+use Rattle.proof_text.specs.declared.line.Section.TheVariants as sections
 use Rattle.proof_text.specs.Frame.{header, count_of, output, ending}
 use Rattle.proof_text.specs.Spells.{line_of, naming, measured, IsLine}
 use Rattle.proof_text.specs.Writable.{IsLineWritable, IsWritable, IsNamed, IsTermWritable, IsConstraintWritable, IsItemWritable, IsImageWritable, IsPairWritable, IsLitWritable, IsStepWritable, IsLowerWritable, IsUpperWritable, IsHintWritable, IsConclusionWritable}
@@ -394,14 +394,14 @@ conclusion_writable old ws new c n h s = by (is_first (codes "conclusion") ws) h
     by false h = cc
 
 -- so can whatever a line says
-said_writable : (place : Place) (old ws new : List (List ℕ)) (line : Line) → new ≡ names_in old (naming place ws) → line_of place new ws ≡ Some line → AreSmall (measured place ws) → IsLineWritable (length new) line
-said_writable places.Header old ws new line n h s = chosen (IsLineWritable (length new)) (are_words header (unclosed ws)) lines.Header line h (λ t. tt)
-said_writable places.Count old ws new line n h s = by (count_of (unclosed ws)) h
+said_writable : (section : Section) (old ws new : List (List ℕ)) (line : Line) → new ≡ names_in old (naming section ws) → line_of section new ws ≡ Some line → AreSmall (measured section ws) → IsLineWritable (length new) line
+said_writable sections.Header old ws new line n h s = chosen (IsLineWritable (length new)) (are_words header (unclosed ws)) lines.Header line h (λ t. tt)
+said_writable sections.Count old ws new line n h s = by (count_of (unclosed ws)) h
   where
     by : (o : Option ℤ) → option_map (λ m. lines.Count m) o ≡ Some line → IsLineWritable (length new) line
     by None e = cc
     by (Some m) e = let same : lines.Count m ≡ line = cc in subst (IsLineWritable (length new)) same tt
-said_writable places.Step old ws new line n h s = by (are_words output (unclosed ws)) (step_of new ws) refl h
+said_writable sections.Step old ws new line n h s = by (are_words output (unclosed ws)) (step_of new ws) refl h
   where
     by : (t : Bool) (o : Option Step) → step_of new ws ≡ o → (if t then Some lines.Output else option_map (λ x. lines.Step x) o) ≡ Some line → IsLineWritable (length new) line
     by true o e f = let same : lines.Output ≡ line = cc in subst (IsLineWritable (length new)) same tt
@@ -409,15 +409,15 @@ said_writable places.Step old ws new line n h s = by (are_words output (unclosed
     by false (Some step) e f =
         let same : lines.Step step ≡ line = cc in
         subst (IsLineWritable (length new)) same (words_writable new ws step e (subst (λ m. HasNames m (counted ws)) (sym n) (has_names old (counted ws))) s)
-said_writable places.Conclusion old ws new line n h s = by (conclusion_of new ws) refl h
+said_writable sections.Conclusion old ws new line n h s = by (conclusion_of new ws) refl h
   where
     by : (o : Option Conclusion) → conclusion_of new ws ≡ o → option_map (λ x. lines.Conclusion x) o ≡ Some line → IsLineWritable (length new) line
     by None e f = cc
     by (Some c) e f =
         let same : lines.Conclusion c ≡ line = cc in
         subst (IsLineWritable (length new)) same (conclusion_writable old ws new c n e s)
-said_writable places.End old ws new line n h s = chosen (IsLineWritable (length new)) (are_words ending (unclosed ws)) lines.End line h (λ t. tt)
-said_writable places.After old ws new line n h s = cc
+said_writable sections.End old ws new line n h s = chosen (IsLineWritable (length new)) (are_words ending (unclosed ws)) lines.End line h (λ t. tt)
+said_writable sections.After old ws new line n h s = cc
 
-pub line_writable : (place : Place) (old ws new : List (List ℕ)) (line : Line) → IsLine place old ws line new → IsLineWritable (length new) line
-line_writable place old ws new line r = said_writable place old ws new line r.names r.says r.small
+pub line_writable : (section : Section) (old ws new : List (List ℕ)) (line : Line) → IsLine section old ws line new → IsLineWritable (length new) line
+line_writable section old ws new line r = said_writable section old ws new line r.names r.says r.small

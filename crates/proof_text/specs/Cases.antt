@@ -17,7 +17,7 @@ use Rattle.proof_text.specs.Lines.{Numbered, lines_of}
 use Rattle.proof_text.specs.Spells.{IsLine}
 use Rattle.proof_text.specs.ProofSpells.{SpellsProof}
 use Rattle.proof_text.specs.declared.line.Line.{Line}
-use Rattle.proof_text.specs.declared.line.Place.{Place}
+use Rattle.proof_text.specs.declared.line.Section.{Section}
 
 -- the names of the file
 abbrev pub file : List (List ℕ)
@@ -42,13 +42,13 @@ at_least ts right = record { terms = ts; relation = AtLeast; right = right }
 abbrev pub minus : ℕ → ℤ
 minus n = neg_ℤ (pos n)
 
--- the line spells this at its place, and leaves these names
-abbrev pub Spells : Place → List ℕ → Line → List (List ℕ) → Type 0
-Spells place text line names = IsLine place file (words text) line names
+-- the line spells this at its section, and leaves these names
+abbrev pub Spells : Section → List ℕ → Line → List (List ℕ) → Type 0
+Spells section text line names = IsLine section file (words text) line names
 
--- the line spells nothing at its place, whatever names there are
-abbrev pub SpellsNothing : Place → List ℕ → Type 0
-SpellsNothing place text = (old : List (List ℕ)) (line : Line) (new : List (List ℕ)) → IsLine place old (words text) line new → ⊥
+-- the line spells nothing at its section, whatever names there are
+abbrev pub SpellsNothing : Section → List ℕ → Type 0
+SpellsNothing section text = (old : List (List ℕ)) (line : Line) (new : List (List ℕ)) → IsLine section old (words text) line new → ⊥
 
 -- a line with its number
 abbrev pub line_at : ℕ → List ℕ → Numbered

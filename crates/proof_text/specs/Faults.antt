@@ -1,8 +1,8 @@
 -- What the faults of a line say of it.
 use Rattle.std.specs.Prelude.{◌≡◌, ℕ, ◌<◌, Some, List, length, codes, ⊤}
 use Rattle.proof_steps.specs.declared.step.Step.{Step}
-use Rattle.proof_text.specs.declared.line.Place.{Place}
-use Rattle.proof_text.specs.declared.line.Place.TheVariants as places
+use Rattle.proof_text.specs.declared.line.Section.{Section}
+use Rattle.proof_text.specs.declared.line.Section.TheVariants as sections
 use Rattle.proof_text.specs.declared.line.Line.{Line}
 use Rattle.proof_text.specs.declared.fault.ProofFault.{ProofFault}
 use Rattle.proof_text.specs.declared.fault.ProofFault.TheVariants as faults
@@ -48,29 +48,29 @@ SomeStep names ws = (step : Step) × (step_of (names_in names (counted ws)) ws �
 abbrev pub DeniesStep : ProofFault → List (List ℕ) → List (List ℕ) → Type 0
 DeniesStep fault names ws = DeniesBy fault (NoStep names ws) (SomeStep names ws) (counted ws) (names_in names (counted ws))
 
--- the words of a line are nothing at their place, or they are something
-abbrev pub NoLine : Place → List (List ℕ) → List (List ℕ) → Type 0
-NoLine place names ws = (line : Line) → line_of place (names_in names (naming place ws)) ws ≡ Some line → IsProperLine line → ⊥
+-- the words of a line are nothing at their section, or they are something
+abbrev pub NoLine : Section → List (List ℕ) → List (List ℕ) → Type 0
+NoLine section names ws = (line : Line) → line_of section (names_in names (naming section ws)) ws ≡ Some line → IsProperLine line → ⊥
 
-abbrev pub SomeLine : Place → List (List ℕ) → List (List ℕ) → Type 0
-SomeLine place names ws = (line : Line) × (line_of place (names_in names (naming place ws)) ws ≡ Some line) × IsProperLine line
+abbrev pub SomeLine : Section → List (List ℕ) → List (List ℕ) → Type 0
+SomeLine section names ws = (line : Line) × (line_of section (names_in names (naming section ws)) ws ≡ Some line) × IsProperLine line
 
 -- what a fault says of a line among the steps, or of a conclusion or an end
-abbrev pub DeniesPlaced : ProofFault → Place → List (List ℕ) → List (List ℕ) → Type 0
-DeniesPlaced fault place names ws =
-    DeniesBy fault (NoLine place names ws) (SomeLine place names ws) (measured place ws) (names_in names (naming place ws))
+abbrev pub DeniesPlaced : ProofFault → Section → List (List ℕ) → List (List ℕ) → Type 0
+DeniesPlaced fault section names ws =
+    DeniesBy fault (NoLine section names ws) (SomeLine section names ws) (measured section ws) (names_in names (naming section ws))
 
--- What a fault says of a line at its place, `names` being the table before it. At the header the one fault is BadHeader:
+-- What a fault says of a line at its section, `names` being the table before it. At the header the one fault is BadHeader:
 -- the line is no header. At the count it is BadCount: the line is no count, or its integer is too large. At the conclusion
 -- no rule is unknown or left out. Behind the end the fault is TextAfterEnd.
-unfoldable pub DeniesLine : ProofFault → Place → List (List ℕ) → List (List ℕ) → Type 0
-DeniesLine fault places.Header names ws = (fault ≡ faults.BadHeader) × NoLine places.Header names ws
-DeniesLine fault places.Count names ws =
-    (fault ≡ faults.BadCount) × ((line : Line) → line_of places.Count names ws ≡ Some line → AreSmall (measured places.Count ws) → ⊥)
-DeniesLine fault places.Step names ws = DeniesPlaced fault places.Step names ws
-DeniesLine fault places.Conclusion names ws = IsPlain fault × DeniesPlaced fault places.Conclusion names ws
-DeniesLine fault places.End names ws = (fault ≡ faults.BadLine) × NoLine places.End names ws
-DeniesLine fault places.After names ws = fault ≡ faults.TextAfterEnd
+unfoldable pub DeniesLine : ProofFault → Section → List (List ℕ) → List (List ℕ) → Type 0
+DeniesLine fault sections.Header names ws = (fault ≡ faults.BadHeader) × NoLine sections.Header names ws
+DeniesLine fault sections.Count names ws =
+    (fault ≡ faults.BadCount) × ((line : Line) → line_of sections.Count names ws ≡ Some line → AreSmall (measured sections.Count ws) → ⊥)
+DeniesLine fault sections.Step names ws = DeniesPlaced fault sections.Step names ws
+DeniesLine fault sections.Conclusion names ws = IsPlain fault × DeniesPlaced fault sections.Conclusion names ws
+DeniesLine fault sections.End names ws = (fault ≡ faults.BadLine) × NoLine sections.End names ws
+DeniesLine fault sections.After names ws = fault ≡ faults.TextAfterEnd
 
 -- the number that stands for a fault
 abbrev pub number_of : ProofFault → ℕ

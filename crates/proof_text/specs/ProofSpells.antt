@@ -3,7 +3,7 @@ use Rattle.std.specs.Prelude.{◌≡◌, ℕ, ℤ, List, [], ◌∷◌, ◌++◌
 use Rattle.proof_steps.specs.declared.step.Step.{Step}
 use Rattle.proof_steps.specs.declared.conclusion.Conclusion.{Conclusion}
 use Rattle.proof_text.specs.declared.line.Line.TheVariants as lines
-use Rattle.proof_text.specs.declared.line.Place.TheVariants as places
+use Rattle.proof_text.specs.declared.line.Section.TheVariants as sections
 use Rattle.proof_text.specs.Lines.{Numbered, lines_of}
 use Rattle.proof_text.specs.Words.{words}
 use Rattle.proof_text.specs.Spells.{IsLine}
@@ -12,7 +12,7 @@ use Rattle.proof_text.specs.Spells.{IsLine}
 abbrev pub AreSteps : List (List ℕ) → List Numbered → List Step → List (List ℕ) → Type 0
 AreSteps old [] [] new = new ≡ old
 AreSteps old (line ∷ rest) (step ∷ more) new =
-    (between : List (List ℕ)) × IsLine places.Step old (words line.text) (lines.Step step) between × AreSteps between rest more new
+    (between : List (List ℕ)) × IsLine sections.Step old (words line.text) (lines.Step step) between × AreSteps between rest more new
 AreSteps old _ _ new = ⊥
 
 -- The lines of the text that count are, in order: the header, the count, a line for each step, the output line, the
@@ -28,9 +28,9 @@ pub record SpellsProof (text : List ℕ) (file : List (List ℕ)) (count : ℤ) 
   pub named : List (List ℕ)
   pub after : List (List ℕ)
   pub all : List (List ℕ)
-  pub header_is : IsLine places.Header file (words header.text) lines.Header file
-  pub count_is : IsLine places.Count file (words counted.text) (lines.Count count) file
+  pub header_is : IsLine sections.Header file (words header.text) lines.Header file
+  pub count_is : IsLine sections.Count file (words counted.text) (lines.Count count) file
   pub steps_are : AreSteps file between steps named
-  pub output_is : IsLine places.Step named (words output.text) lines.Output after
-  pub conclusion_is : IsLine places.Conclusion after (words concluded.text) (lines.Conclusion c) all
-  pub end_is : IsLine places.End all (words ended.text) lines.End all
+  pub output_is : IsLine sections.Step named (words output.text) lines.Output after
+  pub conclusion_is : IsLine sections.Conclusion after (words concluded.text) (lines.Conclusion c) all
+  pub end_is : IsLine sections.End all (words ended.text) lines.End all

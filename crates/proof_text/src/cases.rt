@@ -12,145 +12,145 @@ ghost use Rattle.proof_steps.specs.declared.conclusion.Lower.TheVariants as lowe
 ghost use Rattle.proof_steps.specs.declared.conclusion.Upper.TheVariants as uppers;
 ghost use Rattle.proof_steps.specs.declared.conclusion.Conclusion.TheVariants as conclusions;
 ghost use Rattle.proof_text.specs.declared.line.Line.TheVariants as lines;
-ghost use Rattle.proof_text.specs.declared.line.Place.TheVariants as places;
+ghost use Rattle.proof_text.specs.declared.line.Section.TheVariants as sections;
 ghost use Rattle.proof_text.specs.ProofSpells.{SpellsProof};
 ghost use Rattle.proof_text.specs.Cases.{file, variable, plain, negated, term, at_least, minus, Spells, SpellsNothing, line_at, AreLines, improving_proof, improving_steps, one_and_one, growing_proof, growing_steps, growing_conclusion, IsNoProof};
 
 /// `pol`: an integer directly before `*` or `d` belongs to it, and a name before `w`. `x3`, `zz` and others are names that the file has not:
 /// they are numbered behind its own, in order of first occurrence. An integer may be as large as 2^120.
 pub fn expressions()
-    ensures all_items { Spells places.Step (codes "pol 1 2 + 3 d s x3 w ~x1 4 * ;") (lines.Step (steps.Pol (Id (pos 1) ∷ Id (pos 2) ∷ Add ∷ Divide (pos 3) ∷ Saturate ∷ Weaken (variable 2) ∷ Axiom (negated 0) ∷ Multiply (pos 4) ∷ []))) (codes "x1" ∷ codes "x2" ∷ codes "x3" ∷ []) }
-    ensures dense { Spells places.Step (codes "p 007 -1 +;") (lines.Step (steps.Pol (Id (pos 7) ∷ Id (minus 1) ∷ Add ∷ []))) file }
-    ensures factor { Spells places.Step (codes "pol 1 d") (lines.Step (steps.Pol (Divide (pos 1) ∷ []))) file }
-    ensures no_items { Spells places.Step (codes "pol") (lines.Step (steps.Pol [])) file }
-    ensures axiom_alone { Spells places.Step (codes "pol x1 s x2 w") (lines.Step (steps.Pol (Axiom (plain 0) ∷ Saturate ∷ Weaken (variable 1) ∷ []))) file }
-    ensures in_order { Spells places.Step (codes "pol zz ~x2 yy zz ~xx") (lines.Step (steps.Pol (Axiom (plain 2) ∷ Axiom (negated 1) ∷ Axiom (plain 3) ∷ Axiom (plain 2) ∷ Axiom (negated 4) ∷ []))) (codes "x1" ∷ codes "x2" ∷ codes "zz" ∷ codes "yy" ∷ codes "xx" ∷ []) }
-    ensures largest { Spells places.Step (codes "pol 1 -1329227995784915872903807060280344576 *") (lines.Step (steps.Pol (Id (pos 1) ∷ Multiply (minus (2 ^ 120)) ∷ []))) file }
+    ensures all_items { Spells sections.Step (codes "pol 1 2 + 3 d s x3 w ~x1 4 * ;") (lines.Step (steps.Pol (Id (pos 1) ∷ Id (pos 2) ∷ Add ∷ Divide (pos 3) ∷ Saturate ∷ Weaken (variable 2) ∷ Axiom (negated 0) ∷ Multiply (pos 4) ∷ []))) (codes "x1" ∷ codes "x2" ∷ codes "x3" ∷ []) }
+    ensures dense { Spells sections.Step (codes "p 007 -1 +;") (lines.Step (steps.Pol (Id (pos 7) ∷ Id (minus 1) ∷ Add ∷ []))) file }
+    ensures factor { Spells sections.Step (codes "pol 1 d") (lines.Step (steps.Pol (Divide (pos 1) ∷ []))) file }
+    ensures no_items { Spells sections.Step (codes "pol") (lines.Step (steps.Pol [])) file }
+    ensures axiom_alone { Spells sections.Step (codes "pol x1 s x2 w") (lines.Step (steps.Pol (Axiom (plain 0) ∷ Saturate ∷ Weaken (variable 1) ∷ []))) file }
+    ensures in_order { Spells sections.Step (codes "pol zz ~x2 yy zz ~xx") (lines.Step (steps.Pol (Axiom (plain 2) ∷ Axiom (negated 1) ∷ Axiom (plain 3) ∷ Axiom (plain 2) ∷ Axiom (negated 4) ∷ []))) (codes "x1" ∷ codes "x2" ∷ codes "zz" ∷ codes "yy" ∷ codes "xx" ∷ []) }
+    ensures largest { Spells sections.Step (codes "pol 1 -1329227995784915872903807060280344576 *") (lines.Step (steps.Pol (Id (pos 1) ∷ Multiply (minus (2 ^ 120)) ∷ []))) file }
 {}
 
 /// No `pol` line: `*` and `d` without an integer directly before them, `w` without a name, a second `;`, a larger integer.
 pub fn no_expressions()
-    ensures too_large { SpellsNothing places.Step (codes "pol 1 1329227995784915872903807060280344577 *") }
-    ensures d_alone { SpellsNothing places.Step (codes "pol s d") }
-    ensures times_alone { SpellsNothing places.Step (codes "pol x1 + *") }
-    ensures integer_taken { SpellsNothing places.Step (codes "pol 1 2 * d") }
-    ensures w_alone { SpellsNothing places.Step (codes "pol 1 w") }
-    ensures w_negated { SpellsNothing places.Step (codes "pol ~x1 w") }
-    ensures two_semicolons { SpellsNothing places.Step (codes "pol 1 ; ;") }
+    ensures too_large { SpellsNothing sections.Step (codes "pol 1 1329227995784915872903807060280344577 *") }
+    ensures d_alone { SpellsNothing sections.Step (codes "pol s d") }
+    ensures times_alone { SpellsNothing sections.Step (codes "pol x1 + *") }
+    ensures integer_taken { SpellsNothing sections.Step (codes "pol 1 2 * d") }
+    ensures w_alone { SpellsNothing sections.Step (codes "pol 1 w") }
+    ensures w_negated { SpellsNothing sections.Step (codes "pol ~x1 w") }
+    ensures two_semicolons { SpellsNothing sections.Step (codes "pol 1 ; ;") }
 {}
 
 /// No step: an unknown rule, one that is left out, a rule's word that goes on; and none where the conclusion is due.
 pub fn no_steps()
-    ensures no_rule { SpellsNothing places.Step (codes "foo 1") }
-    ensures rule_left_out { SpellsNothing places.Step (codes "solx x1") }
-    ensures rule_joined { SpellsNothing places.Step (codes "pol+") }
-    ensures too_late { SpellsNothing places.Conclusion (codes "pol 1") }
+    ensures no_rule { SpellsNothing sections.Step (codes "foo 1") }
+    ensures rule_left_out { SpellsNothing sections.Step (codes "solx x1") }
+    ensures rule_joined { SpellsNothing sections.Step (codes "pol+") }
+    ensures too_late { SpellsNothing sections.Conclusion (codes "pol 1") }
 {}
 
 /// `rup`: terms stay as they are written, and what stands behind the `;` is not judged: it brings no name, and its integers may have any size.
 pub fn propagations()
-    ensures hints { Spells places.Step (codes "rup 1 x1 1 x2 >= 1 ; 7 ~ 99") (lines.Step (steps.Rup (at_least (term (pos 1) (plain 0) ∷ term (pos 1) (plain 1) ∷ []) (pos 1)))) file }
-    ensures hinted_names { Spells places.Step (codes "u 1 x1 1 x2 >= 1 ; x3 1329227995784915872903807060280344577") (lines.Step (steps.Rup (at_least (term (pos 1) (plain 0) ∷ term (pos 1) (plain 1) ∷ []) (pos 1)))) file }
-    ensures any_terms { Spells places.Step (codes "rup 0 x2 -2 ~x2 +3 x2 >= -0 ;") (lines.Step (steps.Rup (at_least (term (pos 0) (plain 1) ∷ term (minus 2) (negated 1) ∷ term (pos 3) (plain 1) ∷ []) (pos 0)))) file }
-    ensures no_terms { Spells places.Step (codes "rup >= 1 ;") (lines.Step (steps.Rup (at_least [] (pos 1)))) file }
+    ensures hints { Spells sections.Step (codes "rup 1 x1 1 x2 >= 1 ; 7 ~ 99") (lines.Step (steps.Rup (at_least (term (pos 1) (plain 0) ∷ term (pos 1) (plain 1) ∷ []) (pos 1)))) file }
+    ensures hinted_names { Spells sections.Step (codes "u 1 x1 1 x2 >= 1 ; x3 1329227995784915872903807060280344577") (lines.Step (steps.Rup (at_least (term (pos 1) (plain 0) ∷ term (pos 1) (plain 1) ∷ []) (pos 1)))) file }
+    ensures any_terms { Spells sections.Step (codes "rup 0 x2 -2 ~x2 +3 x2 >= -0 ;") (lines.Step (steps.Rup (at_least (term (pos 0) (plain 1) ∷ term (minus 2) (negated 1) ∷ term (pos 3) (plain 1) ∷ []) (pos 0)))) file }
+    ensures no_terms { Spells sections.Step (codes "rup >= 1 ;") (lines.Step (steps.Rup (at_least [] (pos 1)))) file }
 {}
 
 /// A constraint of a proof has coefficients, `>=`, one integer, and a `;` behind it.
 pub fn no_constraints()
-    ensures equality { SpellsNothing places.Step (codes "rup 1 x1 = 1 ;") }
-    ensures at_most { SpellsNothing places.Step (codes "rup 1 x1 <= 1 ;") }
-    ensures not_closed { SpellsNothing places.Step (codes "rup 1 x1 >= 1") }
-    ensures no_coefficient { SpellsNothing places.Step (codes "rup x1 >= 1 ;") }
-    ensures no_right_side { SpellsNothing places.Step (codes "rup 1 x1 >= ;") }
-    ensures two_right_sides { SpellsNothing places.Step (codes "rup 1 x1 >= 1 1 ;") }
+    ensures equality { SpellsNothing sections.Step (codes "rup 1 x1 = 1 ;") }
+    ensures at_most { SpellsNothing sections.Step (codes "rup 1 x1 <= 1 ;") }
+    ensures not_closed { SpellsNothing sections.Step (codes "rup 1 x1 >= 1") }
+    ensures no_coefficient { SpellsNothing sections.Step (codes "rup x1 >= 1 ;") }
+    ensures no_right_side { SpellsNothing sections.Step (codes "rup 1 x1 >= ;") }
+    ensures two_right_sides { SpellsNothing sections.Step (codes "rup 1 x1 >= 1 1 ;") }
 {}
 
 /// `red`: an arrow may stand before an image, or none; the substitution may be empty.
 pub fn substitutions()
-    ensures no_arrow { Spells places.Step (codes "red 1 x1 >= 1 ; x1 1") (lines.Step (steps.Red (at_least (term (pos 1) (plain 0) ∷ []) (pos 1)) ((variable 0, images.One) ∷ []))) file }
-    ensures arrow { Spells places.Step (codes "red 1 x1 >= 1 ; x1 -> 1") (lines.Step (steps.Red (at_least (term (pos 1) (plain 0) ∷ []) (pos 1)) ((variable 0, images.One) ∷ []))) file }
-    ensures every_image { Spells places.Step (codes "red 1 x1 >= 1 ; x1 -> ~x3 x3 -> x2 x2 0 ;") (lines.Step (steps.Red (at_least (term (pos 1) (plain 0) ∷ []) (pos 1)) ((variable 0, images.Lit (negated 2)) ∷ (variable 2, images.Lit (plain 1)) ∷ (variable 1, images.Zero) ∷ []))) (codes "x1" ∷ codes "x2" ∷ codes "x3" ∷ []) }
-    ensures no_images { Spells places.Step (codes "red 1 x1 >= 1 ;") (lines.Step (steps.Red (at_least (term (pos 1) (plain 0) ∷ []) (pos 1)) [])) file }
+    ensures no_arrow { Spells sections.Step (codes "red 1 x1 >= 1 ; x1 1") (lines.Step (steps.Red (at_least (term (pos 1) (plain 0) ∷ []) (pos 1)) ((variable 0, images.One) ∷ []))) file }
+    ensures arrow { Spells sections.Step (codes "red 1 x1 >= 1 ; x1 -> 1") (lines.Step (steps.Red (at_least (term (pos 1) (plain 0) ∷ []) (pos 1)) ((variable 0, images.One) ∷ []))) file }
+    ensures every_image { Spells sections.Step (codes "red 1 x1 >= 1 ; x1 -> ~x3 x3 -> x2 x2 0 ;") (lines.Step (steps.Red (at_least (term (pos 1) (plain 0) ∷ []) (pos 1)) ((variable 0, images.Lit (negated 2)) ∷ (variable 2, images.Lit (plain 1)) ∷ (variable 1, images.Zero) ∷ []))) (codes "x1" ∷ codes "x2" ∷ codes "x3" ∷ []) }
+    ensures no_images { Spells sections.Step (codes "red 1 x1 >= 1 ;") (lines.Step (steps.Red (at_least (term (pos 1) (plain 0) ∷ []) (pos 1)) [])) file }
 {}
 
 /// An image is a literal or the very text `0` or `1`; on the left stands a name, once; a subproof is left out.
 pub fn no_substitutions()
-    ensures no_substitution { SpellsNothing places.Step (codes "red 1 x1 >= 1") }
-    ensures subproof { SpellsNothing places.Step (codes "red 1 x1 >= 1 ; x1 -> 1 ; begin") }
-    ensures image_zeros { SpellsNothing places.Step (codes "red 1 x1 >= 1 ; x1 00") }
-    ensures image_signed { SpellsNothing places.Step (codes "red 1 x1 >= 1 ; x1 +1") }
-    ensures no_image { SpellsNothing places.Step (codes "red 1 x1 >= 1 ; x1 ->") }
-    ensures two_arrows { SpellsNothing places.Step (codes "red 1 x1 >= 1 ; x1 -> -> 1") }
-    ensures left_negated { SpellsNothing places.Step (codes "red 1 x1 >= 1 ; ~x1 -> 0") }
-    ensures name_twice { SpellsNothing places.Step (codes "red 1 x1 >= 1 ; x1 -> 1 x1 -> 0") }
+    ensures no_substitution { SpellsNothing sections.Step (codes "red 1 x1 >= 1") }
+    ensures subproof { SpellsNothing sections.Step (codes "red 1 x1 >= 1 ; x1 -> 1 ; begin") }
+    ensures image_zeros { SpellsNothing sections.Step (codes "red 1 x1 >= 1 ; x1 00") }
+    ensures image_signed { SpellsNothing sections.Step (codes "red 1 x1 >= 1 ; x1 +1") }
+    ensures no_image { SpellsNothing sections.Step (codes "red 1 x1 >= 1 ; x1 ->") }
+    ensures two_arrows { SpellsNothing sections.Step (codes "red 1 x1 >= 1 ; x1 -> -> 1") }
+    ensures left_negated { SpellsNothing sections.Step (codes "red 1 x1 >= 1 ; ~x1 -> 0") }
+    ensures name_twice { SpellsNothing sections.Step (codes "red 1 x1 >= 1 ; x1 -> 1 x1 -> 0") }
 {}
 
 /// `sol` and `soli`: literals alone.
 pub fn solutions()
-    ensures improving { Spells places.Step (codes "soli x1 ~x2") (lines.Step (steps.Soli (plain 0 ∷ negated 1 ∷ []))) file }
-    ensures solution { Spells places.Step (codes "sol ~x3 x1 ;") (lines.Step (steps.Sol (negated 2 ∷ plain 0 ∷ []))) (codes "x1" ∷ codes "x2" ∷ codes "x3" ∷ []) }
-    ensures empty_solution { Spells places.Step (codes "sol") (lines.Step (steps.Sol [])) file }
-    ensures solution_of_integers { SpellsNothing places.Step (codes "sol 1") }
+    ensures improving { Spells sections.Step (codes "soli x1 ~x2") (lines.Step (steps.Soli (plain 0 ∷ negated 1 ∷ []))) file }
+    ensures solution { Spells sections.Step (codes "sol ~x3 x1 ;") (lines.Step (steps.Sol (negated 2 ∷ plain 0 ∷ []))) (codes "x1" ∷ codes "x2" ∷ codes "x3" ∷ []) }
+    ensures empty_solution { Spells sections.Step (codes "sol") (lines.Step (steps.Sol [])) file }
+    ensures solution_of_integers { SpellsNothing sections.Step (codes "sol 1") }
 {}
 
 /// `del id` and ids; nothing else is deleted.
 pub fn deletions()
-    ensures deletion { Spells places.Step (codes "del id 2 -1") (lines.Step (steps.Del (pos 2 ∷ minus 1 ∷ []))) file }
-    ensures empty_deletion { Spells places.Step (codes "del id ;") (lines.Step (steps.Del [])) file }
-    ensures deletion_of_range { SpellsNothing places.Step (codes "del range 1 2") }
-    ensures deletion_of_spec { SpellsNothing places.Step (codes "del spec 1 x1 >= 1 ;") }
-    ensures deletion_without_word { SpellsNothing places.Step (codes "del 1") }
+    ensures deletion { Spells sections.Step (codes "del id 2 -1") (lines.Step (steps.Del (pos 2 ∷ minus 1 ∷ []))) file }
+    ensures empty_deletion { Spells sections.Step (codes "del id ;") (lines.Step (steps.Del [])) file }
+    ensures deletion_of_range { SpellsNothing sections.Step (codes "del range 1 2") }
+    ensures deletion_of_spec { SpellsNothing sections.Step (codes "del spec 1 x1 >= 1 ;") }
+    ensures deletion_without_word { SpellsNothing sections.Step (codes "del 1") }
 {}
 
-/// The lines around the steps, each at its own place alone.
+/// The lines around the steps, each at its own section alone.
 pub fn frame_lines()
-    ensures header { Spells places.Header (codes "pseudo-Boolean proof version 2.0") lines.Header file }
-    ensures header_closed { Spells places.Header (codes "pseudo-Boolean proof version 2.0 ;") lines.Header file }
-    ensures header_of_other_version { SpellsNothing places.Header (codes "pseudo-Boolean proof version 1.2") }
-    ensures header_cut { SpellsNothing places.Header (codes "pseudo-Boolean proof version") }
-    ensures header_late { SpellsNothing places.Step (codes "pseudo-Boolean proof version 2.0") }
-    ensures count { Spells places.Count (codes "f 5 ;") (lines.Count (pos 5)) file }
-    ensures count_open { Spells places.Count (codes "f 5") (lines.Count (pos 5)) file }
-    ensures no_count { SpellsNothing places.Count (codes "f") }
-    ensures count_of_name { SpellsNothing places.Count (codes "f x1") }
-    ensures second_count { SpellsNothing places.Step (codes "f 5") }
-    ensures output { Spells places.Step (codes "output NONE") lines.Output file }
-    ensures output_closed { Spells places.Step (codes "output NONE ;") lines.Output file }
-    ensures other_output { SpellsNothing places.Step (codes "output DERIVABLE") }
-    ensures no_output { SpellsNothing places.Step (codes "output") }
-    ensures ending { Spells places.End (codes "end pseudo-Boolean proof") lines.End file }
-    ensures ending_closed { Spells places.End (codes "end pseudo-Boolean proof ;") lines.End file }
-    ensures end_alone { SpellsNothing places.End (codes "end") }
+    ensures header { Spells sections.Header (codes "pseudo-Boolean proof version 2.0") lines.Header file }
+    ensures header_closed { Spells sections.Header (codes "pseudo-Boolean proof version 2.0 ;") lines.Header file }
+    ensures header_of_other_version { SpellsNothing sections.Header (codes "pseudo-Boolean proof version 1.2") }
+    ensures header_cut { SpellsNothing sections.Header (codes "pseudo-Boolean proof version") }
+    ensures header_late { SpellsNothing sections.Step (codes "pseudo-Boolean proof version 2.0") }
+    ensures count { Spells sections.Count (codes "f 5 ;") (lines.Count (pos 5)) file }
+    ensures count_open { Spells sections.Count (codes "f 5") (lines.Count (pos 5)) file }
+    ensures no_count { SpellsNothing sections.Count (codes "f") }
+    ensures count_of_name { SpellsNothing sections.Count (codes "f x1") }
+    ensures second_count { SpellsNothing sections.Step (codes "f 5") }
+    ensures output { Spells sections.Step (codes "output NONE") lines.Output file }
+    ensures output_closed { Spells sections.Step (codes "output NONE ;") lines.Output file }
+    ensures other_output { SpellsNothing sections.Step (codes "output DERIVABLE") }
+    ensures no_output { SpellsNothing sections.Step (codes "output") }
+    ensures ending { Spells sections.End (codes "end pseudo-Boolean proof") lines.End file }
+    ensures ending_closed { Spells sections.End (codes "end pseudo-Boolean proof ;") lines.End file }
+    ensures end_alone { SpellsNothing sections.End (codes "end") }
 {}
 
 /// Conclusions. `: 7` hints at an id and counts for nothing; a hint without literals is a hint.
 pub fn conclusions()
-    ensures nothing_concluded { Spells places.Conclusion (codes "conclusion NONE") (lines.Conclusion (conclusions.Nothing)) file }
-    ensures satisfiable { Spells places.Conclusion (codes "conclusion SAT") (lines.Conclusion (conclusions.Sat None)) file }
-    ensures satisfied { Spells places.Conclusion (codes "conclusion SAT : x1 ~x2") (lines.Conclusion (conclusions.Sat (Some (plain 0 ∷ negated 1 ∷ [])))) file }
-    ensures satisfied_by_nothing { Spells places.Conclusion (codes "conclusion SAT : ;") (lines.Conclusion (conclusions.Sat (Some []))) file }
-    ensures satisfied_by_new { Spells places.Conclusion (codes "conclusion SAT : x3") (lines.Conclusion (conclusions.Sat (Some (plain 2 ∷ [])))) (codes "x1" ∷ codes "x2" ∷ codes "x3" ∷ []) }
-    ensures unsatisfiable { Spells places.Conclusion (codes "conclusion UNSAT") (lines.Conclusion (conclusions.Unsat)) file }
-    ensures unsatisfiable_by_id { Spells places.Conclusion (codes "conclusion UNSAT : 7") (lines.Conclusion (conclusions.Unsat)) file }
-    ensures bounds { Spells places.Conclusion (codes "conclusion BOUNDS 1 1") (lines.Conclusion (conclusions.Bounds (lowers.At (pos 1)) (uppers.At (pos 1)) None)) file }
-    ensures bounds_by_id { Spells places.Conclusion (codes "conclusion BOUNDS 1 : 3 1") (lines.Conclusion (conclusions.Bounds (lowers.At (pos 1)) (uppers.At (pos 1)) None)) file }
-    ensures bounds_by_both { Spells places.Conclusion (codes "conclusion BOUNDS -1 : 3 2 : ~x1 ;") (lines.Conclusion (conclusions.Bounds (lowers.At (minus 1)) (uppers.At (pos 2)) (Some (negated 0 ∷ [])))) file }
-    ensures no_bounds { Spells places.Conclusion (codes "conclusion BOUNDS -INF INF : x1") (lines.Conclusion (conclusions.Bounds lowers.MinusInf uppers.Inf (Some (plain 0 ∷ [])))) file }
-    ensures infinite_lower_bound { Spells places.Conclusion (codes "conclusion BOUNDS INF 2") (lines.Conclusion (conclusions.Bounds lowers.Inf (uppers.At (pos 2)) None)) file }
+    ensures nothing_concluded { Spells sections.Conclusion (codes "conclusion NONE") (lines.Conclusion (conclusions.Nothing)) file }
+    ensures satisfiable { Spells sections.Conclusion (codes "conclusion SAT") (lines.Conclusion (conclusions.Sat None)) file }
+    ensures satisfied { Spells sections.Conclusion (codes "conclusion SAT : x1 ~x2") (lines.Conclusion (conclusions.Sat (Some (plain 0 ∷ negated 1 ∷ [])))) file }
+    ensures satisfied_by_nothing { Spells sections.Conclusion (codes "conclusion SAT : ;") (lines.Conclusion (conclusions.Sat (Some []))) file }
+    ensures satisfied_by_new { Spells sections.Conclusion (codes "conclusion SAT : x3") (lines.Conclusion (conclusions.Sat (Some (plain 2 ∷ [])))) (codes "x1" ∷ codes "x2" ∷ codes "x3" ∷ []) }
+    ensures unsatisfiable { Spells sections.Conclusion (codes "conclusion UNSAT") (lines.Conclusion (conclusions.Unsat)) file }
+    ensures unsatisfiable_by_id { Spells sections.Conclusion (codes "conclusion UNSAT : 7") (lines.Conclusion (conclusions.Unsat)) file }
+    ensures bounds { Spells sections.Conclusion (codes "conclusion BOUNDS 1 1") (lines.Conclusion (conclusions.Bounds (lowers.At (pos 1)) (uppers.At (pos 1)) None)) file }
+    ensures bounds_by_id { Spells sections.Conclusion (codes "conclusion BOUNDS 1 : 3 1") (lines.Conclusion (conclusions.Bounds (lowers.At (pos 1)) (uppers.At (pos 1)) None)) file }
+    ensures bounds_by_both { Spells sections.Conclusion (codes "conclusion BOUNDS -1 : 3 2 : ~x1 ;") (lines.Conclusion (conclusions.Bounds (lowers.At (minus 1)) (uppers.At (pos 2)) (Some (negated 0 ∷ [])))) file }
+    ensures no_bounds { Spells sections.Conclusion (codes "conclusion BOUNDS -INF INF : x1") (lines.Conclusion (conclusions.Bounds lowers.MinusInf uppers.Inf (Some (plain 0 ∷ [])))) file }
+    ensures infinite_lower_bound { Spells sections.Conclusion (codes "conclusion BOUNDS INF 2") (lines.Conclusion (conclusions.Bounds lowers.Inf (uppers.At (pos 2)) None)) file }
 {}
 
 /// No conclusion: a bound or an id is missing, signed, or one too many; a hint stands without its colon.
 pub fn no_conclusions()
-    ensures no_upper_bound { SpellsNothing places.Conclusion (codes "conclusion BOUNDS 1 : 3") }
-    ensures no_upper_bound_at_all { SpellsNothing places.Conclusion (codes "conclusion BOUNDS 1") }
-    ensures upper_bound_below_all { SpellsNothing places.Conclusion (codes "conclusion BOUNDS 1 -INF") }
-    ensures lower_bound_signed { SpellsNothing places.Conclusion (codes "conclusion BOUNDS +INF INF") }
-    ensures no_conclusion { SpellsNothing places.Conclusion (codes "conclusion") }
-    ensures other_conclusion { SpellsNothing places.Conclusion (codes "conclusion OPTIMAL 1") }
-    ensures hint_without_colon { SpellsNothing places.Conclusion (codes "conclusion SAT x1") }
-    ensures two_id_hints { SpellsNothing places.Conclusion (codes "conclusion UNSAT : 7 8") }
-    ensures no_id_hint { SpellsNothing places.Conclusion (codes "conclusion UNSAT :") }
-    ensures nothing_hinted { SpellsNothing places.Conclusion (codes "conclusion NONE : x1") }
+    ensures no_upper_bound { SpellsNothing sections.Conclusion (codes "conclusion BOUNDS 1 : 3") }
+    ensures no_upper_bound_at_all { SpellsNothing sections.Conclusion (codes "conclusion BOUNDS 1") }
+    ensures upper_bound_below_all { SpellsNothing sections.Conclusion (codes "conclusion BOUNDS 1 -INF") }
+    ensures lower_bound_signed { SpellsNothing sections.Conclusion (codes "conclusion BOUNDS +INF INF") }
+    ensures no_conclusion { SpellsNothing sections.Conclusion (codes "conclusion") }
+    ensures other_conclusion { SpellsNothing sections.Conclusion (codes "conclusion OPTIMAL 1") }
+    ensures hint_without_colon { SpellsNothing sections.Conclusion (codes "conclusion SAT x1") }
+    ensures two_id_hints { SpellsNothing sections.Conclusion (codes "conclusion UNSAT : 7 8") }
+    ensures no_id_hint { SpellsNothing sections.Conclusion (codes "conclusion UNSAT :") }
+    ensures nothing_hinted { SpellsNothing sections.Conclusion (codes "conclusion NONE : x1") }
 {}
 
 /// The lines of a text that count. Comments and blank lines have numbers and do not count; a CR before `*` makes it no

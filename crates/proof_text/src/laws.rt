@@ -9,15 +9,15 @@ ghost use Rattle.std.specs.Prelude.{◌≡◌, ℕ, ℤ, List};
 ghost use Rattle.proof_steps.specs.declared.step.Step.{Step};
 ghost use Rattle.proof_steps.specs.declared.conclusion.Conclusion.{Conclusion};
 ghost use Rattle.proof_text.specs.declared.line.Line.{Line};
-ghost use Rattle.proof_text.specs.declared.line.Place.{Place};
+ghost use Rattle.proof_text.specs.declared.line.Section.{Section};
 ghost use Rattle.proof_text.specs.Lines.{Numbered};
 ghost use Rattle.proof_text.specs.Spells.{IsLine};
 ghost use Rattle.proof_text.specs.ProofSpells.{AreSteps, SpellsProof};
 
-/// A line says one thing at its place, and leaves one table of names.
+/// A line says one thing at its section, and leaves one table of names.
 pub fn one_line()
-    ensures { (place : Place) → (old ws : List (List ℕ)) → (line other : Line) → (new later : List (List ℕ))
-        → IsLine place old ws line new → IsLine place old ws other later → (line ≡ other) × (new ≡ later) }
+    ensures { (section : Section) → (old ws : List (List ℕ)) → (line other : Line) → (new later : List (List ℕ))
+        → IsLine section old ws line new → IsLine section old ws other later → (line ≡ other) × (new ≡ later) }
 {}
 
 /// Lines spell one list of steps, and leave one table of names.

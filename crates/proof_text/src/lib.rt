@@ -1,8 +1,8 @@
 //! The lines of proofs (the VeriPB proof format, version 2.0, in this product's profile): which lines count, and what
-//! each says at its place.
+//! each says at its section.
 //!
 //! The format is read line by line, each line by words. What a line says is defined over its words alone (`specs/`), by a form for
-//! each rule, and the code is proved to read exactly that: a line is read where it says something at its place, with its integers
+//! each rule, and the code is proved to read exactly that: a line is read where it says something at its section, with its integers
 //! and names within the limits, and is refused with a fault where it says nothing. Nothing here knows what a step means, so
 //! that a checker's rules and a solver's log stand on the same reading.
 #![tactic(auto)]
@@ -28,6 +28,6 @@ mod witness;
 
 pub use fault::ProofFault;
 pub use keyword::{ConclusionKind, Rule};
-pub use line::{Line, Place};
+pub use line::{Line, Section};
 pub use read::{read_line, read_step};
 pub use reader::{NumberedLine, ProofReader};

@@ -5,7 +5,7 @@ use proof_steps::{Conclusion, Step};
 /// Where in a proof a line stands: the lines that count are, in order, the header, the count, the steps and the output,
 /// the conclusion and the end.
 #[derive(Clone, Copy, Debug, PartialEq, Eq)]
-pub enum Place {
+pub enum Section {
     Header,
     Count,
     Step,

@@ -1,7 +1,7 @@
-//! What a line says at its place.
+//! What a line says at its section.
 //!
 //! The words of a line are cut once, here, and handed on: the choice between a step and the output line looks at the first of
-//! them. The place decides which faults there are. Among the steps a rule may be unknown or left out; at the conclusion no rule is
+//! them. The section decides which faults there are. Among the steps a rule may be unknown or left out; at the conclusion no rule is
 //! due, so that whatever stands there is a bad line; the header, the count and the text behind the end have one fault each.
 
 ghost use Rattle.std.specs.Prelude.{◌≡◌, false, length, IfOk, IfErr, OnErr};
@@ -17,7 +17,7 @@ use crate::conclude::conclusion;
 use crate::fault::{ProofFault, Reading};
 use crate::frame::{count, is_end, is_header, output};
 use crate::keyword::rule_of;
-use crate::line::{Line, Place};
+use crate::line::{Line, Section};
 use crate::line_names::LineNames;
 use crate::line_words::LineWords;
 use crate::refusal::rule_fault;
@@ -86,9 +86,9 @@ pub fn read_step(alloc: Global, line: &[u8], names: &mut Names) -> Result<Step, 
 
 /// The conclusion that the words of a line say, its new names added.
 fn conclusion_line(alloc: Global, words: Lookahead<'_>, names: &mut Names) -> Reading<Line>
-    ensures line { IfOk result (λ l. IsLine Place.Conclusion names.old (texts_of words.entry) l names.new) }
+    ensures line { IfOk result (λ l. IsLine Section.Conclusion names.old (texts_of words.entry) l names.new) }
     ensures err { OnErr result (names.new ≡ names.old) }
-    ensures denies { IfErr result (λ f. DeniesLine f Place.Conclusion names.old (texts_of words.entry)) }
+    ensures denies { IfErr result (λ f. DeniesLine f Section.Conclusion names.old (texts_of words.entry)) }
 {
     let mut table = LineNames::new(mem::replace(names, Names::new(alloc)));
     match conclusion(alloc, words, &mut table) {
@@ -119,9 +119,9 @@ fn begins(words: &Lookahead<'_>, word: &[u8]) -> bool
 
 /// A step, or the output line behind the steps.
 fn step_or_output(alloc: Global, words: Lookahead<'_>, names: &mut Names) -> Reading<Line>
-    ensures line { IfOk result (λ l. IsLine Place.Step names.old (texts_of words.entry) l names.new) }
+    ensures line { IfOk result (λ l. IsLine Section.Step names.old (texts_of words.entry) l names.new) }
     ensures err { OnErr result (names.new ≡ names.old) }
-    ensures denies { IfErr result (λ f. DeniesLine f Place.Step names.old (texts_of words.entry)) }
+    ensures denies { IfErr result (λ f. DeniesLine f Section.Step names.old (texts_of words.entry)) }
 {
     // That the names so far can be numbered is known by their table's type; this makes it known here.
     names.reveal();
@@ -134,7 +134,7 @@ fn step_or_output(alloc: Global, words: Lookahead<'_>, names: &mut Names) -> Rea
 }
 
 #[tactic(auto, unfolding(crate::specs::Faults::DeniesLine, crate::specs::Words::words))]
-/// What a line says at its place. Names that the table does not have are added in order; a refused line adds none.
+/// What a line says at its section. Names that the table does not have are added in order; a refused line adds none.
 /// A step or a conclusion can be written again.
 ///
 /// The fault is `BadHeader` at the header, `BadCount` at the count (also for an integer above 2^120 in size),
@@ -143,39 +143,39 @@ fn step_or_output(alloc: Global, words: Lookahead<'_>, names: &mut Names) -> Rea
 /// not come.
 pub fn read_line(
     alloc: Global,
-    place: Place,
+    section: Section,
     line: &[u8],
     names: &mut Names,
 ) -> Result<Line, ProofFault>
-    ensures line { IfOk result (λ l. IsLine place names.old (words line.now) l names.new) }
+    ensures line { IfOk result (λ l. IsLine section names.old (words line.now) l names.new) }
     ensures writable { IfOk result (λ l. IsLineWritable (length names.new) l) }
     ensures err { OnErr result (names.new ≡ names.old) }
-    ensures denies { IfErr result (λ f. DeniesLine f place names.old (words line.now)) }
+    ensures denies { IfErr result (λ f. DeniesLine f section names.old (words line.now)) }
 {
     // That the names so far can be numbered is known by their table's type; this makes it known here.
     names.reveal();
     let words = Lookahead::new(line);
-    match place {
-        Place::Header => {
+    match section {
+        Section::Header => {
             if is_header(LineWords::new(words)) {
                 Ok(Line::Header)
             } else {
                 Err(ProofFault::BadHeader)
             }
         }
-        Place::Count => match count(LineWords::new(words)) {
+        Section::Count => match count(LineWords::new(words)) {
             Some(number) => Ok(Line::Count(number)),
             None => Err(ProofFault::BadCount),
         },
-        Place::Step => step_or_output(alloc, words, names),
-        Place::Conclusion => conclusion_line(alloc, words, names),
-        Place::End => {
+        Section::Step => step_or_output(alloc, words, names),
+        Section::Conclusion => conclusion_line(alloc, words, names),
+        Section::End => {
             if is_end(LineWords::new(words)) {
                 Ok(Line::End)
             } else {
                 Err(ProofFault::BadLine)
             }
         }
-        Place::After => Err(ProofFault::TextAfterEnd),
+        Section::After => Err(ProofFault::TextAfterEnd),
     }
 }

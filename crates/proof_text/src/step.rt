@@ -37,7 +37,7 @@ fn red(alloc: Global, words: Lookahead<'_>, table: &mut LineNames) -> Reading<St
     match Substitution::new(alloc, witness.images)? {
         Some(witness) => {
             // That no variable stands twice is known by the type; this makes it known here.
-            let _images = witness.as_slice();
+            witness.reveal();
             Ok(Step::Red(constraint, witness))
         }
         None => Err(ProofFault::BadLine),

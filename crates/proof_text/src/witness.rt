@@ -111,7 +111,7 @@ fn subproof_fault(alloc: Global, witness: Witness<'_>, full: bool) -> ProofFault
     match Substitution::new(alloc, witness.images) {
         Ok(Some(witness)) => {
             // That no variable stands twice is known by the type; this makes it known here.
-            let _images = witness.as_slice();
+            witness.reveal();
             ProofFault::RuleLeftOut
         }
         Ok(None) => ProofFault::BadLine,

@@ -21,7 +21,7 @@ use Rattle.proof_steps.specs.declared.conclusion.Conclusion.{Conclusion}
 use Rattle.proof_steps.specs.declared.conclusion.Conclusion.TheVariants as conclusions
 use Rattle.proof_text.specs.declared.keyword.ConclusionKind.TheVariants as kinds
 use Rattle.proof_text.specs.declared.line.Line.TheVariants as lines
-use Rattle.proof_text.specs.declared.line.Place.TheVariants as places
+use Rattle.proof_text.specs.declared.line.Section.TheVariants as sections
 use Rattle.proof_text.specs.Kinds.{is_integer, is_semicolon, is_colon}
 use Rattle.std.proofs.lemmas.List.Elements.{All-head}
 use Rattle.proof_text.specs.Words.{unclosed, IsSmall, AreSmall, words}
@@ -218,7 +218,7 @@ conclusion_back names (conclusions.Bounds l u hint) t h =
 
 -- what the conclusion's line says, and that it is one line
 pub record EndLine (names : List (List ℕ)) (c : Conclusion) : Type 0 where
-  pub says : IsLine places.Conclusion names (words (line_text (codes "conclusion" ∷ conclusion_words names c))) (lines.Conclusion c) names
+  pub says : IsLine sections.Conclusion names (words (line_text (codes "conclusion" ∷ conclusion_words names c))) (lines.Conclusion c) names
   pub one : (parted (line_text (codes "conclusion" ∷ conclusion_words names c))).others ≡ []
 
 pub end_back : (names : List (List ℕ)) (c : Conclusion) → IsTable names → IsConclusionWritable (length names) c → EndLine names c
@@ -229,7 +229,7 @@ end_back names c t h =
     let tok : IsToken (codes "conclusion") = plain_token (codes "conclusion") refl (omega arith) in
     let e : words (line_text (codes "conclusion" ∷ ws)) ≡ codes "conclusion" ∷ ws = line_words (codes "conclusion") ws tok b.tokens refl in
     record {
-      says = subst (λ x. IsLine places.Conclusion names x (lines.Conclusion c) names) (sym e) (record {
+      says = subst (λ x. IsLine sections.Conclusion names x (lines.Conclusion c) names) (sym e) (record {
         names = sym b.known ∙ ap (λ u. names_in names (literals_said u)) (sym b.open_words);
         few = t.numbered;
         says = ap (λ u. option_map (λ x. lines.Conclusion x) (conclusion_said names u)) b.open_words ∙ ap (λ o. option_map (λ x. lines.Conclusion x) o) b.says;

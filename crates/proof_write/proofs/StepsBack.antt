@@ -30,7 +30,7 @@ use Rattle.proof_write.specs.Writing.{name_at, lit_words, number_words, item_wor
 use Rattle.proof_text.specs.Writable.{IsConstraintWritable, IsImageWritable, IsPairWritable, IsStepWritable}
 use Rattle.proof_write.proofs.WordsCut.{IsToken, plain_token, semicolon_token, arrow_token, AreTokens, AreTokens-append, line_words, line_alone}
 use Rattle.proof_text.proofs.SubstitutionsRead.{arrow_pair, zero_kind, one_kind}
-use Rattle.proof_text.proofs.LinesAtPlaces.{step_at, counted_at}
+use Rattle.proof_text.proofs.LinesOfSections.{step_at, counted_at}
 use Rattle.proof_write.proofs.PartsBack.{IsGood, AreGood, good_tokens, good_small, good_names, good_open, good_halves, good_literal, good_other, lit_back, var_back, lits_good, lits_back, numbers_good, numbers_back, front_words, front_good, whole_front, constraint_back, all_items_good, items_back}
 
 -- images

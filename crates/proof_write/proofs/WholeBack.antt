@@ -25,10 +25,10 @@ use Rattle.proof_text.specs.Words.{is_first, are_words, unclosed, words, AreSmal
 use Rattle.proof_text.specs.Writable.{IsConclusionWritable, IsStepWritable}
 use Rattle.proof_text.specs.declared.line.Line.{Line}
 use Rattle.proof_text.specs.declared.line.Line.TheVariants as lines
-use Rattle.proof_text.specs.declared.line.Place.{Place}
-use Rattle.proof_text.specs.declared.line.Place.TheVariants as places
+use Rattle.proof_text.specs.declared.line.Section.{Section}
+use Rattle.proof_text.specs.declared.line.Section.TheVariants as sections
 use Rattle.proof_text.proofs.ClosingSemicolon.{stays_open}
-use Rattle.proof_text.proofs.LinesAtPlaces.{output_placed, step_at, step_placed}
+use Rattle.proof_text.proofs.LinesOfSections.{output_placed, step_at, step_placed}
 use Rattle.proof_text.proofs.LinesParted.{nothing_left}
 use Rattle.proof_text.proofs.PolItems.{first_word}
 use Rattle.proof_text.proofs.WordsByKind.{none_small, all_small, small_other, integer_alone}
@@ -56,19 +56,19 @@ parted_line (b ∷ line) rest h = by (b == 10) h (parted_line line rest)
 abbrev in_front : Numbered → List Numbered → Bool → List Numbered
 in_front line more t = if t then line ∷ more else more
 
--- one line of a text, which says this at its place and leaves the names as they are
-record Says (place : Place) (names : List (List ℕ)) (line : List ℕ) (said : Line) : Type 0 where
+-- one line of a text, which says this at its section and leaves the names as they are
+record Says (section : Section) (names : List (List ℕ)) (line : List ℕ) (said : Line) : Type 0 where
   one : (parted line).others ≡ []
-  is : IsLine place names (words line) said names
+  is : IsLine section names (words line) said names
 
-no_words : (place : Place) (names : List (List ℕ)) (said : Line) → line_of place names [] ≡ Some said → ⊥
+no_words : (section : Section) (names : List (List ℕ)) (said : Line) → line_of section names [] ≡ Some said → ⊥
 unfolding step_of conclusion_of
-no_words places.Header names said h = cc
-no_words places.Count names said h = cc
-no_words places.Step names said h = cc
-no_words places.Conclusion names said h = cc
-no_words places.End names said h = cc
-no_words places.After names said h = cc
+no_words sections.Header names said h = cc
+no_words sections.Count names said h = cc
+no_words sections.Step names said h = cc
+no_words sections.Conclusion names said h = cc
+no_words sections.End names said h = cc
+no_words sections.After names said h = cc
 
 some_lexeme : (ts : List Lexeme) (w : List ℕ) (ws : List (List ℕ)) → texts_of ts ≡ w ∷ ws → elim ts [ [] ↦ false | t ∷ rest ↦ true ] ≡ true
 some_lexeme [] w ws h = cc
@@ -79,19 +79,19 @@ unfolding words
 with_word line w ws h = some_lexeme (lexemes line) w ws h
 
 -- what says something counts
-said_counts : (place : Place) (names : List (List ℕ)) (line : List ℕ) (said : Line) → IsLine place names (words line) said names → counts line ≡ true
-said_counts place names line said h = by (words line) refl h
+said_counts : (section : Section) (names : List (List ℕ)) (line : List ℕ) (said : Line) → IsLine section names (words line) said names → counts line ≡ true
+said_counts section names line said h = by (words line) refl h
   where
-    by : (ws : List (List ℕ)) → words line ≡ ws → IsLine place names ws said names → counts line ≡ true
-    by [] e h = absurd (no_words place names said h.says)
+    by : (ws : List (List ℕ)) → words line ≡ ws → IsLine section names ws said names → counts line ≡ true
+    by [] e h = absurd (no_words section names said h.says)
     by (w ∷ ws) e h = with_word line w ws e
 
-line_ahead : (number : ℕ) (place : Place) (names : List (List ℕ)) (line rest : List ℕ) (said : Line) → Says place names line said
+line_ahead : (number : ℕ) (section : Section) (names : List (List ℕ)) (line rest : List ℕ) (said : Line) → Says section names line said
     → counting_from number (line ++ 10 ∷ rest) ≡ record { number = number; text = line } ∷ counting_from (number + 1) rest
 unfolding counting_from
-line_ahead number place names line rest said h =
+line_ahead number section names line rest said h =
     ap (λ (p : Parted). counting number (p.first ∷ p.others)) (parted_line line rest h.one)
-    ∙ ap (in_front (record { number = number; text = line }) (counting (number + 1) ((parted rest).first ∷ (parted rest).others))) (said_counts place names line said h.is)
+    ∙ ap (in_front (record { number = number; text = line }) (counting (number + 1) ((parted rest).first ∷ (parted rest).others))) (said_counts section names line said h.is)
 
 -- the line of a step is not the output line
 output_rule : rule_of (codes "output") ≡ None
@@ -108,7 +108,7 @@ not_output names ws step h = by (is_first (codes "output") ws) refl
         let x : ◌≡◌ {A = Option Step} None (Some step) = sym nothing ∙ h.says in
         cc
 
-step_says : (names : List (List ℕ)) (step : Step) → IsTable names → IsStepWritable (length names) step → IsProper step → Says places.Step names (line_text (step_words names step)) (lines.Step step)
+step_says : (names : List (List ℕ)) (step : Step) → IsTable names → IsStepWritable (length names) step → IsProper step → Says sections.Step names (line_text (step_words names step)) (lines.Step step)
 step_says names step t h p =
     let b = step_back names step t h p in
     let line = line_text (step_words names step) in
@@ -133,7 +133,7 @@ steps_ahead names number (step ∷ more) rest t h p =
       next = later.next;
       in_order =
           ap (counting_from number) (append_assoc (line ++ 10 ∷ []) behind rest ∙ append_assoc line (10 ∷ []) (behind ++ rest))
-          ∙ line_ahead number places.Step names line (behind ++ rest) (lines.Step step) says
+          ∙ line_ahead number sections.Step names line (behind ++ rest) (lines.Step step) says
           ∙ ap (λ ls. record { number = number; text = line } ∷ ls) later.in_order;
       are = (names, says.is, later.are);
     }
@@ -152,14 +152,14 @@ frame_kinds : (is_semicolon (kind_of (codes "2.0")) ≡ false) × (is_semicolon 
 unfolding kind_of kind_of_word integer_word literal_word is_misspelt is_name
 frame_kinds = (refl, refl, refl)
 
-header_says : (names : List (List ℕ)) → IsTable names → Says places.Header names header_line lines.Header
+header_says : (names : List (List ℕ)) → IsTable names → Says sections.Header names header_line lines.Header
 header_says names t =
     let rest : AreTokens (drop 1 header) = (plain_token (codes "proof") refl (omega arith), (plain_token (codes "version") refl (omega arith), (plain_token (codes "2.0") refl (omega arith), tt))) in
     let first : IsToken (codes "pseudo-Boolean") = plain_token (codes "pseudo-Boolean") refl (omega arith) in
     let e : words header_line ≡ header = line_words (codes "pseudo-Boolean") (drop 1 header) first rest refl in
     record {
       one = line_alone (codes "pseudo-Boolean") (drop 1 header) first rest;
-      is = subst (λ ws. IsLine places.Header names ws lines.Header names) (sym e) (record {
+      is = subst (λ ws. IsLine sections.Header names ws lines.Header names) (sym e) (record {
         names = refl;
         few = t.numbered;
         says = ap (λ b. if are_words header (codes "pseudo-Boolean" ∷ codes "proof" ∷ codes "version" ∷ (if b then [] else codes "2.0" ∷ [])) then Some lines.Header else None) frame_kinds.0;
@@ -168,25 +168,25 @@ header_says names t =
       });
     }
 
-output_says : (names : List (List ℕ)) → IsTable names → Says places.Step names output_line lines.Output
+output_says : (names : List (List ℕ)) → IsTable names → Says sections.Step names output_line lines.Output
 output_says names t =
     let rest : AreTokens (drop 1 output) = (plain_token (codes "NONE") refl (omega arith), tt) in
     let first : IsToken (codes "output") = plain_token (codes "output") refl (omega arith) in
     let e : words output_line ≡ output = line_words (codes "output") (drop 1 output) first rest refl in
     record {
       one = line_alone (codes "output") (drop 1 output) first rest;
-      is = subst (λ ws. IsLine places.Step names ws lines.Output names) (sym e)
+      is = subst (λ ws. IsLine sections.Step names ws lines.Output names) (sym e)
           (output_placed names output refl (ap (λ b. are_words output (codes "output" ∷ (if b then [] else codes "NONE" ∷ []))) frame_kinds.1) t.numbered);
     }
 
-ending_says : (names : List (List ℕ)) → IsTable names → Says places.End names ending_line lines.End
+ending_says : (names : List (List ℕ)) → IsTable names → Says sections.End names ending_line lines.End
 ending_says names t =
     let rest : AreTokens (drop 1 ending) = (plain_token (codes "pseudo-Boolean") refl (omega arith), (plain_token (codes "proof") refl (omega arith), tt)) in
     let first : IsToken (codes "end") = plain_token (codes "end") refl (omega arith) in
     let e : words ending_line ≡ ending = line_words (codes "end") (drop 1 ending) first rest refl in
     record {
       one = line_alone (codes "end") (drop 1 ending) first rest;
-      is = subst (λ ws. IsLine places.End names ws lines.End names) (sym e) (record {
+      is = subst (λ ws. IsLine sections.End names ws lines.End names) (sym e) (record {
         names = refl;
         few = t.numbered;
         says = ap (λ b. if are_words ending (codes "end" ∷ codes "pseudo-Boolean" ∷ (if b then [] else codes "proof" ∷ [])) then Some lines.End else None) frame_kinds.2;
@@ -203,7 +203,7 @@ f_kind = refl
 abbrev count_line : ℕ → List ℕ
 count_line count = line_text (codes "f" ∷ number_words (pos count))
 
-count_says : (names : List (List ℕ)) (count : ℕ) → IsTable names → count ≤ largest_number → Says places.Count names (count_line count) (lines.Count (pos count))
+count_says : (names : List (List ℕ)) (count : ℕ) → IsTable names → count ≤ largest_number → Says sections.Count names (count_line count) (lines.Count (pos count))
 count_says names count t h =
     let n = signed_decimal (pos count) in
     let m = numeral (pos count) h in
@@ -213,7 +213,7 @@ count_says names count t h =
     let o : unclosed ws ≡ ws = ap (λ b. codes "f" ∷ (if b then [] else n ∷ [])) (integer_alone (kind_of n) (ap is_integer m.kind)).1 in
     record {
       one = line_alone (codes "f") (n ∷ []) first (m.token, tt);
-      is = subst (λ ws. IsLine places.Count names ws (lines.Count (pos count)) names) (sym e) (record {
+      is = subst (λ ws. IsLine sections.Count names ws (lines.Count (pos count)) names) (sym e) (record {
         names = refl;
         few = t.numbered;
         says =
@@ -226,7 +226,7 @@ count_says names count t h =
     }
 
 conclusion_says : (names : List (List ℕ)) (c : Conclusion) → IsTable names → IsConclusionWritable (length names) c
-    → Says places.Conclusion names (line_text (codes "conclusion" ∷ conclusion_words names c)) (lines.Conclusion c)
+    → Says sections.Conclusion names (line_text (codes "conclusion" ∷ conclusion_words names c)) (lines.Conclusion c)
 conclusion_says names c t h = let b = end_back names c t h in record { one = b.one; is = b.says }
 
 -- the lines behind the steps, one after another
@@ -254,11 +254,11 @@ whole_back names count steps c t small h p w =
     let end = ending_says names t in
     let tail : counting_from n (last_lines names c) ≡ record { number = n; text = output_line } ∷ record { number = n + 1; text = concluded } ∷ record { number = n + 1 + 1; text = ending_line } ∷ [] =
     ap (counting_from n) (last_apart names c)
-    ∙ line_ahead n places.Step names output_line (concluded ++ 10 ∷ (ending_line ++ 10 ∷ [])) lines.Output out
+    ∙ line_ahead n sections.Step names output_line (concluded ++ 10 ∷ (ending_line ++ 10 ∷ [])) lines.Output out
     ∙ ap (λ ls. record { number = n; text = output_line } ∷ ls)
-    (line_ahead (n + 1) places.Conclusion names concluded (ending_line ++ 10 ∷ []) (lines.Conclusion c) conclusion
+    (line_ahead (n + 1) sections.Conclusion names concluded (ending_line ++ 10 ∷ []) (lines.Conclusion c) conclusion
     ∙ ap (λ ls. record { number = n + 1; text = concluded } ∷ ls)
-    (line_ahead (n + 1 + 1) places.End names ending_line [] lines.End end
+    (line_ahead (n + 1 + 1) sections.End names ending_line [] lines.End end
     ∙ ap (λ ls. record { number = n + 1 + 1; text = ending_line } ∷ ls) (nothing_left (n + 1 + 1 + 1)))) in
     record {
       header = record { number = 1; text = header_line };
@@ -269,9 +269,9 @@ whole_back names count steps c t small h p w =
       between = middle.between;
       in_order =
           ap (counting_from 1) (whole_apart names count steps c)
-          ∙ line_ahead 1 places.Header names header_line (count_line count ++ 10 ∷ (flat_map (step_line names) steps ++ last_lines names c)) lines.Header first
+          ∙ line_ahead 1 sections.Header names header_line (count_line count ++ 10 ∷ (flat_map (step_line names) steps ++ last_lines names c)) lines.Header first
           ∙ ap (λ ls. record { number = 1; text = header_line } ∷ ls)
-          (line_ahead 2 places.Count names (count_line count) (flat_map (step_line names) steps ++ last_lines names c) (lines.Count (pos count)) counted
+          (line_ahead 2 sections.Count names (count_line count) (flat_map (step_line names) steps ++ last_lines names c) (lines.Count (pos count)) counted
           ∙ ap (λ ls. record { number = 2; text = count_line count } ∷ ls) (middle.in_order ∙ ap (λ ls. middle.between ++ ls) tail));
       named = names;
       after = names;

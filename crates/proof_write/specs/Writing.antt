@@ -21,7 +21,7 @@ use Rattle.proof_steps.specs.declared.conclusion.Conclusion.TheVariants as concl
 use Rattle.proof_text.specs.Words.{words}
 use Rattle.proof_text.specs.Lines.{parted}
 use Rattle.proof_text.specs.declared.line.Line.TheVariants as lines
-use Rattle.proof_text.specs.declared.line.Place.TheVariants as places
+use Rattle.proof_text.specs.declared.line.Section.TheVariants as sections
 use Rattle.proof_text.specs.Spells.{IsLine}
 use Rattle.proof_text.specs.Steps.{IsStep}
 
@@ -119,4 +119,4 @@ pub record IsEndWritten (names : List (List ℕ)) (old : List ℕ) (c : Conclusi
   pub text : line ≡ codes "conclusion" ++ spaced (conclusion_words names c)
   pub appended : new ≡ old ++ codes "output NONE\n" ++ line ++ codes "\nend pseudo-Boolean proof\n"
   pub one : (parted line).others ≡ []
-  pub says : IsLine places.Conclusion names (words line) (lines.Conclusion c) names
+  pub says : IsLine sections.Conclusion names (words line) (lines.Conclusion c) names

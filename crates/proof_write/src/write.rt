@@ -106,7 +106,7 @@ pub(crate) fn step_text(step: &Step, names: &Names, out: &mut Vec<u8>) -> Result
     ensures grows { Extends out.old.items out.new.items }
 {
     // That no name stands twice in the table is known by its type; this makes it known here.
-    let _count = names.len();
+    names.reveal();
     step_words(out, names, step)?;
     out.push(b'\n')?;
     Ok(())
@@ -189,7 +189,7 @@ pub(crate) fn end_lines(
     ensures grows { Extends out.old.items out.new.items }
 {
     // That no name stands twice in the table is known by its type; this makes it known here.
-    let _count = names.len();
+    names.reveal();
     begin(out, b"output NONE\n")?;
     begin(out, b"conclusion")?;
     conclusion_words(out, names, conclusion)?;

@@ -38,8 +38,8 @@ best_there p s =
     (nothing.0, subst (λ (t : State). IsBest p t.logged nothing.0) nothing.1.1 nothing.1.3)
 
 -- some logged solution has the least improving value
-least_logged : (p : Opb) (s : State) (best : ℤ) → IsPreserved p s → s.improve ≡ Some best → Any (λ g. worth_of p g ≡ best) s.logged
-least_logged p s best kept is = subst (λ o. IfSome o (λ least. Any (λ g. worth_of p g ≡ least) s.logged)) is kept.improve
+least_logged : (p : Opb) (s : State) (best : ℤ) → IsPreserved p s → s.least ≡ Some best → Any (λ g. worth_of p g ≡ best) s.logged
+least_logged p s best kept is = subst (λ o. IfSome o (λ least. Any (λ g. worth_of p g ≡ least) s.logged)) is kept.least
 
 bound_fits : (p : Opb) (objective : List Term) (g : List Bool) (best : ℤ) → IsWithin p → p.objective ≡ Some objective → worth_of p g ≡ best
     → Fits (form (at_least objective best))
@@ -49,7 +49,7 @@ bound_fits p objective g best within is worth =
     let same = ap unsigned_abs worth in
     form_fits (at_least objective best) (form (at_least objective best)) (form_is (at_least objective best)) (omega (arith, sizes, value, same))
 
-lower : (p : Opb) (s : State) (objective : List Term) (best : ℤ) → IsWithin p → p.objective ≡ Some objective → s.improve ≡ Some best
+lower : (p : Opb) (s : State) (objective : List Term) (best : ℤ) → IsWithin p → p.objective ≡ Some objective → s.least ≡ Some best
     → Any (λ g. worth_of p g ≡ best) s.logged → IsRefuted (constraints s) → IsLowerBound s objective best (form (at_least objective best))
 lower p s objective best within is improve least refuted = record {
   below = subst (λ o. IfSome o (λ l. best ≤ℤ l)) (sym improve) (omega (arith, ints));
@@ -61,7 +61,7 @@ lower p s objective best within is improve least refuted = record {
 upper : (p : Opb) (s : State) (best : ℤ) → Any (λ g. worth_of p g ≡ best) s.logged → EntitlesUpper p s (uppers.At best)
 upper p s best (i, g, below, is, worth) = (i, g, below, is, omega (arith, ints, worth))
 
-pub optimum : (p : Opb) (s : State) (objective : List Term) (best : ℤ) → IsWithin p → IsPreserved p s → p.objective ≡ Some objective → s.improve ≡ Some best
+pub optimum : (p : Opb) (s : State) (objective : List Term) (best : ℤ) → IsWithin p → IsPreserved p s → p.objective ≡ Some objective → s.least ≡ Some best
     → IsRefuted (constraints s) → IsEntitled p s (Bounds (lowers.At best) (uppers.At best) None)
 optimum p s objective best within kept is improve refuted =
     let least = least_logged p s best kept improve in

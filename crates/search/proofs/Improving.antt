@@ -18,21 +18,21 @@ last_or : List ℤ → Option ℤ → Option ℤ
 last_or [] start = start
 last_or (value ∷ later) start = last_or later (Some value)
 
-improve_deleted : (p : Opb) (s t : State) (ids : List ℤ) → LegalDel p s ids t → t.improve ≡ s.improve
-improve_deleted p s t [] same = ap (λ (u : State). u.improve) same
+improve_deleted : (p : Opb) (s t : State) (ids : List ℤ) → LegalDel p s ids t → t.least ≡ s.least
+improve_deleted p s t [] same = ap (λ (u : State). u.least) same
 improve_deleted p s t (id ∷ ids) (deletable, rest) = improve_deleted p (without (id_of s.next id) s) t ids rest
 
 -- what a step does to the least value
 abbrev OneStep : Option ℤ → List ℤ → Option ℤ → Type 0
 OneStep start new end = ((new ≡ []) × (end ≡ start)) ⊎ ((value : ℤ) × (new ≡ value ∷ []) × (end ≡ Some value) × Below start value)
 
-one_step : (p : Opb) (s t : State) (step : Step) → Legal p s step t → OneStep s.improve (improvement step t) t.improve
-one_step p s t (kinds.Pol items) (m, written, adds) = inl (refl, ap (λ (u : State). u.improve) adds.1)
-one_step p s t (kinds.Rup c) (m, admitted, shown, adds) = inl (refl, ap (λ (u : State). u.improve) adds.1)
-one_step p s t (kinds.Red c images) (m, k, admitted, redundant, adds) = inl (refl, ap (λ (u : State). u.improve) adds.1)
-one_step p s t (kinds.Sol listing) (g, logs, is) = inl (refl, ap (λ (u : State). u.improve) is)
+one_step : (p : Opb) (s t : State) (step : Step) → Legal p s step t → OneStep s.least (improvement step t) t.least
+one_step p s t (kinds.Pol items) (m, written, adds) = inl (refl, ap (λ (u : State). u.least) adds.1)
+one_step p s t (kinds.Rup c) (m, admitted, shown, adds) = inl (refl, ap (λ (u : State). u.least) adds.1)
+one_step p s t (kinds.Red c images) (m, k, admitted, redundant, adds) = inl (refl, ap (λ (u : State). u.least) adds.1)
+one_step p s t (kinds.Sol listing) (g, logs, is) = inl (refl, ap (λ (u : State). u.least) is)
 one_step p s t (kinds.Soli listing) (objective, g, m, improves, is) =
-    inr (worth_of p g, ap (λ (u : State). value_list u.improve) is, ap (λ (u : State). u.improve) is, improves.better)
+    inr (worth_of p g, ap (λ (u : State). value_list u.least) is, ap (λ (u : State). u.least) is, improves.better)
 one_step p s t (kinds.Del ids) legal = inl (refl, improve_deleted p s t ids legal)
 
 further : (start : Option ℤ) (v w : ℤ) → Below start v → w <ℤ v → Below start w
@@ -57,13 +57,13 @@ behind start between end new later (inl (none, same)) f =
 behind start between end new later (inr (value, is, now, below)) f =
     subst (λ vs. FallsFrom start (vs ++ later) end) (sym is) (made start end value later below (subst (λ o. FallsFrom o later end) now f))
 
-falls : (p : Opb) (a b : State) (steps : List Step) (values : List ℤ) → LeadsImproving p a steps b values → FallsFrom a.improve values b.improve
+falls : (p : Opb) (a b : State) (steps : List Step) (values : List ℤ) → LeadsImproving p a steps b values → FallsFrom a.least values b.least
 unfolding last_or
 falls p a b [] values (same, none) =
-    subst (λ vs. FallsFrom a.improve vs b.improve) (sym none) (All-nil (Below a.improve), tt, sym (ap (λ (u : State). u.improve) same))
+    subst (λ vs. FallsFrom a.least vs b.least) (sym none) (All-nil (Below a.least), tt, sym (ap (λ (u : State). u.least) same))
 falls p a b (x ∷ xs) values (between, first, (later, is, rest)) =
-    subst (λ vs. FallsFrom a.improve vs b.improve) (sym is)
-    (behind a.improve between.improve b.improve (improvement x between) later (one_step p a between x first) (falls p between b xs later rest))
+    subst (λ vs. FallsFrom a.least vs b.least) (sym is)
+    (behind a.least between.least b.least (improvement x between) later (one_step p a between x first) (falls p between b xs later rest))
 
 last_is : (x : ℤ) (xs : List ℤ) → last_of (x ∷ xs) ≡ last_or xs (Some x)
 unfolding last_or
@@ -79,7 +79,7 @@ from_start : (start end : Option ℤ) (values : List ℤ) → start ≡ None →
 from_start start end values none f =
     (f.1, last_same values ∙ sym (ap (last_or values) none) ∙ f.2)
 
-pub values_fall : (l : Logbook) → IsProof l → IsFalling l.improved × (last_of l.improved ≡ l.state.improve)
+pub values_fall : (l : Logbook) → IsProof l → IsFalling l.improved × (last_of l.improved ≡ l.state.least)
 values_fall l proof =
-    from_start proof.start.improve l.state.improve l.improved (ap (λ (u : State). u.improve) proof.starts.2)
+    from_start proof.start.least l.state.least l.improved (ap (λ (u : State). u.least) proof.starts.2)
     (falls l.problem proof.start l.state l.steps l.improved proof.improves)

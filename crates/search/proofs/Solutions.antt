@@ -195,8 +195,8 @@ settled_sol p s listing within consistent names file settled =
 
 -- it is better than what the improving constraint asks to be better than
 better : (p : Opb) (s : State) (objective : List Term) (listing : List Lit) (g : List Bool) → p.objective ≡ Some objective → Names (length p.names) objective
-    → IsSettled (constraints s) listing → Decides (length p.names) listing (valuation_of g) → ImprovementIsLive objective s → IfSome s.improve (λ least. worth_of p g <ℤ least)
-better p s objective listing g is names settled decides live = by s.improve live
+    → IsSettled (constraints s) listing → Decides (length p.names) listing (valuation_of g) → ImprovementIsLive objective s → IfSome s.least (λ least. worth_of p g <ℤ least)
+better p s objective listing g is names settled decides live = by s.least live
   where
     below : (least : ℤ) (n : NormalConstraint) → IsNormalOf (at_most objective (least -ℤ pos 1)) n → Contains (constraints s) n → worth_of p g <ℤ least
     below least n f there =

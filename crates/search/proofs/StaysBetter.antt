@@ -30,7 +30,7 @@ record Asks (objective : List Term) (s : State) (least : ℤ) : Type 0 where
   given : id < s.next
 
 abbrev AsksBetter : List Term → State → Type 0
-AsksBetter objective s = IfSome s.improve (Asks objective s)
+AsksBetter objective s = IfSome s.least (Asks objective s)
 
 weaker : (o : Option ℤ) (P Q : ℤ → Type 0) → ((z : ℤ) → P z → Q z) → IfSome o P → IfSome o Q
 weaker None P Q f h = tt
@@ -38,7 +38,7 @@ weaker (Some z) P Q f h = f z h
 
 asks_insert : (objective : List Term) (s : State) (m : NormalConstraint) → AsksBetter objective s → AsksBetter objective (with_constraint m s)
 asks_insert objective s m h =
-    weaker s.improve (Asks objective s) (Asks objective (with_constraint m s)) (λ z a. record {
+    weaker s.least (Asks objective s) (Asks objective (with_constraint m s)) (λ z a. record {
       id = a.id;
       asked = a.asked;
       live = fin.get-insert nat_cmp_total s.live s.next m a.id
@@ -57,7 +57,7 @@ other_key s k q yes' no' = by (eq_by_cmp nat_cmp k q) refl
 
 asks_remove : (objective : List Term) (s : State) (id : ℕ) → set.contains s.improving id ≡ false → AsksBetter objective s → AsksBetter objective (without id s)
 asks_remove objective s id unasked h =
-    weaker s.improve (Asks objective s) (Asks objective (without id s)) (λ z a. record {
+    weaker s.least (Asks objective s) (Asks objective (without id s)) (λ z a. record {
       id = a.id;
       asked = a.asked;
       live = fin.get-remove nat_cmp_total s.live id a.id ∙ ap (λ b. cond b None (fin.get s.live a.id)) (other_key s a.id id a.kept unasked) ∙ a.live;
@@ -83,7 +83,7 @@ asks_step objective p s t (kinds.Rup c) is h (m, admitted, shown, adds) = asks_a
 asks_step objective p s t (kinds.Red c images) is h (m, k, admitted, redundant, adds) = asks_added objective s t m h adds
 asks_step objective p s t (kinds.Sol listing) is h (g, logs, same) =
     subst (AsksBetter objective) (sym same)
-    (weaker s.improve (Asks objective s) (Asks objective (record s { logged = s.logged ++ g ∷ [] })) (λ z a. record {
+    (weaker s.least (Asks objective s) (Asks objective (record s { logged = s.logged ++ g ∷ [] })) (λ z a. record {
       id = a.id;
       asked = a.asked;
       live = a.live;
@@ -112,5 +112,5 @@ asks_steps objective p s t (step ∷ rest) is h (between, legal, leads) =
 pub improvement_stays : (p : Opb) (objective : List Term) (s t : State) (proof : List Step) → p.objective ≡ Some objective → IsStart p s → Leads p s proof t → ImprovementIsLive objective t
 improvement_stays p objective s t proof is (ns, forms, start) leads =
     let first : AsksBetter objective s = subst (AsksBetter objective) (sym start) tt in
-    weaker t.improve (Asks objective t) (λ least. (n : NormalConstraint) × IsNormalOf (at_most objective (least -ℤ pos 1)) n × Rattle.std.proofs.Common.Contains (constraints t) n)
+    weaker t.least (Asks objective t) (λ least. (n : NormalConstraint) × IsNormalOf (at_most objective (least -ℤ pos 1)) n × Rattle.std.proofs.Common.Contains (constraints t) n)
     (λ z a. (a.asked, a.form, found_live t.live a.id a.asked a.live)) (asks_steps objective p s t proof is first leads)

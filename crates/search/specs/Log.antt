@@ -45,7 +45,7 @@ value_list (Some value) = value ∷ []
 
 -- what a step improves to, where it logs an improving solution and leads to this state
 abbrev pub improvement : Step → State → List ℤ
-improvement (kinds.Soli listing) new = value_list new.improve
+improvement (kinds.Soli listing) new = value_list new.least
 improvement _ new = []
 
 -- legal steps lead from one state to another, and these are the values of their improving solutions, in order

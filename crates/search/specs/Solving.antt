@@ -23,7 +23,7 @@ FileIsLive p live =
 -- so is a constraint that asks for less than the least improving value, if there is one
 abbrev pub ImprovementIsLive : List Term → State → Type 0
 ImprovementIsLive objective s =
-    IfSome s.improve (λ least. (n : NormalConstraint) × IsNormalOf (at_most objective (least -ℤ pos 1)) n × Contains (constraints s) n)
+    IfSome s.least (λ least. (n : NormalConstraint) × IsNormalOf (at_most objective (least -ℤ pos 1)) n × Contains (constraints s) n)
 
 -- one more id is taken
 abbrev pub TakesId : State → State → Type 0
@@ -35,7 +35,7 @@ MayStop limit l = (limit ≤ l.biting + 1) ⊎ (HasRoom l.state → ⊥)
 
 -- a solution that no other one is better than
 abbrev pub IsOptimum : Logbook → Type 0
-IsOptimum l = (best : ℤ) × (l.state.improve ≡ Some best) × (l.conclusion ≡ conclusions.Bounds (lowers.At best) (uppers.At best) None)
+IsOptimum l = (best : ℤ) × (l.state.least ≡ Some best) × (l.conclusion ≡ conclusions.Bounds (lowers.At best) (uppers.At best) None)
 
 -- some solution, where none is asked to be better
 abbrev pub IsSolvedByAny : Logbook → Type 0
@@ -44,7 +44,7 @@ IsSolvedByAny l = (l.state.logged ≢ []) × (l.conclusion ≡ conclusions.Sat N
 -- a solution so far, where the search stopped
 abbrev pub IsBestSoFar : ℕ → Logbook → Type 0
 IsBestSoFar limit l =
-    MayStop limit l × ((best : ℤ) × (l.state.improve ≡ Some best) × (l.conclusion ≡ conclusions.Bounds lowers.MinusInf (uppers.At best) None))
+    MayStop limit l × ((best : ℤ) × (l.state.least ≡ Some best) × (l.conclusion ≡ conclusions.Bounds lowers.MinusInf (uppers.At best) None))
 
 -- no solution so far, where the search stopped
 abbrev pub IsOpen : ℕ → Logbook → Type 0

@@ -39,12 +39,12 @@ pub fn clause_of_two_literals()
 
 /// A `soli` improves to the least value of the state that it leads to; a `sol` improves nothing, and no step no value.
 pub fn improved_by_soli_alone()
-    ensures better { (s : State) → s.improve ≡ Some (pos 7) → improvement (Soli (x 1 ∷ [])) s ≡ pos 7 ∷ [] }
+    ensures better { (s : State) → s.least ≡ Some (pos 7) → improvement (Soli (x 1 ∷ [])) s ≡ pos 7 ∷ [] }
     ensures other { (s : State) → improvement (Sol (x 1 ∷ [])) s ≡ [] }
     ensures none { (p : Opb) → (s t : State) → LeadsImproving p s [] t (pos 7 ∷ []) → ⊥ }
     ensures logged { (p : Opb) → (s t : State) → LeadsImproving p s (Sol (x 1 ∷ []) ∷ []) t (pos 7 ∷ []) → ⊥ }
-    ensures leads { (p : Opb) → (s t : State) → Legal p s (Soli (x 1 ∷ [])) t → t.improve ≡ Some (pos 7) → LeadsImproving p s (Soli (x 1 ∷ []) ∷ []) t (pos 7 ∷ []) }
-    ensures other_value { (p : Opb) → (s t : State) → t.improve ≡ Some (pos 7) → LeadsImproving p s (Soli (x 1 ∷ []) ∷ []) t (pos 8 ∷ []) → ⊥ }
+    ensures leads { (p : Opb) → (s t : State) → Legal p s (Soli (x 1 ∷ [])) t → t.least ≡ Some (pos 7) → LeadsImproving p s (Soli (x 1 ∷ []) ∷ []) t (pos 7 ∷ []) }
+    ensures other_value { (p : Opb) → (s t : State) → t.least ≡ Some (pos 7) → LeadsImproving p s (Soli (x 1 ∷ []) ∷ []) t (pos 8 ∷ []) → ⊥ }
     ensures nothing { ImprovesNothing (Soli (x 1 ∷ [])) → ⊥ }
 {}
 
@@ -68,8 +68,8 @@ pub fn stops_after_conflicts()
 pub fn borne_out()
     ensures no_solution { (l : Logbook) → l.conclusion ≡ conclusions.Nothing → BearsOut 1 l founds.Unsat → ⊥ }
     ensures optimum { (l : Logbook) → l.conclusion ≡ conclusions.Nothing → BearsOut 1 l founds.Optimum → ⊥ }
-    ensures best { (l : Logbook) → l.state.improve ≡ Some (pos 7) → l.conclusion ≡ conclusions.Bounds (lowers.At (pos 7)) (uppers.At (pos 7)) None → BearsOut 1 l founds.Optimum }
-    ensures other_bound { (l : Logbook) → l.state.improve ≡ Some (pos 7) → l.conclusion ≡ conclusions.Bounds (lowers.At (pos 6)) (uppers.At (pos 7)) None → BearsOut 1 l founds.Optimum → ⊥ }
+    ensures best { (l : Logbook) → l.state.least ≡ Some (pos 7) → l.conclusion ≡ conclusions.Bounds (lowers.At (pos 7)) (uppers.At (pos 7)) None → BearsOut 1 l founds.Optimum }
+    ensures other_bound { (l : Logbook) → l.state.least ≡ Some (pos 7) → l.conclusion ≡ conclusions.Bounds (lowers.At (pos 6)) (uppers.At (pos 7)) None → BearsOut 1 l founds.Optimum → ⊥ }
     ensures memory { (l : Logbook) → BearsOut 1 l (founds.Unknown reasons.Memory) → ⊥ }
     ensures solved { (l : Logbook) → l.problem.objective ≡ None → l.state.logged ≡ [] → BearsOut 1 l founds.Sat → ⊥ }
 {}

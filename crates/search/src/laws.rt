@@ -42,7 +42,7 @@ pub fn conflict_ends()
     ensures shown { (live : List NormalConstraint) → (n : NormalConstraint) → Rises 0 n.terms → IsRefuted live → IsShown live n }
     ensures unsatisfiable { (p : Opb) → (s : State) → s.logged ≡ [] → IsRefuted (constraints s) → IsEntitled p s Unsat }
     ensures optimum { (p : Opb) → (s : State) → (objective : List Term) → (best : ℤ) → IsWithin p → IsPreserved p s
-        → p.objective ≡ Some objective → s.improve ≡ Some best → IsRefuted (constraints s)
+        → p.objective ≡ Some objective → s.least ≡ Some best → IsRefuted (constraints s)
         → IsEntitled p s (Bounds (lowers.At best) (uppers.At best) None) }
 {}
 

@@ -230,7 +230,7 @@ impl<'a, P: Propagator> Log<'a, P> {
     pub fn improved(&self) -> &[i128]
         ensures improved { result.now ≡ self.now.improved }
         ensures falling { IsFalling result.now }
-        ensures last { last_of result.now ≡ self.now.state.improve }
+        ensures last { last_of result.now ≡ self.now.state.least }
         ensures proof { IsProof self.now }
     {
         self.improved.as_slice()
@@ -238,7 +238,7 @@ impl<'a, P: Propagator> Log<'a, P> {
 
     /// The least value of an improving solution, none where there is none.
     pub fn least_value(&self) -> Option<i128>
-        ensures value { result ≡ self.now.state.improve }
+        ensures value { result ≡ self.now.state.least }
         ensures proof { IsProof self.now }
     {
         self.kernel.least_value()

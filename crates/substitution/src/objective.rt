@@ -71,8 +71,8 @@ pub fn objective_goal(
     ensures normal { IfOk result (λ goal. IfSome goal IsNormal) }
     ensures others { OnErr result (IsErrOf result CutFault.OutOfMemory) }
 {
-    // Its clause tells that the problem, and so the objective, is within the limits.
-    let _names = problem.names();
+    // That the problem, and so the objective, is within the limits is known by its type; this makes it known here.
+    problem.reveal();
     match problem.objective() {
         None => Ok(None),
         Some(objective) => {

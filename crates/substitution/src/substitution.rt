@@ -87,6 +87,13 @@ impl Substitution {
         }
     }
 
+    /// What holds of every substitution, for a proof that needs it where nothing else of the substitution is asked.
+    pub fn reveal(&self)
+        ensures { NamesOnce self.now }
+    {
+        let _ = &self.images;
+    }
+
     /// The variables and their images, in the order given.
     pub fn as_slice(&self) -> &[(Var, Image)]
         ensures images { result.now ≡ self.now }

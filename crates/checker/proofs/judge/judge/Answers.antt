@@ -1,6 +1,6 @@
 use Rattle.std.proofs.Common.{◌≡◌, ◌∙◌, rules, subst, sym}
 use Rattle.std.proofs.lemmas.Result.{err_from_is_err_and}
-use Rattle.proof_text.specs.declared.line.Place.TheVariants as places
+use Rattle.proof_text.specs.declared.line.Section.TheVariants as sections
 use Rattle.checker.specs.Walk.{Advances}
 use Rattle.checker.specs.WalkOf.{position_of}
 use Rattle.checker.proofs.ProofOfWalk.{concluded_at_end, proved_at_end, none_concluded}
@@ -33,12 +33,12 @@ returns-in_err-finish-clause-stop g c =
 
 pub unreachable-requires : goal.unreachable-requires
 unreachable-requires g c =
-    let over : c.loop-walk.walk.section ≡ places.After = search rules in
+    let over : c.loop-walk.walk.section ≡ sections.After = search rules in
     let concluded = concluded_at_end c.args.problem.now c.args.proof.now (position_of c.loop-walk.walk) c.loop-walk.invariant.3 over in
     none_concluded c.loop-walk.walk.concluded concluded.0 (sym c.in_ok-finish.ensures.concluded ∙ c.in-None.is) concluded.1
 
 pub returns-clause-proved : goal.returns-clause-proved
 returns-clause-proved g c =
-    let over : c.loop-walk.walk.section ≡ places.After = search rules in
+    let over : c.loop-walk.walk.section ≡ sections.After = search rules in
     proved_at_end c.args.problem.now c.args.proof.now (position_of c.loop-walk.walk) c.in-Some.accepted c.loop-walk.invariant.3
     (record { section_is = over; left = c.in_ok-finish.ensures.none }) (sym c.in_ok-finish.ensures.concluded ∙ c.in-Some.is)

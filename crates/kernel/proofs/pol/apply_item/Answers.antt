@@ -2,7 +2,7 @@ use Rattle.std.proofs.Common.{OnOk, FitsSigned, ap, subst, sym, ◌∙◌, rules
 use Rattle.std.proofs.lemmas.Int.{to_z-of_z}
 use mir.Syntax.{w128}
 use Rattle.proof_steps.specs.declared.step.Item.TheVariants as items
-use Rattle.proof_rules.specs.Expression.{AppliesItem}
+use Rattle.proof_rules.specs.Running.{AppliesItem}
 use Rattle.kernel.specs.Database.{found}
 use Rattle.kernel.proofs.pol.apply_item.Goals as goal
 

@@ -6,7 +6,7 @@ use Rattle.proof_steps.specs.declared.step.Item.TheVariants as items
 use Rattle.proof_rules.specs.Fault.{OrMemory, IsItemFault, IsWritingFault}
 use Rattle.proof_rules.specs.Running.{Runs}
 use Rattle.proof_rules.proofs.Faults.{Runs-take, or_memory, stops_here, leaves_writing}
-use Rattle.proof_rules.proofs.Postfix.{IsWritten-take}
+use Rattle.proof_rules.proofs.Postfix.{LeavesStack-take}
 use Rattle.kernel.specs.Database.{found}
 use Rattle.kernel.proofs.pol.run.Goals as goal
 
@@ -14,7 +14,7 @@ pub loop-item-preserved : goal.loop-item-preserved
 loop-item-preserved g c =
     let given = found c.args.database.now in
     record {
-      written = IsWritten-take given given c.args.items.now c.loop-item.item-index _ (items.Id (pos 0)) c.loop-item.stack c.apply_item.new.stack
+      written = LeavesStack-take given given c.args.items.now c.loop-item.item-index _ (items.Id (pos 0)) c.loop-item.stack c.apply_item.new.stack
           refl c.loop-item-test.true refl c.in_ok-apply_item.ensures.ok c.loop-item.invariant.written;
       runs = Runs-take given given c.args.items.now c.loop-item.item-index _ (items.Id (pos 0)) c.loop-item.stack c.apply_item.new.stack
           refl c.loop-item-test.true refl c.in_ok-apply_item.ensures.ok c.loop-item.invariant.runs;

@@ -19,7 +19,7 @@ returns-else-is_none g c =
     let fits : FitsSigned w128 value = search rules in
     let worth : to_z w128 (of_z w128 value) ≡ worth_of l.problem best =
     to_z-of_z w128 value fits ∙ c.value.ensures ∙ ap (λ p. worth_of p best) c.problem-problem.ensures in
-    let equal : c.eq.result ≡ option_eq int_eq l.state.improve (Some (worth_of l.problem best)) =
+    let equal : c.eq.result ≡ option_eq int_eq l.state.least (Some (worth_of l.problem best)) =
     c.eq.ensures ∙ ap (λ o. option_eq int_eq o (Some (to_z w128 (of_z w128 value)))) c.least_value.ensures.value
-    ∙ ap (λ v. option_eq int_eq l.state.improve (Some v)) worth in
+    ∙ ap (λ v. option_eq int_eq l.state.least (Some v)) worth in
     best_is_least l best c.eq.result c.best_of-best.ensures.best there equal

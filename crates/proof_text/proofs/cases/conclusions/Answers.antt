@@ -6,7 +6,7 @@ use Rattle.pb_text.specs.Number.{integer_size, integer_value}
 use Rattle.proof_text.specs.Words.{words}
 use Rattle.proof_text.specs.Conclusions.{conclusion_kind_of, conclusion_of, conclusion_literals}
 use Rattle.proof_text.specs.Spells.{measured}
-use Rattle.proof_text.specs.declared.line.Place.TheVariants.{Conclusion as ConclusionPlace}
+use Rattle.proof_text.specs.declared.line.Section.TheVariants.{Conclusion as ConclusionPlace}
 use Rattle.proof_text.proofs.Computed.{all_small}
 use Rattle.proof_text.proofs.cases.conclusions.Goals as goal
 

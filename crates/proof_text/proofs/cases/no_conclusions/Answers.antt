@@ -5,7 +5,7 @@ use Rattle.pb_text.specs.Name.{is_name}
 use Rattle.pb_text.specs.Number.{integer_size, integer_value}
 use Rattle.proof_text.specs.Words.{words}
 use Rattle.proof_text.specs.Conclusions.{conclusion_kind_of, conclusion_of, conclusion_literals}
-use Rattle.proof_text.specs.declared.line.Place.TheVariants.{Conclusion as ConclusionPlace}
+use Rattle.proof_text.specs.declared.line.Section.TheVariants.{Conclusion as ConclusionPlace}
 use Rattle.proof_text.proofs.Computed.{nothing}
 use Rattle.proof_text.proofs.cases.no_conclusions.Goals as goal
 

@@ -7,7 +7,7 @@ use Rattle.proof_text.specs.Words.{words}
 use Rattle.proof_text.specs.Rules.{rule_of}
 use Rattle.proof_text.specs.Steps.{step_of, counted}
 use Rattle.proof_text.specs.Conclusions.{conclusion_kind_of, conclusion_of, conclusion_literals}
-use Rattle.proof_text.specs.declared.line.Place.TheVariants.{Step as StepPlace, Conclusion as ConclusionPlace}
+use Rattle.proof_text.specs.declared.line.Section.TheVariants.{Step as StepPlace, Conclusion as ConclusionPlace}
 use Rattle.proof_text.proofs.Computed.{nothing}
 use Rattle.proof_text.proofs.cases.no_steps.Goals as goal
 

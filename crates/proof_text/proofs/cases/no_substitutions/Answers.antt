@@ -6,7 +6,7 @@ use Rattle.pb_text.specs.Number.{integer_size, integer_value}
 use Rattle.proof_text.specs.Words.{words}
 use Rattle.proof_text.specs.Rules.{rule_of}
 use Rattle.proof_text.specs.Steps.{step_of, counted}
-use Rattle.proof_text.specs.declared.line.Place.TheVariants.{Step as StepPlace}
+use Rattle.proof_text.specs.declared.line.Section.TheVariants.{Step as StepPlace}
 use Rattle.proof_text.proofs.Computed.{nothing, twice_left}
 use Rattle.proof_text.proofs.cases.no_substitutions.Goals as goal
 

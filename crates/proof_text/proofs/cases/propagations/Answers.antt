@@ -7,7 +7,7 @@ use Rattle.proof_text.specs.Words.{words}
 use Rattle.proof_text.specs.Rules.{rule_of}
 use Rattle.proof_text.specs.Steps.{step_of, counted}
 use Rattle.proof_text.specs.Spells.{measured}
-use Rattle.proof_text.specs.declared.line.Place.TheVariants.{Step as StepPlace}
+use Rattle.proof_text.specs.declared.line.Section.TheVariants.{Step as StepPlace}
 use Rattle.proof_text.proofs.Computed.{all_small}
 use Rattle.proof_text.proofs.cases.propagations.Goals as goal
 

@@ -5,8 +5,8 @@ use Rattle.proof_text.specs.ConclusionsRead.{IsConclusionLineRead}
 use Rattle.proof_text.specs.Spells.{IsLine}
 use Rattle.proof_text.specs.Faults.{DeniesLine}
 use Rattle.proof_text.specs.declared.line.Line.TheVariants as lines
-use Rattle.proof_text.specs.declared.line.Place.TheVariants as places
-use Rattle.proof_text.proofs.LinesAtPlaces.{fresh, conclusion_placed, conclusion_full, conclusion_denied}
+use Rattle.proof_text.specs.declared.line.Section.TheVariants as sections
+use Rattle.proof_text.proofs.LinesOfSections.{fresh, conclusion_placed, conclusion_full, conclusion_denied}
 use Rattle.proof_text.proofs.read.conclusion_line.Goals as goal
 
 pub returns-then-is_full-clause-denies : goal.returns-then-is_full-clause-denies
@@ -30,7 +30,7 @@ returns-else-is_full-clause-line c =
     let x = c.in-Ok.conclusion in
     let start : k ≡ fresh names = c.new-table.ensures ∙ ap fresh c.replace.ensures.value in
     let r : IsConclusionLineRead k ws x new = c.in-Ok.ensures.read in
-    subst (IsLine places.Conclusion names ws (lines.Conclusion x)) (sym c.into_names.ensures.names) (conclusion_placed names k new ws x start r (sym c.is_full.ensures ∙ c.if-is_full.false)
+    subst (IsLine sections.Conclusion names ws (lines.Conclusion x)) (sym c.into_names.ensures.names) (conclusion_placed names k new ws x start r (sym c.is_full.ensures ∙ c.if-is_full.false)
     (subst (λ ns. length ns ≤ most_names) c.into_names.ensures.names c.into_names.ensures.table.numbered))
 
 pub returns-in-Err-clause-denies : goal.returns-in-Err-clause-denies

@@ -3,11 +3,11 @@ use Rattle.proof_text.specs.Words.{words, unclosed, AreSmall}
 use Rattle.proof_text.specs.Frame.{count_of}
 use Rattle.std.proofs.lemmas.Result.{IfOk-weaker}
 use Rattle.pb_text.specs.TokensOf.{texts_of}
-use Rattle.proof_text.specs.declared.line.Place.TheVariants as places
+use Rattle.proof_text.specs.declared.line.Section.TheVariants as sections
 use Rattle.proof_text.specs.Spells.{IsLine}
 use Rattle.proof_text.specs.Faults.{DeniesLine}
 use Rattle.proof_text.specs.Writable.{IsLineWritable}
-use Rattle.proof_text.proofs.LinesAtPlaces.{no_count_line}
+use Rattle.proof_text.proofs.LinesOfSections.{no_count_line}
 use Rattle.proof_text.proofs.ReadIsWritable.{line_writable}
 use Rattle.proof_text.proofs.read.read_line.Goals as goal
 
@@ -24,13 +24,13 @@ returns-in-Step-clause-writable c =
     let old = c.args.names.now in
     let new = c.step_or_output.new.names in
     let ws = texts_of c.new-words.result in
-    IfOk-weaker c.step_or_output.result (λ l. IsLine places.Step old ws l new) (λ l. IsLineWritable (length new) l)
-    (λ l r. line_writable places.Step old ws new l r) c.step_or_output.ensures.line
+    IfOk-weaker c.step_or_output.result (λ l. IsLine sections.Step old ws l new) (λ l. IsLineWritable (length new) l)
+    (λ l r. line_writable sections.Step old ws new l r) c.step_or_output.ensures.line
 
 pub returns-in-Conclusion-clause-writable : goal.returns-in-Conclusion-clause-writable
 returns-in-Conclusion-clause-writable c =
     let old = c.args.names.now in
     let new = c.conclusion_line.new.names in
     let ws = texts_of c.new-words.result in
-    IfOk-weaker c.conclusion_line.result (λ l. IsLine places.Conclusion old ws l new) (λ l. IsLineWritable (length new) l)
-    (λ l r. line_writable places.Conclusion old ws new l r) c.conclusion_line.ensures.line
+    IfOk-weaker c.conclusion_line.result (λ l. IsLine sections.Conclusion old ws l new) (λ l. IsLineWritable (length new) l)
+    (λ l r. line_writable sections.Conclusion old ws new l r) c.conclusion_line.ensures.line

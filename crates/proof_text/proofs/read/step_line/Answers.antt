@@ -4,7 +4,7 @@ use Rattle.pb_text.specs.TokensOf.{texts_of}
 use Rattle.proof_text.specs.StepsRead.{IsStepRead, IsStepLineRead}
 use Rattle.proof_text.specs.PartsDenied.{DeniesRule}
 use Rattle.proof_text.specs.Faults.{DeniesStep}
-use Rattle.proof_text.proofs.LinesAtPlaces.{ruled_read, ruled_denied, unruled_denied, empty_denied}
+use Rattle.proof_text.proofs.LinesOfSections.{ruled_read, ruled_denied, unruled_denied, empty_denied}
 use Rattle.proof_text.proofs.read.step_line.Goals as goal
 
 pub returns-in_default-clause-denies : goal.returns-in_default-clause-denies

@@ -3,7 +3,7 @@ use Rattle.pb_text.specs.TokensOf.{texts_of}
 use Rattle.linear.specs.Largest.{most_names}
 use Rattle.proof_text.specs.StepsRead.{IsStepLineRead}
 use Rattle.proof_text.specs.Steps.{IsStep}
-use Rattle.proof_text.proofs.LinesAtPlaces.{fresh, step_read, step_full}
+use Rattle.proof_text.proofs.LinesOfSections.{fresh, step_read, step_full}
 use Rattle.proof_text.proofs.read.step_of_words.Goals as goal
 
 pub returns-then-is_full-clause-denies : goal.returns-then-is_full-clause-denies

@@ -4,7 +4,7 @@ use Rattle.pb_text.specs.TokensOf.{texts_of}
 use Rattle.proof_text.specs.Words.{is_first, are_words}
 use Rattle.proof_text.specs.Frame.{output}
 use Rattle.proof_text.specs.Faults.{DeniesLine}
-use Rattle.proof_text.proofs.LinesAtPlaces.{output_placed, output_denied, step_placed, step_denied_here}
+use Rattle.proof_text.proofs.LinesOfSections.{output_placed, output_denied, step_placed, step_denied_here}
 use Rattle.proof_text.proofs.read.step_or_output.Goals as goal
 
 pub returns-in_err-output-clause-denies : goal.returns-in_err-output-clause-denies

@@ -64,7 +64,7 @@ returns-in-Some-clause-read c =
     let s = c.in-Some.witness in
     let made : s ≡ images = rw c.in-Some.is at c.in_ok-witness-2.ensures.some in
     subst (λ y. IsStepRead rule.Red k ws (steps.Red x y) new) (sym made)
-    (red_read k mid new ws w x images r behind i (subst NamesOnce made c.as_slice-images.ensures.once))
+    (red_read k mid new ws w x images r behind i (subst NamesOnce made c.reveal.ensures))
 
 pub returns-in-None-clause-denies : goal.returns-in-None-clause-denies
 returns-in-None-clause-denies c =

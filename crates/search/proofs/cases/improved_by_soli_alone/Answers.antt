@@ -4,7 +4,7 @@ use Rattle.search.specs.Log.{value_list}
 use Rattle.search.proofs.cases.improved_by_soli_alone.Goals as goal
 
 pub returns-clause-leads : goal.returns-clause-leads
-returns-clause-leads c p s t legal improve = (t, legal, ([], sym (ap (λ o. value_list o ++ []) improve), (refl, refl)))
+returns-clause-leads c p s t legal least = (t, legal, ([], sym (ap (λ o. value_list o ++ []) least), (refl, refl)))
 
 first_of : List ℤ → ℤ
 first_of [] = pos 0
@@ -12,6 +12,6 @@ first_of (value ∷ values) = value
 
 pub returns-clause-other_value : goal.returns-clause-other_value
 unfolding first_of
-returns-clause-other_value c p s t improve (between, legal, (later, is, (same, none))) =
-    let seven : pos 8 ∷ [] ≡ pos 7 ∷ later = is ∙ ap (λ u. value_list u.improve ++ later) (sym same) ∙ ap (λ o. value_list o ++ later) improve in
+returns-clause-other_value c p s t least (between, legal, (later, is, (same, none))) =
+    let seven : pos 8 ∷ [] ≡ pos 7 ∷ later = is ∙ ap (λ u. value_list u.least ++ later) (sym same) ∙ ap (λ o. value_list o ++ later) least in
     omega (arith, ints, ap first_of seven)

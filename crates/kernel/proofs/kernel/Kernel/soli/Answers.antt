@@ -33,12 +33,12 @@ returns-then-not-improves-clause-fault g c =
     let solution : List Bool = c.in_ok-solution.solution in
     let logs = c.in_ok-solution.ensures.logs in
     let problem : p ≡ k.problem = ap (λ (x : Held). x.problem) c.self.view_is in
-    let improve = ap (λ (x : Held). x.state.improve) (c.self-2.view_is ∙ c.in_ok-solution.ensures.same) in
+    let improve = ap (λ (x : Held). x.state.least) (c.self-2.view_is ∙ c.in_ok-solution.ensures.same) in
     let small = worth_small p solution c.in-Some.objective.now c.in-Some.ensures c.self.invariant.kept.within in
     let value : c.value-value.result ≡ worth_of p solution = c.value-value.ensures in
     let size : unsigned_abs c.value-value.result ≤ largest_objective = subst (λ z. unsigned_abs z ≤ largest_objective) (sym value) small in
     let worth = number_kept c.value-value.result size ∙ value ∙ ap (λ q. worth_of q solution) problem in
-    let worse = not_below c.self-2.inside.log.improve _ (λ less. false≢true (c.if-not-improves.ensures.1 less)) in
+    let worse = not_below c.self-2.inside.log.least _ (λ less. false≢true (c.if-not-improves.ensures.1 less)) in
     let not_better : IsNotBetter k.problem k.state solution = (worse.0, sym improve ∙ worse.1, subst (λ z. worse.0 ≤ℤ z) worth worse.2) in (
       subst (λ (q : Opb). q.objective ≢ None) problem (is_there p c.in-Some.objective.now c.in-Some.ensures),
       (solution, logs),

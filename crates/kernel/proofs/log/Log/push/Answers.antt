@@ -5,4 +5,4 @@ use Rattle.kernel.proofs.log.Log.push.Goals as goal
 pub returns-clause-ok : goal.returns-clause-ok
 returns-clause-ok c =
     let l = c.self.inside in
-    ap (λ xs. record { logged = xs; improve = l.least; improving = l.asked }) c.in_ok-push.ensures.items ∙ ap (with_logged c.args.solution) c.self.view_is
+    ap (λ xs. record { logged = xs; least = l.least; improving = l.improving }) c.in_ok-push.ensures.items ∙ ap (with_logged c.args.solution) c.self.view_is

@@ -30,7 +30,7 @@ value_kept g c =
     let log = c.self.inside in
     let new : State = c.keep.new.kernel.state in
     let fits : FitsSigned w128 c.in-Some.value = search rules in
-    let least : new.improve ≡ Some c.in-Some.value = sym c.least_value.ensures ∙ c.in-Some.is in
+    let least : new.least ≡ Some c.in-Some.value = sym c.least_value.ensures ∙ c.in-Some.is in
     let long : vec_len c.push.new.self ≡ length c.push.new.self.items = search rules in
     ap (λ v. set c.push.new.self.items (c.len-place.result - 1) v) (to_z-of_z w128 c.in-Some.value fits)
     ∙ put_last log.improved.items c.push.new.self.items (pos 0) c.in-Some.value c.len-place.result c.in_ok-push.ensures.items (c.len-place.ensures ∙ long)
@@ -54,4 +54,4 @@ invariant_of-self-2 g c =
 
 pub returns-clause-improved : goal.returns-clause-improved
 returns-clause-improved g c =
-    value_kept g c ∙ ap (λ (l : Logbook). l.improved ++ value_list c.keep.new.kernel.state.improve) c.self.view_is
+    value_kept g c ∙ ap (λ (l : Logbook). l.improved ++ value_list c.keep.new.kernel.state.least) c.self.view_is

@@ -1,4 +1,4 @@
--- What a line says at its place.
+-- What a line says at its section.
 use Rattle.std.proofs.Common.{◌≡◌, ℕ, ℤ, ◌<◌, ◌≤◌, Bool, true, false, ◌&&◌, if◌then◌else◌, Option, Some, None, List, [], ◌∷◌, drop, length, is_some, refl, sym, ap, subst, ◌∙◌, arith, codes}
 use Rattle.std.specs.Option.{option_map}
 use Rattle.proof_steps.specs.declared.step.Step.{Step}
@@ -10,7 +10,7 @@ use Rattle.proof_text.specs.declared.keyword.ConclusionKind.{ConclusionKind}
 use Rattle.proof_text.specs.declared.keyword.ConclusionKind.TheVariants as kinds
 use Rattle.proof_text.specs.declared.line.Line.{Line}
 use Rattle.proof_text.specs.declared.line.Line.TheVariants as lines
-use Rattle.proof_text.specs.declared.line.Place.TheVariants as places
+use Rattle.proof_text.specs.declared.line.Section.TheVariants as sections
 use Rattle.pb_text.specs.Lexeme.{kind_of}
 use Rattle.proof_text.specs.Kinds.{is_semicolon}
 use Rattle.proof_text.specs.Words.{is_first, is_empty, are_words, unclosed, AreSmall}
@@ -116,7 +116,7 @@ step_full names k new ws step e r full =
 
 -- a conclusion's line
 pub conclusion_placed : (names : List (List ℕ)) (k new : NamesMet) (ws : List (List ℕ)) (c : Conclusion) → k ≡ fresh names → IsConclusionLineRead k ws c new → new.full ≡ false
-    → length new.names ≤ most_names → IsLine places.Conclusion names ws (lines.Conclusion c) new.names
+    → length new.names ≤ most_names → IsLine sections.Conclusion names ws (lines.Conclusion c) new.names
 conclusion_placed names k new ws c e r full few =
     let q : IsConclusionLineRead (fresh names) ws c new = subst (λ x. IsConclusionLineRead x ws c new) e r in
     record {
@@ -168,7 +168,7 @@ conclusion_anyway names others ws c h = by (is_first (codes "conclusion") ws) h
     by false h = cc
 
 pub conclusion_full : (names : List (List ℕ)) (k new : NamesMet) (ws : List (List ℕ)) (c : Conclusion) → k ≡ fresh names → IsConclusionLineRead k ws c new → new.full ≡ true
-    → DeniesPlaced faults.TooManyIds places.Conclusion names ws
+    → DeniesPlaced faults.TooManyIds sections.Conclusion names ws
 conclusion_full names k new ws c e r full =
     let q : IsConclusionLineRead (fresh names) ws c new = subst (λ x. IsConclusionLineRead x ws c new) e r in
     let far : most_names < length (names_in names (conclusion_literals ws)) = too_many (fresh names) (conclusion_literals ws) refl (sym (ap (λ (m : NamesMet). m.full) q.known) ∙ full) in
@@ -179,15 +179,15 @@ mapped : (o : Option Conclusion) (l : Line) → option_map (λ x. lines.Conclusi
 mapped None l h = cc
 mapped (Some c) l h = (c, refl)
 
-no_conclusion_line : (names ws : List (List ℕ)) → is_some (conclusion_of [] ws) ≡ false → NoLine places.Conclusion names ws
+no_conclusion_line : (names ws : List (List ℕ)) → is_some (conclusion_of [] ws) ≡ false → NoLine sections.Conclusion names ws
 no_conclusion_line names ws h line e p =
     let c = mapped (conclusion_of (names_in names (conclusion_literals ws)) ws) line e in
     let a = conclusion_anyway (names_in names (conclusion_literals ws)) [] ws c.0 c.1 in
     cc (sym h ∙ ap is_some a.1)
 
-pub conclusion_denied : (f : ProofFault) (names ws : List (List ℕ)) → Denies f (is_some (conclusion_of [] ws)) (drop 1 (unclosed (drop 1 ws))) → DeniesPlaced f places.Conclusion names ws
+pub conclusion_denied : (f : ProofFault) (names ws : List (List ℕ)) → Denies f (is_some (conclusion_of [] ws)) (drop 1 (unclosed (drop 1 ws))) → DeniesPlaced f sections.Conclusion names ws
 conclusion_denied f names ws d =
-    part_denied f (is_some (conclusion_of [] ws)) (drop 1 (unclosed (drop 1 ws))) (NoLine places.Conclusion names ws) (SomeLine places.Conclusion names ws) (drop 1 (unclosed (drop 1 ws))) (names_in names (conclusion_literals ws))
+    part_denied f (is_some (conclusion_of [] ws)) (drop 1 (unclosed (drop 1 ws))) (NoLine sections.Conclusion names ws) (SomeLine sections.Conclusion names ws) (drop 1 (unclosed (drop 1 ws))) (names_in names (conclusion_literals ws))
     (no_conclusion_line names ws) (λ s. s) d
 
 -- `output` is no rule
@@ -200,7 +200,7 @@ output_counts ws rest at = ap counted at ∙ counted_at (codes "output") rest No
 
 -- the output line
 pub output_placed : (names ws : List (List ℕ)) → is_first (codes "output") ws ≡ true → are_words output (unclosed ws) ≡ true
-    → length names ≤ most_names → IsLine places.Step names ws lines.Output names
+    → length names ≤ most_names → IsLine sections.Step names ws lines.Output names
 output_placed names ws h all few =
     let none : counted ws ≡ [] = output_counts ws (drop 1 ws) (first_word (codes "output") ws h) in
     record {
@@ -215,7 +215,7 @@ mapped_step : (o : Option Step) (l : Line) → option_map (λ x. lines.Step x) o
 mapped_step None l h = cc
 mapped_step (Some s) l h = (s, refl, cc)
 
-no_output_line : (names ws : List (List ℕ)) → is_first (codes "output") ws ≡ true → are_words output (unclosed ws) ≡ false → NoLine places.Step names ws
+no_output_line : (names ws : List (List ℕ)) → is_first (codes "output") ws ≡ true → are_words output (unclosed ws) ≡ false → NoLine sections.Step names ws
 no_output_line names ws h none line e p =
     let there : ws ≡ codes "output" ∷ drop 1 ws = first_word (codes "output") ws h in
     let n = names_in names (counted ws) in
@@ -225,9 +225,9 @@ no_output_line names ws h none line e p =
     cc
 
 pub output_denied : (f : ProofFault) (names ws : List (List ℕ)) → is_first (codes "output") ws ≡ true → are_words output (unclosed ws) ≡ false → IsForm f
-    → DeniesPlaced f places.Step names ws
+    → DeniesPlaced f sections.Step names ws
 output_denied f names ws h none form =
-    form_denied f (NoLine places.Step names ws) (SomeLine places.Step names ws) (counted ws) (names_in names (counted ws)) form (no_output_line names ws h none)
+    form_denied f (NoLine sections.Step names ws) (SomeLine sections.Step names ws) (counted ws) (names_in names (counted ws)) form (no_output_line names ws h none)
 
 first_stays : (v : List ℕ) (ws : List (List ℕ)) → is_first v ws ≡ false → is_first v (unclosed ws) ≡ false
 first_stays v [] h = refl
@@ -242,7 +242,7 @@ not_output : (ws : List (List ℕ)) → is_first (codes "output") ws ≡ false �
 not_output ws h = ap (λ t. t && (is_first (codes "NONE") (drop 1 (unclosed ws)) && is_empty (drop 1 (drop 1 (unclosed ws))))) (first_stays (codes "output") ws h)
 
 -- a step among the lines
-pub step_placed : (names new ws : List (List ℕ)) (step : Step) → is_first (codes "output") ws ≡ false → IsStep names ws step new → IsLine places.Step names ws (lines.Step step) new
+pub step_placed : (names new ws : List (List ℕ)) (step : Step) → is_first (codes "output") ws ≡ false → IsStep names ws step new → IsLine sections.Step names ws (lines.Step step) new
 step_placed names new ws step h r = record {
   names = r.names;
   few = r.few;
@@ -253,21 +253,21 @@ step_placed names new ws step h r = record {
   small = r.small;
 }
 
-no_step_line : (names ws : List (List ℕ)) → is_first (codes "output") ws ≡ false → NoStep names ws → NoLine places.Step names ws
+no_step_line : (names ws : List (List ℕ)) → is_first (codes "output") ws ≡ false → NoStep names ws → NoLine sections.Step names ws
 no_step_line names ws h none line e p =
     let n = names_in names (counted ws) in
     let s = mapped_step (step_of n ws) line (sym (ap (λ t. if t then Some lines.Output else option_map (λ s. lines.Step s) (step_of n ws)) (not_output ws h)) ∙ e) in
     none s.0 s.1 (subst IsProperLine s.2 p)
 
-pub step_denied_here : (f : ProofFault) (names ws : List (List ℕ)) → is_first (codes "output") ws ≡ false → DeniesStep f names ws → DeniesPlaced f places.Step names ws
+pub step_denied_here : (f : ProofFault) (names ws : List (List ℕ)) → is_first (codes "output") ws ≡ false → DeniesStep f names ws → DeniesPlaced f sections.Step names ws
 step_denied_here f names ws h d =
     let n = names_in names (counted ws) in
     let other = ap (λ t. if t then Some lines.Output else option_map (λ s. lines.Step s) (step_of n ws)) (not_output ws h) in
-    same_denied f (NoStep names ws) (SomeStep names ws) (NoLine places.Step names ws) (SomeLine places.Step names ws) (counted ws) n (counted ws) n
+    same_denied f (NoStep names ws) (SomeStep names ws) (NoLine sections.Step names ws) (SomeLine sections.Step names ws) (counted ws) n (counted ws) n
     (no_step_line names ws h) (λ some. (lines.Step some.0, other ∙ ap (λ o. option_map (λ s. lines.Step s) o) some.1, some.2)) refl refl d
 
 -- no count
-pub no_count_line : (names ws : List (List ℕ)) → ((n : ℤ) → count_of (unclosed ws) ≡ Some n → AreSmall (unclosed ws) → ⊥) → (line : Line) → line_of places.Count names ws ≡ Some line → AreSmall (unclosed ws) → ⊥
+pub no_count_line : (names ws : List (List ℕ)) → ((n : ℤ) → count_of (unclosed ws) ≡ Some n → AreSmall (unclosed ws) → ⊥) → (line : Line) → line_of sections.Count names ws ≡ Some line → AreSmall (unclosed ws) → ⊥
 no_count_line names ws h line e s = by (count_of (unclosed ws)) refl e
   where
     by : (o : Option ℤ) → count_of (unclosed ws) ≡ o → option_map (λ n. lines.Count n) o ≡ Some line → ⊥
