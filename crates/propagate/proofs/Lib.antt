@@ -24,3 +24,4 @@ pub mod TraceMeaning
 pub mod Members
 pub mod Gathered
 pub mod LastTraced
+pub mod SmallContent

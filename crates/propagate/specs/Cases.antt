@@ -1,8 +1,10 @@
 -- Small constraints, to compute the definitions on.
 use Rattle.std.specs.Prelude.{ℕ, true, false, List, [], ◌∷◌}
+use Rattle.std.specs.FinMap as fin
 use Rattle.linear.specs.declared.term.Lit.{Lit}
 use Rattle.normal_form.specs.Normal.{NormalConstraint}
 use Rattle.normal_form.specs.Cases.{plain, negated, normal}
+use Rattle.propagate.specs.Content.{Content}
 
 -- the literals x and ~x of a variable
 abbrev pub x : ℕ → Lit
@@ -49,3 +51,7 @@ abbrev pub improving_moved : List NormalConstraint
 improving_moved =
     normal (plain 1 1 ∷ negated 1 5 ∷ []) 1 ∷ normal (negated 1 1 ∷ negated 1 2 ∷ negated 1 3 ∷ negated 1 4 ∷ []) 3 ∷ unit_not 6
     ∷ normal (plain 1 2 ∷ plain 1 3 ∷ plain 1 4 ∷ plain 1 5 ∷ []) 2 ∷ []
+
+-- 1 x1 1 x2 >= 1 under the id 2, and 1 ~x2 >= 1 under the id 5
+abbrev pub two_ids : Content
+two_ids = fin.from_entries ((2, one_of_two) ∷ (5, unit_not 2) ∷ [])

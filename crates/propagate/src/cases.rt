@@ -1,10 +1,11 @@
 //! The definitions computed on small constraints, each the contract of a function that does nothing.
 
-ghost use Rattle.std.specs.Prelude.{◌≡◌, All, List, [], ◌∷◌, ◌++◌, pos};
+ghost use Rattle.std.specs.Prelude.{◌≡◌, All, List, [], ◌∷◌, ◌++◌, pos, None, Some};
 ghost use Rattle.linear.specs.declared.term.Lit.{Lit};
 ghost use Rattle.normal_form.specs.Cases.{plain, negated, normal};
-ghost use Rattle.propagate.specs.Cases.{x, not_x, unit, unit_not, four_clauses, one_of_two, weighted, pigeons, two_of_three, two_of_three_negated, improving_moved};
+ghost use Rattle.propagate.specs.Cases.{x, not_x, unit, unit_not, four_clauses, one_of_two, weighted, pigeons, two_ids, two_of_three, two_of_three_negated, improving_moved};
 ghost use Rattle.propagate.specs.Chain.{IsForcedByOne, IsChain, IsRefuted, IsClosure, IsImpossible, LeadsToConflict};
+ghost use Rattle.propagate.specs.Content.{IsLeastAbove, IsTrace};
 ghost use Rattle.propagate.specs.Slack.{slack, IsBroken};
 
 /// `1 ~x2 1 x3 >= 1 ; 1 ~x1 1 x2 >= 1 ; 1 x1 >= 1 ; 1 ~x3 >= 1`: the first two force something only after the
@@ -66,4 +67,27 @@ pub fn degree_zero_negated()
 /// `1 ~x6 >= 1`.
 pub fn moved_bound_open()
     ensures { IsRefuted improving_moved → ⊥ }
+{}
+
+/// `1 x1 1 x2 >= 1` has the id 2 and `1 ~x2 >= 1` the id 5: each is the least above what is below it and not below the other, and
+/// nothing is above 5.
+pub fn least_above()
+    ensures first { IsLeastAbove two_ids 0 (Some 2) }
+    ensures second { IsLeastAbove two_ids 2 (Some 5) }
+    ensures last { IsLeastAbove two_ids 5 None }
+    ensures passed_over { IsLeastAbove two_ids 0 (Some 5) → ⊥ }
+    ensures not_above { IsLeastAbove two_ids 2 (Some 2) → ⊥ }
+    ensures left { IsLeastAbove two_ids 4 None → ⊥ }
+{}
+
+/// Under `x1` the second of these forces `~x2`, and there the chain ends. Under `~x1` the first forces x2, and the second is broken; or
+/// the second forces `~x2`, and the first is broken.
+pub fn traced_by_ids()
+    ensures end { IsTrace two_ids (x 1 ∷ []) (record { forced = (not_x 2, 5) ∷ []; conflict = None }) }
+    ensures conflict { IsTrace two_ids (not_x 1 ∷ []) (record { forced = (x 2, 2) ∷ []; conflict = Some 5 }) }
+    ensures other_conflict { IsTrace two_ids (not_x 1 ∷ []) (record { forced = (not_x 2, 5) ∷ []; conflict = Some 2 }) }
+    ensures too_early { IsTrace two_ids (x 1 ∷ []) (record { forced = []; conflict = None }) → ⊥ }
+    ensures other_reason { IsTrace two_ids (not_x 1 ∷ []) (record { forced = (x 2, 5) ∷ []; conflict = Some 5 }) → ⊥ }
+    ensures not_broken { IsTrace two_ids (x 1 ∷ []) (record { forced = (not_x 2, 5) ∷ []; conflict = Some 2 }) → ⊥ }
+    ensures conflict_left_out { IsTrace two_ids (not_x 1 ∷ []) (record { forced = (x 2, 2) ∷ []; conflict = None }) → ⊥ }
 {}
