@@ -45,9 +45,9 @@ with_extra None s = s
 with_extra (Some g) s = with_solution g s
 
 -- what the fields of every kernel keep: beside the above, the greatest id of the file is known
-pub record Keeps (k : Held) (file_ids : ℕ) : Type 0 where
+pub record Keeps (k : Held) (ids : ℕ) : Type 0 where
   pub kept : IsKept k
-  pub file : file_ids ≡ problem_ids k.problem.constraints
+  pub file : ids ≡ problem_ids k.problem.constraints
 
 -- the id that a step gives its constraint, if it adds one
 abbrev pub given_id : Step → State → Option ℕ

@@ -54,7 +54,7 @@ impl<'a, P: Propagator> Kernel<'a, P> {
         if gone.contains(id) {
             return Err(StepFault::DeadId);
         }
-        if u64::from(id) <= self.file_ids || self.log.is_improving(id) {
+        if u64::from(id) <= self.problem_ids || self.log.is_improving(id) {
             return Err(StepFault::FileConstraint);
         }
         Ok(id)

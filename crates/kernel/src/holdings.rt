@@ -37,9 +37,9 @@ impl<'a, P: Propagator> Kernel<'a, P> {
     }
 
     /// How many ids the constraints of the file took: the count that stands behind `f` in a proof.
-    pub fn file_ids(&self) -> u64
+    pub fn problem_ids(&self) -> u64
         ensures { result ≡ problem_ids self.now.problem.constraints }
     {
-        self.file_ids
+        self.problem_ids
     }
 }

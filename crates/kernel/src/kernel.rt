@@ -30,7 +30,7 @@ pub struct Kernel<'a, P: Propagator> {
     pub(crate) source: &'a Problem,
     pub(crate) database: Database<P>,
     pub(crate) log: Log,
-    pub(crate) file_ids: u64,
+    pub(crate) problem_ids: u64,
     // What `pol` steps add up in. What it holds between them is of no account: it is kept for its memory, a cell for
     // each variable, which would else be taken and cleared for each step.
     pub(crate) sum: Accumulator,
@@ -47,7 +47,7 @@ impl<'a, P: Propagator> Model for Kernel<'a, P> {
 
     ghost view = { λ k. record { problem = k.source.now; state = state_with k.database k.log } };
 
-    ghost invariant = { λ k. Keeps (record { problem = k.source.now; state = state_with k.database k.log }) k.file_ids };
+    ghost invariant = { λ k. Keeps (record { problem = k.source.now; state = state_with k.database k.log }) k.problem_ids };
 }
 
 impl<'a, P: Propagator> Kernel<'a, P> {
@@ -65,13 +65,13 @@ impl<'a, P: Propagator> Kernel<'a, P> {
         ensures others { OnErr result (IsErrOf result StepFault.OutOfMemory) }
     {
         let database = constraints_of_file(alloc, problem)?;
-        let file_ids = database.next_id() - 1;
+        let problem_ids = database.next_id() - 1;
         Ok(Kernel {
             allocator: alloc,
             source: problem,
             database,
             log: Log::empty(alloc),
-            file_ids,
+            problem_ids,
             sum: Accumulator::new(alloc),
         })
     }

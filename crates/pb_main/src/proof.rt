@@ -31,7 +31,7 @@ pub(crate) fn proof_of<'a, P: Propagator>(
     if !are_steps_writable(names.len(), log.steps()) {
         return Err(Unanswered::Unchecked);
     }
-    let ids = log.kernel().file_ids();
+    let ids = log.kernel().problem_ids();
     match write_proof(alloc, names, ids, log.steps(), log.conclusion()) {
         Ok(proof) => Ok(proof),
         Err(_) => Err(Unanswered::Memory),

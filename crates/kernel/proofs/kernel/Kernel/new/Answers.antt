@@ -10,10 +10,10 @@ invariant_of-result g c =
     let p : Opb = c.args.problem.now in
     let d = c.in_ok-database.database in
     let file = c.in_ok-database.ensures in
-    let next = c.next_id-file_ids.ensures in
-    let last : (c.next_id-file_ids.result - 1) + 1 ≡ d.next = omega (arith, next.value, next.numbered.first) in
-    let whole : Keeps (record { problem = p; state = state_with d unlogged }) (c.next_id-file_ids.result - 1) = record {
+    let next = c.next_id-problem_ids.ensures in
+    let last : (c.next_id-problem_ids.result - 1) + 1 ≡ d.next = omega (arith, next.value, next.numbered.first) in
+    let whole : Keeps (record { problem = p; state = state_with d unlogged }) (c.next_id-problem_ids.result - 1) = record {
       kept = kept_start p (state_with d unlogged) file.within (starts p d file.file);
-      file = file_count p d (c.next_id-file_ids.result - 1) file.file last;
+      file = file_count p d (c.next_id-problem_ids.result - 1) file.file last;
     } in
-    subst (λ l. Keeps (record { problem = p; state = state_with d l }) (c.next_id-file_ids.result - 1)) (sym c.empty.ensures) whole
+    subst (λ l. Keeps (record { problem = p; state = state_with d l }) (c.next_id-problem_ids.result - 1)) (sym c.empty.ensures) whole
