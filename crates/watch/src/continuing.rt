@@ -6,16 +6,14 @@
 ghost use Rattle.std.specs.Prelude.{◌≡◌, ◌<◌, ◌≤◌, ◌++◌, ◌∷◌, [], ℕ, false, IfOk, None, length, slice_index_or, take};
 ghost use Rattle.propagate.specs.Literals.{IsConsistent, lists, opposite};
 ghost use Rattle.watch.specs.Keeping.{IsKept};
-ghost use Rattle.watch.specs.Ledgers.{shown};
+ghost use Rattle.ledger.specs.Ledgers.{shown};
 ghost use Rattle.watch.specs.Steps.{AreSteps, IsFound, IsFoundOfLast, literals_of};
 
 use super::chain::{Chain, Step};
 use super::following::{decide, follow};
-use super::ledger::Ledger;
 use super::levels::Levels;
-use super::measures::literal_count;
-use super::queue::Queue;
 use super::tracing::{broken_place, chain_over};
+use ledger::{Ledger, Queue, literal_count};
 use linear::Lit;
 use propagate::with_last;
 use std::alloc::{AllocError, Global};
@@ -60,7 +58,7 @@ fn chain_on(
 {
     let from = ledger.len();
     let ascent = decide(ledger, queue, levels, last)?;
-    let _behind = ledger.len();
+    ledger.reveal();
     Ok(Chain {
         steps: tell_from(alloc, ledger, from + 1)?,
         broken: broken_place(ascent),
@@ -107,7 +105,6 @@ pub(crate) fn chain_of_last(
     if !ascent.is_whole() || !ledger.leaves_free(last) {
         return chain_of_all(alloc, ledger, queue, levels, before, last);
     }
-    let _behind = ledger.len();
-    let _literals = ledger.literals();
+    ledger.reveal();
     chain_on(alloc, ledger, queue, levels, last)
 }

@@ -4,4 +4,4 @@ use Rattle.watch.proofs.continuing.chain_on.Goals as goal
 
 pub tell_from-requires-clause-forced : goal.tell_from-requires-clause-forced
 tell_from-requires-clause-forced c k after low none =
-    decided_reasons c.args.ledger.now c.decide.new.ledger c.args.last c.len-from.result k c.len-from.ensures.value c.len-from.ensures.reasons.as_many c.len-behind.ensures.reasons.as_many c.in_ok-ascent.ensures.decided after low none
+    decided_reasons c.args.ledger.now c.decide.new.ledger c.args.last c.len-from.result k c.len-from.ensures.value c.len-from.ensures.reasons.as_many c.reveal.ensures.reasons.as_many c.in_ok-ascent.ensures.decided after low none

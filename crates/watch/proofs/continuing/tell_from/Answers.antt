@@ -2,7 +2,7 @@
 use Rattle.std.proofs.Common.{◌≡◌, ◌∙◌, ◌<◌, false, List, arith, get_or, ap, sym, length}
 use Rattle.std.proofs.lemmas.List.{get_or_default}
 use Rattle.linear.specs.declared.term.Lit.{Lit}
-use Rattle.watch.specs.Ledgers.{shown}
+use Rattle.ledger.specs.Ledgers.{shown}
 use Rattle.watch.proofs.ToldTail.{tail_more}
 use Rattle.watch.proofs.continuing.tell_from.Goals as goal
 
