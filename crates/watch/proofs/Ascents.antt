@@ -19,7 +19,7 @@ use Rattle.watch.specs.declared.ascent.Ascent.{Ascent}
 use Rattle.watch.specs.declared.ascent.Ascent.TheVariants as ascents
 use Rattle.watch.specs.Givens.{IsWholeEnd}
 use Rattle.watch.specs.Keeping.{IsAscent, broken_place}
-use Rattle.watch.specs.Ledgers.{AreReasons, IsReason, constraint_at, nothing}
+use Rattle.ledger.specs.Ledgers.{AreReasons, IsReason, constraint_at, nothing}
 use Rattle.watch.specs.Steps.{AreGiven, Clashes}
 use Rattle.watch.proofs.GivenOnes.{never_against, one_within}
 use Rattle.watch.proofs.ToldTrail.{HasEnd}

@@ -11,10 +11,10 @@ use Rattle.propagate.specs.Walk.{IsBrokenAt, IsQuiet}
 use Rattle.propagate.proofs.Chains.{chain_of_more, conflict_of_more}
 use Rattle.propagate.proofs.JoinedChains.{chain_push}
 use Rattle.propagate.proofs.ReasonedChains.{conflict_at, not_refuted}
-use Rattle.watch.specs.Ledgers.{State, AreReasons, IsReason, constraint_at, constraint_in, nothing, shown}
+use Rattle.ledger.specs.Ledgers.{State, AreReasons, IsReason, constraint_at, constraint_in, nothing, shown}
 use Rattle.watch.specs.Looking.{AreLookedAt, GoesOn, IsContinued}
 use Rattle.watch.specs.Roots.{AllForced, IsRoot}
-use Rattle.watch.proofs.Attaching.{shown_more}
+use Rattle.ledger.proofs.Attaching.{shown_more}
 use Rattle.watch.proofs.Walking.{forced_there, goes_on_further}
 
 -- a chain from nothing that ends in a broken constraint refutes; a settled one shows that nothing does

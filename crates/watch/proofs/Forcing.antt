@@ -15,9 +15,9 @@ use Rattle.propagate.specs.Chain.{IsSettled}
 use Rattle.propagate.specs.Walk.{IsQuiet, IsBrokenAt}
 use Rattle.propagate.proofs.Occurrences.{nothing_forced}
 use Rattle.propagate.proofs.ReasonedChains.{settled_from_quiet}
-use Rattle.watch.specs.Ledgers.{constraint_at, nothing, open_sum}
+use Rattle.ledger.specs.Ledgers.{constraint_at, nothing, open_sum}
 use Rattle.watch.specs.Looking.{AreLookedAt, IsContinued, CanForce, HasSlack, term_at}
-use Rattle.watch.proofs.Opening.{fewer}
+use Rattle.ledger.proofs.Opening.{fewer}
 use Rattle.watch.proofs.Walking.{goes_on_further}
 
 -- what is so while the terms of a constraint are gone over

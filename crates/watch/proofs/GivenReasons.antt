@@ -11,13 +11,13 @@ use Rattle.propagate.specs.Literals.{among, lists, opposite, IsConsistent, SameL
 use Rattle.propagate.specs.Walk.{IsBrokenAt}
 use Rattle.propagate.proofs.Listings.{among_cases, among_head, among_left, among_right, among_tail}
 use Rattle.watch.specs.Givens.{HasAll, IsGiven}
-use Rattle.watch.specs.Ledgers.{State, shown}
+use Rattle.ledger.specs.Ledgers.{State, shown}
 use Rattle.watch.specs.Looking.{AreLookedAt, GoesOn}
 use Rattle.watch.specs.Roots.{AllForced, IsRoot}
 use Rattle.watch.specs.Steps.{AreGiven, Clashes}
 use Rattle.watch.proofs.Deciding.{reason_at}
 use Rattle.watch.proofs.GivenOnes.{one_within}
-use Rattle.watch.proofs.Positions.{listed_at}
+use Rattle.ledger.proofs.Positions.{listed_at}
 use Rattle.watch.proofs.ToldTrail.{HasEnd}
 
 some_is_not_none : (p : ℕ) (o : Option ℕ) → o ≡ Some p → o ≡ None → ⊥

@@ -9,7 +9,7 @@ use Rattle.propagate.specs.Literals.{lists}
 use Rattle.propagate.proofs.Listings.{among_cases, among_left, among_right}
 use Rattle.watch.specs.Givens.{HasAll, IsGiven}
 use Rattle.watch.specs.Keeping.{AreLevels, IsKept, IsLevel, height_of}
-use Rattle.watch.specs.Ledgers.{State, shown}
+use Rattle.ledger.specs.Ledgers.{State, shown}
 use Rattle.watch.specs.Looking.{AreLookedAt, GoesOn}
 use Rattle.watch.specs.Roots.{AllForced, IsRoot}
 use Rattle.watch.specs.Steps.{AreGiven}

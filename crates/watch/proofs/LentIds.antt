@@ -8,13 +8,13 @@ use Rattle.linear.specs.declared.term.Lit.{Lit}
 use Rattle.normal_form.specs.Normal.{NormalConstraint}
 use Rattle.propagate.specs.Content.{HasLiteral}
 use Rattle.propagate.specs.Literals.{coefficient_of}
-use Rattle.watch.specs.declared.occurrence.Occurrence.{Occurrence}
-use Rattle.watch.specs.declared.pair.Pair.{Pair}
-use Rattle.watch.specs.Ledgers.{AreParted, constraint_at}
-use Rattle.watch.specs.Entered.{AreEntriesOf}
+use Rattle.ledger.specs.declared.occurrence.Occurrence.{Occurrence}
+use Rattle.ledger.specs.declared.pair.Pair.{Pair}
+use Rattle.ledger.specs.Ledgers.{AreParted, constraint_at}
+use Rattle.ledger.specs.Entered.{AreEntriesOf}
 use Rattle.watch.specs.Lent.{IsEachOnce, ids_at, live_places}
 use Rattle.watch.specs.Named.{AreNamed, content_at, place_of}
-use Rattle.watch.specs.Occurrences.{occurrences_of}
+use Rattle.ledger.specs.Occurrences.{occurrences_of}
 use Rattle.watch.proofs.NamedPlaces.{below, got, got_none}
 
 abbrev Slots : Type 0

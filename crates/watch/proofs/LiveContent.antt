@@ -9,11 +9,11 @@ use Rattle.std.specs.Ordering.{nat_cmp, eq_by_cmp, is_lt}
 use Rattle.normal_form.specs.Normal.{NormalConstraint}
 use Rattle.propagate.specs.Content.{Content, IsLeastAbove}
 use Rattle.propagate.proofs.Entries.{Entries, found_at, ids_of, least_above, none_above, rise, values_of}
-use Rattle.watch.specs.Ledgers.{constraint_at, constraint_in, nothing, shown}
+use Rattle.ledger.specs.Ledgers.{constraint_at, constraint_in, nothing, shown}
 use Rattle.watch.specs.Named.{AreNamed, content_at, place_of}
 use Rattle.watch.proofs.LiveOnes.{AddsNothing}
 use Rattle.watch.proofs.NamedPlaces.{below, got, got_none, shows}
-use Rattle.watch.proofs.Standing.{shown_at}
+use Rattle.ledger.proofs.Standing.{shown_at}
 
 abbrev Slots : Type 0
 Slots = List (Option NormalConstraint)

@@ -9,8 +9,8 @@ use Rattle.propagate.specs.declared.reach.Reach.{Reach}
 use Rattle.propagate.specs.declared.reach.Reach.TheVariants as reaches
 use Rattle.propagate.specs.Slack.{IsBroken, IsForced}
 use Rattle.propagate.proofs.Chains.{more_constraints}
-use Rattle.watch.specs.Ledgers.{nothing}
-use Rattle.watch.proofs.Standing.{quiet_nothing}
+use Rattle.ledger.specs.Ledgers.{nothing}
+use Rattle.ledger.proofs.Standing.{quiet_nothing}
 
 -- the one has all of the other, and beside it what says nothing
 pub record AddsNothing (ns ms : List NormalConstraint) : Type 0 where

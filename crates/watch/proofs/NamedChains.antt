@@ -17,13 +17,13 @@ use Rattle.propagate.proofs.SearchIsRight.{closure_by}
 use Rattle.propagate.proofs.TraceMeaning.{chain_traced}
 use Rattle.watch.specs.declared.chain.Step.{Step}
 use Rattle.watch.specs.declared.chain.Chain.{Chain}
-use Rattle.watch.specs.Ledgers.{constraint_at, constraint_in, nothing, shown}
+use Rattle.ledger.specs.Ledgers.{constraint_at, constraint_in, nothing, shown}
 use Rattle.watch.specs.Named.{AreNamed, content_at}
 use Rattle.watch.specs.Steps.{AreSteps, IsFound, IsFoundOfLast, IsTraceOf, literals_of, step_named}
 use Rattle.watch.proofs.LiveContent.{live_content}
 use Rattle.watch.proofs.LiveOnes.{live_settled}
 use Rattle.watch.proofs.NamedPlaces.{got, shows}
-use Rattle.watch.proofs.Standing.{quiet_nothing, shown_at}
+use Rattle.ledger.proofs.Standing.{quiet_nothing, shown_at}
 
 abbrev Slots : Type 0
 Slots = List (Option NormalConstraint)

@@ -11,9 +11,9 @@ use Rattle.std.proofs.lemmas.Cmp.{nat_cmp_total}
 use Rattle.std.proofs.lemmas.List.{get_or_append_left, get_or_past, get_or_push, get_or-set_other, get_or-set_same, length-set}
 use Rattle.normal_form.specs.Normal.{NormalConstraint}
 use Rattle.propagate.proofs.Entries.{get_is, one_given, one_removed}
-use Rattle.watch.specs.Ledgers.{constraint_at, constraint_in, shown}
+use Rattle.ledger.specs.Ledgers.{constraint_at, constraint_in, shown}
 use Rattle.watch.specs.Named.{AreNamed, content_at, place_of}
-use Rattle.watch.proofs.Standing.{shown_at}
+use Rattle.ledger.proofs.Standing.{shown_at}
 
 abbrev Slots : Type 0
 Slots = List (Option NormalConstraint)

@@ -4,7 +4,7 @@ use Rattle.linear.specs.declared.term.Lit.{Lit}
 use Rattle.normal_form.specs.declared.term.NormalTerm.{NormalTerm}
 use Rattle.normal_form.specs.Normal.{NormalConstraint, only, sum_over}
 use Rattle.normal_form.proofs.SetSums.{only_is}
-use Rattle.watch.specs.Ledgers.{AreReasons, IsReason, constraint_at}
+use Rattle.ledger.specs.Ledgers.{AreReasons, IsReason, constraint_at}
 use Rattle.watch.specs.Looking.{term_at}
 
 -- a literal with a coefficient is of a term's variable

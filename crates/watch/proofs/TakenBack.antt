@@ -10,11 +10,11 @@ use Rattle.propagate.specs.Slack.{IsForced}
 use Rattle.propagate.specs.Walk.{IsQuiet}
 use Rattle.propagate.proofs.Consistency.{only_here}
 use Rattle.propagate.proofs.Listings.{among_cases}
-use Rattle.watch.specs.Ledgers.{State, constraint_at, constraint_in, nothing, shown}
+use Rattle.ledger.specs.Ledgers.{State, constraint_at, constraint_in, nothing, shown}
 use Rattle.watch.specs.Looking.{AreLookedAt}
 use Rattle.watch.specs.Roots.{AllForced, IsRoot}
-use Rattle.watch.proofs.Opening.{open_less}
-use Rattle.watch.proofs.Standing.{quiet_nothing, shown_at}
+use Rattle.ledger.proofs.Opening.{open_less}
+use Rattle.ledger.proofs.Standing.{quiet_nothing, shown_at}
 use Rattle.watch.proofs.Walking.{none_or_some}
 
 same_coefficient : (n : NormalConstraint) (v w : ℕ) (s b : Bool) → v ≡ w → s ≡ b → coefficient_of n (record { var = record { 0 = v }; negated = s }) ≡ coefficient_of n (record { var = record { 0 = w }; negated = b })

@@ -19,7 +19,7 @@ use Rattle.propagate.proofs.SameListings.{same_broken, same_forced, same_pushed}
 use Rattle.watch.specs.declared.chain.Chain.{Chain}
 use Rattle.watch.specs.declared.chain.Step.{Step}
 use Rattle.watch.specs.Givens.{HasAll}
-use Rattle.watch.specs.Ledgers.{IsReason, constraint_at, nothing}
+use Rattle.ledger.specs.Ledgers.{IsReason, constraint_at, nothing}
 use Rattle.watch.specs.Steps.{AreSteps, Clashes, IsFound, IsTold, IsToldTo, LeadsTo, literals_of}
 
 -- what is forced under some literals is forced under more, where it is free there; else its constraint is broken

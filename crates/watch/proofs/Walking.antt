@@ -12,12 +12,12 @@ use Rattle.propagate.specs.Literals.{opposite, coefficient_of, lists}
 use Rattle.propagate.specs.Slack.{IsForced}
 use Rattle.propagate.specs.Chain.{IsForcedByOne, IsChain}
 use Rattle.propagate.specs.Walk.{IsQuiet}
-use Rattle.watch.specs.Ledgers.{State, constraint_at, open_sum, shown}
+use Rattle.ledger.specs.Ledgers.{State, constraint_at, open_sum, shown}
 use Rattle.watch.specs.Looking.{AreLookedAt, GoesOn, IsContinued, CanForce, HasSlack, term_at}
 use Rattle.propagate.specs.Passes.{literal_of}
 use Rattle.propagate.proofs.Occurrences.{forced_at}
 use Rattle.propagate.proofs.Listings.{among_right, among_head}
-use Rattle.watch.proofs.Opening.{open_less, still_quiet}
+use Rattle.ledger.proofs.Opening.{open_less, still_quiet}
 
 -- a normal constraint has a variable with one sign only
 other_sign : (v x : ℕ) (s y : Bool) → only v (not s) x y ≡ true → only v s x y ≡ false

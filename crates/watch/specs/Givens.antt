@@ -4,7 +4,7 @@ use Rattle.linear.specs.declared.term.Lit.{Lit}
 use Rattle.normal_form.specs.Normal.{NormalConstraint}
 use Rattle.propagate.specs.Chain.{IsClosure, IsSettled}
 use Rattle.propagate.specs.Literals.{among, lists}
-use Rattle.watch.specs.Ledgers.{State}
+use Rattle.ledger.specs.Ledgers.{State}
 
 -- some of these literals are added, with whatever reasons; nothing else changes
 pub record IsGiven (old new : State) (given : List Lit) : Type 0 where

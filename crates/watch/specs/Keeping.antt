@@ -7,7 +7,7 @@ use Rattle.propagate.specs.Walk.{IsBrokenAt}
 use Rattle.watch.specs.declared.ascent.Ascent.{Ascent}
 use Rattle.watch.specs.declared.ascent.Ascent.TheVariants as ascents
 use Rattle.watch.specs.Givens.{HasAll}
-use Rattle.watch.specs.Ledgers.{State, shown}
+use Rattle.ledger.specs.Ledgers.{State, shown}
 use Rattle.watch.specs.Looking.{AreLookedAt}
 use Rattle.watch.specs.Steps.{AreGiven, Clashes}
 

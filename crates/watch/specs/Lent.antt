@@ -1,7 +1,7 @@
 -- The ids of the constraints that have a literal.
 use Rattle.std.specs.Prelude.{ℕ, List, [], ◌∷◌, Option, None, Contains, is_some, if◌then◌else◌, map, slice_index_or}
 use Rattle.normal_form.specs.Normal.{NormalConstraint}
-use Rattle.watch.specs.declared.occurrence.Occurrence.{Occurrence}
+use Rattle.ledger.specs.declared.occurrence.Occurrence.{Occurrence}
 
 -- none stands twice
 abbrev pub IsEachOnce : List ℕ → Type 0

@@ -8,7 +8,7 @@ use Rattle.propagate.specs.Literals.{lists, opposite}
 use Rattle.propagate.specs.Passes.{literal_of}
 use Rattle.propagate.specs.Slack.{IsBroken}
 use Rattle.propagate.specs.Walk.{IsQuiet}
-use Rattle.watch.specs.Ledgers.{State, constraint_at, open_sum, shown}
+use Rattle.ledger.specs.Ledgers.{State, constraint_at, open_sum, shown}
 
 -- each constraint that does not wait is not broken and forces nothing
 abbrev pub AreLookedAt : List NormalConstraint → List Lit → List ℕ → Type 0

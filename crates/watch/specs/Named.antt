@@ -6,7 +6,7 @@ use Rattle.std.specs.Map.{lookup}
 use Rattle.std.specs.Ordering.{nat_cmp}
 use Rattle.normal_form.specs.Normal.{NormalConstraint}
 use Rattle.propagate.specs.Content.{Content}
-use Rattle.watch.specs.Ledgers.{constraint_at, shown}
+use Rattle.ledger.specs.Ledgers.{constraint_at, shown}
 
 -- the place of an id
 abbrev pub place_of : List (ℕ × ℕ) → ℕ → Option ℕ

@@ -1,6 +1,6 @@
 -- What is kept between calls.
 use Rattle.std.specs.Prelude.{◌≡◌, ℕ, List, Option, Some, length, map}
-use Rattle.watch.specs.Ledgers.{State, shown}
+use Rattle.ledger.specs.Ledgers.{State, shown}
 use Rattle.watch.specs.Looking.{AreLookedAt}
 
 -- each literal that is taken as true was forced

@@ -10,7 +10,7 @@ use Rattle.propagate.specs.Walk.{IsBrokenAt}
 use Rattle.watch.specs.declared.chain.Step.{Step}
 use Rattle.watch.specs.declared.chain.Chain.{Chain}
 use Rattle.watch.specs.Givens.{HasAll}
-use Rattle.watch.specs.Ledgers.{IsReason}
+use Rattle.ledger.specs.Ledgers.{IsReason}
 
 -- each literal is forced by the constraint at its place under what is given and those before it
 abbrev pub AreSteps : List NormalConstraint → List Lit → List Step → Type 0

@@ -14,8 +14,8 @@ ghost use Rattle.std.specs.Option.{option_copied};
 ghost use Rattle.propagate.specs.Chain.{IsRefuted};
 ghost use Rattle.propagate.specs.Literals.{IsConsistent};
 ghost use Rattle.propagate.specs.Reach.{IsReach};
-ghost use Rattle.watch.specs.Ledgers.{constraint_at, shown};
-ghost use Rattle.watch.specs.Entered.{AreEntriesOf, all_of};
+ghost use Rattle.ledger.specs.Ledgers.{constraint_at, shown};
+ghost use Rattle.ledger.specs.Entered.{AreEntriesOf, all_of};
 ghost use Rattle.watch.specs.Steps.{IsFound, IsFoundOfLast};
 
 use super::chain::Chain;
@@ -23,13 +23,11 @@ use super::continuing::chain_of_last;
 use super::extension::reach_over;
 use super::extras::attach_waiting;
 use super::following::go_back;
-use super::ledger::Ledger;
 use super::levels::Levels;
-use super::occurrence::Entries;
-use super::queue::Queue;
 use super::refutation::refute_anew;
 use super::release::release;
 use super::tracing::chain_over;
+use ledger::{Entries, Ledger, Queue};
 use linear::Lit;
 use normal_form::Normal;
 use propagate::Reach;
@@ -113,9 +111,9 @@ impl Closure {
         ensures value { IfOk result (λ yes. IsTrue yes ↔ IsRefuted (shown self.old ++ extras.now)) }
     {
         go_back(&mut self.ledger, &mut self.queue, &mut self.levels, 0);
-        let _literals = self.ledger.len();
+        self.ledger.reveal();
         let answer = refute_anew(self.alloc, &mut self.ledger, &mut self.queue, extras);
-        let _left = self.ledger.len();
+        self.ledger.reveal();
         answer
     }
 
@@ -141,9 +139,9 @@ impl Closure {
         ensures slots { self.new ≡ slice_set self.old place None }
     {
         go_back(&mut self.ledger, &mut self.queue, &mut self.levels, 0);
-        let _literals = self.ledger.len();
+        self.ledger.reveal();
         release(&mut self.ledger, &mut self.queue, place);
-        let _left = self.ledger.len();
+        self.ledger.reveal();
         self.ledger.take_out(place)
     }
 

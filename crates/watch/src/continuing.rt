@@ -3,34 +3,33 @@
 //! A search decides one literal after another. What those before the last one force stands on the trail already and was
 //! told as it came; so what is told is the end of the trail alone, as it stands there.
 
-ghost use Rattle.std.specs.Prelude.{◌≡◌, ◌<◌, ◌≤◌, ◌++◌, ◌∷◌, [], ℕ, false, IfOk, None, length, slice_index_or, take};
+ghost use Rattle.std.specs.Prelude.{◌≡◌, ◌+◌, ◌<◌, ◌++◌, ◌∷◌, [], ℕ, false, IfOk, None, length, slice_index_or, take};
 ghost use Rattle.propagate.specs.Literals.{IsConsistent, lists, opposite};
 ghost use Rattle.watch.specs.Keeping.{IsKept};
-ghost use Rattle.watch.specs.Ledgers.{shown};
+ghost use Rattle.ledger.specs.Ledgers.{shown};
 ghost use Rattle.watch.specs.Steps.{AreSteps, IsFound, IsFoundOfLast, literals_of};
 
 use super::chain::{Chain, Step};
 use super::following::{decide, follow};
-use super::ledger::Ledger;
 use super::levels::Levels;
-use super::measures::literal_count;
-use super::queue::Queue;
 use super::tracing::{broken_place, chain_over};
+use ledger::{Ledger, Queue, literal_count};
 use linear::Lit;
 use propagate::with_last;
 use std::alloc::{AllocError, Global};
 
-// Tells the trail from a place on, where each literal has a reason.
-fn tell_from(alloc: Global, ledger: &Ledger, start: usize) -> Result<Vec<Step>, AllocError>
-    requires start { start ≤ length ledger.now.listing }
-    requires forced { (k : ℕ) → start ≤ k → k < length ledger.now.listing
+// Tells the trail behind a literal, where each one has a reason.
+fn tell_behind(alloc: Global, ledger: &Ledger, last: usize) -> Result<Vec<Step>, AllocError>
+    requires there { last < length ledger.now.listing }
+    requires forced { (k : ℕ) → last < k → k < length ledger.now.listing
         → slice_index_or ledger.now.reasons k None ≡ None → ⊥ }
-    ensures chain { IfOk result (λ v. AreSteps (shown ledger.now.slots) (take start ledger.now.listing) v.items) }
-    ensures all { IfOk result (λ v. take start ledger.now.listing ++ literals_of v.items ≡ ledger.now.listing) }
+    ensures chain { IfOk result (λ v. AreSteps (shown ledger.now.slots) (take (last + 1) ledger.now.listing) v.items) }
+    ensures all { IfOk result (λ v. take (last + 1) ledger.now.listing ++ literals_of v.items ≡ ledger.now.listing) }
 {
     let mut steps = Vec::new(alloc);
     let literals = ledger.literals();
-    for index in start..ledger.len() {
+    let end = ledger.len();
+    for index in last + 1..end {
         let Some(place) = ledger.reason(index) else {
             unreachable!()
         };
@@ -60,9 +59,9 @@ fn chain_on(
 {
     let from = ledger.len();
     let ascent = decide(ledger, queue, levels, last)?;
-    let _behind = ledger.len();
+    ledger.reveal();
     Ok(Chain {
-        steps: tell_from(alloc, ledger, from + 1)?,
+        steps: tell_behind(alloc, ledger, from)?,
         broken: broken_place(ascent),
     })
 }
@@ -107,7 +106,6 @@ pub(crate) fn chain_of_last(
     if !ascent.is_whole() || !ledger.leaves_free(last) {
         return chain_of_all(alloc, ledger, queue, levels, before, last);
     }
-    let _behind = ledger.len();
-    let _literals = ledger.literals();
+    ledger.reveal();
     chain_on(alloc, ledger, queue, levels, last)
 }

@@ -6,13 +6,11 @@
 ghost use Rattle.std.specs.Prelude.{◌≡◌, IfOk};
 ghost use Rattle.propagate.specs.Reach.{IsReach};
 ghost use Rattle.watch.specs.Keeping.{IsKept};
-ghost use Rattle.watch.specs.Ledgers.{shown};
+ghost use Rattle.ledger.specs.Ledgers.{shown};
 
 use super::following::follow;
-use super::ledger::Ledger;
 use super::levels::Levels;
-use super::measures::literal_count;
-use super::queue::Queue;
+use ledger::{Ledger, Queue, literal_count};
 use linear::{Lit, Seq};
 use propagate::Reach;
 use std::alloc::{AllocError, Global};
@@ -32,7 +30,7 @@ pub(crate) fn reach_over(
 {
     ledger.widen(alloc, literal_count(given))?;
     let ascent = follow(ledger, queue, levels, given)?;
-    let _literals = ledger.len();
+    ledger.reveal();
     if !ascent.is_whole() {
         return Ok(Reach::Conflict);
     }

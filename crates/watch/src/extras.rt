@@ -6,12 +6,10 @@
 ghost use Rattle.std.specs.Prelude.{◌≡◌, ◌<◌, ◌≤◌, ◌++◌, ◌∷◌, [], ℕ, List, Some, None, IsSome, OnOk, OnErr, length};
 ghost use Rattle.std.specs.Prelude.{map, slice_index_or, take};
 ghost use Rattle.normal_form.specs.Normal.{NormalConstraint};
-ghost use Rattle.watch.specs.Ledgers.{shown};
+ghost use Rattle.ledger.specs.Ledgers.{shown};
 ghost use Rattle.watch.specs.Looking.{AreLookedAt};
 
-use super::ledger::Ledger;
-use super::measures::variable_count;
-use super::queue::Queue;
+use ledger::{Ledger, Queue, variable_count};
 use normal_form::Normal;
 use std::alloc::{AllocError, Global};
 
@@ -33,7 +31,7 @@ pub(crate) fn attach_waiting(
 {
     ledger.widen(alloc, variable_count(&constraint))?;
     let place = ledger.count();
-    let _literals = ledger.len();
+    ledger.reveal();
     ledger.attach(constraint)?;
     match queue.grow() {
         Err(_) => {

@@ -10,18 +10,16 @@ ghost use Rattle.propagate.specs.Literals.{lists, opposite};
 ghost use Rattle.watch.specs.Givens.{IsDecided, IsPushed};
 ghost use Rattle.watch.specs.Looking.{AreLookedAt, GoesOn};
 ghost use Rattle.watch.specs.Keeping.{IsAscent, IsKept, IsSettledOrBroken, broken_place};
-ghost use Rattle.watch.specs.Ledgers.{shown};
+ghost use Rattle.ledger.specs.Ledgers.{shown};
 ghost use Rattle.watch.specs.Steps.{AreGiven};
 ghost use Rattle.propagate.specs.Chain.{IsSettled};
 
 use super::ascent::Ascent;
 use super::giving::give;
-use super::ledger::Ledger;
 use super::levels::Levels;
-use super::occurrence::opposite_of;
-use super::queue::Queue;
 use super::release::take_back_to;
 use super::walk::settle;
+use ledger::{Ledger, Queue, opposite_of};
 use linear::Lit;
 use std::alloc::AllocError;
 
@@ -52,9 +50,9 @@ fn settle_kept(ledger: &mut Ledger, queue: &mut Queue) -> Result<Ascent, AllocEr
     ensures end { (levels : List Lit × List ℕ) → IsKept ledger.old levels queue.old.0 queue.old.1
         → IfOk result (IsAscent (shown ledger.old.slots) levels.0 ledger.new.listing) }
 {
-    let _before = ledger.len();
+    ledger.reveal();
     let broken = settle(ledger, queue);
-    let _behind = ledger.len();
+    ledger.reveal();
     match broken? {
         Some(place) => Ok(Ascent::Broken(place)),
         None => Ok(Ascent::Whole),
@@ -86,7 +84,7 @@ fn open_level(
         }
         Ok(()) => {}
     }
-    let _behind = ledger.len();
+    ledger.reveal();
     Ok(())
 }
 
@@ -177,12 +175,12 @@ pub(crate) fn follow(
 {
     go_back(ledger, queue, levels, levels.agreement(given));
     let settled = settle_kept(ledger, queue);
-    let _literals = ledger.len();
+    ledger.reveal();
     let ascent = settled?;
     if !ascent.is_whole() {
         return Ok(ascent);
     }
     let answer = climb(ledger, queue, levels, given);
-    let _behind = ledger.len();
+    ledger.reveal();
     answer
 }

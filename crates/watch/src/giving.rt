@@ -6,11 +6,10 @@
 ghost use Rattle.std.specs.Prelude.{◌≡◌, ◌<◌, ◌∷◌, [], false, true, OnErr, OnOk, length};
 ghost use Rattle.propagate.specs.Literals.{lists, opposite};
 ghost use Rattle.watch.specs.Givens.{IsGiven, IsPushed};
-ghost use Rattle.watch.specs.Ledgers.{shown};
+ghost use Rattle.ledger.specs.Ledgers.{shown};
 ghost use Rattle.watch.specs.Looking.{AreLookedAt};
 
-use super::ledger::Ledger;
-use super::queue::Queue;
+use ledger::{Ledger, Queue};
 use linear::Lit;
 use std::alloc::AllocError;
 

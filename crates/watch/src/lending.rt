@@ -4,12 +4,12 @@
 //! one that ever came with the literal, and those of constraints that are gone are passed over.
 
 ghost use Rattle.std.specs.Prelude.{◌≡◌, ◌+◌, ◌<◌, ◌≤◌, ◌∷◌, [], All, MatchOption, drop, length, slice_index_or};
-ghost use Rattle.watch.specs.declared.occurrence.Occurrence.{Occurrence};
-ghost use Rattle.watch.specs.Entered.{all_of};
+ghost use Rattle.ledger.specs.declared.occurrence.Occurrence.{Occurrence};
+ghost use Rattle.ledger.specs.Entered.{all_of};
 ghost use Rattle.watch.specs.Lent.{ids_at, live_places};
 
 use super::closure::Closure;
-use super::occurrence::Entries;
+use ledger::Entries;
 use propagate::Id;
 use std::marker::Model;
 
@@ -24,7 +24,7 @@ pub struct Occurrences<'a> {
 
 impl<'a> Model for Occurrences<'a> {
     ghost use Rattle.std.specs.Prelude.{◌≡◌, ◌<◌, ◌≤◌, ℕ, List, All, drop, length};
-    ghost use Rattle.watch.specs.Entered.{all_of};
+    ghost use Rattle.ledger.specs.Entered.{all_of};
     ghost use Rattle.watch.specs.Lent.{ids_at, live_places};
 
     ghost Value = { List ℕ };

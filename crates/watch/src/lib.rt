@@ -1,37 +1,31 @@
 //! A propagator that is fast: it keeps what it has found between calls, and a call costs what it touches.
+//!
+//! Over the single steps of a ledger stand the walks: forced literals are added until nothing waits or a constraint is broken,
+//! given literals are followed from where a listing parts from the one before, and the trail is told as a chain with reasons.
+//! Constraints have ids here, and places no more.
+//!
+//! It is a layer of its own since what it says is the one contract of all propagators, about what constraints refute, extend and
+//! trace. Whether a place has to be looked at, and how that is found out, is settled below.
 #![tactic(auto)]
 
 mod ascent;
 mod chain;
-mod choosing;
 mod closure;
 mod continuing;
 mod database;
-mod entry_lists;
 mod extension;
 mod extras;
-mod finding;
 mod following;
 mod giving;
-mod hint;
-mod ledger;
 mod lending;
 mod levels;
-mod lowering;
-mod measures;
 mod naming;
-mod occurrence;
-mod pair;
-mod queue;
 mod refutation;
 mod release;
-mod table;
 mod telling;
 mod tracing;
-mod trail;
 mod walk;
 mod watch_propagator;
-mod watchers;
 
 pub use lending::Occurrences;
 pub use watch_propagator::WatchPropagator;

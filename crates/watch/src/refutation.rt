@@ -7,14 +7,13 @@
 ghost use Rattle.std.specs.Prelude.{◌≡◌, ◌↔◌, ◌≤◌, ◌++◌, IfOk, IsTrue, Some, List, length, map, take};
 ghost use Rattle.normal_form.specs.Normal.{NormalConstraint};
 ghost use Rattle.propagate.specs.Chain.{IsRefuted, IsSettled};
-ghost use Rattle.watch.specs.Ledgers.{shown};
+ghost use Rattle.ledger.specs.Ledgers.{shown};
 ghost use Rattle.watch.specs.Looking.{AreLookedAt, GoesOn};
 ghost use Rattle.watch.specs.Roots.{AllForced, IsRoot};
 
 use super::extras::{attach_all, detach_from};
-use super::ledger::Ledger;
-use super::queue::Queue;
 use super::walk::{settle, undo};
+use ledger::{Ledger, Queue};
 use normal_form::Normal;
 use std::alloc::{AllocError, Global};
 
@@ -27,7 +26,7 @@ fn decide(ledger: &mut Ledger, queue: &mut Queue) -> Result<bool, AllocError>
     ensures settled { IfOk result (λ yes. (IsTrue yes → ⊥)
         → IsSettled (shown ledger.new.slots) ledger.new.listing) }
 {
-    let _literals = ledger.len();
+    ledger.reveal();
     Ok(settle(ledger, queue)?.is_some())
 }
 
@@ -46,7 +45,7 @@ fn decide_beside(
     ensures slots { (added : List NormalConstraint) × (ledger.new.slots ≡ ledger.old.slots ++ map Some added) }
     ensures count { queue.new.1 ≡ length ledger.new.slots }
 {
-    let _literals = ledger.len();
+    ledger.reveal();
     attach_all(alloc, ledger, queue, extras)?;
     decide(ledger, queue)
 }

@@ -8,12 +8,11 @@
 
 ghost use Rattle.std.specs.Prelude.{◌≡◌, ◌-◌, ◌<◌, ◌≤◌, ℕ, Some, None, length, slice_index_or, take};
 ghost use Rattle.linear.specs.declared.term.Lit.{Lit};
-ghost use Rattle.watch.specs.Ledgers.{constraint_at, shown};
+ghost use Rattle.ledger.specs.Ledgers.{constraint_at, shown};
 ghost use Rattle.watch.specs.Looking.{AreLookedAt, term_at};
 ghost use Rattle.watch.specs.Roots.{IsRoot};
 
-use super::ledger::Ledger;
-use super::queue::Queue;
+use ledger::{Ledger, Queue};
 
 // Takes the last literal back, if there is one, and queues the constraints that may force it.
 fn take_back_one(ledger: &mut Ledger, queue: &mut Queue)
@@ -44,7 +43,7 @@ pub(crate) fn take_back_to(ledger: &mut Ledger, queue: &mut Queue, count: usize)
     ensures places { queue.new.1 ≡ queue.old.1 }
     ensures looked_at { AreLookedAt (shown ledger.old.slots) ledger.new.listing queue.new.0 }
 {
-    let _literals = ledger.len();
+    ledger.reveal();
     while ledger.len() > count {
         take_back_one(ledger, queue);
     }

@@ -6,13 +6,11 @@
 
 ghost use Rattle.std.specs.Prelude.{◌≡◌, ◌+◌, ◌<◌, ◌≤◌, ◌++◌, ◌∷◌, [], All, IfOk, MatchOption, OnOk, length, take};
 ghost use Rattle.propagate.specs.Literals.{IsConsistent, SameLiterals};
-ghost use Rattle.watch.specs.Ledgers.{shown};
+ghost use Rattle.ledger.specs.Ledgers.{shown};
 ghost use Rattle.watch.specs.Steps.{AreGiven, IsTold, IsToldTo, LeadsTo};
 
 use super::chain::{Chain, Step};
-use super::ledger::Ledger;
-use super::occurrence::opposite_of;
-use super::trail::Trail;
+use ledger::{Ledger, Trail, opposite_of};
 use linear::Lit;
 use std::alloc::{AllocError, Global};
 
@@ -58,8 +56,8 @@ fn tell(
         (IsTold (shown ledger.now.slots) given.now.0 (take (index + 1) ledger.now.listing) steps.new.items)
         (LeadsTo (shown ledger.now.slots) given.now.0 steps.new.items)) }
 {
-    let _literals = ledger.len();
-    let _given = given.listing();
+    ledger.reveal();
+    given.reveal();
     let literal = ledger.literals()[index];
     if given.has(literal) {
         return Ok(None);

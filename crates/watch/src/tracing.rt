@@ -3,17 +3,15 @@
 ghost use Rattle.std.specs.Prelude.{◌≡◌, IfOk, MatchOption, Some, length};
 ghost use Rattle.propagate.specs.Literals.{IsConsistent};
 ghost use Rattle.watch.specs.Keeping.{IsKept, broken_place};
-ghost use Rattle.watch.specs.Ledgers.{shown};
+ghost use Rattle.ledger.specs.Ledgers.{shown};
 ghost use Rattle.watch.specs.Steps.{IsFound};
 
 use super::ascent::Ascent;
 use super::chain::Chain;
 use super::following::follow;
-use super::ledger::Ledger;
 use super::levels::Levels;
-use super::measures::literal_count;
-use super::queue::Queue;
 use super::telling::{marks_of, tell_all};
+use ledger::{Ledger, Queue, literal_count};
 use linear::Lit;
 use std::alloc::{AllocError, Global};
 

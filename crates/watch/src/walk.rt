@@ -7,13 +7,10 @@
 ghost use Rattle.std.specs.Prelude.{◌≡◌, ◌<◌, ◌≤◌, ◌∷◌, ◌⊎◌, [], IfOk, MatchOption, OnOk, length, take};
 ghost use Rattle.propagate.specs.Chain.{IsSettled};
 ghost use Rattle.propagate.specs.Walk.{IsBrokenAt};
-ghost use Rattle.watch.specs.Ledgers.{constraint_at, shown};
+ghost use Rattle.ledger.specs.Ledgers.{constraint_at, shown};
 ghost use Rattle.watch.specs.Looking.{AreLookedAt, GoesOn, CanForce, HasSlack, IsVisited, term_at};
 
-use super::hint::Hint;
-use super::ledger::Ledger;
-use super::occurrence::opposite_of;
-use super::queue::Queue;
+use ledger::{Hint, Ledger, Queue, opposite_of};
 use std::alloc::AllocError;
 
 // Forces the literal of a term, where its coefficient is above the slack and it is free.
@@ -211,8 +208,8 @@ pub(crate) fn settle(ledger: &mut Ledger, queue: &mut Queue) -> Result<Option<us
             }
             Ok(false) => {}
         }
-        let _waiting = queue.len();
-        let _taken = ledger.len();
+        queue.reveal();
+        ledger.reveal();
     }
     Ok(None)
 }

@@ -4,7 +4,7 @@ use Rattle.std.proofs.lemmas.Result.{IfOk-weaker}
 use Rattle.normal_form.specs.Normal.{NormalConstraint}
 use Rattle.watch.specs.declared.ascent.Ascent.TheVariants as ascents
 use Rattle.watch.specs.Keeping.{IsAscent}
-use Rattle.watch.specs.Ledgers.{shown}
+use Rattle.ledger.specs.Ledgers.{shown}
 use Rattle.watch.specs.Steps.{IsFound, IsFoundOfLast}
 use Rattle.watch.proofs.KeptLevels.{kept_wider}
 use Rattle.watch.proofs.ToldTail.{found_of_last}
@@ -29,4 +29,4 @@ returns-clause-value c =
     let whole : IsAscent (shown c.widen.new.self.slots) before s.listing ascents.Whole = subst (IsAscent (shown c.widen.new.self.slots) before s.listing) (c.is_whole.ensures.0 c.if-not-is_whole.false) f.end in
     subst (λ (os : List (Option NormalConstraint)). IfOk c.chain_on.result (IsFoundOfLast (shown os) before last)) (f.slots ∙ c.widen.ensures.slots)
     (IfOk-weaker c.chain_on.result (IsFound (shown s.slots) (s.listing ++ last ∷ [])) (IsFoundOfLast (shown s.slots) before last)
-    (λ chain h. found_of_last (shown s.slots) before s.listing s.reasons last chain c.len-behind.ensures.reasons f.given whole.0 c.literals-literals.ensures.consistent h) c.chain_on.ensures.value)
+    (λ chain h. found_of_last (shown s.slots) before s.listing s.reasons last chain c.reveal.ensures.reasons f.given whole.0 c.reveal.ensures.consistent h) c.chain_on.ensures.value)

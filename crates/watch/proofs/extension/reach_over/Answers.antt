@@ -3,7 +3,7 @@ use Rattle.std.proofs.Common.{◌∙◌, List, Option, subst, sym}
 use Rattle.std.proofs.lemmas.Bool.{false≢true}
 use Rattle.normal_form.specs.Normal.{NormalConstraint}
 use Rattle.watch.specs.Keeping.{IsAscent}
-use Rattle.watch.specs.Ledgers.{AreReasons, shown}
+use Rattle.ledger.specs.Ledgers.{AreReasons, shown}
 use Rattle.watch.proofs.Ascents.{no_way, whole_end}
 use Rattle.watch.proofs.GivenOnes.{reach_of}
 use Rattle.watch.proofs.KeptLevels.{kept_wider}
@@ -26,7 +26,7 @@ returns-then-not-is_whole-clause-value c =
     let f = c.in_ok-ascent.ensures in
     let a = c.in_ok-ascent.ascent in
     let end = subst (λ (os : List (Option NormalConstraint)). IsAscent (shown os) c.args.given.now new.listing a) c.widen.ensures.slots f.end in
-    let reasons = subst (λ (os : List (Option NormalConstraint)). AreReasons (shown os) new.listing new.reasons) (f.slots ∙ c.widen.ensures.slots) c.len-literals.ensures.reasons in
+    let reasons = subst (λ (os : List (Option NormalConstraint)). AreReasons (shown os) new.listing new.reasons) (f.slots ∙ c.widen.ensures.slots) c.reveal.ensures.reasons in
     no_way (shown old.slots) new.listing new.reasons c.args.given.now a reasons f.given (λ e. false≢true (sym c.if-not-is_whole.true ∙ c.is_whole.ensures.1 e)) end
 
 pub returns-clause-value : goal.returns-clause-value
@@ -36,6 +36,6 @@ returns-clause-value c =
     let f = c.in_ok-ascent.ensures in
     let whole = c.is_whole.ensures.0 c.if-not-is_whole.false in
     let end = subst (λ (os : List (Option NormalConstraint)). IsAscent (shown os) c.args.given.now new.listing c.in_ok-ascent.ascent) c.widen.ensures.slots f.end in
-    let reasons = subst (λ (os : List (Option NormalConstraint)). AreReasons (shown os) new.listing new.reasons) (f.slots ∙ c.widen.ensures.slots) c.len-literals.ensures.reasons in
+    let reasons = subst (λ (os : List (Option NormalConstraint)). AreReasons (shown os) new.listing new.reasons) (f.slots ∙ c.widen.ensures.slots) c.reveal.ensures.reasons in
     let is = whole_end (shown old.slots) new.listing new.reasons c.args.given.now reasons f.given (subst (IsAscent (shown old.slots) c.args.given.now new.listing) whole end) in
     reach_of (shown old.slots) c.args.given.now new.listing c.from_vec.result (c.from_vec.ensures ∙ c.in_ok-from_slice.ensures.items ∙ c.literals.ensures.listing) is c.literals.ensures.once c.literals.ensures.consistent

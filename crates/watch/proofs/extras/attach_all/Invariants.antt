@@ -1,6 +1,6 @@
 -- The extra constraints so far are there.
 use Rattle.std.proofs.Common.{◌≡◌, ◌++◌, Some, length, map, take}
-use Rattle.watch.specs.Ledgers.{shown}
+use Rattle.ledger.specs.Ledgers.{shown}
 use Rattle.watch.specs.Looking.{AreLookedAt}
 use Rattle.watch.proofs.extras.attach_all.Given as goal
 

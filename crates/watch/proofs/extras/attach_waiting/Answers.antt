@@ -1,7 +1,7 @@
 -- The constraint that came in waits; where it does not come in, all is as before.
 use Rattle.std.proofs.Common.{◌≡◌, ◌-◌, ◌<◌, ◌++◌, ◌∷◌, [], ℕ, List, Option, Some, None, Contains, length, length-append, take, get_or, ap, sym, subst, ◌∙◌, arith}
 use Rattle.normal_form.specs.Normal.{NormalConstraint}
-use Rattle.watch.specs.Ledgers.{State, shown}
+use Rattle.ledger.specs.Ledgers.{State, shown}
 use Rattle.watch.specs.Looking.{AreLookedAt}
 use Rattle.watch.proofs.Deciding.{reasons_below, looked_with_slot, without_last}
 use Rattle.watch.proofs.extras.attach_waiting.Goals as goal
@@ -10,7 +10,7 @@ pub detach-requires-clause-reasons : goal.detach-requires-clause-reasons
 detach-requires-clause-reasons c = λ k place h is.
     let w = c.widen.new.self in
     let e = c.in_ok-attach.ensures.ok in
-    let below : place < length w.slots = reasons_below w.slots w.listing w.reasons c.len-literals.ensures.reasons k place (omega (arith, h, ap (λ (s : State). length s.listing) e)) (ap (λ (s : State). get_or s.reasons k None) (sym e) ∙ is) in
+    let below : place < length w.slots = reasons_below w.slots w.listing w.reasons c.reveal.ensures.reasons k place (omega (arith, h, ap (λ (s : State). length s.listing) e)) (ap (λ (s : State). get_or s.reasons k None) (sym e) ∙ is) in
     omega (arith, below, ap (λ (s : State). length s.slots) e, length-append w.slots (Some c.args.constraint ∷ []))
 
 pub returns-in-Err-clause-looked_at : goal.returns-in-Err-clause-looked_at

@@ -5,7 +5,7 @@ use Rattle.std.proofs.lemmas.Bool.{false≢true}
 use Rattle.linear.specs.declared.term.Lit.{Lit}
 use Rattle.normal_form.specs.Normal.{NormalConstraint}
 use Rattle.watch.specs.Keeping.{IsAscent}
-use Rattle.watch.specs.Ledgers.{shown}
+use Rattle.ledger.specs.Ledgers.{shown}
 use Rattle.watch.proofs.Ascents.{other_end}
 use Rattle.watch.proofs.KeptLevels.{firsts_within, kept_has, next_first}
 use Rattle.watch.proofs.following.climb.Goals as goal

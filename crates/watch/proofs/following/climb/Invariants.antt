@@ -2,7 +2,7 @@
 use Rattle.std.proofs.Common.{◌≡◌, take}
 use Rattle.propagate.specs.Chain.{IsSettled}
 use Rattle.watch.specs.Keeping.{IsKept}
-use Rattle.watch.specs.Ledgers.{shown}
+use Rattle.ledger.specs.Ledgers.{shown}
 use Rattle.watch.proofs.following.climb.Given as goal
 
 abbrev pub invariant-loop-index : goal.invariant-loop-index

@@ -5,7 +5,7 @@ use Rattle.std.proofs.lemmas.Result.{IfOk-weaker}
 use Rattle.linear.specs.declared.term.Lit.{Lit}
 use Rattle.normal_form.specs.Normal.{NormalConstraint}
 use Rattle.watch.specs.Keeping.{IsAscent}
-use Rattle.watch.specs.Ledgers.{shown}
+use Rattle.ledger.specs.Ledgers.{shown}
 use Rattle.watch.proofs.Ascents.{other_end}
 use Rattle.watch.proofs.KeptLevels.{firsts_within, kept_given}
 use Rattle.watch.proofs.following.follow.Goals as goal
@@ -14,13 +14,13 @@ pub returns-in_err-ascent-clause-given : goal.returns-in_err-ascent-clause-given
 returns-in_err-ascent-clause-given c =
     let s = c.settle_kept-settled in
     let first = ap (λ (p : List Lit × List ℕ). p.0) c.go_back.ensures.levels ∙ c.agreement.ensures.same in
-    kept_given s.new.ledger c.go_back.new.levels s.new.queue.0 s.new.queue.1 c.agreement.result c.args.given.now c.len-literals.ensures.reasons.as_many first (s.ensures.kept c.go_back.new.levels c.go_back.ensures.kept)
+    kept_given s.new.ledger c.go_back.new.levels s.new.queue.0 s.new.queue.1 c.agreement.result c.args.given.now c.reveal.ensures.reasons.as_many first (s.ensures.kept c.go_back.new.levels c.go_back.ensures.kept)
 
 pub returns-then-not-is_whole-clause-given : goal.returns-then-not-is_whole-clause-given
 returns-then-not-is_whole-clause-given c =
     let s = c.settle_kept-settled in
     let first = ap (λ (p : List Lit × List ℕ). p.0) c.go_back.ensures.levels ∙ c.agreement.ensures.same in
-    kept_given s.new.ledger c.go_back.new.levels s.new.queue.0 s.new.queue.1 c.agreement.result c.args.given.now c.len-literals.ensures.reasons.as_many first (s.ensures.kept c.go_back.new.levels c.go_back.ensures.kept)
+    kept_given s.new.ledger c.go_back.new.levels s.new.queue.0 s.new.queue.1 c.agreement.result c.args.given.now c.reveal.ensures.reasons.as_many first (s.ensures.kept c.go_back.new.levels c.go_back.ensures.kept)
 
 pub returns-then-not-is_whole-clause-end : goal.returns-then-not-is_whole-clause-end
 returns-then-not-is_whole-clause-end c =
@@ -34,7 +34,7 @@ returns-then-not-is_whole-clause-end c =
 pub returns-clause-given : goal.returns-clause-given
 returns-clause-given c =
     let a = c.climb-answer in
-    kept_given a.new.ledger a.new.levels a.new.queue.0 a.new.queue.1 (length a.new.levels.0) c.args.given.now c.len-behind.ensures.reasons.as_many a.ensures.first a.ensures.kept
+    kept_given a.new.ledger a.new.levels a.new.queue.0 a.new.queue.1 (length a.new.levels.0) c.args.given.now c.reveal-2.ensures.reasons.as_many a.ensures.first a.ensures.kept
 
 pub returns-clause-end : goal.returns-clause-end
 returns-clause-end c =

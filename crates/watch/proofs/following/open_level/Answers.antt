@@ -8,7 +8,7 @@ returns-clause-kept c =
     let old = c.args.ledger.now in
     let new = c.give.new.ledger in
     let g = c.in-Ok.ensures in
-    kept_opened old new c.args.levels.now c.push.new.self c.args.literal c.len.result c.args.queue.now.0 c.give.new.queue.0 c.args.queue.now.1 c.give.new.queue.1 c.len.ensures.reasons.as_many c.len-behind.ensures.reasons.as_many g.given g.there g.count g.looked_at c.in_ok-push.ensures.ok c.len.ensures.value c.requires.kept
+    kept_opened old new c.args.levels.now c.push.new.self c.args.literal c.len.result c.args.queue.now.0 c.give.new.queue.0 c.args.queue.now.1 c.give.new.queue.1 c.len.ensures.reasons.as_many c.reveal.ensures.reasons.as_many g.given g.there g.count g.looked_at c.in_ok-push.ensures.ok c.len.ensures.value c.requires.kept
 
 closed : (c : goal.After-truncate) → c.truncate.new.self ≡ c.args.levels.now
 closed c =

@@ -3,7 +3,7 @@ use Rattle.std.proofs.Common.{◌≡◌, ◌∙◌, List, ap, subst, false, sym,
 use Rattle.linear.specs.declared.term.Lit.{Lit}
 use Rattle.propagate.specs.Literals.{lists}
 use Rattle.propagate.proofs.Listings.{among_head, among_right}
-use Rattle.watch.specs.Ledgers.{State, shown}
+use Rattle.ledger.specs.Ledgers.{State, shown}
 use Rattle.watch.specs.Looking.{AreLookedAt}
 use Rattle.watch.proofs.GivenOnes.{looked_given}
 use Rattle.watch.proofs.Walking.{looked_later}

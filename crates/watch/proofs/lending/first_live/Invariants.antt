@@ -1,6 +1,6 @@
 -- What was passed over says nothing.
 use Rattle.std.proofs.Common.{◌≡◌, drop}
-use Rattle.watch.specs.Entered.{all_of}
+use Rattle.ledger.specs.Entered.{all_of}
 use Rattle.watch.specs.Lent.{live_places}
 use Rattle.watch.proofs.lending.first_live.Given as goal
 

@@ -3,7 +3,7 @@ use Rattle.std.proofs.Common.{◌≡◌, ◌∙◌, ◌++◌, ℕ, List, Option,
 use Rattle.linear.specs.declared.term.Lit.{Lit}
 use Rattle.normal_form.specs.Normal.{NormalConstraint}
 use Rattle.std.proofs.Math.Seq.{take-append_seam}
-use Rattle.watch.specs.Ledgers.{State}
+use Rattle.ledger.specs.Ledgers.{State}
 use Rattle.watch.proofs.Deciding.{live_after, reasons_below, root_again}
 use Rattle.watch.proofs.refutation.refute_beside.Goals as goal
 

@@ -1,6 +1,6 @@
 -- The constraint forced literals of its own variables alone.
 use Rattle.std.proofs.Common.{arith}
-use Rattle.watch.specs.Ledgers.{shown}
+use Rattle.ledger.specs.Ledgers.{shown}
 use Rattle.watch.proofs.Reasoned.{no_reason}
 use Rattle.watch.proofs.release.count_before.Goals as goal
 

@@ -1,7 +1,7 @@
 -- None of those that stay stands on the constraint.
 use Rattle.std.proofs.Common.{◌∙◌, List, Option, ap, sym, subst, length}
 use Rattle.normal_form.specs.Normal.{NormalConstraint}
-use Rattle.watch.specs.Ledgers.{shown}
+use Rattle.ledger.specs.Ledgers.{shown}
 use Rattle.watch.specs.Looking.{AreLookedAt}
 use Rattle.watch.proofs.TakenBack.{forced_first}
 use Rattle.watch.proofs.release.release.Goals as goal

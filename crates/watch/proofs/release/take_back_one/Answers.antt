@@ -3,7 +3,7 @@ use Rattle.std.proofs.Common.{ℕ, ◌<◌, ◌⊎◌, List, Option, Contains, s
 use Rattle.normal_form.specs.Normal.{NormalConstraint}
 use Rattle.propagate.specs.Literals.{coefficient_of}
 use Rattle.propagate.specs.Walk.{IsQuiet}
-use Rattle.watch.specs.Ledgers.{constraint_at, shown}
+use Rattle.ledger.specs.Ledgers.{constraint_at, shown}
 use Rattle.watch.proofs.TakenBack.{looked_back}
 use Rattle.watch.proofs.release.take_back_one.Goals as goal
 

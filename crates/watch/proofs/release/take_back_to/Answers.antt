@@ -4,7 +4,7 @@ use Rattle.std.proofs.lemmas.List.{take-take}
 use Rattle.std.proofs.Math.Seq.{take-length}
 use Rattle.linear.specs.declared.term.Lit.{Lit}
 use Rattle.normal_form.specs.Normal.{NormalConstraint}
-use Rattle.watch.specs.Ledgers.{shown}
+use Rattle.ledger.specs.Ledgers.{shown}
 use Rattle.watch.specs.Looking.{AreLookedAt}
 use Rattle.watch.proofs.release.take_back_to.Goals as goal
 
@@ -16,7 +16,7 @@ loop-ledger-init c =
       variables = refl;
       count = refl;
       listing = sym (take-length old.listing);
-      reasons = sym (ap (λ (n : ℕ). take n old.reasons) (sym c.len-literals.ensures.reasons.as_many) ∙ take-length old.reasons);
+      reasons = sym (ap (λ (n : ℕ). take n old.reasons) (sym c.reveal.ensures.reasons.as_many) ∙ take-length old.reasons);
       long = c.requires.count;
       looked_at = c.requires.looked_at;
     }

@@ -1,6 +1,6 @@
 -- The first literals stay, and what does not wait is looked at.
 use Rattle.std.proofs.Common.{◌≡◌, ◌≤◌, length, take}
-use Rattle.watch.specs.Ledgers.{shown}
+use Rattle.ledger.specs.Ledgers.{shown}
 use Rattle.watch.specs.Looking.{AreLookedAt}
 use Rattle.watch.proofs.release.take_back_to.Given as goal
 

@@ -4,8 +4,8 @@ use Rattle.std.proofs.lemmas.List.{get_or_default}
 use Rattle.linear.specs.declared.term.Lit.{Lit}
 use Rattle.normal_form.specs.Normal.{NormalConstraint}
 use Rattle.propagate.specs.Literals.{lists}
-use Rattle.watch.specs.Ledgers.{IsReason, shown}
-use Rattle.watch.proofs.Positions.{listed_at}
+use Rattle.ledger.specs.Ledgers.{IsReason, shown}
+use Rattle.ledger.proofs.Positions.{listed_at}
 use Rattle.watch.proofs.ToldTrail.{reason_is, told_broken, told_given, told_one}
 use Rattle.watch.proofs.telling.tell.Goals as goal
 
@@ -24,7 +24,7 @@ returns-then-has c =
     let trail = c.args.ledger.now.listing in
     let l : Lit = get_or c.literals.result.now c.args.index none in
     let is : get_or trail c.args.index l ≡ l = get_or_default trail c.args.index l none c.requires.index ∙ ap (λ (xs : List Lit). get_or xs c.args.index none) (sym c.literals.ensures.listing) in
-    told_given (shown c.args.ledger.now.slots) c.args.given.now.0 trail c.args.steps.now.items c.args.index l c.requires.index is c.requires.told c.listing-given.ensures.consistent (sym c.has.ensures ∙ c.if-has.true)
+    told_given (shown c.args.ledger.now.slots) c.args.given.now.0 trail c.args.steps.now.items c.args.index l c.requires.index is c.requires.told c.reveal-2.ensures.consistent (sym c.has.ensures ∙ c.if-has.true)
 
 pub has-requires-2 : goal.has-requires-2
 has-requires-2 c =
@@ -40,7 +40,7 @@ returns-then-has-2 c =
     let reasons = c.args.ledger.now.reasons in
     let l : Lit = get_or c.literals.result.now c.args.index none in
     let base : IsReason ns (take c.args.index trail) l (get_or reasons c.args.index None) =
-    subst (λ (xs : List Lit). IsReason ns (take c.args.index trail) (get_or xs c.args.index none) (get_or reasons c.args.index None)) (sym c.literals.ensures.listing) (c.len-literals.ensures.reasons.forced c.args.index none c.requires.index) in
+    subst (λ (xs : List Lit). IsReason ns (take c.args.index trail) (get_or xs c.args.index none) (get_or reasons c.args.index None)) (sym c.literals.ensures.listing) (c.reveal.ensures.reasons.forced c.args.index none c.requires.index) in
     let r : IsReason ns (take c.args.index trail) l (Some c.in-Some.place) = reason_is ns (take c.args.index trail) l (get_or reasons c.args.index None) (Some c.in-Some.place) base (sym c.reason.ensures ∙ c.in-Some.is) in
     told_broken ns c.args.given.now.0 trail c.args.steps.now.items c.args.index c.in-Some.place l c.requires.told r (ap (λ (m : Lit). lists c.args.given.now.0 m) (sym c.opposite_of.ensures) ∙ sym c.has-2.ensures ∙ c.if-has-2.true)
 
@@ -52,7 +52,7 @@ returns c =
     let l : Lit = get_or c.literals.result.now c.args.index none in
     let is : get_or trail c.args.index l ≡ l = get_or_default trail c.args.index l none c.requires.index ∙ ap (λ (xs : List Lit). get_or xs c.args.index none) (sym c.literals.ensures.listing) in
     let base : IsReason ns (take c.args.index trail) l (get_or reasons c.args.index None) =
-    subst (λ (xs : List Lit). IsReason ns (take c.args.index trail) (get_or xs c.args.index none) (get_or reasons c.args.index None)) (sym c.literals.ensures.listing) (c.len-literals.ensures.reasons.forced c.args.index none c.requires.index) in
+    subst (λ (xs : List Lit). IsReason ns (take c.args.index trail) (get_or xs c.args.index none) (get_or reasons c.args.index None)) (sym c.literals.ensures.listing) (c.reveal.ensures.reasons.forced c.args.index none c.requires.index) in
     let r : IsReason ns (take c.args.index trail) l (Some c.in-Some.place) = reason_is ns (take c.args.index trail) l (get_or reasons c.args.index None) (Some c.in-Some.place) base (sym c.reason.ensures ∙ c.in-Some.is) in
     rw c.in_ok-push.ensures.items (told_one ns c.args.given.now.0 trail c.args.steps.now.items c.args.index c.in-Some.place l c.requires.index is c.requires.told r
     (sym c.has.ensures ∙ c.if-has.false) (ap (λ (m : Lit). lists c.args.given.now.0 m) (sym c.opposite_of.ensures) ∙ sym c.has-2.ensures ∙ c.if-has-2.false))

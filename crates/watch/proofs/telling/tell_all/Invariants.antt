@@ -1,6 +1,6 @@
 -- The literals so far are told.
 use Rattle.std.proofs.Common.{take}
-use Rattle.watch.specs.Ledgers.{shown}
+use Rattle.ledger.specs.Ledgers.{shown}
 use Rattle.watch.specs.Steps.{IsTold}
 use Rattle.watch.proofs.telling.tell_all.Given as goal
 

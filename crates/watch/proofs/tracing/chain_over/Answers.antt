@@ -2,7 +2,7 @@
 use Rattle.std.proofs.Common.{◌∙◌, List, Option, arith, subst, sym}
 use Rattle.normal_form.specs.Normal.{NormalConstraint}
 use Rattle.watch.specs.Keeping.{IsAscent}
-use Rattle.watch.specs.Ledgers.{shown}
+use Rattle.ledger.specs.Ledgers.{shown}
 use Rattle.watch.specs.Steps.{IsToldTo}
 use Rattle.watch.proofs.Ascents.{told_end}
 use Rattle.watch.proofs.KeptLevels.{kept_wider}

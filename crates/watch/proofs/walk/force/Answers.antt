@@ -1,7 +1,7 @@
 -- What the first literal forces stands before what the others do.
 use Rattle.std.proofs.Common.{◌≡◌, List, ◌∷◌, ap, subst, ◌∙◌, length}
 use Rattle.normal_form.specs.Normal.{NormalConstraint}
-use Rattle.watch.specs.Ledgers.{shown}
+use Rattle.ledger.specs.Ledgers.{shown}
 use Rattle.watch.specs.Looking.{AreLookedAt}
 use Rattle.watch.proofs.Forcing.{progress_more, longer}
 use Rattle.watch.proofs.Walking.{goes_both}

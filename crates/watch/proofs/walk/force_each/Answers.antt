@@ -1,7 +1,7 @@
 -- One term more, and at the end the constraint is quiet.
 use Rattle.std.proofs.Common.{◌≡◌, List, ◌∷◌, sym, ap, subst, ◌∙◌, length, arith, ℕ, refl, inl}
 use Rattle.normal_form.specs.Normal.{NormalConstraint}
-use Rattle.watch.specs.Ledgers.{constraint_at, shown}
+use Rattle.ledger.specs.Ledgers.{constraint_at, shown}
 use Rattle.watch.specs.Looking.{AreLookedAt}
 use Rattle.watch.proofs.Forcing.{IsForcing, forcing_more, progress_more, longer, looked_after}
 use Rattle.watch.proofs.Walking.{goes_both, goes_nowhere}

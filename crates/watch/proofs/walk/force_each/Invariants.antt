@@ -1,6 +1,6 @@
 -- The terms so far can force nothing more.
 use Rattle.std.proofs.Common.{◌≡◌, ℕ, ◌<◌, ◌⊎◌, ◌∷◌, length}
-use Rattle.watch.specs.Ledgers.{shown}
+use Rattle.ledger.specs.Ledgers.{shown}
 use Rattle.watch.specs.Looking.{AreLookedAt, GoesOn, CanForce, HasSlack, term_at}
 use Rattle.watch.proofs.walk.force_each.Given as goal
 

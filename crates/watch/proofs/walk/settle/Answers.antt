@@ -4,7 +4,7 @@ use Rattle.std.proofs.lemmas.List.{length-map}
 use Rattle.linear.specs.declared.term.Lit.{Lit}
 use Rattle.normal_form.specs.Normal.{NormalConstraint}
 use Rattle.propagate.specs.Slack.{IsBroken}
-use Rattle.watch.specs.Ledgers.{constraint_at, constraint_in, shown}
+use Rattle.ledger.specs.Ledgers.{constraint_at, constraint_in, shown}
 use Rattle.watch.specs.Looking.{AreLookedAt, IsVisited}
 use Rattle.watch.proofs.Forcing.{broken_there, readded, settled_when_empty}
 use Rattle.watch.proofs.Walking.{goes_both}

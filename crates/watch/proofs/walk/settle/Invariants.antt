@@ -1,6 +1,6 @@
 -- What does not wait is looked at; each turn takes a place away or adds a literal.
 use Rattle.std.proofs.Common.{◌≡◌, ◌+◌, ◌-◌, ◌*◌, length}
-use Rattle.watch.specs.Ledgers.{shown}
+use Rattle.ledger.specs.Ledgers.{shown}
 use Rattle.watch.specs.Looking.{AreLookedAt, GoesOn}
 use Rattle.watch.proofs.walk.settle.Given as goal
 

@@ -1,7 +1,7 @@
 -- The last open literal of a clause is forced, and the clause waits no more.
 use Rattle.std.proofs.Common.{◌<◌, ℕ, List, subst, sym, arith, length, ◌∷◌}
 use Rattle.std.proofs.lemmas.List.{length-map}
-use Rattle.watch.specs.Ledgers.{State, constraint_in, shown}
+use Rattle.ledger.specs.Ledgers.{State, constraint_in, shown}
 use Rattle.watch.specs.Looking.{AreLookedAt, GoesOn}
 use Rattle.watch.proofs.Walking.{forced_last, goes_by_one, goes_nowhere, looked_later, waits_more}
 use Rattle.watch.proofs.walk.visit.Goals as goal

@@ -4,7 +4,7 @@ use Rattle.std.proofs.lemmas.Result.{IfOk-weaker}
 use Rattle.std.specs.FinMap as map
 use Rattle.propagate.specs.Content.{Content}
 use Rattle.propagate.specs.Reach.{IsReach}
-use Rattle.watch.specs.Ledgers.{shown}
+use Rattle.ledger.specs.Ledgers.{shown}
 use Rattle.watch.proofs.LiveContent.{live_content}
 use Rattle.watch.proofs.LiveOnes.{AddsNothing, live_reach}
 use Rattle.watch.proofs.database.Database.extend.Goals as goal

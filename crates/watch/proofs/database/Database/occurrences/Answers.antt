@@ -1,7 +1,7 @@
 -- The ids at the places of the literal's entries.
 use Rattle.std.proofs.Common.{◌↔◌, ℕ, Contains, List, subst, sym, ◌∙◌, ap}
 use Rattle.propagate.specs.Content.{Content, HasLiteral}
-use Rattle.watch.specs.Entered.{all_of}
+use Rattle.ledger.specs.Entered.{all_of}
 use Rattle.watch.specs.Lent.{IsEachOnce, ids_at, live_places}
 use Rattle.watch.specs.Named.{content_at}
 use Rattle.watch.proofs.LentIds.{lent_exactly, lent_once}

@@ -4,7 +4,7 @@ use Rattle.std.proofs.lemmas.Result.{IfOk-weaker}
 use Rattle.std.specs.FinMap as map
 use Rattle.propagate.specs.Chain.{IsRefuted}
 use Rattle.propagate.specs.Content.{Content}
-use Rattle.watch.specs.Ledgers.{shown}
+use Rattle.ledger.specs.Ledgers.{shown}
 use Rattle.watch.proofs.LiveContent.{live_content}
 use Rattle.watch.proofs.LiveOnes.{AddsNothing, live_refuted}
 use Rattle.watch.proofs.database.Database.refute.Goals as goal

@@ -1,7 +1,7 @@
 use Rattle.std.proofs.Common.{◌<◌, length, arith, rules}
 use Rattle.std.proofs.lemmas.List.Elements.{All-get_or}
-use Rattle.watch.specs.declared.occurrence.Occurrence.{Occurrence}
-use Rattle.watch.specs.Entered.{all_of}
+use Rattle.ledger.specs.declared.occurrence.Occurrence.{Occurrence}
+use Rattle.ledger.specs.Entered.{all_of}
 use Rattle.watch.proofs.lending.Occurrences.next.Goals as goal
 
 pub bounds-self-inside-place : goal.bounds-self-inside-place

@@ -1,0 +1,382 @@
+-- A ledger with a constraint more at the end, and with one fewer.
+use Rattle.std.proofs.Common.{◌≡◌, ℕ, ◌+◌, ◌-◌, ◌*◌, ◌<◌, ◌≤◌, ◌⊎◌, inl, inr, Option, None, Some, List, [], ◌∷◌, ◌++◌, length, get_or, set, take, refl, ap, sym, subst, ◌∙◌, append-nil, length-append, arith}
+use Rattle.std.proofs.lemmas.Bool.{cases_eq, cases_lt}
+use Rattle.std.proofs.lemmas.List.{get_or_push, get_or_append_left, get_or-set_same, get_or-set_other, length-set, get_or-take, length-take-le, length-map, take_more, map_push, get_or_past}
+use Rattle.std.proofs.lemmas.List.Elements.{All-push, All-take, All-weaker}
+use Rattle.std.proofs.Math.Seq.{take-length}
+use Rattle.linear.specs.declared.term.Lit.{Lit}
+use Rattle.normal_form.specs.Normal.{NormalConstraint, IsNormal, variable_bound}
+use Rattle.propagate.specs.Literals.{coefficient_of}
+use Rattle.ledger.specs.declared.occurrence.Occurrence.{Occurrence}
+use Rattle.ledger.specs.Occurrences.{entries_of, entry_of, occurrences_of, HasMore}
+use Rattle.ledger.specs.Ledgers.{constraint_at, constraint_in, shown, nothing, open_sum, IsIndex, IsLedger, AreCounters, AreKnown, AreParted, AreLimits, AreReasons}
+use Rattle.ledger.specs.declared.pair.Pair.{Pair}
+use Rattle.ledger.proofs.EntrySums.{occurrences_push}
+use Rattle.ledger.proofs.Reasons.{reasons_moved}
+use Rattle.ledger.proofs.Standing.{shown_at, variables_there}
+
+none_is_not_some : (n : NormalConstraint) → None ≡ Some n → ⊥
+none_is_not_some n e = cc
+
+-- the last constraint of some
+last_is : (ns : List NormalConstraint) (n : NormalConstraint) (k : ℕ) → k ≡ length ns → constraint_at (ns ++ n ∷ []) k ≡ n
+last_is ns n k e = get_or_push ns n nothing k (sym e)
+
+earlier_is : (ns : List NormalConstraint) (n : NormalConstraint) (k : ℕ) → k < length ns → constraint_at (ns ++ n ∷ []) k ≡ constraint_at ns k
+earlier_is ns n k h = get_or_append_left ns (n ∷ []) nothing k h
+
+earlier_or_last : (ns : List NormalConstraint) (n : NormalConstraint) (k : ℕ) → k < length (ns ++ n ∷ []) → (k < length ns) ⊎ (k ≡ length ns)
+earlier_or_last ns n k h = elim (cases_eq k (length ns)) [
+  | inl e ↦ inr e
+  | inr other ↦ inl (omega (arith, h, other, length-append ns (n ∷ [])))
+]
+
+pub shown_more : (slots : List (Option NormalConstraint)) (n : NormalConstraint) → shown (slots ++ Some n ∷ []) ≡ shown slots ++ n ∷ []
+shown_more slots n = map_push constraint_in slots (Some n)
+
+counters_more : (ns : List NormalConstraint) (listing : List Lit) (counters : List ℕ) (n : NormalConstraint) (opened : ℕ) → AreCounters ns listing counters → opened ≡ open_sum listing n → AreCounters (ns ++ n ∷ []) listing (counters ++ opened ∷ [])
+counters_more ns listing counters n opened a is = record {
+  counted = omega (arith, a.counted, length-append ns (n ∷ []), length-append counters (opened ∷ []));
+  open_sums = λ k h. elim (earlier_or_last ns n k h) [
+    | inl low ↦ get_or_append_left counters (opened ∷ []) 0 k (omega (arith, low, a.counted)) ∙ a.open_sums k low ∙ ap (open_sum listing) (sym (earlier_is ns n k low))
+    | inr e ↦ get_or_push counters opened 0 k (omega (arith, e, a.counted)) ∙ is ∙ ap (open_sum listing) (sym (last_is ns n k e))
+  ];
+}
+
+limits_more : (ns : List NormalConstraint) (limits : List ℕ) (n : NormalConstraint) (limit : ℕ) → AreLimits ns limits → ((l : Lit) → n.degree + coefficient_of n l ≤ limit) → AreLimits (ns ++ n ∷ []) (limits ++ limit ∷ [])
+limits_more ns limits n limit a enough = record {
+  limited = omega (arith, a.limited, length-append ns (n ∷ []), length-append limits (limit ∷ []));
+  enough = λ k l h. elim (earlier_or_last ns n k h) [
+    | inl low ↦ omega (arith, get_or_append_left limits (limit ∷ []) 0 k (omega (arith, low, a.limited)), a.enough k l low, ap (λ (m : NormalConstraint). m.degree + coefficient_of m l) (earlier_is ns n k low))
+    | inr e ↦ omega (arith, get_or_push limits limit 0 k (omega (arith, e, a.limited)), enough l, ap (λ (m : NormalConstraint). m.degree + coefficient_of m l) (last_is ns n k e))
+  ];
+}
+
+-- what a place with a constraint and perhaps two literals adds to what is counted and to what is watched
+pub record IsPartOf (n counted watched : NormalConstraint) (o : Option Pair) : Type 0 where
+  pub counts : o ≡ None → (counted ≡ n) × (watched ≡ nothing)
+  pub watches : (p : Pair) → o ≡ Some p → (counted ≡ nothing) × (watched ≡ n)
+
+pub part_counted : (n : NormalConstraint) → IsPartOf n n nothing None
+part_counted n = record { counts = λ e. (refl, refl); watches = λ p e. absurd (cc) }
+
+pub part_watched : (n : NormalConstraint) (p : Pair) → IsPartOf n nothing n (Some p)
+part_watched n p = record { counts = λ e. absurd (cc); watches = λ q e. (refl, refl) }
+
+some_same : (n m : NormalConstraint) (o : Option NormalConstraint) → o ≡ Some n → o ≡ Some m → n ≡ m
+some_same n m o e f = cc
+
+-- a place behind the others, or before the end
+pub place_cases : (slots : List (Option NormalConstraint)) (n m : NormalConstraint) (k : ℕ) → get_or (slots ++ Some n ∷ []) k None ≡ Some m → ((k < length slots) × (get_or slots k None ≡ Some m)) ⊎ ((k ≡ length slots) × (n ≡ m))
+place_cases slots n m k e = elim (cases_eq k (length slots)) [
+  | inl here ↦ inr (here, some_same n m (get_or (slots ++ Some n ∷ []) k None) (get_or_push slots (Some n) None k (sym here)) e)
+  | inr other ↦ elim (cases_lt k (length slots)) [
+    | inl low ↦ inl (low, sym (get_or_append_left slots (Some n ∷ []) None k low) ∙ e)
+    | inr high ↦
+        let past : get_or (slots ++ Some n ∷ []) k None ≡ None = get_or_past (slots ++ Some n ∷ []) k None (omega (arith, high, other, length-append slots (Some n ∷ []))) in
+        absurd (none_is_not_some m (sym past ∙ e))
+  ]
+]
+
+parted_more : (slots : List (Option NormalConstraint)) (ns ws : List NormalConstraint) (pairs : List (Option Pair)) (n c w : NormalConstraint) (o : Option Pair) → AreParted slots ns ws pairs → IsPartOf n c w o → AreParted (slots ++ Some n ∷ []) (ns ++ c ∷ []) (ws ++ w ∷ []) (pairs ++ o ∷ [])
+parted_more slots ns ws pairs n c w o x part = record {
+  count = omega (arith, x.count, length-append slots (Some n ∷ []), length-append ns (c ∷ []));
+  watched_count = omega (arith, x.watched_count, length-append slots (Some n ∷ []), length-append ws (w ∷ []));
+  pair_count = omega (arith, x.pair_count, length-append slots (Some n ∷ []), length-append pairs (o ∷ []));
+  counts = λ k m e f. elim (place_cases slots n m k e) [
+    | inl before ↦
+        let it = x.counts k m before.1 (sym (get_or_append_left pairs (o ∷ []) None k (omega (arith, before.0, x.pair_count))) ∙ f) in
+        (earlier_is ns c k (omega (arith, before.0, x.count)) ∙ it.0, earlier_is ws w k (omega (arith, before.0, x.watched_count)) ∙ it.1)
+    | inr last ↦
+        let it = part.counts (sym (get_or_push pairs o None k (omega (arith, last.0, x.pair_count))) ∙ f) in
+        (last_is ns c k (omega (arith, last.0, x.count)) ∙ it.0 ∙ last.1, last_is ws w k (omega (arith, last.0, x.watched_count)) ∙ it.1)
+  ];
+  watches = λ k m p e f. elim (place_cases slots n m k e) [
+    | inl before ↦
+        let it = x.watches k m p before.1 (sym (get_or_append_left pairs (o ∷ []) None k (omega (arith, before.0, x.pair_count))) ∙ f) in
+        (earlier_is ns c k (omega (arith, before.0, x.count)) ∙ it.0, earlier_is ws w k (omega (arith, before.0, x.watched_count)) ∙ it.1)
+    | inr last ↦
+        let it = part.watches p (sym (get_or_push pairs o None k (omega (arith, last.0, x.pair_count))) ∙ f) in
+        (last_is ns c k (omega (arith, last.0, x.count)) ∙ it.0, last_is ws w k (omega (arith, last.0, x.watched_count)) ∙ it.1 ∙ last.1)
+  ];
+}
+
+entries_more : (ns : List NormalConstraint) (n : NormalConstraint) (table after : List (List Occurrence)) (place : ℕ) → ((l : Lit) → entries_of table l ≡ occurrences_of l 0 ns) → place ≡ length ns → HasMore (entries_of table) after place n.terms → (l : Lit) → entries_of after l ≡ occurrences_of l 0 (ns ++ n ∷ [])
+entries_more ns n table after place is e more l =
+    more l ∙ ap (λ (os : List Occurrence). os ++ entry_of l place n.terms) (is l) ∙ ap (λ (k : ℕ). occurrences_of l 0 ns ++ entry_of l k n.terms) (omega (arith, e)) ∙ sym (occurrences_push l 0 ns n)
+
+-- a table with the entries of one constraint more, and with none
+index_more : (ns : List NormalConstraint) (variables place : ℕ) (table after : List (List Occurrence)) (n : NormalConstraint) → IsIndex ns variables table → place ≡ length ns → HasMore (entries_of table) after place n.terms → length after ≡ length table → IsIndex (ns ++ n ∷ []) variables after
+index_more ns variables place table after n i e more long = record { size = omega (arith, long, i.size); entries = entries_more ns n table after place i.entries e more }
+
+pub none_more : (table : List (List Occurrence)) (place : ℕ) → HasMore (entries_of table) table place []
+none_more table place l = sym (append-nil (entries_of table l))
+
+nothing_normal : IsNormal nothing
+nothing_normal = record { rises = tt; fits = record { sum = omega arith; degree = omega arith } }
+
+-- one constraint more
+pub attached : (slots : List (Option NormalConstraint)) (listing : List Lit) (variables : ℕ) (table after clauses behind : List (List Occurrence)) (counters limits : List ℕ) (pairs : List (Option Pair)) (n c w : NormalConstraint) (o : Option Pair) (place opened limit : ℕ)
+    → IsLedger slots listing variables table clauses counters limits pairs → IsPartOf n c w o → place ≡ length pairs → IsNormal c → IsNormal w → variable_bound c.terms ≤ variables → variable_bound w.terms ≤ variables
+    → HasMore (entries_of table) after place c.terms → length after ≡ length table → HasMore (entries_of clauses) behind place w.terms → length behind ≡ length clauses
+    → opened ≡ open_sum listing c → ((l : Lit) → n.degree + coefficient_of n l ≤ limit)
+    → IsLedger (slots ++ Some n ∷ []) listing variables after behind (counters ++ opened ∷ []) (limits ++ limit ∷ []) (pairs ++ o ∷ [])
+attached slots listing variables table after clauses behind counters limits pairs n c w o place opened limit i part e normal_c normal_w within_c within_w more long more_w long_w is enough =
+    let x = i.slots_are in
+    record {
+      counted = i.counted ++ c ∷ [];
+      watched = i.watched ++ w ∷ [];
+      index = index_more i.counted variables place table after c i.index (omega (arith, e, x.count, x.pair_count)) more long;
+      watched_index = index_more i.watched variables place clauses behind w i.watched_index (omega (arith, e, x.watched_count, x.pair_count)) more_w long_w;
+      counters_are = counters_more i.counted listing counters c opened i.counters_are is;
+      known = record { normal = All-push IsNormal i.counted c i.known.normal normal_c; within = All-push (λ (m : NormalConstraint). variable_bound m.terms ≤ variables) i.counted c i.known.within within_c };
+      watched_known = record { normal = All-push IsNormal i.watched w i.watched_known.normal normal_w; within = All-push (λ (m : NormalConstraint). variable_bound m.terms ≤ variables) i.watched w i.watched_known.within within_w };
+      slots_are = parted_more slots i.counted i.watched pairs n c w o x part;
+      limits_are = rw (shown_more slots n) (limits_more (shown slots) limits n limit i.limits_are enough);
+    }
+
+pub attached_counted : (slots : List (Option NormalConstraint)) (listing : List Lit) (variables : ℕ) (table after clauses : List (List Occurrence)) (counters limits : List ℕ) (pairs : List (Option Pair)) (n : NormalConstraint) (place opened limit : ℕ)
+    → IsLedger slots listing variables table clauses counters limits pairs → place ≡ length pairs → IsNormal n → variable_bound n.terms ≤ variables
+    → HasMore (entries_of table) after place n.terms → length after ≡ length table → opened ≡ open_sum listing n → ((l : Lit) → n.degree + coefficient_of n l ≤ limit)
+    → IsLedger (slots ++ Some n ∷ []) listing variables after clauses (counters ++ opened ∷ []) (limits ++ limit ∷ []) (pairs ++ None ∷ [])
+attached_counted slots listing variables table after clauses counters limits pairs n place opened limit i e normal within more long is enough =
+    attached slots listing variables table after clauses clauses counters limits pairs n n nothing None place opened limit i (part_counted n) e normal nothing_normal within (omega arith) more long (none_more clauses place) refl is enough
+
+pub attached_watched : (slots : List (Option NormalConstraint)) (listing : List Lit) (variables : ℕ) (table clauses behind : List (List Occurrence)) (counters limits : List ℕ) (pairs : List (Option Pair)) (n : NormalConstraint) (p : Pair) (place opened limit : ℕ)
+    → IsLedger slots listing variables table clauses counters limits pairs → place ≡ length pairs → IsNormal n → variable_bound n.terms ≤ variables
+    → HasMore (entries_of clauses) behind place n.terms → length behind ≡ length clauses → opened ≡ 0 → ((l : Lit) → n.degree + coefficient_of n l ≤ limit)
+    → IsLedger (slots ++ Some n ∷ []) listing variables table behind (counters ++ opened ∷ []) (limits ++ limit ∷ []) (pairs ++ Some p ∷ [])
+attached_watched slots listing variables table clauses behind counters limits pairs n p place opened limit i e normal within more long is enough =
+    attached slots listing variables table table clauses behind counters limits pairs n nothing n (Some p) place opened limit i (part_watched n p) e nothing_normal normal (omega arith) within (none_more table place) refl more long is enough
+
+-- the reasons stand beside one constraint more
+pub reasons_beside : (slots : List (Option NormalConstraint)) (n : NormalConstraint) (xs : List Lit) (rs : List (Option ℕ)) → AreReasons (shown slots) xs rs → AreReasons (shown (slots ++ Some n ∷ [])) xs rs
+reasons_beside slots n xs rs a = rw (shown_more slots n) (reasons_moved (shown slots) (shown slots ++ n ∷ []) xs rs a
+    (λ k place low is below. (omega (arith, below, length-append (shown slots) (n ∷ [])), earlier_is (shown slots) n place below)))
+
+-- what was put in for nothing
+index_same : (ns : List NormalConstraint) (variables place : ℕ) (table after : List (List Occurrence)) → IsIndex ns variables table → HasMore (entries_of table) after place [] → length after ≡ length table → IsIndex ns variables after
+index_same ns variables place table after i none long = record { size = omega (arith, long, i.size); entries = λ l. none l ∙ append-nil (entries_of table l) ∙ i.entries l }
+
+pub unchanged : (slots : List (Option NormalConstraint)) (listing : List Lit) (variables : ℕ) (table after clauses behind : List (List Occurrence)) (counters limits : List ℕ) (pairs : List (Option Pair)) (place : ℕ) → IsLedger slots listing variables table clauses counters limits pairs
+    → HasMore (entries_of table) after place [] → length after ≡ length table → HasMore (entries_of clauses) behind place [] → length behind ≡ length clauses
+    → IsLedger slots listing variables after behind counters limits pairs
+unchanged slots listing variables table after clauses behind counters limits pairs place i none long none_w long_w = record {
+  counted = i.counted;
+  watched = i.watched;
+  index = index_same i.counted variables place table after i.index none long;
+  watched_index = index_same i.watched variables place clauses behind i.watched_index none_w long_w;
+  counters_are = i.counters_are;
+  known = i.known;
+  watched_known = i.watched_known;
+  slots_are = i.slots_are;
+  limits_are = i.limits_are;
+}
+
+-- more room for literals and variables
+index_wider : (ns : List NormalConstraint) (variables more : ℕ) (table after : List (List Occurrence)) → IsIndex ns variables table → 2 * more ≤ length after → ((k : ℕ) → get_or after k [] ≡ get_or table k []) → IsIndex ns more after
+index_wider ns variables more table after i long same = record { size = long; entries = λ l. same _ ∙ i.entries l }
+
+known_wider : (ns : List NormalConstraint) (variables more : ℕ) → AreKnown ns variables → variables ≤ more → AreKnown ns more
+known_wider ns variables more a up = record { normal = a.normal; within = All-weaker (λ (m : NormalConstraint). variable_bound m.terms ≤ variables) (λ m. variable_bound m.terms ≤ more) (λ m h. omega (arith, h, up)) ns a.within }
+
+pub widened : (slots : List (Option NormalConstraint)) (listing : List Lit) (variables more : ℕ) (table after clauses behind : List (List Occurrence)) (counters limits : List ℕ) (pairs : List (Option Pair)) → IsLedger slots listing variables table clauses counters limits pairs → variables ≤ more
+    → 2 * more ≤ length after → ((k : ℕ) → get_or after k [] ≡ get_or table k []) → 2 * more ≤ length behind → ((k : ℕ) → get_or behind k [] ≡ get_or clauses k [])
+    → IsLedger slots listing more after behind counters limits pairs
+widened slots listing variables more table after clauses behind counters limits pairs i up long same long_w same_w = record {
+  counted = i.counted;
+  watched = i.watched;
+  index = index_wider i.counted variables more table after i.index long same;
+  watched_index = index_wider i.watched variables more clauses behind i.watched_index long_w same_w;
+  counters_are = i.counters_are;
+  known = known_wider i.counted variables more i.known up;
+  watched_known = known_wider i.watched variables more i.watched_known up;
+  slots_are = i.slots_are;
+  limits_are = i.limits_are;
+}
+
+-- the last one fewer
+taken : (ns : List NormalConstraint) (n : NormalConstraint) (k : ℕ) → k + 1 ≡ length ns → constraint_at ns k ≡ n → ns ≡ take k ns ++ n ∷ []
+taken ns n k e is = sym (take-length ns) ∙ ap (λ (j : ℕ). take j ns) (sym e) ∙ take_more ns k nothing (omega (arith, e)) ∙ ap (λ (m : NormalConstraint). take k ns ++ m ∷ []) is
+
+-- what a table had before the last one
+index_before : (ns : List NormalConstraint) (variables m : ℕ) (table : List (List Occurrence)) (n : NormalConstraint) → IsIndex ns variables table → m + 1 ≡ length ns → constraint_at ns m ≡ n → HasMore (λ l. occurrences_of l 0 (take m ns)) table m n.terms
+index_before ns variables m table n i many is l =
+    let last : ns ≡ take m ns ++ n ∷ [] = taken ns n m many is in
+    let short : length (take m ns) ≡ m = length-take-le m ns (omega (arith, many)) in
+    i.entries l ∙ ap (occurrences_of l 0) last ∙ occurrences_push l 0 (take m ns) n ∙ ap (λ (k : ℕ). occurrences_of l 0 (take m ns) ++ entry_of l k n.terms) (omega (arith, short))
+
+slot_last : (slots rest : List (Option NormalConstraint)) (n : NormalConstraint) → slots ≡ rest ++ Some n ∷ [] → get_or slots (length rest) None ≡ Some n
+slot_last slots rest n e = ap (λ (os : List (Option NormalConstraint)). get_or os (length rest) None) e ∙ get_or_push rest (Some n) None (length rest) refl
+
+slot_count : (slots rest : List (Option NormalConstraint)) (n : NormalConstraint) → slots ≡ rest ++ Some n ∷ [] → length slots ≡ length rest + 1
+slot_count slots rest n e = ap (length {A = Option NormalConstraint}) e ∙ length-append rest (Some n ∷ [])
+
+-- what both tables had before the last constraint, which was counted or watched
+pub record WasBefore (rest : List (Option NormalConstraint)) (counted watched : List NormalConstraint) (table clauses : List (List Occurrence)) (n w : NormalConstraint) : Type 0 where
+  pub counts : HasMore (λ l. occurrences_of l 0 (take (length rest) counted)) table (length rest) n.terms
+  pub watches : HasMore (λ l. occurrences_of l 0 (take (length rest) watched)) clauses (length rest) w.terms
+
+pub counted_before : (slots rest : List (Option NormalConstraint)) (listing : List Lit) (variables : ℕ) (table clauses : List (List Occurrence)) (counters limits : List ℕ) (pairs : List (Option Pair)) (n : NormalConstraint) (i : IsLedger slots listing variables table clauses counters limits pairs) → slots ≡ rest ++ Some n ∷ []
+    → get_or pairs (length rest) None ≡ None → WasBefore rest i.counted i.watched table clauses n nothing
+counted_before slots rest listing variables table clauses counters limits pairs n i e o =
+    let count = slot_count slots rest n e in
+    let is = i.slots_are.counts (length rest) n (slot_last slots rest n e) o in
+    record {
+      counts = index_before i.counted variables (length rest) table n i.index (omega (arith, count, i.slots_are.count)) is.0;
+      watches = index_before i.watched variables (length rest) clauses nothing i.watched_index (omega (arith, count, i.slots_are.watched_count)) is.1;
+    }
+
+pub watched_before : (slots rest : List (Option NormalConstraint)) (listing : List Lit) (variables : ℕ) (table clauses : List (List Occurrence)) (counters limits : List ℕ) (pairs : List (Option Pair)) (n : NormalConstraint) (p : Pair) (i : IsLedger slots listing variables table clauses counters limits pairs) → slots ≡ rest ++ Some n ∷ []
+    → get_or pairs (length rest) None ≡ Some p → WasBefore rest i.counted i.watched table clauses nothing n
+watched_before slots rest listing variables table clauses counters limits pairs n p i e o =
+    let count = slot_count slots rest n e in
+    let is = i.slots_are.watches (length rest) n p (slot_last slots rest n e) o in
+    record {
+      counts = index_before i.counted variables (length rest) table nothing i.index (omega (arith, count, i.slots_are.count)) is.0;
+      watches = index_before i.watched variables (length rest) clauses n i.watched_index (omega (arith, count, i.slots_are.watched_count)) is.1;
+    }
+
+pub last_known : (slots rest : List (Option NormalConstraint)) (listing : List Lit) (variables : ℕ) (table clauses : List (List Occurrence)) (counters limits : List ℕ) (pairs : List (Option Pair)) (n : NormalConstraint) → IsLedger slots listing variables table clauses counters limits pairs → slots ≡ rest ++ Some n ∷ []
+    → (2 * variable_bound n.terms ≤ length table) × (2 * variable_bound n.terms ≤ length clauses)
+last_known slots rest listing variables table clauses counters limits pairs n i e =
+    let below = variables_there slots listing variables table clauses counters limits pairs (length rest) n i (omega (arith, slot_count slots rest n e)) (slot_last slots rest n e) in
+    (omega (arith, below, i.index.size), omega (arith, below, i.watched_index.size))
+
+fewer_shown : (slots rest : List (Option NormalConstraint)) (n : NormalConstraint) → slots ≡ rest ++ Some n ∷ [] → shown slots ≡ shown rest ++ n ∷ []
+fewer_shown slots rest n e = ap shown e ∙ shown_more rest n
+
+index_fewer : (ns : List NormalConstraint) (variables m : ℕ) (table after : List (List Occurrence)) → IsIndex ns variables table → length after ≡ length table → HasMore (λ l. occurrences_of l 0 (take m ns)) after m [] → IsIndex (take m ns) variables after
+index_fewer ns variables m table after i long none = record { size = omega (arith, long, i.size); entries = λ l. none l ∙ append-nil (occurrences_of l 0 (take m ns)) }
+
+known_fewer : (ns : List NormalConstraint) (variables m : ℕ) → AreKnown ns variables → AreKnown (take m ns) variables
+known_fewer ns variables m a = record { normal = All-take IsNormal m ns a.normal; within = All-take (λ (c : NormalConstraint). variable_bound c.terms ≤ variables) m ns a.within }
+
+parted_fewer : (slots rest : List (Option NormalConstraint)) (ns ws : List NormalConstraint) (pairs : List (Option Pair)) (n : NormalConstraint) → slots ≡ rest ++ Some n ∷ [] → AreParted slots ns ws pairs
+    → AreParted rest (take (length rest) ns) (take (length rest) ws) (take (length pairs - 1) pairs)
+parted_fewer slots rest ns ws pairs n e x =
+    let m : ℕ = length rest in
+    let count = slot_count slots rest n e in
+    let short : length (take m ns) ≡ m = length-take-le m ns (omega (arith, count, x.count)) in
+    let short_w : length (take m ws) ≡ m = length-take-le m ws (omega (arith, count, x.watched_count)) in
+    let short_p : length (take (length pairs - 1) pairs) ≡ length pairs - 1 = length-take-le (length pairs - 1) pairs (omega arith) in
+    let was : (k : ℕ) (c : NormalConstraint) → k < m → get_or rest k None ≡ Some c → get_or slots k None ≡ Some c = λ k c low is. ap (λ (os : List (Option NormalConstraint)). get_or os k None) e ∙ get_or_append_left rest (Some n ∷ []) None k low ∙ is in
+    let pair : (k : ℕ) (o : Option Pair) → k < m → get_or (take (length pairs - 1) pairs) k None ≡ o → get_or pairs k None ≡ o = λ k o low is. sym (get_or-take (length pairs - 1) pairs k None (omega (arith, low, count, x.pair_count))) ∙ is in
+    record {
+      count = sym short;
+      watched_count = sym short_w;
+      pair_count = omega (arith, short_p, count, x.pair_count);
+      counts = λ k c is o. elim (cases_lt k m) [
+        | inl low ↦ let it = x.counts k c (was k c low is) (pair k None low o) in (get_or-take m ns k nothing low ∙ it.0, get_or-take m ws k nothing low ∙ it.1)
+        | inr high ↦ absurd (none_is_not_some c (sym (get_or_past rest k None high) ∙ is))
+      ];
+      watches = λ k c p is o. elim (cases_lt k m) [
+        | inl low ↦ let it = x.watches k c p (was k c low is) (pair k (Some p) low o) in (get_or-take m ns k nothing low ∙ it.0, get_or-take m ws k nothing low ∙ it.1)
+        | inr high ↦ absurd (none_is_not_some c (sym (get_or_past rest k None high) ∙ is))
+      ];
+    }
+
+pub detached : (slots rest : List (Option NormalConstraint)) (listing : List Lit) (variables : ℕ) (table after clauses behind : List (List Occurrence)) (counters limits : List ℕ) (pairs : List (Option Pair)) (n : NormalConstraint) (i : IsLedger slots listing variables table clauses counters limits pairs) → slots ≡ rest ++ Some n ∷ []
+    → length after ≡ length table → HasMore (λ l. occurrences_of l 0 (take (length rest) i.counted)) after (length rest) []
+    → length behind ≡ length clauses → HasMore (λ l. occurrences_of l 0 (take (length rest) i.watched)) behind (length rest) []
+    → IsLedger rest listing variables after behind (take (length counters - 1) counters) (take (length limits - 1) limits) (take (length pairs - 1) pairs)
+detached slots rest listing variables table after clauses behind counters limits pairs n i e long none long_w none_w =
+    let m : ℕ = length rest in
+    let ns : List NormalConstraint = i.counted in
+    let count : length slots ≡ m + 1 = slot_count slots rest n e in
+    let all : length ns ≡ m + 1 = omega (arith, count, i.slots_are.count) in
+    let many : length (take m ns) ≡ m = length-take-le m ns (omega (arith, all)) in
+    let shows : shown slots ≡ shown rest ++ n ∷ [] = fewer_shown slots rest n e in
+    let bound : length (shown rest) ≡ m = length-map rest constraint_in in
+    let limited : length limits ≡ m + 1 = omega (arith, i.limits_are.limited, length-map slots constraint_in, count) in
+    let counted : length counters ≡ m + 1 = omega (arith, i.counters_are.counted, all) in
+    record {
+      counted = take m ns;
+      watched = take m i.watched;
+      index = index_fewer ns variables m table after i.index long none;
+      watched_index = index_fewer i.watched variables m clauses behind i.watched_index long_w none_w;
+      counters_are = record {
+        counted = omega (arith, length-take-le (length counters - 1) counters (omega arith), counted, many);
+        open_sums = λ k h.
+            let low : k < m = omega (arith, h, many) in
+            get_or-take (length counters - 1) counters k 0 (omega (arith, low, counted)) ∙ i.counters_are.open_sums k (omega (arith, low, all)) ∙ ap (open_sum listing) (sym (get_or-take m ns k nothing low));
+      };
+      known = known_fewer ns variables m i.known;
+      watched_known = known_fewer i.watched variables m i.watched_known;
+      slots_are = parted_fewer slots rest ns i.watched pairs n e i.slots_are;
+      limits_are = record {
+        limited = omega (arith, length-take-le (length limits - 1) limits (omega arith), limited, bound);
+        enough = λ k l h.
+            let low : k < m = omega (arith, h, bound) in
+            let same : constraint_at (shown slots) k ≡ constraint_at (shown rest) k = ap (λ (cs : List NormalConstraint). constraint_at cs k) shows ∙ earlier_is (shown rest) n k h in
+            omega (arith, get_or-take (length limits - 1) limits k 0 (omega (arith, low, limited)), i.limits_are.enough k l (omega (arith, low, count, length-map slots constraint_in)), ap (λ (c : NormalConstraint). c.degree + coefficient_of c l) same);
+      };
+    }
+
+-- the reasons stand without the last constraint, where it is none of them
+pub reasons_without : (slots rest : List (Option NormalConstraint)) (n : NormalConstraint) (xs : List Lit) (rs : List (Option ℕ)) → slots ≡ rest ++ Some n ∷ [] → AreReasons (shown slots) xs rs
+    → ((k place : ℕ) → k < length xs → get_or rs k None ≡ Some place → place + 1 < length slots) → AreReasons (shown rest) xs rs
+reasons_without slots rest n xs rs e a h = reasons_moved (shown slots) (shown rest) xs rs a (λ k place low is below.
+    let under : place < length (shown rest) = omega (arith, h k place low is, ap (length {A = Option NormalConstraint}) e, length-append rest (Some n ∷ []), length-map rest constraint_in) in (
+      under,
+      sym (ap (λ (cs : List NormalConstraint). constraint_at cs place) (fewer_shown slots rest n e) ∙ earlier_is (shown rest) n place under),
+    ))
+
+-- one constraint is taken out of its place
+none_there : (slots : List (Option NormalConstraint)) (place k : ℕ) → place < length slots → k ≡ place → get_or (set slots place None) k None ≡ None
+none_there slots place k low e = ap (λ (j : ℕ). get_or (set slots place None) j None) e ∙ get_or-set_same slots place None None low
+
+same_there : (slots : List (Option NormalConstraint)) (place k : ℕ) → (k ≡ place → ⊥) → constraint_at (shown (set slots place None)) k ≡ constraint_at (shown slots) k
+same_there slots place k other = shown_at (set slots place None) k ∙ ap constraint_in (get_or-set_other slots place k None None other) ∙ sym (shown_at slots k)
+
+parted_without : (slots : List (Option NormalConstraint)) (place : ℕ) (ns ws : List NormalConstraint) (pairs : List (Option Pair)) → place < length slots → AreParted slots ns ws pairs → AreParted (set slots place None) ns ws pairs
+parted_without slots place ns ws pairs low x = record {
+  count = length-set slots place None ∙ x.count;
+  watched_count = length-set slots place None ∙ x.watched_count;
+  pair_count = length-set slots place None ∙ x.pair_count;
+  counts = λ k n e o. elim (cases_eq k place) [
+    | inl here ↦ absurd (none_is_not_some n (sym (none_there slots place k low here) ∙ e))
+    | inr other ↦ x.counts k n (sym (get_or-set_other slots place k None None other) ∙ e) o
+  ];
+  watches = λ k n p e o. elim (cases_eq k place) [
+    | inl here ↦ absurd (none_is_not_some n (sym (none_there slots place k low here) ∙ e))
+    | inr other ↦ x.watches k n p (sym (get_or-set_other slots place k None None other) ∙ e) o
+  ];
+}
+
+pub taken_out : (slots : List (Option NormalConstraint)) (place : ℕ) (listing : List Lit) (variables : ℕ) (table clauses : List (List Occurrence)) (counters limits : List ℕ) (pairs : List (Option Pair)) → IsLedger slots listing variables table clauses counters limits pairs → place < length slots
+    → IsLedger (set slots place None) listing variables table clauses counters (set limits place 0) pairs
+taken_out slots place listing variables table clauses counters limits pairs i low =
+    let many : length limits ≡ length slots = i.limits_are.limited ∙ length-map slots constraint_in in
+    record {
+      counted = i.counted;
+      watched = i.watched;
+      index = i.index;
+      watched_index = i.watched_index;
+      counters_are = i.counters_are;
+      known = i.known;
+      watched_known = i.watched_known;
+      slots_are = parted_without slots place i.counted i.watched pairs low i.slots_are;
+      limits_are = record {
+        limited = length-set limits place 0 ∙ many ∙ sym (length-map (set slots place None) constraint_in ∙ length-set slots place None);
+        enough = λ k l h. elim (cases_eq k place) [
+          | inl here ↦
+              let says : constraint_at (shown (set slots place None)) k ≡ nothing = shown_at (set slots place None) k ∙ ap constraint_in (none_there slots place k low here) in
+              omega (arith, ap (λ (n : NormalConstraint). n.degree + coefficient_of n l) says)
+          | inr other ↦
+              let below : k < length (shown slots) = omega (arith, h, length-map (set slots place None) constraint_in, length-set slots place None, length-map slots constraint_in) in
+              omega (arith, get_or-set_other limits place k 0 0 other, i.limits_are.enough k l below, ap (λ (n : NormalConstraint). n.degree + coefficient_of n l) (same_there slots place k other))
+        ];
+      };
+    }
+
+pub reasons_apart : (slots : List (Option NormalConstraint)) (place : ℕ) (xs : List Lit) (rs : List (Option ℕ)) → AreReasons (shown slots) xs rs → ((k : ℕ) → k < length xs → get_or rs k None ≡ Some place → ⊥)
+    → AreReasons (shown (set slots place None)) xs rs
+reasons_apart slots place xs rs a free = reasons_moved (shown slots) (shown (set slots place None)) xs rs a (λ k p low is below. (
+  omega (arith, below, length-map slots constraint_in, length-map (set slots place None) constraint_in, length-set slots place None),
+  same_there slots place p (λ e. free k low (is ∙ ap (λ (j : ℕ). Some j) e)),
+))
+
+-- the same ledger, with the same pairs
+pub with_pairs : (slots : List (Option NormalConstraint)) (listing : List Lit) (variables : ℕ) (table clauses : List (List Occurrence)) (counters limits : List ℕ) (pairs new : List (Option Pair)) → IsLedger slots listing variables table clauses counters limits pairs → new ≡ pairs → IsLedger slots listing variables table clauses counters limits new
+with_pairs slots listing variables table clauses counters limits pairs new i e = subst (λ (ps : List (Option Pair)). IsLedger slots listing variables table clauses counters limits ps) (sym e) i

@@ -1,0 +1,260 @@
+-- What a ledger keeps, with a literal more that is true, and with one fewer.
+use Rattle.std.proofs.lemmas.Bool.{cases_lt}
+use Rattle.std.proofs.Common.{◌≡◌, ℕ, zero, suc, ◌+◌, ◌-◌, ◌<◌, ◌≤◌, ◌⊎◌, inl, inr, false, is_some, Option, None, Some, SomeIff, MatchOption, Contains, All, List, [], ◌∷◌, ◌++◌, length, get_or, refl, ap, sym, subst, ◌∙◌, arith}
+use Rattle.std.proofs.lemmas.Int.{ints}
+use Rattle.std.proofs.lemmas.List.{get_or_default, get_or_past, length-map}
+use Rattle.std.proofs.lemmas.List.Elements.{All-get_or, All-nil}
+use Rattle.linear.specs.declared.term.Lit.{Lit}
+use Rattle.normal_form.specs.Normal.{NormalConstraint, IsNormal, largest_sum, total, variable_bound}
+use Rattle.normal_form.proofs.Sums.{sum_over_below}
+use Rattle.propagate.specs.Literals.{opposite, coefficient_of, lists}
+use Rattle.propagate.specs.Slack.{not_false, IsBroken}
+use Rattle.propagate.specs.Walk.{IsQuiet}
+use Rattle.ledger.specs.declared.occurrence.Occurrence.{Occurrence}
+use Rattle.ledger.specs.Occurrences.{share_of, code, occurrences_of}
+use Rattle.ledger.specs.Ledgers.{constraint_at, constraint_in, shown, nothing, open_sum, IsLedger, IsIndex, AreCounters, AreKnown, AreParted, AreLimits, AreReasons}
+use Rattle.ledger.specs.declared.pair.Pair.{Pair}
+use Rattle.ledger.specs.Falls.{IsAt}
+use Rattle.ledger.specs.Watched.{AreSameKinds, AreWatched, Watching}
+use Rattle.ledger.proofs.Entering.{code_below}
+use Rattle.ledger.proofs.EntrySums.{shares_from, places_from}
+use Rattle.ledger.proofs.Opening.{open_less, quiet_at_limit}
+
+abbrev Slots : Type 0
+Slots = List (Option NormalConstraint)
+
+-- what a place shows
+pub shown_at : (slots : List (Option NormalConstraint)) (k : ℕ) → constraint_at (shown slots) k ≡ constraint_in (get_or slots k None)
+shown_at [] k = refl
+shown_at (o ∷ os) zero = refl
+shown_at (o ∷ os) (suc k) = shown_at os k
+
+-- what is shown at a place is counted there, or nothing, or a clause that is watched
+pub record IsWatchedThere (slots : Slots) (pairs : List (Option Pair)) (k : ℕ) : Type 0 where
+  pub clause : NormalConstraint
+  pub pair : Pair
+  pub there : IsAt slots pairs k clause pair
+
+shown_pair : (slots : Slots) (ns ws : List NormalConstraint) (pairs : List (Option Pair)) (k : ℕ) (n : NormalConstraint) (o : Option Pair) → get_or slots k None ≡ Some n → get_or pairs k None ≡ o → AreParted slots ns ws pairs
+    → (constraint_at (shown slots) k ≡ constraint_at ns k) ⊎ IsWatchedThere slots pairs k
+shown_pair slots ns ws pairs k n None e f x = inl (shown_at slots k ∙ ap constraint_in e ∙ sym (x.counts k n e f).0)
+shown_pair slots ns ws pairs k n (Some p) e f x = inr (record { clause = n; pair = p; there = (e, f) })
+
+shown_by : (slots : Slots) (ns ws : List NormalConstraint) (pairs : List (Option Pair)) (k : ℕ) (o : Option NormalConstraint) → get_or slots k None ≡ o → AreParted slots ns ws pairs
+    → (constraint_at (shown slots) k ≡ nothing) ⊎ ((constraint_at (shown slots) k ≡ constraint_at ns k) ⊎ IsWatchedThere slots pairs k)
+shown_by slots ns ws pairs k None e x = inl (shown_at slots k ∙ ap constraint_in e)
+shown_by slots ns ws pairs k (Some n) e x = inr (shown_pair slots ns ws pairs k n (get_or pairs k None) e refl x)
+
+pub shown_kind : (slots : Slots) (ns ws : List NormalConstraint) (pairs : List (Option Pair)) (k : ℕ) → AreParted slots ns ws pairs
+    → (constraint_at (shown slots) k ≡ nothing) ⊎ ((constraint_at (shown slots) k ≡ constraint_at ns k) ⊎ IsWatchedThere slots pairs k)
+shown_kind slots ns ws pairs k x = shown_by slots ns ws pairs k (get_or slots k None) refl x
+
+pub shown_clause : (slots : Slots) (pairs : List (Option Pair)) (k : ℕ) (w : IsWatchedThere slots pairs k) → constraint_at (shown slots) k ≡ w.clause
+shown_clause slots pairs k w = shown_at slots k ∙ ap constraint_in w.there.0
+
+pub quiet_nothing : (listing : List Lit) → IsQuiet listing nothing
+quiet_nothing listing = (λ b. omega (arith, ints, b), λ l f. omega (arith, f.occurs))
+
+-- what the entries of a literal add up to at each place is its coefficient there
+abbrev pub AreEntries : List NormalConstraint → Lit → List Occurrence → Type 0
+AreEntries ns l os = All (λ o. o.place < length ns) os × ((k : ℕ) → k < length ns → share_of k os ≡ coefficient_of (constraint_at ns k) l)
+
+pub entries : (ns : List NormalConstraint) (count : ℕ) (table : List (List Occurrence)) (l m : Lit) (number : ℕ) (os : List Occurrence) → IsIndex ns count table → m ≡ opposite l → number ≡ code m → os ≡ get_or table number [] → AreEntries ns (opposite l) os
+entries ns count table l m number os x o named is =
+    let there : os ≡ occurrences_of (opposite l) 0 ns = is ∙ ap (λ (k : ℕ). get_or table k []) (named ∙ ap code o) ∙ x.entries (opposite l) in
+    subst (λ (ys : List Occurrence). AreEntries ns (opposite l) ys) (sym there)
+    (places_from (opposite l) 0 (length ns) ns (omega arith), λ k low. shares_from (opposite l) 0 k k ns low (omega arith))
+
+-- a literal's number is in the table
+pub inside : (ns : List NormalConstraint) (count : ℕ) (table : List (List Occurrence)) (l m : Lit) (number : ℕ) → IsIndex ns count table → m ≡ opposite l → number ≡ code m → l.var.0 < count → number < length table
+inside ns count table l m number x o named h = omega (arith, named, ap code o, code_below (opposite l) count (length table) (omega (arith, h)) x.size)
+
+-- no counter goes below 0
+pub enough : (ns : List NormalConstraint) (listing : List Lit) (counters : List ℕ) (l : Lit) (os : List Occurrence) → AreCounters ns listing counters → AreEntries ns (opposite l) os → lists listing l ≡ false
+    → (k : ℕ) → k < length counters → share_of k os ≤ get_or counters k 0
+enough ns listing counters l os a x unset k h =
+    let low : k < length ns = omega (arith, h, a.counted) in
+    omega (arith, x.1 k low, a.open_sums k low, open_less listing l (constraint_at ns k) unset)
+
+pub counted : (ns : List NormalConstraint) (listing : List Lit) (before after : List ℕ) (l : Lit) (os : List Occurrence) → AreCounters ns listing before → AreEntries ns (opposite l) os → lists listing l ≡ false
+    → length after ≡ length before → ((k : ℕ) → k < length before → get_or after k 0 + share_of k os ≡ get_or before k 0)
+    → AreCounters ns (listing ++ l ∷ []) after
+counted ns listing before after l os a x unset same lowered = record {
+  counted = same ∙ a.counted;
+  open_sums = λ k low. omega (arith, lowered k (omega (arith, low, a.counted)), x.1 k low, a.open_sums k low, open_less listing l (constraint_at ns k) unset);
+}
+
+-- a counted constraint whose counter has not fallen below its limit is quiet
+pub quiet_counted : (slots : Slots) (ns : List NormalConstraint) (listing : List Lit) (counters limits : List ℕ) (k : ℕ) → constraint_at (shown slots) k ≡ constraint_at ns k → length slots ≡ length ns → AreCounters ns listing counters → AreLimits (shown slots) limits → k < length slots
+    → get_or limits k 0 ≤ get_or counters k 0 → IsQuiet listing (constraint_at (shown slots) k)
+quiet_counted slots ns listing counters limits k e many a b low far =
+    quiet_at_limit listing (constraint_at (shown slots) k) (get_or counters k 0) (get_or limits k 0) (a.open_sums k (omega (arith, low, many)) ∙ ap (open_sum listing) (sym e)) (λ m. b.enough k m (omega (arith, low, length-map slots constraint_in))) far
+
+pub nothing_there : (slots : List (Option NormalConstraint)) (k : ℕ) (l : Lit) → 0 < coefficient_of (constraint_at (shown slots) k) l → k < length slots
+nothing_there [] k l h = absurd (omega (arith, h))
+nothing_there (o ∷ os) zero l h = omega arith
+nothing_there (o ∷ os) (suc k) l h = omega (arith, nothing_there os k l h)
+
+-- a place waits, or what is shown there is quiet, where that is so of what is counted and of what is watched
+pub each_kind : (slots : Slots) (ns ws : List NormalConstraint) (pairs : List (Option Pair)) (listing : List Lit) (counters limits queue : List ℕ) (l : Lit) (os : List Occurrence) → AreParted slots ns ws pairs → AreCounters ns listing counters → AreLimits (shown slots) limits → AreEntries ns l os
+    → ((k : ℕ) → k < length ns → 0 < share_of k os → (get_or limits k 0 ≤ get_or counters k 0) ⊎ Contains queue k)
+    → ((k : ℕ) (n : NormalConstraint) (p : Pair) → IsAt slots pairs k n p → 0 < coefficient_of n l → IsQuiet listing n ⊎ Contains queue k)
+    → (k : ℕ) → 0 < coefficient_of (constraint_at (shown slots) k) l → IsQuiet listing (constraint_at (shown slots) k) ⊎ Contains queue k
+each_kind slots ns ws pairs listing counters limits queue l os x a b es counts watches k some =
+    let low : k < length slots = nothing_there slots k l some in
+    elim (shown_kind slots ns ws pairs k x) [
+      | inl e ↦ inl (subst (λ (n : NormalConstraint). IsQuiet listing n) (sym e) (quiet_nothing listing))
+      | inr rest ↦ elim rest [
+        | inl e ↦ elim (counts k (omega (arith, low, x.count)) (omega (arith, some, ap (λ (n : NormalConstraint). coefficient_of n l) e, es.1 k (omega (arith, low, x.count))))) [
+          | inl far ↦ inl (quiet_counted slots ns listing counters limits k e x.count a b low far)
+          | inr waits ↦ inr waits
+        ]
+        | inr w ↦
+            let same : constraint_at (shown slots) k ≡ w.clause = shown_clause slots pairs k w in
+            elim (watches k w.clause w.pair w.there (omega (arith, some, ap (λ (n : NormalConstraint). coefficient_of n l) same))) [
+              | inl quiet ↦ inl (subst (λ (n : NormalConstraint). IsQuiet listing n) (sym same) quiet)
+              | inr waits ↦ inr waits
+            ]
+      ]
+    ]
+
+-- the ledger with other counters, of another listing, and other pairs at the same places
+kind_kept : (o o' : Option Pair) → is_some o' ≡ is_some o → o' ≡ None → o ≡ None
+kind_kept None o' e f = refl
+kind_kept (Some p) None e f = cc
+kind_kept (Some p) (Some q) e f = cc
+
+pair_kept : (o o' : Option Pair) (q : Pair) → is_some o' ≡ is_some o → o' ≡ Some q → (p : Pair) × (o ≡ Some p)
+pair_kept (Some p) o' q e f = (p, refl)
+pair_kept None None q e f = absurd (cc)
+pair_kept None (Some p) q e f = absurd (cc)
+
+pub parted_same : (slots : Slots) (ns ws : List NormalConstraint) (pairs new : List (Option Pair)) → AreParted slots ns ws pairs → AreSameKinds pairs new → AreParted slots ns ws new
+parted_same slots ns ws pairs new x same = record {
+  count = x.count;
+  watched_count = x.watched_count;
+  pair_count = x.pair_count ∙ sym same.count;
+  counts = λ k n e f. x.counts k n e (kind_kept (get_or pairs k None) (get_or new k None) (same.kinds k) f);
+  watches = λ k n q e f. let p = pair_kept (get_or pairs k None) (get_or new k None) q (same.kinds k) f in x.watches k n p.0 e p.1;
+}
+
+pub recounted : (slots : Slots) (listing new : List Lit) (variables same_variables : ℕ) (table clauses : List (List Occurrence)) (counters after limits : List ℕ) (pairs others : List (Option Pair)) (e : IsLedger slots listing variables table clauses counters limits pairs)
+    → same_variables ≡ variables → AreCounters e.counted new after → AreSameKinds pairs others → IsLedger slots new same_variables table clauses after limits others
+recounted slots listing new variables same_variables table clauses counters after limits pairs others e same a kinds = rw same (record {
+  counted = e.counted;
+  watched = e.watched;
+  index = e.index;
+  watched_index = e.watched_index;
+  counters_are = a;
+  known = e.known;
+  watched_known = e.watched_known;
+  slots_are = parted_same slots e.counted e.watched pairs others e.slots_are kinds;
+  limits_are = e.limits_are;
+})
+
+-- the counters with the last literal taken back
+pub counted_back : (ns : List NormalConstraint) (listing : List Lit) (before after : List ℕ) (l : Lit) (os : List Occurrence) → AreCounters ns (listing ++ l ∷ []) before → AreEntries ns (opposite l) os → lists listing l ≡ false
+    → length after ≡ length before → ((k : ℕ) → k < length before → get_or after k 0 ≡ get_or before k 0 + share_of k os)
+    → AreCounters ns listing after
+counted_back ns listing before after l os a x unset same raised = record {
+  counted = same ∙ a.counted;
+  open_sums = λ k low. omega (arith, raised k (omega (arith, low, a.counted)), x.1 k low, a.open_sums k low, open_less listing l (constraint_at ns k) unset);
+}
+
+-- no counter goes above the sum of all coefficients
+pub room : (ns : List NormalConstraint) (count : ℕ) (listing : List Lit) (counters : List ℕ) (l : Lit) (os : List Occurrence) → AreKnown ns count → AreCounters ns (listing ++ l ∷ []) counters → AreEntries ns (opposite l) os → lists listing l ≡ false
+    → (k : ℕ) → k < length counters → get_or counters k 0 + share_of k os ≤ largest_sum
+room ns count listing counters l os known a x unset k h =
+    let low : k < length ns = omega (arith, h, a.counted) in
+    let n : NormalConstraint = constraint_at ns k in
+    let fits : total n.terms ≤ largest_sum = (All-get_or IsNormal ns k nothing low known.normal).fits.sum in
+    omega (arith, x.1 k low, a.open_sums k low, open_less listing l n unset, sum_over_below (not_false listing) n.terms, fits)
+
+-- the constraint that stands at a place
+pub some_at : (slots : List (Option NormalConstraint)) (place : ℕ) (o : Option NormalConstraint) (n : NormalConstraint) → place < length slots → o ≡ get_or slots place o → o ≡ Some n → get_or slots place None ≡ Some n
+some_at slots place o n h is e = get_or_default slots place None o h ∙ sym is ∙ e
+
+pub none_at : (slots : List (Option NormalConstraint)) (place : ℕ) (o : Option NormalConstraint) → place < length slots → o ≡ get_or slots place o → o ≡ None → get_or slots place None ≡ None
+none_at slots place o h is e = get_or_default slots place None o h ∙ sym is ∙ e
+
+-- its counter is what is open in it, where it is counted
+pub counter_there : (slots : Slots) (listing : List Lit) (variables : ℕ) (table clauses : List (List Occurrence)) (counters limits : List ℕ) (pairs : List (Option Pair)) (place counter : ℕ) (n : NormalConstraint) → IsLedger slots listing variables table clauses counters limits pairs
+    → place < length slots → get_or slots place None ≡ Some n → get_or pairs place None ≡ None → counter ≡ get_or counters place counter → counter ≡ open_sum listing n
+counter_there slots listing variables table clauses counters limits pairs place counter n i h e f is =
+    let low : place < length i.counted = omega (arith, h, i.slots_are.count) in
+    is ∙ get_or_default counters place counter 0 (omega (arith, low, i.counters_are.counted)) ∙ i.counters_are.open_sums place low ∙ ap (open_sum listing) (i.slots_are.counts place n e f).0
+
+-- its variables are known, and it is normal
+known_by : (slots : Slots) (listing : List Lit) (variables : ℕ) (table clauses : List (List Occurrence)) (counters limits : List ℕ) (pairs : List (Option Pair)) (place : ℕ) (n : NormalConstraint) (o : Option Pair) → IsLedger slots listing variables table clauses counters limits pairs
+    → place < length slots → get_or slots place None ≡ Some n → get_or pairs place None ≡ o → (variable_bound n.terms ≤ variables) × IsNormal n
+known_by slots listing variables table clauses counters limits pairs place n None i h e f =
+    let low : place < length i.counted = omega (arith, h, i.slots_are.count) in (
+      rw ((i.slots_are.counts place n e f).0) at (All-get_or (λ (m : NormalConstraint). variable_bound m.terms ≤ variables) i.counted place nothing low i.known.within),
+      rw ((i.slots_are.counts place n e f).0) at (All-get_or IsNormal i.counted place nothing low i.known.normal),
+    )
+known_by slots listing variables table clauses counters limits pairs place n (Some p) i h e f =
+    let low : place < length i.watched = omega (arith, h, i.slots_are.watched_count) in (
+      rw ((i.slots_are.watches place n p e f).1) at (All-get_or (λ (m : NormalConstraint). variable_bound m.terms ≤ variables) i.watched place nothing low i.watched_known.within),
+      rw ((i.slots_are.watches place n p e f).1) at (All-get_or IsNormal i.watched place nothing low i.watched_known.normal),
+    )
+
+pub variables_there : (slots : Slots) (listing : List Lit) (variables : ℕ) (table clauses : List (List Occurrence)) (counters limits : List ℕ) (pairs : List (Option Pair)) (place : ℕ) (n : NormalConstraint) → IsLedger slots listing variables table clauses counters limits pairs
+    → place < length slots → get_or slots place None ≡ Some n → variable_bound n.terms ≤ variables
+variables_there slots listing variables table clauses counters limits pairs place n i h e = (known_by slots listing variables table clauses counters limits pairs place n (get_or pairs place None) i h e refl).0
+
+pub normal_there : (slots : Slots) (listing : List Lit) (variables : ℕ) (table clauses : List (List Occurrence)) (counters limits : List ℕ) (pairs : List (Option Pair)) (place : ℕ) (n : NormalConstraint) → IsLedger slots listing variables table clauses counters limits pairs
+    → place < length slots → get_or slots place None ≡ Some n → IsNormal n
+normal_there slots listing variables table clauses counters limits pairs place n i h e = (known_by slots listing variables table clauses counters limits pairs place n (get_or pairs place None) i h e refl).1
+
+none_past : (slots : Slots) (k : ℕ) (n : NormalConstraint) → get_or slots k None ≡ Some n → k < length slots
+none_past slots k n e = elim (cases_lt k (length slots)) [
+  | inl low ↦ low
+  | inr high ↦ absurd (none_some (sym (get_or_past slots k None high) ∙ e))
+]
+  where
+    none_some : None ≡ Some n → ⊥
+    none_some f = cc
+
+pub all_within : (slots : Slots) (listing : List Lit) (variables : ℕ) (table clauses : List (List Occurrence)) (counters limits : List ℕ) (pairs : List (Option Pair)) → IsLedger slots listing variables table clauses counters limits pairs
+    → (k : ℕ) (n : NormalConstraint) → get_or slots k None ≡ Some n → variable_bound n.terms ≤ variables
+all_within slots listing variables table clauses counters limits pairs i k n e = variables_there slots listing variables table clauses counters limits pairs k n i (none_past slots k n e) e
+
+-- a ledger with nothing in it
+nowhere : IsLedger [] [] 0 [] [] [] [] []
+nowhere = record {
+  counted = [];
+  watched = [];
+  index = record { size = omega arith; entries = λ l. refl };
+  watched_index = record { size = omega arith; entries = λ l. refl };
+  counters_are = record { counted = refl; open_sums = λ k h. absurd (omega (arith, h)) };
+  known = record { normal = All-nil IsNormal; within = All-nil (λ (n : NormalConstraint). variable_bound n.terms ≤ 0) };
+  watched_known = record { normal = All-nil IsNormal; within = All-nil (λ (n : NormalConstraint). variable_bound n.terms ≤ 0) };
+  slots_are = record { count = refl; watched_count = refl; pair_count = refl; counts = λ k n e f. absurd (cc); watches = λ k n p e f. absurd (cc) };
+  limits_are = record { limited = refl; enough = λ k l h. absurd (omega (arith, h)) };
+}
+
+nobody : AreWatched [] [] 0 (record { rows = []; pairs = [] })
+nobody = record { size = omega arith; within = λ k p e. absurd (cc); each = λ k n p e f. absurd (cc) }
+
+no_reasons : AreReasons [] [] []
+no_reasons = record { as_many = refl; forced = λ k d h. absurd (omega (arith, h)) }
+
+pub empty : (slots : Slots) (trail : List Lit × ℕ) (table clauses : List (List Occurrence)) (counters limits : List ℕ) (watchers : Watching) (reasons : List (Option ℕ)) (capacity : ℕ) → slots ≡ [] → trail ≡ ([], 0) → table ≡ [] → clauses ≡ [] → counters ≡ [] → limits ≡ [] → watchers ≡ record { rows = []; pairs = [] } → reasons ≡ []
+    → IsLedger slots trail.0 trail.1 table clauses counters limits watchers.pairs × AreReasons (shown slots) trail.0 reasons × (trail.1 ≤ capacity) × AreWatched slots trail.0 trail.1 watchers
+empty slots trail table clauses counters limits watchers reasons capacity s t b d c l w r = rw (s, t, b, d, c, l, w, r) (nowhere, no_reasons, omega arith, nobody)
+
+pub queued_there : (slots same : List (Option NormalConstraint)) (listing new : List Lit) (queue : List ℕ) (l : Lit) → slots ≡ same → new ≡ listing ++ l ∷ []
+    → ((k : ℕ) → 0 < coefficient_of (constraint_at (shown slots) k) (opposite l) → IsQuiet (listing ++ l ∷ []) (constraint_at (shown slots) k) ⊎ Contains queue k)
+    → (k : ℕ) → 0 < coefficient_of (constraint_at (shown same) k) (opposite l) → IsQuiet new (constraint_at (shown same) k) ⊎ Contains queue k
+queued_there slots same listing new queue l e f h =
+    subst (λ (os : List (Option NormalConstraint)). (k : ℕ) → 0 < coefficient_of (constraint_at (shown os) k) (opposite l) → IsQuiet new (constraint_at (shown os) k) ⊎ Contains queue k) e
+    (subst (λ (xs : List Lit). (k : ℕ) → 0 < coefficient_of (constraint_at (shown slots) k) (opposite l) → IsQuiet xs (constraint_at (shown slots) k) ⊎ Contains queue k) (sym f) h)
+
+-- what a counter has more than a degree is the slack
+pub slack_said : (r : Option ℕ) (listing : List Lit) (n m : NormalConstraint) (counter degree : ℕ) → SomeIff r (degree ≤ counter) (counter - degree) → counter ≡ open_sum listing n → degree ≡ n.degree → m ≡ n
+    → MatchOption r (IsBroken listing m) (λ s. open_sum listing m ≡ m.degree + s)
+slack_said None listing n m counter degree said is same e = elim (cases_lt counter degree) [
+  | inr below ↦ absurd (said below)
+  | inl above ↦ omega (arith, ints, above, is, same, ap (open_sum listing) e, ap (λ (k : NormalConstraint). k.degree) e)
+]
+slack_said (Some s) listing n m counter degree said is same e = omega (arith, said.0, said.1, is, same, ap (open_sum listing) e, ap (λ (k : NormalConstraint). k.degree) e)

@@ -1,0 +1,73 @@
+-- One clause more at the end of all lists.
+use Rattle.std.proofs.Common.{◌≡◌, ◌+◌, ◌<◌, ◌≤◌, ℕ, List, Option, Some, [], ◌∷◌, ◌++◌, length, refl, ap, sym, subst, ◌∙◌, arith}
+use Rattle.normal_form.specs.Normal.{NormalConstraint, variable_bound}
+use Rattle.ledger.specs.declared.pair.Pair.{Pair}
+use Rattle.ledger.specs.Ledgers.{State}
+use Rattle.ledger.specs.Watched.{IsOpen, IsPairOf}
+use Rattle.ledger.proofs.Attaching.{attached_watched, none_more, reasons_beside, unchanged, with_pairs}
+use Rattle.ledger.proofs.FallingRows.{number_inside, variable_below}
+use Rattle.ledger.proofs.WatchedPlaces.{watched_kept, watched_more}
+use Rattle.ledger.proofs.ledger.Ledger.attach_watched.Goals as goal
+
+pub enter_watched-requires-clause-table : goal.enter_watched-requires-clause-table
+enter_watched-requires-clause-table c =
+    omega (arith, c.requires.variables, ap (λ (s : State). s.variables) c.self.view_is, c.self.invariant.0.watched_index.size)
+
+-- the literals of the pair are of the variables
+first_below : (n : NormalConstraint) (p : Pair) (variables : ℕ) → IsPairOf n p → variable_bound n.terms ≤ variables → p.first.var.0 < variables
+first_below n p variables of_it within = variable_below n p.first variables of_it.first within
+
+second_below : (n : NormalConstraint) (p : Pair) (variables : ℕ) → IsPairOf n p → variable_bound n.terms ≤ variables → p.second.var.0 < variables
+second_below n p variables of_it within = variable_below n p.second variables of_it.second within
+
+pub enter_watched-requires-clause-first : goal.enter_watched-requires-clause-first
+enter_watched-requires-clause-first c =
+    let e = c.self.inside in
+    let within : variable_bound c.args.constraint.terms ≤ e.trail.1 = omega (arith, c.requires.variables, ap (λ (s : State). s.variables) c.self.view_is) in
+    number_inside c.args.pair.first e.trail.1 e.watchers.rows (first_below c.args.constraint c.args.pair e.trail.1 c.requires.pair within) c.self.invariant.3.size
+
+pub enter_watched-requires-clause-second : goal.enter_watched-requires-clause-second
+enter_watched-requires-clause-second c =
+    let e = c.self.inside in
+    let within : variable_bound c.args.constraint.terms ≤ e.trail.1 = omega (arith, c.requires.variables, ap (λ (s : State). s.variables) c.self.view_is) in
+    number_inside c.args.pair.second e.trail.1 e.watchers.rows (second_below c.args.constraint c.args.pair e.trail.1 c.requires.pair within) c.self.invariant.3.size
+
+pub invariant_of-self-in_err-enter_watched : goal.invariant_of-self-in_err-enter_watched
+invariant_of-self-in_err-enter_watched c =
+    let e = c.self.inside in
+    let i = c.self.invariant.0 in
+    let room = c.in_ok-make_room.ensures in
+    let new = c.enter_watched.new.watchers in
+    let it = unchanged e.slots.items e.trail.0 e.trail.1 e.table e.table e.clauses c.enter_watched.new.table e.counters.items e.limits.items e.watchers.pairs (length e.watchers.pairs) i (none_more e.table (length e.watchers.pairs)) refl c.in_err-enter_watched.ensures.err c.in_err-enter_watched.ensures.length in
+    rw (room.slots, room.counters, room.limits) (
+      with_pairs e.slots.items e.trail.0 e.trail.1 e.table c.enter_watched.new.table e.counters.items e.limits.items e.watchers.pairs new.pairs it c.in_err-enter_watched.ensures.no_pairs,
+      c.self.invariant.1,
+      c.self.invariant.2,
+      watched_kept e.slots.items e.trail.0 e.trail.1 e.watchers new c.self.invariant.3 c.in_err-enter_watched.ensures.no_pairs (omega (arith, c.enter_watched.ensures.row_count)) c.enter_watched.ensures.kept,
+    )
+
+pub invariant_of-self-2 : goal.invariant_of-self-2
+invariant_of-self-2 c =
+    let e = c.self.inside in
+    let n : NormalConstraint = c.args.constraint in
+    let p : Pair = c.args.pair in
+    let limit : ℕ = c.degree.result + c.largest.result in
+    let room = c.in_ok-make_room.ensures in
+    let slots : c.push_reserved-3.new.self.items ≡ e.slots.items ++ Some n ∷ [] = c.push_reserved-3.ensures.items ∙ ap (λ (os : List (Option NormalConstraint)). os ++ Some n ∷ []) room.slots in
+    let counters : c.push_reserved.new.self.items ≡ e.counters.items ++ 0 ∷ [] = c.push_reserved.ensures.items ∙ ap (λ (os : List ℕ). os ++ 0 ∷ []) room.counters in
+    let limits : c.push_reserved-2.new.self.items ≡ e.limits.items ++ limit ∷ [] = c.push_reserved-2.ensures.items ∙ ap (λ (os : List ℕ). os ++ limit ∷ []) room.limits in
+    let within : variable_bound n.terms ≤ e.trail.1 = omega (arith, c.requires.variables, ap (λ (s : State). s.variables) c.self.view_is) in
+    let first : IsOpen e.trail.0 p.first = subst (λ (s : State). IsOpen s.listing p.first) (sym c.self.view_is) c.requires.first in
+    let second : IsOpen e.trail.0 p.second = subst (λ (s : State). IsOpen s.listing p.second) (sym c.self.view_is) c.requires.second in
+    let i = c.self.invariant.0 in
+    let new = c.enter_watched.new.watchers in
+    let said = c.in_ok-enter_watched.ensures in
+    let it = attached_watched e.slots.items e.trail.0 e.trail.1 e.table e.clauses c.enter_watched.new.table e.counters.items e.limits.items e.watchers.pairs n p (length e.watchers.pairs) 0 limit i refl c.degree.ensures.normal within said.ok said.length refl
+    (λ l. omega (arith, c.degree.ensures.value, c.largest.ensures.each l)) in
+    rw (slots, counters, limits) (
+      with_pairs (e.slots.items ++ Some n ∷ []) e.trail.0 e.trail.1 e.table c.enter_watched.new.table (e.counters.items ++ 0 ∷ []) (e.limits.items ++ limit ∷ []) (e.watchers.pairs ++ Some p ∷ []) new.pairs it said.pairs,
+      reasons_beside e.slots.items n e.trail.0 e.reasons.items c.self.invariant.1,
+      c.self.invariant.2,
+      watched_more e.slots.items e.trail.0 e.trail.1 e.watchers new n (Some p) c.self.invariant.3 i.slots_are.pair_count said.pairs (omega (arith, said.row_count)) said.kept
+          (c.requires.pair, (first_below n p e.trail.1 c.requires.pair within, second_below n p e.trail.1 c.requires.pair within), first, second, said.first_there, said.second_there),
+    )

@@ -1,0 +1,65 @@
+-- A literal falls: the clauses that it watches are looked at, one entry of its row after another.
+use Rattle.std.specs.Prelude.{◌≡◌, ◌⊎◌, ℕ, ◌<◌, ◌≤◌, true, List, [], Option, Some, None, Contains, length, slice_index_or}
+use Rattle.linear.specs.declared.term.Lit.{Lit}
+use Rattle.normal_form.specs.Normal.{NormalConstraint}
+use Rattle.propagate.specs.Literals.{lists, opposite}
+use Rattle.ledger.specs.declared.finding.Finding.{Finding}
+use Rattle.ledger.specs.declared.finding.Finding.TheVariants as findings
+use Rattle.ledger.specs.declared.pair.Pair.{Pair}
+use Rattle.ledger.specs.Occurrences.{code}
+use Rattle.ledger.specs.Watched.{AreOthersFalse, AreWatched, IsOpen, IsPairOf, Watching}
+
+abbrev pub IsOneTrue : List Lit → Pair → Type 0
+IsOneTrue listing p = (lists listing p.first ≡ true) ⊎ (lists listing p.second ≡ true)
+
+-- a literal is one of two
+abbrev pub IsOneOf : Pair → Lit → Type 0
+IsOneOf p l = (p.first ≡ l) ⊎ (p.second ≡ l)
+
+-- a place has two literals, of which one is this and the other that
+abbrev pub IsBeside : Option Pair → Lit → Lit → Type 0
+IsBeside None l other = ⊥
+IsBeside (Some p) l other = ((p.first ≡ l) × (p.second ≡ other)) ⊎ ((p.second ≡ l) × (p.first ≡ other))
+
+-- in place of a literal that falls another open one of the clause watches it, beside the one that stays
+pub record IsMoved (listing : List Lit) (n : NormalConstraint) (p : Pair) (fallen : Lit) (q : Pair) : Type 0 where
+  pub of_it : IsPairOf n q
+  pub stays : IsOneOf p q.second
+  pub not_first : q.first ≡ fallen → ⊥
+  pub not_second : q.second ≡ fallen → ⊥
+  pub first : IsOpen listing q.first
+  pub second : IsOpen listing q.second
+
+-- the clause at a place, and the two literals that watch it
+abbrev pub IsAt : List (Option NormalConstraint) → List (Option Pair) → ℕ → NormalConstraint → Pair → Type 0
+IsAt slots pairs k n p = (slice_index_or slots k None ≡ Some n) × (slice_index_or pairs k None ≡ Some p)
+
+-- what is found of the clause at a place when a literal falls
+abbrev pub IsFound : List (Option NormalConstraint) → List Lit → List (Option Pair) → ℕ → Lit → Finding → Type 0
+IsFound slots listing pairs k fallen findings.Elsewhere = (n : NormalConstraint) (p : Pair) → IsAt slots pairs k n p → IsOneOf p fallen → ⊥
+IsFound slots listing pairs k fallen findings.Satisfied = (n : NormalConstraint) × (p : Pair) × IsAt slots pairs k n p × IsOneTrue listing p
+IsFound slots listing pairs k fallen findings.Broken =
+    (n : NormalConstraint) × (p : Pair) × IsAt slots pairs k n p × AreOthersFalse listing n p × ((l : Lit) → IsBeside (Some p) fallen l → lists listing (opposite l) ≡ true)
+IsFound slots listing pairs k fallen findings.Last =
+    (n : NormalConstraint) × (p : Pair) × IsAt slots pairs k n p × AreOthersFalse listing n p × ((l : Lit) → IsBeside (Some p) fallen l → IsOpen listing l)
+IsFound slots listing pairs k fallen (findings.Moved q) =
+    (n : NormalConstraint) × (p : Pair) × IsAt slots pairs k n p × IsMoved listing n p fallen q
+
+-- nothing more is to be done for a clause that a falling literal watches
+abbrev pub IsHandled : List Lit → NormalConstraint → Pair → List ℕ → ℕ → Type 0
+IsHandled listing n p queue k = IsOneTrue listing p ⊎ (AreOthersFalse listing n p × Contains queue k)
+
+-- a place stands in a row from an index on
+abbrev pub IsAhead : List ℕ → ℕ → ℕ → Type 0
+IsAhead row index k = (m : ℕ) × (index ≤ m) × (m < length row) × (slice_index_or row m 0 ≡ k)
+
+-- the clauses that a falling literal watches are handled, but for those from an index of its row on
+pub record IsFalling (slots : List (Option NormalConstraint)) (listing : List Lit) (variables : ℕ) (fallen : Lit) (w : Watching) (queue : List ℕ) (index : ℕ) : Type 0 where
+  pub watched : AreWatched slots listing variables w
+  pub handled : (k : ℕ) (n : NormalConstraint) (p : Pair) → slice_index_or slots k None ≡ Some n → slice_index_or w.pairs k None ≡ Some p → IsOneOf p fallen
+      → IsAhead (slice_index_or w.rows (code fallen) []) index k ⊎ IsHandled listing n p queue k
+
+-- all clauses that a falling literal watches are handled
+abbrev pub AreHandled : List (Option NormalConstraint) → List Lit → Lit → Watching → List ℕ → Type 0
+AreHandled slots listing fallen w queue = (k : ℕ) (n : NormalConstraint) (p : Pair) → slice_index_or slots k None ≡ Some n
+    → slice_index_or w.pairs k None ≡ Some p → IsOneOf p fallen → IsHandled listing n p queue k

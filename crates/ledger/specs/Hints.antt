@@ -1,0 +1,35 @@
+-- What the two literals that watch a clause tell of it.
+use Rattle.std.specs.Prelude.{◌≡◌, ◌⊎◌, ℕ, ◌<◌, true, false, List, [], ◌∷◌, ◌++◌, Some}
+use Rattle.linear.specs.declared.term.Lit.{Lit}
+use Rattle.normal_form.specs.Normal.{NormalConstraint}
+use Rattle.propagate.specs.Literals.{lists, opposite}
+use Rattle.propagate.specs.Slack.{IsForced}
+use Rattle.propagate.specs.Walk.{IsQuiet}
+use Rattle.ledger.specs.declared.hint.Hint.{Hint}
+use Rattle.ledger.specs.declared.hint.Hint.TheVariants as hints
+use Rattle.ledger.specs.declared.pair.Pair.{Pair}
+use Rattle.ledger.specs.Falls.{IsBeside, IsOneTrue}
+use Rattle.ledger.specs.Trails.{IsFree}
+use Rattle.ledger.specs.Watched.{IsOpen}
+
+-- a literal that is made false
+abbrev pub HasFallen : List Lit → Lit → Type 0
+HasFallen listing l = (lists listing l ≡ false) × (lists listing (opposite l) ≡ true)
+
+-- what two literals tell: quiet, where one is true or both are open; forced is the free one beside one that has fallen
+abbrev pub IsHintOf : List Lit → Pair → Hint → Type 0
+IsHintOf listing p hints.Quiet = IsOneTrue listing p ⊎ (IsOpen listing p.first × IsOpen listing p.second)
+IsHintOf listing p (hints.Forces l) = (other : Lit) × IsBeside (Some p) l other × IsFree listing l × HasFallen listing other
+IsHintOf listing p hints.Unknown = HasFallen listing p.first × HasFallen listing p.second
+
+-- the literal that is forced is of the variables
+abbrev pub IsHintWithin : ℕ → Hint → Type 0
+IsHintWithin variables hints.Quiet = Unit {0}
+IsHintWithin variables (hints.Forces l) = l.var.0 < variables
+IsHintWithin variables hints.Unknown = Unit {0}
+
+-- what is so of a constraint then: with what it forces it is quiet
+abbrev pub IsHint : List Lit → NormalConstraint → Hint → Type 0
+IsHint listing n hints.Quiet = IsQuiet listing n
+IsHint listing n (hints.Forces l) = IsForced listing l n × IsQuiet (listing ++ l ∷ []) n
+IsHint listing n hints.Unknown = Unit {0}

@@ -1,0 +1,90 @@
+-- Constraints with the places of their literals and the counters of what a listing leaves open.
+use Rattle.std.specs.Prelude.{◌≡◌, ℕ, ◌+◌, ◌*◌, ◌<◌, ◌≤◌, List, [], Option, Some, None, All, length, map, take, slice_index_or}
+use Rattle.linear.specs.declared.term.Lit.{Lit}
+use Rattle.normal_form.specs.Normal.{NormalConstraint, IsNormal, sum_over, variable_bound}
+use Rattle.propagate.specs.Literals.{coefficient_of}
+use Rattle.propagate.specs.Slack.{IsForced, not_false}
+use Rattle.ledger.specs.declared.occurrence.Occurrence.{Occurrence}
+use Rattle.ledger.specs.declared.pair.Pair.{Pair}
+use Rattle.ledger.specs.Occurrences.{entries_of, occurrences_of}
+
+-- what a caller sees: what stands at each place, the literals that are taken as true, the place of the constraint that
+-- forced each, none for a literal that was given, and how many variables there are
+pub record State : Type 0 where
+  pub slots : List (Option NormalConstraint)
+  pub listing : List Lit
+  pub reasons : List (Option ℕ)
+  pub variables : ℕ
+
+-- the constraint that holds everywhere
+abbrev pub nothing : NormalConstraint
+nothing = record { terms = []; degree = 0 }
+
+-- a place from which the constraint was taken out says nothing
+abbrev pub constraint_in : Option NormalConstraint → NormalConstraint
+constraint_in None = nothing
+constraint_in (Some n) = n
+
+-- the constraints by their places
+abbrev pub shown : List (Option NormalConstraint) → List NormalConstraint
+shown = map constraint_in
+
+-- the constraint at a place
+abbrev pub constraint_at : List NormalConstraint → ℕ → NormalConstraint
+constraint_at constraints place = slice_index_or constraints place nothing
+
+-- what the literals that are not made false add up to
+abbrev pub open_sum : List Lit → NormalConstraint → ℕ
+open_sum listing n = sum_over (not_false listing) n.terms
+
+-- a table of occurrences of these constraints
+pub record IsIndex (constraints : List NormalConstraint) (variables : ℕ) (table : List (List Occurrence)) : Type 0 where
+  pub size : 2 * variables ≤ length table
+  pub entries : (l : Lit) → entries_of table l ≡ occurrences_of l 0 constraints
+
+-- each counter is what is open in its constraint
+pub record AreCounters (constraints : List NormalConstraint) (listing : List Lit) (counters : List ℕ) : Type 0 where
+  pub counted : length counters ≡ length constraints
+  pub open_sums : (k : ℕ) → k < length constraints → slice_index_or counters k 0 ≡ open_sum listing (constraint_at constraints k)
+
+-- from its limit on, a constraint's open sum leaves it unbroken and forcing nothing
+pub record AreLimits (constraints : List NormalConstraint) (limits : List ℕ) : Type 0 where
+  pub limited : length limits ≡ length constraints
+  pub enough : (k : ℕ) (l : Lit) → k < length constraints → (constraint_at constraints k).degree + coefficient_of (constraint_at constraints k) l ≤ slice_index_or limits k 0
+
+-- the constraints are normal and of the variables
+pub record AreKnown (constraints : List NormalConstraint) (variables : ℕ) : Type 0 where
+  pub normal : All IsNormal constraints
+  pub within : All (λ n. variable_bound n.terms ≤ variables) constraints
+
+-- what stands at a place is counted, where it has no two literals that watch it, and else watched
+pub record AreParted (slots : List (Option NormalConstraint)) (counted watched : List NormalConstraint) (pairs : List (Option Pair)) : Type 0 where
+  pub count : length slots ≡ length counted
+  pub watched_count : length slots ≡ length watched
+  pub pair_count : length slots ≡ length pairs
+  pub counts : (k : ℕ) (n : NormalConstraint) → slice_index_or slots k None ≡ Some n → slice_index_or pairs k None ≡ None
+      → (constraint_at counted k ≡ n) × (constraint_at watched k ≡ nothing)
+  pub watches : (k : ℕ) (n : NormalConstraint) (p : Pair) → slice_index_or slots k None ≡ Some n → slice_index_or pairs k None ≡ Some p
+      → (constraint_at counted k ≡ nothing) × (constraint_at watched k ≡ n)
+
+-- what a ledger keeps. A constraint that was taken out stays indexed and counted, and its limit asks for nothing
+pub record IsLedger (slots : List (Option NormalConstraint)) (listing : List Lit) (variables : ℕ) (table clauses : List (List Occurrence)) (counters limits : List ℕ) (pairs : List (Option Pair)) : Type 0 where
+  pub counted : List NormalConstraint
+  pub watched : List NormalConstraint
+  pub index : IsIndex counted variables table
+  pub watched_index : IsIndex watched variables clauses
+  pub counters_are : AreCounters counted listing counters
+  pub known : AreKnown counted variables
+  pub watched_known : AreKnown watched variables
+  pub slots_are : AreParted slots counted watched pairs
+  pub limits_are : AreLimits (shown slots) limits
+
+-- the constraint at the place of the reason forces the literal, where there is a reason
+abbrev pub IsReason : List NormalConstraint → List Lit → Lit → Option ℕ → Type 0
+IsReason constraints listing l None = Unit {0}
+IsReason constraints listing l (Some place) = (place < length constraints) × IsForced listing l (constraint_at constraints place)
+
+-- each literal has its reason under those before it
+pub record AreReasons (constraints : List NormalConstraint) (listing : List Lit) (reasons : List (Option ℕ)) : Type 0 where
+  pub as_many : length reasons ≡ length listing
+  pub forced : (k : ℕ) (d : Lit) → k < length listing → IsReason constraints (take k listing) (slice_index_or listing k d) (slice_index_or reasons k None)

@@ -1,0 +1,76 @@
+-- Clauses that are watched by two of their literals.
+use Rattle.std.specs.Prelude.{◌≡◌, ◌⊎◌, ℕ, ◌*◌, ◌<◌, ◌≤◌, true, false, List, [], Option, Some, None, Contains, length, take, is_some, slice_index_or}
+use Rattle.linear.specs.declared.term.Lit.{Lit}
+use Rattle.normal_form.specs.Normal.{NormalConstraint}
+use Rattle.propagate.specs.Literals.{coefficient_of, lists, opposite}
+use Rattle.ledger.specs.declared.pair.Pair.{Pair}
+use Rattle.ledger.specs.Occurrences.{code}
+
+-- any one of its literals satisfies the constraint
+abbrev pub IsClause : NormalConstraint → Type 0
+IsClause n = (l : Lit) → 0 < coefficient_of n l → n.degree ≤ coefficient_of n l
+
+-- two literals of a clause that asks for one
+pub record IsPairOf (n : NormalConstraint) (p : Pair) : Type 0 where
+  pub clause : IsClause n
+  pub asks : 0 < n.degree
+  pub first : 0 < coefficient_of n p.first
+  pub second : 0 < coefficient_of n p.second
+  pub differ : p.first ≡ p.second → ⊥
+
+-- a literal that is not made false
+abbrev pub IsOpen : List Lit → Lit → Type 0
+IsOpen listing l = lists listing (opposite l) ≡ false
+
+-- a literal is one of two, or made false
+abbrev pub IsFalseBeside : List Lit → Pair → Lit → Type 0
+IsFalseBeside listing p l = (l ≡ p.first → ⊥) → (l ≡ p.second → ⊥) → lists listing (opposite l) ≡ true
+
+-- all literals of a constraint but two are made false
+abbrev pub AreOthersFalse : List Lit → NormalConstraint → Pair → Type 0
+AreOthersFalse listing n p = (l : Lit) → 0 < coefficient_of n l → IsFalseBeside listing p l
+
+-- an open literal of a constraint beside two
+pub record IsOpenBeside (listing : List Lit) (n : NormalConstraint) (p : Pair) (l : Lit) : Type 0 where
+  pub occurs : 0 < coefficient_of n l
+  pub unset : IsOpen listing l
+  pub not_first : l ≡ p.first → ⊥
+  pub not_second : l ≡ p.second → ⊥
+
+-- Two literals tell whether a clause is broken or forces: both are open, or one of them is true, or all others are false.
+abbrev pub Tell : List Lit → NormalConstraint → Pair → Type 0
+Tell listing n p = (IsOpen listing p.first × IsOpen listing p.second)
+    ⊎ ((lists listing p.first ≡ true) ⊎ (lists listing p.second ≡ true)) ⊎ AreOthersFalse listing n p
+
+-- a place is in the row of a literal
+abbrev pub StandsIn : List (List ℕ) → Lit → ℕ → Type 0
+StandsIn rows l place = Contains (slice_index_or rows (code l) []) place
+
+-- Either literal leads to the clause at a place. The two tell of it under each beginning of the listing: so nothing is to be
+-- mended where literals are taken back.
+pub record IsWatched (rows : List (List ℕ)) (listing : List Lit) (place : ℕ) (n : NormalConstraint) (p : Pair) : Type 0 where
+  pub of_it : IsPairOf n p
+  pub first : StandsIn rows p.first place
+  pub second : StandsIn rows p.second place
+  pub tell : (h : ℕ) → Tell (take h listing) n p
+
+-- rows of places by literal, among them places that are not watched any more, and the two literals of each place
+pub record Watching : Type 0 where
+  pub rows : List (List ℕ)
+  pub pairs : List (Option Pair)
+
+-- both literals are of the variables
+abbrev pub IsPairWithin : ℕ → Pair → Type 0
+IsPairWithin variables p = (p.first.var.0 < variables) × (p.second.var.0 < variables)
+
+-- the clauses at places with two literals are watched
+pub record AreWatched (slots : List (Option NormalConstraint)) (listing : List Lit) (variables : ℕ) (w : Watching) : Type 0 where
+  pub size : 2 * variables ≤ length w.rows
+  pub within : (k : ℕ) (p : Pair) → slice_index_or w.pairs k None ≡ Some p → IsPairWithin variables p
+  pub each : (k : ℕ) (n : NormalConstraint) (p : Pair) → slice_index_or slots k None ≡ Some n → slice_index_or w.pairs k None ≡ Some p
+      → IsWatched w.rows listing k n p
+
+-- the same places have two literals
+pub record AreSameKinds (before after : List (Option Pair)) : Type 0 where
+  pub count : length after ≡ length before
+  pub kinds : (k : ℕ) → is_some (slice_index_or after k None) ≡ is_some (slice_index_or before k None)

@@ -1,0 +1,465 @@
+//! Constraints by place, the places of their literals, the literals that are taken as true, and what these leave
+//! open.
+//!
+//! A literal that comes or goes changes the counter of each counted constraint that has its opposite; of clauses, only
+//! those that the opposite watches are looked at, and only as it falls. A constraint that is taken out leaves its
+//! place and its entries behind: counted on, they cost little until the places are made anew, and searching the lists
+//! for them would cost more. What a place says then is nothing.
+//!
+//! That constraints which do not wait force nothing is no fact of this type: taking literals back breaks it midway.
+//! It is stated between the functions of a walk.
+
+ghost use Rattle.std.specs.Prelude.{◌≡◌, ◌+◌, ◌-◌, ◌<◌, ◌≤◌, ◌++◌, ◌∷◌};
+ghost use Rattle.std.specs.Prelude.{◌⊎◌, [], ℕ, false, true, All, Contains, IfSome, IsSome};
+ghost use Rattle.std.specs.Prelude.{Some, None, IsTrue, MatchOption, OnOk, OnErr, ◌↔◌, length, take, slice_index_or};
+ghost use Rattle.std.specs.Prelude.{slice_set, vec_capacity, vec_len};
+ghost use Rattle.std.specs.Option.{option_copied};
+ghost use Rattle.linear.specs.declared.term.Lit.{Lit};
+ghost use Rattle.linear.specs.Largest.{most_names};
+ghost use Rattle.normal_form.specs.Normal.{Rises, variable_bound};
+ghost use Rattle.propagate.specs.Literals.{IsConsistent, IsOnce, lists, opposite, coefficient_of};
+ghost use Rattle.propagate.specs.Slack.{IsBroken};
+ghost use Rattle.propagate.specs.Walk.{IsQuiet};
+ghost use Rattle.ledger.specs.Hints.{IsHint, IsHintWithin};
+ghost use Rattle.ledger.specs.Entered.{AreEntriesOf, all_of};
+ghost use Rattle.ledger.specs.Ledgers.{AreReasons, IsReason, constraint_at, open_sum, shown};
+ghost use Rattle.ledger.specs.Watched.{IsOpen, IsPairOf};
+
+use super::choosing::open_pair;
+use super::entry_lists::{enter_counted, enter_watched, leave};
+use super::hint::{Hint, hint_of};
+use super::lowering::{lower, queue_below, raise};
+use super::measures::{largest, open_sum};
+use super::occurrence::{Entries, Occurrence, code_of, opposite_of};
+use super::pair::Pair;
+use super::queue::Queue;
+use super::table::Table;
+use super::trail::Trail;
+use super::watchers::Watchers;
+use linear::Lit;
+use normal_form::{Normal, NormalTerm};
+use std::alloc::{AllocError, Global};
+use std::marker::Model;
+
+/// Constraints by place, and a trail with the place of the constraint that forced each literal.
+#[derive(Drop)]
+pub struct Ledger {
+    slots: Vec<Option<Normal>>,
+    /// Where literals stand in constraints that are counted.
+    table: Table<Occurrence>,
+    counters: Vec<u128>,
+    limits: Vec<u128>,
+    /// Where literals stand in clauses that are watched.
+    clauses: Table<Occurrence>,
+    watchers: Watchers,
+    trail: Trail,
+    reasons: Vec<Option<usize>>,
+}
+
+impl Model for Ledger {
+    ghost use Rattle.std.specs.Prelude.{◌≤◌, vec_capacity};
+    ghost use Rattle.ledger.specs.Ledgers.{State, IsLedger, AreReasons, shown};
+    ghost use Rattle.ledger.specs.Watched.{AreWatched};
+
+    ghost Value = { State };
+
+    ghost view = { λ e. record {
+      slots = e.slots.items;
+      listing = e.trail.0;
+      reasons = e.reasons.items;
+      variables = e.trail.1;
+    } };
+
+    ghost invariant = { λ e. IsLedger e.slots.items e.trail.0 e.trail.1 e.table e.clauses e.counters.items e.limits.items e.watchers.pairs
+        × AreReasons (shown e.slots.items) e.trail.0 e.reasons.items × (e.trail.1 ≤ vec_capacity e.reasons)
+        × AreWatched e.slots.items e.trail.0 e.trail.1 e.watchers };
+}
+
+impl Ledger {
+    /// No constraint, and no variables.
+    pub fn new(alloc: Global) -> Ledger
+        ensures { result ≡ record { slots = []; listing = []; reasons = []; variables = 0 } }
+    {
+        Ledger {
+            slots: Vec::new(alloc),
+            table: Table::new(alloc),
+            counters: Vec::new(alloc),
+            limits: Vec::new(alloc),
+            clauses: Table::new(alloc),
+            watchers: Watchers::new(alloc),
+            trail: Trail::new(alloc),
+            reasons: Vec::new(alloc),
+        }
+    }
+
+    /// What holds of every ledger, for a proof that needs it where nothing else of the ledger is asked.
+    pub fn reveal(&self)
+        ensures reasons { AreReasons (shown self.now.slots) self.now.listing self.now.reasons }
+        ensures few { length self.now.listing ≤ self.now.variables }
+        ensures once { IsOnce self.now.listing }
+        ensures consistent { IsConsistent self.now.listing }
+        ensures variables { (l : Lit) → lists self.now.listing l ≡ true → l.var.0 < self.now.variables }
+    {
+        self.trail.reveal();
+    }
+
+    /// Takes a free literal as true, forced by the constraint of a place or given, and queues what may now be broken
+    /// or force. On want of memory it stays free.
+    pub fn set_true(
+        &mut self,
+        literal: Lit,
+        reason: Option<usize>,
+        queue: &mut Queue,
+    ) -> Result<(), AllocError>
+        requires variable { literal.var.0 < self.old.variables }
+        requires unset { lists self.old.listing literal ≡ false }
+        requires opposite_unset { lists self.old.listing (opposite literal) ≡ false }
+        requires reason { IsReason (shown self.old.slots) self.old.listing literal reason }
+        requires queue { queue.old.1 ≡ length self.old.slots }
+        ensures slots { self.new.slots ≡ self.old.slots }
+        ensures variables { self.new.variables ≡ self.old.variables }
+        ensures listing { OnOk result (self.new.listing ≡ self.old.listing ++ literal ∷ []) }
+        ensures reasons { OnOk result (self.new.reasons ≡ self.old.reasons ++ reason ∷ []) }
+        ensures err { OnErr result (self.new ≡ self.old) }
+        ensures count { queue.new.1 ≡ queue.old.1 }
+        ensures kept { (k : ℕ) → Contains queue.old.0 k → Contains queue.new.0 k }
+        ensures queued { OnOk result ((k : ℕ)
+            → 0 < coefficient_of (constraint_at (shown self.old.slots) k) (opposite literal)
+            → IsQuiet self.new.listing (constraint_at (shown self.old.slots) k) ⊎ Contains queue.new.0 k) }
+    {
+        let fallen = opposite_of(literal);
+        self.watchers
+            .fall(self.slots.as_slice(), &self.trail, fallen, queue)?;
+        self.trail.push(literal);
+        self.trail.reveal();
+        self.reasons.push_reserved(reason);
+        lower(
+            self.slots.as_slice(),
+            &mut self.counters,
+            self.limits.as_slice(),
+            queue,
+            self.table.row(code_of(fallen)),
+        );
+        Ok(())
+    }
+
+    /// Takes the last literal back, if there is one.
+    pub fn take_back(&mut self) -> Option<Lit>
+        ensures slots { self.new.slots ≡ self.old.slots }
+        ensures variables { self.new.variables ≡ self.old.variables }
+        ensures listing { MatchOption result ((self.old.listing ≡ []) × (self.new.listing ≡ []))
+            (λ l. self.old.listing ≡ self.new.listing ++ l ∷ []) }
+        ensures unset { IfSome result (λ l. lists self.new.listing l ≡ false) }
+        ensures opposite_unset { IfSome result (λ l. IsOpen self.new.listing l) }
+        ensures variable { IfSome result (λ l. l.var.0 < self.old.variables) }
+        ensures reasons { self.new.reasons ≡ take (length self.new.listing) self.old.reasons }
+    {
+        match self.trail.pop() {
+            None => None,
+            Some(literal) => {
+                self.reasons.pop();
+                raise(
+                    &mut self.counters,
+                    self.table.row(code_of(opposite_of(literal))),
+                );
+                Some(literal)
+            }
+        }
+    }
+
+    /// Queues the constraints with a literal, which is not made false, that may be broken or force something.
+    pub fn queue_places(&self, literal: Lit, queue: &mut Queue)
+        requires variable { literal.var.0 < self.now.variables }
+        requires unfallen { IsOpen self.now.listing literal }
+        requires queue { queue.old.1 ≡ length self.now.slots }
+        ensures count { queue.new.1 ≡ queue.old.1 }
+        ensures kept { (k : ℕ) → Contains queue.old.0 k → Contains queue.new.0 k }
+        ensures queued { (k : ℕ) → 0 < coefficient_of (constraint_at (shown self.now.slots) k) literal
+            → IsQuiet self.now.listing (constraint_at (shown self.now.slots) k) ⊎ Contains queue.new.0 k }
+    {
+        queue_below(
+            self.counters.as_slice(),
+            self.limits.as_slice(),
+            queue,
+            self.table.row(code_of(literal)),
+        );
+        self.trail.reveal();
+        self.watchers.queue_last(&self.trail, literal, queue);
+    }
+
+    // What is open in the constraint of a place: it is counted, or added up where it is watched.
+    fn open(&self, place: usize, constraint: &Normal) -> u128
+        requires { slice_index_or self.now.slots place None ≡ Some constraint.now }
+        ensures { result ≡ open_sum self.now.listing constraint.now }
+    {
+        match self.watchers.pair(place) {
+            None => self.counters[place],
+            Some(_) => open_sum(constraint, &self.trail),
+        }
+    }
+
+    /// What the two literals tell of the constraint at a place, where it is watched by two.
+    pub fn hint(&self, place: usize) -> Hint
+        requires { place < length self.now.slots }
+        ensures value { IsHint self.now.listing (constraint_at (shown self.now.slots) place) result }
+        ensures within { IsHintWithin self.now.variables result }
+    {
+        let Some(_) = &self.slots[place] else {
+            return Hint::Quiet;
+        };
+        self.trail.reveal();
+        match self.watchers.pair(place) {
+            None => Hint::Unknown,
+            Some(pair) => hint_of(&self.trail, pair),
+        }
+    }
+
+    /// What the literals of the constraint at a place that are not made false have more than its degree, or `None`
+    /// where it is broken.
+    pub fn slack(&self, place: usize) -> Option<u128>
+        requires { place < length self.now.slots }
+        ensures { MatchOption result (IsBroken self.now.listing (constraint_at (shown self.now.slots) place))
+            (λ slack. open_sum self.now.listing (constraint_at (shown self.now.slots) place)
+            ≡ (constraint_at (shown self.now.slots) place).degree + slack) }
+    {
+        match &self.slots[place] {
+            None => Some(0),
+            Some(constraint) => self
+                .open(place, constraint)
+                .checked_sub(constraint.degree()),
+        }
+    }
+
+    /// How many terms the constraint at a place has.
+    pub fn term_count(&self, place: usize) -> usize
+        requires { place < length self.now.slots }
+        ensures value { result ≡ length (constraint_at (shown self.now.slots) place).terms }
+        ensures rises { Rises 0 (constraint_at (shown self.now.slots) place).terms }
+    {
+        match &self.slots[place] {
+            None => 0,
+            Some(constraint) => constraint.len(),
+        }
+    }
+
+    /// A term of the constraint at a place.
+    pub fn term(&self, place: usize, index: usize) -> NormalTerm
+        requires place { place < length self.now.slots }
+        requires index { index < length (constraint_at (shown self.now.slots) place).terms }
+        ensures value { result ≡ slice_index_or (constraint_at (shown self.now.slots) place).terms index result }
+        ensures rises { Rises 0 (constraint_at (shown self.now.slots) place).terms }
+        ensures variable { result.var.0 < self.now.variables }
+    {
+        match &self.slots[place] {
+            None => unreachable!(),
+            Some(constraint) => constraint.term(index),
+        }
+    }
+
+    /// How many literals are taken as true: no more than variables.
+    pub fn len(&self) -> usize
+        ensures value { result ≡ length self.now.listing }
+        ensures few { length self.now.listing ≤ self.now.variables }
+        ensures reasons { AreReasons (shown self.now.slots) self.now.listing self.now.reasons }
+    {
+        self.trail.len()
+    }
+
+    /// The literals that are taken as true, in order: none twice, and none beside its opposite.
+    pub fn literals(&self) -> &[Lit]
+        ensures listing { result.now ≡ self.now.listing }
+        ensures once { IsOnce self.now.listing }
+        ensures consistent { IsConsistent self.now.listing }
+        ensures variables { (l : Lit) → lists self.now.listing l ≡ true → l.var.0 < self.now.variables }
+    {
+        self.trail.listing()
+    }
+
+    /// How many variables there is room for.
+    pub fn variable_count(&self) -> usize
+        ensures { result ≡ self.now.variables }
+    {
+        self.trail.count()
+    }
+
+    /// Whether a literal is taken as true.
+    pub fn has(&self, literal: Lit) -> bool
+        requires { literal.var.0 < self.now.variables }
+        ensures { result ≡ lists self.now.listing literal }
+    {
+        self.trail.has(literal)
+    }
+
+    /// Whether neither a literal nor its opposite is taken as true.
+    pub fn leaves_free(&self, literal: Lit) -> bool
+        requires { literal.var.0 < self.now.variables }
+        ensures { IsTrue result ↔ (lists self.now.listing literal ≡ false)
+            × (lists self.now.listing (opposite literal) ≡ false) }
+    {
+        self.trail.leaves_free(literal)
+    }
+
+    /// Where the literal of a variable stands on the trail, if one is there.
+    pub fn position(&self, variable: usize) -> usize
+        requires { variable < self.now.variables }
+        ensures { (k : ℕ) (d : Lit) → k < length self.now.listing
+            → (slice_index_or self.now.listing k d).var.0 ≡ variable → k ≡ result }
+    {
+        self.trail.position(variable)
+    }
+
+    /// The place of the constraint that forced the literal at an index of the trail.
+    pub fn reason(&self, index: usize) -> Option<usize>
+        requires { index < length self.now.listing }
+        ensures { result ≡ slice_index_or self.now.reasons index None }
+    {
+        self.reasons[index]
+    }
+
+    /// The constraint of a place, if there is one.
+    pub fn get(&self, place: usize) -> Option<&Normal>
+        requires { place < length self.now.slots }
+        ensures { option_copied result ≡ slice_index_or self.now.slots place None }
+    {
+        self.slots[place].as_ref()
+    }
+
+    /// Where a literal stands, places that say nothing among them.
+    pub fn entries(&self, literal: Lit) -> Entries<'_>
+        ensures value { AreEntriesOf self.now.slots literal (all_of result) }
+        ensures places { All (λ e. e.place < length self.now.slots) (all_of result) }
+    {
+        let number = code_of(literal);
+        Entries {
+            counted: self.table.row_or_none(number),
+            watched: self.clauses.row_or_none(number),
+        }
+    }
+
+    /// How many places of clauses that are watched have a literal, empty ones among them. Only speed depends on it.
+    pub fn clause_count(&self, literal: Lit) -> usize {
+        self.clauses.row_or_none(code_of(literal)).len()
+    }
+
+    /// Takes the constraint of a place out, if there is one, where it is no literal's reason. The place stays.
+    pub fn take_out(&mut self, place: usize) -> Option<Normal>
+        requires place { place < length self.old.slots }
+        requires reasons { (k : ℕ) → k < length self.old.listing → slice_index_or self.old.reasons k None ≡ Some place
+            → ⊥ }
+        ensures value { result ≡ slice_index_or self.old.slots place None }
+        ensures slots { self.new ≡ record self.old { slots = slice_set self.old.slots place None } }
+    {
+        self.limits[place] = 0;
+        self.slots[place].take()
+    }
+
+    /// How many places there are.
+    pub fn count(&self) -> usize
+        ensures { result ≡ length self.now.slots }
+    {
+        self.slots.len()
+    }
+
+    /// Makes room for the variables below a number.
+    pub fn widen(&mut self, alloc: Global, variables: usize) -> Result<(), AllocError>
+        requires { variables ≤ most_names }
+        ensures slots { self.new.slots ≡ self.old.slots }
+        ensures listing { self.new.listing ≡ self.old.listing }
+        ensures reasons { self.new.reasons ≡ self.old.reasons }
+        ensures more { self.old.variables ≤ self.new.variables }
+        ensures ok { OnOk result (variables ≤ self.new.variables) }
+    {
+        self.table.widen(alloc, variables * 2)?;
+        self.clauses.widen(alloc, variables * 2)?;
+        self.watchers.widen(alloc, variables * 2)?;
+        self.reasons
+            .reserve(variables.saturating_sub(self.reasons.len()))?;
+        self.trail.widen(variables)
+    }
+
+    // Adds a constraint at the next place, to be counted.
+    fn attach_counted(&mut self, constraint: Normal) -> Result<(), AllocError>
+        requires { variable_bound constraint.terms ≤ self.old.variables }
+        ensures ok { OnOk result (self.new ≡ record self.old { slots = self.old.slots ++ Some constraint ∷ [] }) }
+        ensures err { OnErr result (self.new ≡ self.old) }
+    {
+        make_room(&mut self.slots, &mut self.counters, &mut self.limits)?;
+        let open = open_sum(&constraint, &self.trail);
+        let limit = constraint.degree() + largest(&constraint);
+        enter_counted(&mut self.table, &mut self.watchers, &constraint)?;
+        self.counters.push_reserved(open);
+        self.limits.push_reserved(limit);
+        self.slots.push_reserved(Some(constraint));
+        Ok(())
+    }
+
+    // Adds a clause at the next place, to be watched by two open literals.
+    fn attach_watched(&mut self, constraint: Normal, pair: Pair) -> Result<(), AllocError>
+        requires variables { variable_bound constraint.terms ≤ self.old.variables }
+        requires pair { IsPairOf constraint pair }
+        requires first { IsOpen self.old.listing pair.first }
+        requires second { IsOpen self.old.listing pair.second }
+        ensures ok { OnOk result (self.new ≡ record self.old { slots = self.old.slots ++ Some constraint ∷ [] }) }
+        ensures err { OnErr result (self.new ≡ self.old) }
+    {
+        make_room(&mut self.slots, &mut self.counters, &mut self.limits)?;
+        let limit = constraint.degree() + largest(&constraint);
+        enter_watched(&mut self.clauses, &mut self.watchers, &constraint, pair)?;
+        self.counters.push_reserved(0);
+        self.limits.push_reserved(limit);
+        self.slots.push_reserved(Some(constraint));
+        Ok(())
+    }
+
+    /// Adds a constraint at the next place.
+    pub fn attach(&mut self, constraint: Normal) -> Result<(), AllocError>
+        requires { variable_bound constraint.terms ≤ self.old.variables }
+        ensures ok { OnOk result (self.new ≡ record self.old { slots = self.old.slots ++ Some constraint ∷ [] }) }
+        ensures err { OnErr result (self.new ≡ self.old) }
+    {
+        match open_pair(&constraint, &self.trail) {
+            None => self.attach_counted(constraint),
+            Some(pair) => self.attach_watched(constraint, pair),
+        }
+    }
+
+    /// Takes the constraint of the last place off, and the place.
+    pub fn detach(&mut self)
+        requires live { IsSome (slice_index_or self.old.slots (length self.old.slots - 1) None) }
+        requires reasons { (k place : ℕ) → k < length self.old.listing
+            → slice_index_or self.old.reasons k None ≡ Some place → place + 1 < length self.old.slots }
+        ensures { self.new ≡ record self.old { slots = take (length self.old.slots - 1) self.old.slots } }
+    {
+        match self.slots.pop() {
+            Some(Some(constraint)) => {
+                let count = constraint.len();
+                match self.watchers.pair(self.slots.len()) {
+                    None => leave(&mut self.table, &constraint, count),
+                    Some(_) => leave(&mut self.clauses, &constraint, count),
+                }
+                self.watchers.detach();
+                self.counters.pop();
+                self.limits.pop();
+            }
+            _ => unreachable!(),
+        }
+    }
+}
+
+// Makes room for one place more.
+fn make_room(
+    slots: &mut Vec<Option<Normal>>,
+    counters: &mut Vec<u128>,
+    limits: &mut Vec<u128>,
+) -> Result<(), AllocError>
+    ensures slots { slots.new.items ≡ slots.old.items }
+    ensures counters { counters.new.items ≡ counters.old.items }
+    ensures limits { limits.new.items ≡ limits.old.items }
+    ensures slot { OnOk result (vec_len slots.new < vec_capacity slots.new) }
+    ensures counter { OnOk result (vec_len counters.new < vec_capacity counters.new) }
+    ensures limit { OnOk result (vec_len limits.new < vec_capacity limits.new) }
+{
+    slots.reserve(1)?;
+    counters.reserve(1)?;
+    limits.reserve(1)
+}

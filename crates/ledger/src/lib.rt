@@ -1,0 +1,31 @@
+//! Constraints by place, the literals that are taken as true, and what waits to be looked at.
+//!
+//! This is what a fast propagator keeps, with the single steps that change it: a literal comes or goes, a constraint comes, is
+//! taken off or is taken out. Clauses are watched by two of their literals, all other constraints are counted, and each
+//! literal has a list of where it stands; so a step costs what it touches.
+//!
+//! It is a layer of its own since none of that shows above. A ledger is seen as its constraints, the literals in order and the place
+//! of the constraint that forced each, and a step says which places have to be looked at after it. In which order they are, and what
+//! follows from the constraints then, is for the walks of the crate above.
+#![tactic(auto)]
+
+mod choosing;
+mod entry_lists;
+mod finding;
+mod hint;
+mod ledger;
+mod lowering;
+mod measures;
+mod occurrence;
+mod pair;
+mod queue;
+mod table;
+mod trail;
+mod watchers;
+
+pub use hint::Hint;
+pub use ledger::Ledger;
+pub use measures::{literal_count, variable_count};
+pub use occurrence::{Entries, opposite_of};
+pub use queue::Queue;
+pub use trail::Trail;

@@ -1,0 +1,300 @@
+//! Clauses, each watched by two of its literals.
+//!
+//! A clause is broken, or forces a literal, only where all its literals but one are false. So it is looked at when one of two open
+//! literals falls, and then another open one is sought to watch it (Moskewicz, Madigan, Zhao, Zhang and Malik: Chaff, 2001): a
+//! literal that stands in many clauses costs those that it watches. Where literals are taken back nothing is mended. A row may have
+//! places that its literal does not watch any more: they are dropped when it falls.
+
+ghost use Rattle.std.specs.Prelude.{◌≡◌, ◌-◌, ◌<◌, ◌≤◌, ◌⊎◌, ◌++◌, ◌∷◌, [], ℕ, false, Contains, IfOk};
+ghost use Rattle.std.specs.Prelude.{MatchOption, None, OnErr, OnOk, Some, length, slice_index_or, slice_set, take};
+ghost use Rattle.std.specs.List.{swap_remove};
+ghost use Rattle.linear.specs.declared.term.Lit.{Lit};
+ghost use Rattle.normal_form.specs.Normal.{NormalConstraint, variable_bound};
+ghost use Rattle.propagate.specs.Literals.{lists};
+ghost use Rattle.ledger.specs.declared.pair.Pair.{Pair};
+ghost use Rattle.ledger.specs.Falls.{AreHandled, IsBeside, IsFalling, IsFound, IsOneOf};
+ghost use Rattle.ledger.specs.Occurrences.{code};
+ghost use Rattle.ledger.specs.Watched.{AreSameKinds, AreWatched, IsOpen, IsPairWithin, StandsIn};
+
+use super::choosing::open_beside;
+use super::finding::Finding;
+use super::occurrence::{code_of, opposite_of};
+use super::pair::Pair;
+use super::queue::Queue;
+use super::table::Table;
+use super::trail::Trail;
+use linear::Lit;
+use normal_form::Normal;
+use std::alloc::{AllocError, Global};
+use std::marker::Model;
+
+/// Rows of places by literal, and the two literals that watch the clause of each place, where it is watched.
+#[derive(Drop)]
+pub(crate) struct Watchers {
+    rows: Table<usize>,
+    pairs: Vec<Option<Pair>>,
+}
+
+impl Model for Watchers {
+    ghost use Rattle.ledger.specs.Watched.{Watching};
+
+    ghost Value = { Watching };
+
+    ghost view = { λ w. record { rows = w.rows; pairs = w.pairs.items } };
+}
+
+impl Watchers {
+    /// No place, and no rows.
+    pub(crate) fn new(alloc: Global) -> Self
+        ensures { result ≡ record { rows = []; pairs = [] } }
+    {
+        Watchers {
+            rows: Table::new(alloc),
+            pairs: Vec::new(alloc),
+        }
+    }
+
+    /// Empty rows for the numbers below a bound that have none.
+    pub(crate) fn widen(&mut self, alloc: Global, bound: usize) -> Result<(), AllocError>
+        ensures pairs { self.new.pairs ≡ self.old.pairs }
+        ensures kept { (k : ℕ) → slice_index_or self.new.rows k [] ≡ slice_index_or self.old.rows k [] }
+        ensures longer { length self.old.rows ≤ length self.new.rows }
+        ensures ok { OnOk result (bound ≤ length self.new.rows) }
+    {
+        self.rows.widen(alloc, bound)
+    }
+
+    /// How many places there are, watched or not.
+    pub(crate) fn len(&self) -> usize
+        ensures { result ≡ length self.now.pairs }
+    {
+        self.pairs.len()
+    }
+
+    /// The literals that watch the clause of a place, if it is watched.
+    pub(crate) fn pair(&self, place: usize) -> Option<Pair>
+        ensures { result ≡ slice_index_or self.now.pairs place None }
+    {
+        match self.pairs.get(place) {
+            Some(pair) => *pair,
+            None => None,
+        }
+    }
+
+    // Puts a place into the row of a literal.
+    fn put(&mut self, literal: Lit, place: usize) -> Result<(), AllocError>
+        requires { code literal < length self.old.rows }
+        ensures pairs { self.new.pairs ≡ self.old.pairs }
+        ensures ok { OnOk result (self.new.rows ≡ slice_set self.old.rows (code literal)
+            (slice_index_or self.old.rows (code literal) [] ++ place ∷ [])) }
+        ensures err { OnErr result (self.new.rows ≡ self.old.rows) }
+    {
+        self.rows.push(code_of(literal), place)
+    }
+
+    /// Has the clause of the next place watched by two literals.
+    pub(crate) fn watch(&mut self, pair: Pair) -> Result<(), AllocError>
+        requires first { code pair.first < length self.old.rows }
+        requires second { code pair.second < length self.old.rows }
+        ensures ok { OnOk result (self.new.pairs ≡ self.old.pairs ++ Some pair ∷ []) }
+        ensures err { OnErr result (self.new.pairs ≡ self.old.pairs) }
+        ensures length { length self.new.rows ≡ length self.old.rows }
+        ensures kept { (l : Lit) (k : ℕ) → StandsIn self.old.rows l k → StandsIn self.new.rows l k }
+        ensures first_there { OnOk result (StandsIn self.new.rows pair.first (length self.old.pairs)) }
+        ensures second_there { OnOk result (StandsIn self.new.rows pair.second (length self.old.pairs)) }
+    {
+        let place = self.pairs.len();
+        self.put(pair.first, place)?;
+        self.put(pair.second, place)?;
+        match self.pairs.push(Some(pair)) {
+            Err(_) => Err(AllocError),
+            Ok(()) => Ok(()),
+        }
+    }
+
+    /// Leaves the next place unwatched.
+    pub(crate) fn skip(&mut self) -> Result<(), AllocError>
+        ensures ok { OnOk result (self.new.pairs ≡ self.old.pairs ++ None ∷ []) }
+        ensures err { OnErr result (self.new.pairs ≡ self.old.pairs) }
+        ensures rows { self.new.rows ≡ self.old.rows }
+    {
+        match self.pairs.push(None) {
+            Err(_) => Err(AllocError),
+            Ok(()) => Ok(()),
+        }
+    }
+
+    /// Takes the last place off. What stands in rows stays there.
+    pub(crate) fn detach(&mut self)
+        ensures pairs { self.new.pairs ≡ take (length self.old.pairs - 1) self.old.pairs }
+        ensures rows { self.new.rows ≡ self.old.rows }
+    {
+        self.pairs.pop();
+    }
+
+    // The literal that watches the clause of a place beside one that falls, where that one does.
+    fn beside(&self, place: usize, fallen: Lit) -> Option<Lit>
+        ensures none { MatchOption result ((p : Pair) → slice_index_or self.now.pairs place None ≡ Some p → IsOneOf p fallen → ⊥)
+            (IsBeside (slice_index_or self.now.pairs place None) fallen) }
+    {
+        self.pair(place)?.beside(fallen)
+    }
+
+    // What is found of the clause at a place when a literal falls.
+    fn look(&self, slots: &[Option<Normal>], trail: &Trail, fallen: Lit, place: usize) -> Finding
+        requires watched { AreWatched slots.now trail.now.0 trail.now.1 self.now }
+        requires within { (k : ℕ) (n : NormalConstraint) → slice_index_or slots.now k None ≡ Some n
+            → variable_bound n.terms ≤ trail.now.1 }
+        requires unset { lists trail.now.0 fallen ≡ false }
+        requires unfallen { IsOpen trail.now.0 fallen }
+        ensures { IsFound slots.now trail.now.0 self.now.pairs place fallen result }
+    {
+        let Some(other) = self.beside(place, fallen) else {
+            return Finding::Elsewhere;
+        };
+        let Some(Some(clause)) = slots.get(place) else {
+            return Finding::Elsewhere;
+        };
+        if trail.has(other) {
+            return Finding::Satisfied;
+        }
+        if trail.has(opposite_of(other)) {
+            return Finding::Broken;
+        }
+        match open_beside(
+            clause,
+            trail,
+            Pair {
+                first: fallen,
+                second: other,
+            },
+        ) {
+            Some(literal) => Finding::Moved(Pair {
+                first: literal,
+                second: other,
+            }),
+            None => Finding::Last,
+        }
+    }
+
+    // Drops the entry at an index of a literal's row.
+    fn drop_entry(&mut self, literal: Lit, index: usize)
+        requires row { code literal < length self.old.rows }
+        requires index { index < length (slice_index_or self.old.rows (code literal) []) }
+        ensures pairs { self.new.pairs ≡ self.old.pairs }
+        ensures rows { self.new.rows ≡ slice_set self.old.rows (code literal) (swap_remove
+            (slice_index_or self.old.rows (code literal) []) index
+            (slice_index_or (slice_index_or self.old.rows (code literal) []) index 0)) }
+    {
+        self.rows.swap_remove(code_of(literal), index);
+    }
+
+    // Looks at the clause of an entry of a literal that falls; the index of the next entry.
+    fn pass(
+        &mut self,
+        slots: &[Option<Normal>],
+        trail: &Trail,
+        fallen: Lit,
+        index: usize,
+        queue: &mut Queue,
+    ) -> Result<usize, AllocError>
+        requires falling { IsFalling slots.now trail.now.0 trail.now.1 fallen self.old queue.old.0 index }
+        requires within { (k : ℕ) (n : NormalConstraint) → slice_index_or slots.now k None ≡ Some n
+            → variable_bound n.terms ≤ trail.now.1 }
+        requires variable { fallen.var.0 < trail.now.1 }
+        requires unset { lists trail.now.0 fallen ≡ false }
+        requires unfallen { IsOpen trail.now.0 fallen }
+        requires index { index < length (slice_index_or self.old.rows (code fallen) []) }
+        requires count { queue.old.1 ≡ length self.old.pairs }
+        ensures falling { IfOk result (IsFalling slots.now trail.now.0 trail.now.1 fallen self.new queue.new.0) }
+        ensures watched { OnErr result (AreWatched slots.now trail.now.0 trail.now.1 self.new) }
+        ensures kinds { AreSameKinds self.old.pairs self.new.pairs }
+        ensures less { IfOk result (λ next. length (slice_index_or self.new.rows (code fallen) []) - next
+            < length (slice_index_or self.old.rows (code fallen) []) - index) }
+        ensures count { queue.new.1 ≡ queue.old.1 }
+        ensures kept { (k : ℕ) → Contains queue.old.0 k → Contains queue.new.0 k }
+    {
+        let place = self.rows.row(code_of(fallen))[index];
+        match self.look(slots, trail, fallen, place) {
+            Finding::Satisfied => Ok(index + 1),
+            Finding::Broken => {
+                queue.add_first(place);
+                Ok(index + 1)
+            }
+            Finding::Last => {
+                queue.add(place);
+                Ok(index + 1)
+            }
+            Finding::Elsewhere => {
+                self.drop_entry(fallen, index);
+                Ok(index)
+            }
+            Finding::Moved(pair) => {
+                self.put(pair.first, place)?;
+                self.pairs[place] = Some(pair);
+                self.drop_entry(fallen, index);
+                Ok(index)
+            }
+        }
+    }
+
+    /// A literal falls: what it watches is watched by another open literal from then on, or waits. Where memory ends, some of it.
+    pub(crate) fn fall(
+        &mut self,
+        slots: &[Option<Normal>],
+        trail: &Trail,
+        fallen: Lit,
+        queue: &mut Queue,
+    ) -> Result<(), AllocError>
+        requires watched { AreWatched slots.now trail.now.0 trail.now.1 self.old }
+        requires within { (k : ℕ) (n : NormalConstraint) → slice_index_or slots.now k None ≡ Some n
+            → variable_bound n.terms ≤ trail.now.1 }
+        requires variable { fallen.var.0 < trail.now.1 }
+        requires unset { lists trail.now.0 fallen ≡ false }
+        requires unfallen { IsOpen trail.now.0 fallen }
+        requires count { queue.old.1 ≡ length self.old.pairs }
+        ensures watched { AreWatched slots.now trail.now.0 trail.now.1 self.new }
+        ensures handled { OnOk result (AreHandled slots.now trail.now.0 fallen self.new queue.new.0) }
+        ensures kinds { AreSameKinds self.old.pairs self.new.pairs }
+        ensures count { queue.new.1 ≡ queue.old.1 }
+        ensures kept { (k : ℕ) → Contains queue.old.0 k → Contains queue.new.0 k }
+    {
+        let mut index = 0;
+        while index < self.rows.row(code_of(fallen)).len() {
+            index = self.pass(slots, trail, fallen, index, queue)?;
+        }
+        Ok(())
+    }
+
+    /// Queues the places that a literal watches whose clauses may force it.
+    pub(crate) fn queue_last(&self, trail: &Trail, literal: Lit, queue: &mut Queue)
+        requires within { (k : ℕ) (p : Pair) → slice_index_or self.now.pairs k None ≡ Some p → IsPairWithin trail.now.1 p }
+        requires count { queue.old.1 ≡ length self.now.pairs }
+        requires row { code literal < length self.now.rows }
+        ensures queued { (k : ℕ) (p : Pair) → StandsIn self.now.rows literal k → slice_index_or self.now.pairs k None ≡ Some p
+            → (l : Lit) → IsBeside (Some p) literal l → IsOpen trail.now.0 l ⊎ Contains queue.new.0 k }
+        ensures count { queue.new.1 ≡ queue.old.1 }
+        ensures kept { (k : ℕ) → Contains queue.old.0 k → Contains queue.new.0 k }
+    {
+        for place in self.rows.row(code_of(literal)) {
+            self.queue_at(trail, literal, *place, queue);
+        }
+    }
+
+    // Queues a place where the literal that watches it beside another one is made false.
+    fn queue_at(&self, trail: &Trail, literal: Lit, place: usize, queue: &mut Queue)
+        requires within { (k : ℕ) (p : Pair) → slice_index_or self.now.pairs k None ≡ Some p → IsPairWithin trail.now.1 p }
+        requires count { queue.old.1 ≡ length self.now.pairs }
+        ensures queued { (p : Pair) → slice_index_or self.now.pairs place None ≡ Some p
+            → (l : Lit) → IsBeside (Some p) literal l → IsOpen trail.now.0 l ⊎ Contains queue.new.0 place }
+        ensures count { queue.new.1 ≡ queue.old.1 }
+        ensures kept { (k : ℕ) → Contains queue.old.0 k → Contains queue.new.0 k }
+    {
+        let Some(partner) = self.beside(place, literal) else {
+            return;
+        };
+        if trail.has(opposite_of(partner)) {
+            queue.add(place);
+        }
+    }
+}

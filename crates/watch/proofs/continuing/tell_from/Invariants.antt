@@ -1,9 +1,0 @@
--- The literals so far are told.
-use Rattle.std.proofs.Common.{◌≡◌, ◌++◌, take}
-use Rattle.watch.specs.Ledgers.{shown}
-use Rattle.watch.specs.Steps.{AreSteps, literals_of}
-use Rattle.watch.proofs.continuing.tell_from.Given as goal
-
-abbrev pub invariant-loop-index : goal.invariant-loop-index
-invariant-loop-index l =
-    AreSteps (shown l.ledger.slots) (take l.start l.ledger.listing) l.steps.items × (take l.start l.ledger.listing ++ literals_of l.steps.items ≡ take l.index l.ledger.listing)
