@@ -109,8 +109,8 @@ impl Accumulator {
         self.bound = self.bound.saturating_sub(size);
     }
 
-    /// Hands over the constraint, and is empty then: without terms, of degree 0. After an error, which is want of
-    /// memory, it is as before.
+    /// Hands over the constraint, and is empty then: without terms, of degree 0. After an error, which is that memory
+    /// ran out, it is as before.
     pub fn take(&mut self, alloc: Global) -> Result<Normal, CutFault>
         ensures value { IfOk result (λ n. n ≡ self.old) }
         ensures empty { OnOk result (self.new ≡ nothing) }

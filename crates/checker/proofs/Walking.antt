@@ -23,7 +23,7 @@ use Rattle.checker.specs.declared.stop.Stop.TheVariants as stops
 use Rattle.checker.specs.declared.verdict.Code.{Code}
 use Rattle.checker.specs.declared.verdict.Code.TheVariants.{Reading}
 
--- a fault that is no want of memory stops at its line
+-- a fault other than out of memory stops at its line
 pub stops_reading : (why : ℕ → Code → Type 0) (line : ℕ) (fault : ProofFault) → (fault ≢ readings.OutOfMemory → why line (Reading fault)) → StopsBy why (reading_stop line fault)
 stops_reading why line readings.OutOfMemory reason = tt
 stops_reading why line readings.BadHeader reason = reason (λ e. cc)

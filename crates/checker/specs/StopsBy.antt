@@ -1,4 +1,4 @@
--- Why the code stops: at a line, or for want of memory, which is no refusal and has a way of its own.
+-- Why the code stops: at a line, or since memory ran out, which is no refusal and has a way of its own.
 use Rattle.std.specs.Prelude.{ℕ, ⊤}
 use Rattle.proof_rules.specs.declared.fault.StepFault.{StepFault}
 use Rattle.proof_rules.specs.declared.fault.StepFault.TheVariants as judgings
@@ -9,7 +9,7 @@ use Rattle.checker.specs.declared.stop.Stop.TheVariants as stops
 use Rattle.checker.specs.declared.verdict.Code.{Code}
 use Rattle.checker.specs.declared.verdict.Code.TheVariants.{Reading, Judging}
 
--- judging stops for this reason, or for want of memory apart from any line
+-- judging stops for this reason, or out of memory, apart from any line
 abbrev pub StopsBy : (ℕ → Code → Type 0) → Stop → Type 0
 StopsBy why (stops.At line code) = why line code
 StopsBy why stops.NoMemory = ⊤

@@ -55,7 +55,7 @@ pub record IsRefusedProof (text proof : List ℕ) (line : ℕ) (code : Code) : T
 
 -- What a verdict says of the text of a problem and the text of a proof. Accepted: the conclusion is true of the
 -- problem, and proved. Refused: the proof is none, and this is its first line that cannot be read or is not legal. A
--- bad problem: its text spells none within the limits, for this reason. Want of memory says nothing.
+-- bad problem: its text spells none within the limits, for this reason. That memory ran out says nothing.
 abbrev pub IsVerdictOf : List ℕ → List ℕ → Verdict → Type 0
 IsVerdictOf text proof (verdicts.Accepted accepted) = IsTrueOf text proof accepted
 IsVerdictOf text proof (verdicts.Refused line code) = IsRefusedProof text proof line code

@@ -33,8 +33,8 @@ pub fn one_code_of_judging()
         → IsStopped p proof line code → IsStopped p proof other why → why ≡ code }
 {}
 
-/// What a text proves of the problem is answered: accepted with just that conclusion and its best solution, or want of
-/// memory.
+/// What a text proves of the problem is answered: accepted with just that conclusion and its best solution, or that
+/// memory ran out.
 pub fn what_is_proved_is_accepted()
     ensures { (opb proof : List ℕ) → (p : Opb) → Spells opb p → IsWithin p → (a : Judgement) → IsProved p proof a
         → (v : Verdict) → IsVerdictOf opb proof v → (v ≡ Accepted a) ⊎ (v ≡ NoMemory) }

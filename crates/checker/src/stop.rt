@@ -1,4 +1,4 @@
-//! Why judging stops before the end. Want of memory is no refusal: it is parted from the faults here, once, where a
+//! Why judging stops before the end. Running out of memory is no refusal: it is parted from the faults here, once, where a
 //! fault becomes a stop, so that nobody has to turn it back later.
 
 ghost use Rattle.std.specs.Prelude.{◌≡◌};
@@ -9,7 +9,7 @@ use proof_rules::StepFault;
 use proof_text::ProofFault;
 use std::alloc::AllocError;
 
-/// Why judging stops: at a line, or for want of memory apart from any line.
+/// Why judging stops: at a line, or out of memory, apart from any line.
 #[derive(Clone, Copy, Debug)]
 pub(crate) enum Stop {
     At(u64, Code),

@@ -53,7 +53,7 @@ pub enum Verdict {
     NoMemory,
 }
 
-/// The exit status that stands for a verdict: 0 accepted, 1 refused, 2 bad problem, 4 want of memory.
+/// The exit status that stands for a verdict: 0 accepted, 1 refused, 2 bad problem, 4 out of memory.
 pub fn verdict_status(verdict: &Verdict) -> u8
     ensures { result ≡ status_of verdict.now }
 {

@@ -29,7 +29,7 @@ fn status_of(error: &Error) -> u8
 }
 
 /// Prints why a command line is not taken, help and the version on standard output, a mistake on standard error. The result
-/// is the exit status: 0 for help and the version, 64 for a mistake. Want of memory is answered as a device's failure.
+/// is the exit status: 0 for help and the version, 64 for a mistake. Running out of memory is answered as a device's failure.
 pub fn refused<R: Print + Eprint>(rt: &R, error: &Error) -> io::Result<u8>
     ensures status { IfOk result (IsStatusFor (kind_of error.now)) }
     ensures memory { kind_of error.now ≡ ErrorKind.OutOfMemory → IsErr result }

@@ -15,7 +15,7 @@ use proof_rules::StepFault;
 use propagate::Propagator;
 use std::alloc::Global;
 
-/// The constraints of a problem's file under their ids. Want of memory is the only fault.
+/// The constraints of a problem's file under their ids. Running out of memory is the only fault.
 pub(crate) fn constraints_of_file<P: Propagator>(
     alloc: Global,
     problem: &Problem,

@@ -58,7 +58,7 @@ impl<'a, P: Propagator> Kernel<'a, P> {
     ghost use Rattle.proof_rules.specs.State.{IsStart, HasRoom, constraints, with_constraint};
     ghost use Rattle.kernel.specs.Held.{IsKept, HasAtLeast, given_id};
 
-    /// The kernel of a problem's file. Want of memory is the only fault.
+    /// The kernel of a problem's file. Running out of memory is the only fault.
     pub fn new(alloc: Global, problem: &'a Problem) -> Result<Self, StepFault>
         ensures problem { IfOk result (λ k. k.problem ≡ problem.now) }
         ensures start { IfOk result (λ k. IsStart problem.now k.state) }
@@ -88,7 +88,7 @@ impl<'a, P: Propagator> Kernel<'a, P> {
     /// is shown from the live ones; `red`, which adds one that is redundant by a witness; `sol`, which logs a solution of the
     /// file; `soli`, which also adds a constraint that asks for better ones; `del`, which takes out constraints that steps
     /// derived. A refusal names the first fault in the order of judging, and leaves the kernel as before; a legal step is
-    /// refused for want of memory alone.
+    /// refused where memory runs out, and there alone.
     pub fn apply(&mut self, step: &Step) -> Result<Applied, StepFault>
         requires relation { HasAtLeast step.now }
         ensures problem { self.new.problem ≡ self.old.problem }
@@ -121,7 +121,7 @@ impl<'a, P: Propagator> Kernel<'a, P> {
         Ok(Applied { id: Some(id) })
     }
 
-    /// Whether a constraint is shown from the live ones. Want of memory is the only fault.
+    /// Whether a constraint is shown from the live ones. Running out of memory is the only fault.
     pub(crate) fn shows(&mut self, constraint: &Normal) -> Result<bool, StepFault>
         ensures same { self.new ≡ self.old }
         ensures shown { IfOk result (λ found. IsTrue found ↔ IsShown (constraints self.old.state) constraint.now) }

@@ -16,7 +16,7 @@ use propagate::{Id, Propagator};
 use std::alloc::Global;
 use substitution::covers;
 
-/// Whether a constraint is shown from the live constraints and those beside them. Want of memory is the only fault.
+/// Whether a constraint is shown from the live constraints and those beside them. Running out of memory is the only fault.
 pub(crate) fn is_shown<P: Propagator>(
     alloc: Global,
     database: &mut Database<P>,

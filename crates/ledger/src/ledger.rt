@@ -104,7 +104,7 @@ impl Ledger {
     }
 
     /// Takes a free literal as true, forced by the constraint of a place or given, and queues what may now be broken
-    /// or force. On want of memory it stays free.
+    /// or force. Where memory runs out it stays free.
     pub fn set_true(
         &mut self,
         literal: Lit,

@@ -94,7 +94,7 @@ impl Names {
         }
     }
 
-    /// The variable of a name, which takes the next number where the table does not have it yet. On want of
+    /// The variable of a name, which takes the next number where the table does not have it yet. Where memory runs out
     /// memory the table stays as it was.
     pub fn intern(&mut self, name: &[u8]) -> Result<Var, AllocError>
         requires spelled { is_name name.now ≡ true }
@@ -110,7 +110,7 @@ impl Names {
     }
 
     /// The variable of a name, as `intern` gives it, where the table may have so many names: `None` where the name is new
-    /// and the table has them all. Where there is no variable, and on want of memory, the table stays as it was.
+    /// and the table has them all. Where there is no variable, and where memory runs out, the table stays as it was.
     pub fn intern_within(&mut self, name: &[u8], most: usize) -> Result<Option<Var>, AllocError>
         requires spelled { is_name name.now ≡ true }
         requires room { most ≤ most_names }

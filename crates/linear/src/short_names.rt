@@ -3,7 +3,7 @@
 //! A look-up in the hash set goes to memory three times, for the group of the hash, the header of the key and its bytes, and
 //! in a file with many names each of the three misses the cache: reading then waits for names more than for all else. The
 //! digits of such a name are a number, so its place can stand in a plain array, and one look finds it. What the array does not
-//! have is asked of the set, so the array may lack what it likes, and want of memory is no fault here. Leading zeros make
+//! have is asked of the set, so the array may lack what it likes, and running out of memory is no fault here. Leading zeros make
 //! another name; so the digits are read to the base 11, where each list of digits has a number of its own.
 
 ghost use Rattle.std.specs.Prelude.{◌≡◌, ℕ, ◌<◌, true, List, [], ◌∷◌, length, get_or, IfSome, ◌⊎◌};

@@ -105,7 +105,7 @@ impl Terms {
         }
     }
 
-    /// Puts a term at the end. On want of memory the list stays as it was.
+    /// Puts a term at the end. Where memory runs out the list stays as it was.
     pub(crate) fn push(&mut self, term: NormalTerm) -> Result<(), AllocError>
         ensures ok { OnOk result (self.new ≡ self.old ++ term ∷ []) }
         ensures err { OnErr result (self.new ≡ self.old) }

@@ -129,7 +129,7 @@ sum_stops code behind n0 n1 left left1 left2 count h k s after i =
     let q = behind_sum s after n1 count in
     stops_then code s q left left1 left2 r (k q after (in_sum_more s behind after n0 n1 count left left1 i r))
 
--- want of memory behind terms that were passed
+-- out of memory behind terms that were passed
 pub sum_wants : (behind : Place) (n0 n1 : List (List ℕ)) (left left1 : List Lexeme) (count : ℕ) → PassesTerms behind 0 n0 left count n1 left1 → StopsInSum OutOfMemory behind 0 n0 left left1
 sum_wants behind n0 n1 left left1 count h s after i =
     let r = h s after i in

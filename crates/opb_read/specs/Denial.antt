@@ -13,7 +13,7 @@ use Rattle.opb_read.specs.Spells.{problem_of}
 use Rattle.opb_read.specs.declared.fault.OpbCode.{OpbCode}
 use Rattle.opb_read.specs.declared.fault.OpbCode.TheVariants.{IntegerTooLarge, TooMany, OutOfMemory}
 
--- a fault of form says one thing, a limit that is broken another, and want of memory nothing
+-- a fault of form says one thing, a limit that is broken another, and running out of memory nothing
 abbrev pub Says : OpbCode → Type 0 → Type 0 → Type 0
 Says IntegerTooLarge form limit = limit
 Says TooMany form limit = limit
@@ -34,7 +34,7 @@ IsForm TooMany = ⊥
 IsForm OutOfMemory = ⊥
 IsForm _ = Unit {0}
 
--- too many, where this holds, or want of memory
+-- too many, where this holds, or out of memory
 abbrev pub IsTooManyOr : Type 0 → OpbCode → Type 0
 IsTooManyOr many TooMany = many
 IsTooManyOr many OutOfMemory = Unit {0}

@@ -32,7 +32,7 @@ pub fn objectives_as_written()
         (objective_of names piece ≡ Some terms) ↔ WritesSum names terms piece }
 {}
 
-/// Two faults of one text stand on one line, whatever their codes, want of memory aside: what the contract of `read` says of
+/// Two faults of one text stand on one line, whatever their codes, out of memory aside: what the contract of `read` says of
 /// a fault's place fixes its line.
 pub fn one_place()
     ensures { (text : List ℕ) (c d : OpbCode) (k l : ℕ) → c ≢ OpbCode.OutOfMemory → d ≢ OpbCode.OutOfMemory → IsFaultAt text c k → IsFaultAt text d l → k ≡ l }

@@ -8,7 +8,7 @@
 mod ahead;
 pub mod cases;
 mod fault;
-mod laws;
+pub mod laws;
 mod place;
 mod reader;
 mod reading;

@@ -1,4 +1,4 @@
--- What is said where no more than want of memory, or nothing that can be checked, came of a search.
+-- What is said where no more came of a search than that memory ran out, or nothing that can be checked.
 use Rattle.std.proofs.Common.{◌≡◌, inl, inr, ℕ, List, [], refl, subst, sym}
 use Rattle.search.specs.Log.{Logbook}
 use Rattle.search.specs.Solving.{BearsOut}

@@ -10,7 +10,7 @@ pub mod cases;
 mod classify;
 mod cursor;
 mod kind;
-mod laws;
+pub mod laws;
 mod lookahead;
 mod number;
 mod spot;

@@ -10,7 +10,7 @@ use std::process::ExitCode;
 use std::rt::{Env, Files};
 use std::{env, fs, io};
 
-/// The status of want of memory.
+/// The status where memory runs out.
 const NO_MEMORY: u8 = 4;
 
 const EXPLANATION: &str = "Standard output has one verdict:

@@ -19,7 +19,7 @@ use proof_rules::StepFault;
 use std::alloc::Global;
 
 impl<'a> Stack<'a> {
-    /// Puts the axiom of a literal on top. Want of memory is the only fault.
+    /// Puts the axiom of a literal on top. Running out of memory is the only fault.
     pub fn push_axiom(&mut self, alloc: Global, literal: Lit) -> Result<(), StepFault>
         ensures ok { (given : Given) → OnOk result (AppliesItem given (items.Axiom literal) self.old self.new) }
         ensures fault { IfErr result (λ f. OrMemory f ⊥) }

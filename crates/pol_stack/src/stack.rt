@@ -107,7 +107,7 @@ pub(crate) enum Held {
     RunningSum,
 }
 
-/// The operands of a `pol` step. After a fault, want of memory included, nothing is said of what stands on it.
+/// The operands of a `pol` step. After a fault, out of memory included, nothing is said of what stands on it.
 #[derive(Drop)]
 pub struct Stack<'a> {
     below: SmallVec<Operand<'a>, 2>,
@@ -154,7 +154,7 @@ impl<'a> Stack<'a> {
         self.sum
     }
 
-    /// Puts an operand on top. Want of memory is the only fault.
+    /// Puts an operand on top. Running out of memory is the only fault.
     pub fn push(&mut self, operand: Operand<'a>) -> Result<(), AllocError>
         ensures { OnOk result (self.new ≡ operand_value operand.entry ∷ self.old) }
     {
@@ -162,7 +162,7 @@ impl<'a> Stack<'a> {
         Ok(())
     }
 
-    /// Takes the operand on top. A running sum there is read off; want of memory for that is the only fault.
+    /// Takes the operand on top. A running sum there is read off; running out of memory for that is the only fault.
     pub(crate) fn pop(&mut self, alloc: Global) -> Result<Option<Operand<'a>>, CutFault>
         ensures top { IfOk result (λ top. MatchOption top (self.old ≡ []) (λ o. self.old ≡ operand_value o ∷ self.new)) }
         ensures memory { OnErr result (IsErrOf result CutFault.OutOfMemory) }

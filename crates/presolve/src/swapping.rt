@@ -155,7 +155,7 @@ impl Chosen {
 }
 
 /// The pairs of variables that are used: those that may change places, of the first 65,536 pairs in rising order, none of whose
-/// variables is fixed or in an earlier pair that is used. Want of memory is the only fault.
+/// variables is fixed or in an earlier pair that is used. Running out of memory is the only fault.
 pub fn swappable(alloc: Global, problem: &Problem, fixed: &[Lit]) -> Result<Vec<Swap>, CutFault>
     ensures used { IfOk result (λ swaps. AreUsed problem.now fixed.now swaps.items) }
     ensures memory { OnErr result (IsErrOf result CutFault.OutOfMemory) }

@@ -1,5 +1,5 @@
 -- The faults of steps and conclusions, in the order of judging: each one's condition says that none before it stands.
--- Want of memory is no fault of a step.
+-- Running out of memory is no fault of a step.
 --
 -- A fault is a condition on the state and the step, as legality is, and not what some judge happens to find first. So the
 -- order of judging is part of each condition, and laws say that it works out: a step is legal or has one fault, never
@@ -39,7 +39,7 @@ use Rattle.proof_rules.specs.Shown.{IsShown, IsAdmitted, absurdity}
 use Rattle.proof_rules.specs.Solution.{literal_for, NamesAll, Completes, at_least}
 use Rattle.proof_rules.specs.State.{State, constraints, constraint_of, id_of, HasRoom}
 
--- want of memory, or this
+-- out of memory, or this
 abbrev pub OrMemory : StepFault → Type 0 → Type 0
 OrMemory faults.OutOfMemory condition = Unit {0}
 OrMemory _ condition = condition

@@ -27,7 +27,7 @@ IsPlain _ = ⊥
 -- What a fault says of something that is read: `Nothing` is that its words have no form, `Something` that they have one when
 -- the table `all` numbers their names, and `counting` are the words whose integers count. Codes 3, 4 and 5: it is nothing.
 -- Code 8: an integer among those that count is above the largest number in size. Code 29: it is something, and its names
--- are too many. Want of memory says nothing. No other fault comes.
+-- are too many. That memory ran out says nothing. No other fault comes.
 abbrev pub DeniesBy : ProofFault → Type 0 → Type 0 → List (List ℕ) → List (List ℕ) → Type 0
 DeniesBy faults.UnknownRule Nothing Something counting all = Nothing
 DeniesBy faults.RuleLeftOut Nothing Something counting all = Nothing

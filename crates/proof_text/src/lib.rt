@@ -14,7 +14,7 @@ mod constraint;
 mod fault;
 mod frame;
 mod keyword;
-mod laws;
+pub mod laws;
 mod line;
 mod line_names;
 mod line_words;

@@ -45,7 +45,7 @@ fn step_lines(out: &mut Vec<u8>, names: &Names, steps: &[Step]) -> Result<(), Al
 /// and what `write_end` writes. It spells just these steps and this conclusion, of a file with these names.
 ///
 /// The integers of steps and conclusion are at most 2^120 in size, their variables stand in the table, and each relation is
-/// `>=`. Want of memory is the only error.
+/// `>=`. Running out of memory is the only error.
 pub fn write_proof(
     alloc: Global,
     names: &Names,

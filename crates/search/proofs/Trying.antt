@@ -26,7 +26,7 @@ tries_more step_of xs i d a b c h before tried =
     subst (λ (steps : List Step). TriesAll steps a c) (sym (ap (map step_of) (take_more xs i d h) ∙ map-append step_of (take i xs) (get_or xs i d ∷ [])))
     (tries_push (map step_of (take i xs)) (step_of (get_or xs i d)) a b c before tried)
 
--- what is not want of memory is a fault
+-- what is not out of memory is a fault
 pub refused : (condition : Type 0) (fault : StepFault) → fault ≢ faults.OutOfMemory → OrMemory fault condition → condition
 refused condition faults.OutOfMemory other h = absurd (other refl)
 refused condition fault other h = h

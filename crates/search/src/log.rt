@@ -89,7 +89,7 @@ impl<'a, P: Propagator> Log<'a, P> {
     ghost use Rattle.proof_rules.specs.State.{HasRoom, IsStart, constraints};
     ghost use Rattle.search.specs.Log.{IsProof, IsEntitled, IsFalling, ImprovesNothing, StepBites, improvement, last_of, with_conclusion};
 
-    /// The log of a problem's file, with no step. Want of memory is the only fault.
+    /// The log of a problem's file, with no step. Running out of memory is the only fault.
     pub fn new(alloc: Global, problem: &'a Problem) -> Result<Self, StepFault>
         ensures problem { IfOk result (λ l. l.problem ≡ problem.now) }
         ensures steps { IfOk result (λ l. l.steps ≡ []) }
@@ -110,7 +110,7 @@ impl<'a, P: Propagator> Log<'a, P> {
     }
 
     /// Applies a step that logs no improving solution, whole or not at all, and keeps it. Nothing is concluded from the new
-    /// state yet. A refusal is the kernel's, or want of memory, and leaves the log as before.
+    /// state yet. A refusal is the kernel's, or that memory ran out, and leaves the log as before.
     pub fn apply(&mut self, step: Step) -> Result<Applied, StepFault>
         requires relation { HasAtLeast step }
         requires other { ImprovesNothing step }

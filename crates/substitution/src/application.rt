@@ -3,7 +3,7 @@
 //! Two variables may have one image, or opposite ones, so terms may add up or cancel: the terms with images put in are
 //! signed terms in any order, and their normal form is made as that of a written constraint. An image 1 takes its
 //! coefficient off the right side, and an image 0 leaves nothing. No coefficient is made, only moved or taken away, so
-//! neither sum nor degree grows, and want of memory is the only fault.
+//! neither sum nor degree grows, and running out of memory is the only fault.
 
 ghost use Rattle.std.specs.Prelude.{◌≡◌, ◌+◌, ◌≤◌, ◌↔◌, ◌++◌, ◌+ℤ◌, IfOk, OnOk, map, unsigned_abs};
 ghost use Rattle.linear.specs.Valuation.{Valuation};

@@ -193,7 +193,7 @@ fn answers_to_steps(rt: HostRuntime) {
     assert!(&rt; answers_are(rt.alloc(), 1, &NO_SOLUTION) == Ok(true));
 }
 
-/// What the kernel of a file answers to its first step. A text that is not read counts as want of memory.
+/// What the kernel of a file answers to its first step. A text that is not read counts as out of memory.
 fn answer_to_first(alloc: Global, file: &str, line: &str) -> Result<Option<u32>, StepFault> {
     let Ok(problem) = read(alloc, file.as_bytes()) else {
         return Err(StepFault::OutOfMemory);
