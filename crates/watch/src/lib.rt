@@ -2,7 +2,7 @@
 //!
 //! Over the single steps of a ledger stand the walks: forced literals are added until nothing waits or a constraint is broken,
 //! given literals are followed from where a listing parts from the one before, and the trail is told as a chain with reasons.
-//! Constraints have ids here, and places no more.
+//! Places of constraints end here: what is asked and answered has their ids.
 //!
 //! It is a layer of its own since what it says is the one contract of all propagators, about what constraints refute, extend and
 //! trace. Whether a place has to be looked at, and how that is found out, is settled below.
