@@ -12,10 +12,9 @@ ghost use Rattle.proof_rules.specs.Legal.{Legal};
 
 use kernel::{Applied, Kernel};
 use linear::{Assignment, Lit, Names, Problem, Seq};
-use normal_form::Normal;
 use proof_rules::StepFault;
 use proof_steps::{Conclusion, Step};
-use propagate::{Id, Propagator, Reach, Trace};
+use propagate::{Propagator, Reach, Trace};
 use std::alloc::{AllocError, Global};
 use std::marker::Model;
 use std::mem;
@@ -76,7 +75,6 @@ fn keep<'a, P: Propagator>(
 
 impl<'a, P: Propagator> Log<'a, P> {
     ghost use Rattle.std.specs.Prelude.{◌≡◌, ◌↔◌, ◌+◌, [], ◌∷◌, ◌++◌, IfOk, IfErr, IfSome, IsTrue, OnOk, OnErr, IsErrOf};
-    ghost use Rattle.std.specs.FinMap as map;
     ghost use Rattle.std.specs.Option.{option_copied};
     ghost use Rattle.kernel.specs.Held.{HasAtLeast, given_id};
     ghost use Rattle.propagate.specs.Content.{IsTrace, IsTraceOfLast};
@@ -257,13 +255,6 @@ impl<'a, P: Propagator> Log<'a, P> {
         ensures { IsTrue result ↔ HasRoom self.now.state }
     {
         self.kernel.has_room()
-    }
-
-    /// The live constraint of an id, if there is one.
-    pub fn constraint(&self, id: Id) -> Option<&Normal>
-        ensures { option_copied result ≡ map.get self.now.state.live id }
-    {
-        self.kernel.constraint(id)
     }
 
     /// What a listing extends to by propagation over the live constraints.

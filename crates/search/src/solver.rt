@@ -1,11 +1,7 @@
 //! The search.
 
-ghost use Rattle.std.specs.Prelude.{◌≡◌, ◌<◌, ◌≤◌, ℕ, IfOk, IfSome, IsNone, IsSome, OnOk, Some, length};
-ghost use Rattle.propagate.specs.Chain.{LeadsToConflict};
-ghost use Rattle.propagate.specs.Literals.{IsConsistent};
-ghost use Rattle.proof_rules.specs.State.{HasRoom, constraints};
+ghost use Rattle.std.specs.Prelude.{◌≡◌, ◌≤◌, IfOk, IfSome, IsNone};
 ghost use Rattle.search.specs.Solving.{BearsOut, IsSolved, TakesId};
-ghost use Rattle.search.specs.Undoing.{AreUpToDate, IsUndone, NearsEnd};
 
 use super::brancher::Brancher;
 use super::clause::{Lesson, learn_clause, least_conflict};
@@ -32,40 +28,6 @@ pub struct Solved<'a, P: Propagator> {
     pub log: Option<Log<'a, P>>,
 }
 
-/// Learns from a conflict under some decisions, as long as an id is left; none where no decision is needed for it.
-fn resolve<'a, P: Propagator>(
-    alloc: Global,
-    log: &mut Log<'a, P>,
-    decisions: &mut Vec<Lit>,
-    trail: &mut Trail,
-    conflict: Id,
-    brancher: &mut Box<dyn Brancher>,
-) -> Result<Option<Lesson>, StepFault>
-    requires consistent { IsConsistent decisions.old.items }
-    requires conflict { LeadsToConflict (constraints log.old.state) decisions.old.items }
-    requires room { HasRoom log.old.state }
-    ensures problem { log.new.problem ≡ log.old.problem }
-    ensures learned { IfOk result (λ lesson. lesson ≡ Some Lesson.Learned → TakesId log.old.state log.new.state) }
-    ensures same { IfOk result (λ lesson. lesson ≡ Some Lesson.Undone → log.new ≡ log.old) }
-    ensures fewer { (first : ℕ) → AreUpToDate (constraints log.old.state) first decisions.old.items
-        → IfOk result (λ lesson. lesson ≡ Some Lesson.Undone → length decisions.new.items < first) }
-    ensures consistent { OnOk result (IsConsistent decisions.new.items) }
-    ensures undone { IfOk result (λ lesson. IsSome lesson → IsUndone decisions.old.items decisions.new.items) }
-{
-    let learned = learn_constraint(alloc, log, decisions, trail.entries(), conflict, brancher)?;
-    if learned {
-        trail.go_back(level_of(decisions.as_slice()));
-        return Ok(Some(Lesson::Learned));
-    }
-    let count = least_conflict(log, decisions.as_slice())?;
-    if count == 0 {
-        return Ok(None);
-    }
-    let lesson = learn_clause(alloc, log, decisions, count, brancher)?;
-    trail.go_back(level_of(decisions.as_slice()));
-    Ok(Some(lesson))
-}
-
 /// Logs a solution. Where there is an objective the search goes on for a better one, with no decision open.
 fn accept<'a, P: Propagator>(
     log: &mut Log<'a, P>,
@@ -87,106 +49,158 @@ fn accept<'a, P: Propagator>(
     Ok(None)
 }
 
-/// Counts a conflict that was learned from. Where a restart is due it undoes all decisions, and forgets the older half of what
-/// was learned.
-fn restart_if_due<'a, P: Propagator>(
+/// A run of the search, as it stands between two turns.
+#[derive(Drop)]
+struct Run<'a, P: Propagator> {
     alloc: Global,
-    log: &mut Log<'a, P>,
-    restarts: &mut Restarts,
-    lessons: &mut Lessons,
-    decisions: &mut Vec<Lit>,
-    trail: &mut Trail,
-    brancher: &mut Box<dyn Brancher>,
-) -> Result<(), StepFault>
-    requires { IsConsistent decisions.old.items }
-    ensures problem { log.new.problem ≡ log.old.problem }
-    ensures next { OnOk result (log.new.state.next ≡ log.old.state.next) }
-    ensures consistent { IsConsistent decisions.new.items }
-{
-    lessons.push(log.kernel().last_id())?;
-    if !restarts.is_due() {
-        return Ok(());
-    }
-    decisions.clear();
-    trail.go_back(0);
-    brancher.restarted();
-    lessons.forget(alloc, log, trail.entries())
-}
-
-/// Decides until there is a conflict or a solution, and learns from that.
-fn turn<'a, P: Propagator>(
-    alloc: Global,
-    log: &mut Log<'a, P>,
-    decisions: &mut Vec<Lit>,
-    trail: &mut Trail,
-    limit: u64,
+    log: Log<'a, P>,
+    /// The number of the file's variables.
     count: u32,
-    restarts: &mut Restarts,
-    lessons: &mut Lessons,
-    brancher: &mut Box<dyn Brancher>,
-) -> Result<Option<Found>, StepFault>
-    requires { IsConsistent decisions.old.items }
-    ensures problem { log.new.problem ≡ log.old.problem }
-    ensures found { IfOk result (λ end. IfSome end (BearsOut limit log.new)) }
-    ensures goes_on { IfOk result (λ end. IsNone end → NearsEnd log.old decisions.old.items log.new decisions.new.items) }
-    ensures consistent { OnOk result (IsConsistent decisions.new.items) }
-{
-    match descend(alloc, log, decisions, trail, count, brancher)? {
-        Descent::Conflict(conflict) => {
-            if decisions.is_empty() {
-                return Ok(Some(end_exhausted(log)?));
-            }
-            if may_stop(log, limit) {
-                return Ok(Some(end_stopped(log, limit)?));
-            }
-            match resolve(alloc, log, decisions, trail, conflict, brancher)? {
-                None => return Ok(Some(end_exhausted(log)?)),
-                Some(Lesson::Learned) => {
-                    restart_if_due(alloc, log, restarts, lessons, decisions, trail, brancher)?
-                }
-                Some(Lesson::Undone) => {}
-            }
-            Ok(None)
+    decisions: Vec<Lit>,
+    trail: Trail,
+    restarts: Restarts,
+    lessons: Lessons,
+    brancher: Box<dyn Brancher>,
+}
+
+impl<'a, P: Propagator> Run<'a, P> {
+    ghost use Rattle.std.specs.Prelude.{◌≡◌, ◌<◌, ℕ, IfOk, IfSome, IsNone, IsSome, OnOk, Some, length};
+    ghost use Rattle.propagate.specs.Chain.{LeadsToConflict};
+    ghost use Rattle.propagate.specs.Literals.{IsConsistent};
+    ghost use Rattle.proof_rules.specs.State.{HasRoom, constraints};
+    ghost use Rattle.search.specs.Solving.{BearsOut, TakesId};
+    ghost use Rattle.search.specs.Undoing.{AreUpToDate, IsUndone, NearsEnd};
+
+    /// Learns from a conflict under the decisions, as long as an id is left; none where no decision is needed for it.
+    fn resolve(&mut self, conflict: Id) -> Result<Option<Lesson>, StepFault>
+        requires consistent { IsConsistent self.old.decisions.items }
+        requires conflict { LeadsToConflict (constraints self.old.log.state) self.old.decisions.items }
+        requires room { HasRoom self.old.log.state }
+        ensures problem { self.new.log.problem ≡ self.old.log.problem }
+        ensures learned { IfOk result (λ lesson. lesson ≡ Some Lesson.Learned → TakesId self.old.log.state self.new.log.state) }
+        ensures same { IfOk result (λ lesson. lesson ≡ Some Lesson.Undone → self.new.log ≡ self.old.log) }
+        ensures fewer { (first : ℕ) → AreUpToDate (constraints self.old.log.state) first self.old.decisions.items
+            → IfOk result (λ lesson. lesson ≡ Some Lesson.Undone → length self.new.decisions.items < first) }
+        ensures consistent { OnOk result (IsConsistent self.new.decisions.items) }
+        ensures undone { IfOk result (λ lesson. IsSome lesson → IsUndone self.old.decisions.items self.new.decisions.items) }
+    {
+        let learned = learn_constraint(
+            self.alloc,
+            &mut self.log,
+            &mut self.decisions,
+            self.trail.entries(),
+            conflict,
+            &mut self.brancher,
+        )?;
+        if learned {
+            self.trail.go_back(level_of(self.decisions.as_slice()));
+            return Ok(Some(Lesson::Learned));
         }
-        Descent::Settled(listing) => {
-            decisions.clear();
-            trail.go_back(0);
-            accept(log, listing, limit)
+        let count = least_conflict(&mut self.log, self.decisions.as_slice())?;
+        if count == 0 {
+            return Ok(None);
+        }
+        let lesson = learn_clause(
+            self.alloc,
+            &mut self.log,
+            &mut self.decisions,
+            count,
+            &mut self.brancher,
+        )?;
+        self.trail.go_back(level_of(self.decisions.as_slice()));
+        Ok(Some(lesson))
+    }
+
+    /// Counts a conflict that was learned from. Where a restart is due it undoes all decisions, and forgets the older half of
+    /// what was learned.
+    fn restart_if_due(&mut self) -> Result<(), StepFault>
+        requires { IsConsistent self.old.decisions.items }
+        ensures problem { self.new.log.problem ≡ self.old.log.problem }
+        ensures next { OnOk result (self.new.log.state.next ≡ self.old.log.state.next) }
+        ensures consistent { IsConsistent self.new.decisions.items }
+    {
+        self.lessons.push(self.log.kernel().last_id())?;
+        if !self.restarts.is_due() {
+            return Ok(());
+        }
+        self.decisions.clear();
+        self.trail.go_back(0);
+        self.brancher.restarted();
+        self.lessons
+            .forget(self.alloc, &mut self.log, self.trail.entries())
+    }
+
+    /// Decides until there is a conflict or a solution, and learns from that.
+    fn turn(&mut self, limit: u64) -> Result<Option<Found>, StepFault>
+        requires { IsConsistent self.old.decisions.items }
+        ensures problem { self.new.log.problem ≡ self.old.log.problem }
+        ensures found { IfOk result (λ end. IfSome end (BearsOut limit self.new.log)) }
+        ensures goes_on { IfOk result (λ end. IsNone end
+            → NearsEnd self.old.log self.old.decisions.items self.new.log self.new.decisions.items) }
+        ensures consistent { OnOk result (IsConsistent self.new.decisions.items) }
+    {
+        let end = descend(
+            self.alloc,
+            &mut self.log,
+            &mut self.decisions,
+            &mut self.trail,
+            self.count,
+            &mut self.brancher,
+        )?;
+        match end {
+            Descent::Conflict(conflict) => {
+                if self.decisions.is_empty() {
+                    return Ok(Some(end_exhausted(&mut self.log)?));
+                }
+                if may_stop(&self.log, limit) {
+                    return Ok(Some(end_stopped(&mut self.log, limit)?));
+                }
+                match self.resolve(conflict)? {
+                    None => return Ok(Some(end_exhausted(&mut self.log)?)),
+                    Some(Lesson::Learned) => self.restart_if_due()?,
+                    Some(Lesson::Undone) => {}
+                }
+                Ok(None)
+            }
+            Descent::Settled(listing) => {
+                self.decisions.clear();
+                self.trail.go_back(0);
+                accept(&mut self.log, listing, limit)
+            }
         }
     }
 }
 
-/// Searches, and leaves in the log what bears out the answer.
+/// Searches, and hands out what was found with the log that bears it out.
 fn search<'a, P: Propagator>(
     alloc: Global,
-    log: &mut Log<'a, P>,
+    problem: &'a Problem,
     limit: u64,
-    mut brancher: Box<dyn Brancher>,
-) -> Result<Found, StepFault>
-    ensures problem { log.new.problem ≡ log.old.problem }
-    ensures found { IfOk result (BearsOut limit log.new) }
+    brancher: Box<dyn Brancher>,
+) -> Result<Solved<'a, P>, StepFault>
+    ensures { IfOk result (λ solved. IsSolved problem.now limit solved.found solved.log) }
 {
+    let mut log = Log::new(alloc, problem)?;
     let Ok(count) = u32::try_from(log.names().len()) else {
         return Err(StepFault::TooLarge);
     };
-    presolve(alloc, log)?;
-    let mut decisions = Vec::new(alloc);
-    let mut trail = Trail::new(alloc, count)?;
-    let mut restarts = Restarts::new();
-    let mut lessons = Lessons::new(alloc);
+    presolve(alloc, &mut log)?;
+    let mut run = Run {
+        alloc,
+        log,
+        count,
+        decisions: Vec::new(alloc),
+        trail: Trail::new(alloc, count)?,
+        restarts: Restarts::new(),
+        lessons: Lessons::new(alloc),
+        brancher,
+    };
     'turns: loop {
-        if let Some(found) = turn(
-            alloc,
-            log,
-            &mut decisions,
-            &mut trail,
-            limit,
-            count,
-            &mut restarts,
-            &mut lessons,
-            &mut brancher,
-        )? {
-            return Ok(found);
+        if let Some(found) = run.turn(limit)? {
+            return Ok(Solved {
+                found,
+                log: Some(run.log),
+            });
         }
     }
 }
@@ -207,17 +221,8 @@ impl Solver {
         requires { 1 ≤ limit }
         ensures { IsSolved problem.now limit result.found result.log }
     {
-        let Ok(mut log) = Log::new(alloc, problem) else {
-            return Solved {
-                found: Found::Unknown(Unfinished::Memory),
-                log: None,
-            };
-        };
-        match search(alloc, &mut log, limit, brancher) {
-            Ok(found) => Solved {
-                found,
-                log: Some(log),
-            },
+        match search(alloc, problem, limit, brancher) {
+            Ok(solved) => solved,
             Err(_) => Solved {
                 found: Found::Unknown(Unfinished::Memory),
                 log: None,

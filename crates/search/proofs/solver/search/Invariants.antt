@@ -4,8 +4,8 @@ use Rattle.proof_rules.specs.State.{id_limit}
 use Rattle.search.proofs.solver.search.Given as goal
 
 abbrev pub invariant-turns : goal.invariant-turns
-invariant-turns g l = (l.log.problem ≡ l.initial.log.problem) × IsConsistent l.decisions.items
+invariant-turns g l = (l.run.log.problem ≡ l.problem) × IsConsistent l.run.decisions.items
 
 -- ids that are left; and where none is taken, decisions that are open
 abbrev pub decreases-turns : goal.decreases-turns
-decreases-turns g l = (id_limit - l.log.state.next) * 18446744073709551616 + length l.decisions.items
+decreases-turns g l = (id_limit - l.run.log.state.next) * 18446744073709551616 + length l.run.decisions.items

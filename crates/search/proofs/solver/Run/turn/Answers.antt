@@ -6,7 +6,7 @@ use Rattle.search.specs.Log.{Logbook}
 use Rattle.search.specs.Undoing.{AreUpToDate}
 use Rattle.search.specs.declared.clause.Lesson.{Lesson}
 use Rattle.search.specs.declared.clause.Lesson.TheVariants as lessons
-use Rattle.search.proofs.solver.turn.Goals as goal
+use Rattle.search.proofs.solver.Run.turn.Goals as goal
 
 pub returns-then-is_empty-clause-found : goal.returns-then-is_empty-clause-found
 returns-then-is_empty-clause-found g c = c.in_ok-end_exhausted-in-Conflict.ensures.found c.args.limit
@@ -16,9 +16,9 @@ returns-in-None-clause-found g c = c.in_ok-end_exhausted-in-None.ensures.found c
 
 pub returns-in-Some-Undone-clause-goes_on : goal.returns-in-Some-Undone-clause-goes_on
 returns-in-Some-Undone-clause-goes_on g c _ =
-    let old : List Lit = c.args.decisions.now.items in
+    let old : List Lit = c.args.self.now.decisions.items in
     let middle : List Lit = c.descend.new.decisions.items in
     let undone = c.in-Some-Undone.is ∙ ap Some c.in-Some-Undone.field-0-is in
     let fresh : AreUpToDate (constraints c.descend.new.log.state) (length old) middle =
-    subst (λ (l : Logbook). AreUpToDate (constraints l.state) (length old) middle) (sym c.descend.ensures.same) c.in_ok-conflict.ensures.up_to_date in
+    subst (λ (l : Logbook). AreUpToDate (constraints l.state) (length old) middle) (sym c.descend.ensures.same) c.in_ok-end.ensures.up_to_date in
     inr (c.in_ok-resolve-in-Conflict.ensures.same undone ∙ c.descend.ensures.same, c.in_ok-resolve-in-Conflict.ensures.fewer (length old) fresh undone)
