@@ -15,7 +15,7 @@ all: bin/pbcheck bin/pbopt
 
 # Crates are proved side by side, each as soon as those that it stands on are; what an earlier run kept in out/ is not proved again.
 bin/pbcheck: $(SOURCES)
-	@echo "make: proving the crates, $(JOBS) side by side; from nothing this takes some minutes, and each proved crate is named"
+	@echo "make: proving the crates, $(JOBS) side by side; from nothing this takes a quarter of an hour, and each proved crate is named"
 	rt all check --jobs $(JOBS) > make.log 2>&1 || (tail -n 40 make.log; exit 1)
 	@grep -E '^rt: [a-z_]+ proved' make.log || true
 	@echo "make: building pbcheck"

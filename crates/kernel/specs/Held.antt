@@ -23,7 +23,8 @@ pub record Held : Type 0 where
   pub problem : Opb
   pub state : State
 
--- what every kernel keeps: the problem is within the limits, and the state has an answer for it
+-- what every kernel keeps: the problem is within the limits, the state has an answer for it, and in each live constraint the variables
+-- rise
 pub record IsKept (k : Held) : Type 0 where
   pub within : IsWithin k.problem
   pub preserved : IsPreserved k.problem k.state

@@ -1,13 +1,13 @@
 //! Constraints by place, the places of their literals, the literals that are taken as true, and what these leave
 //! open.
 //!
-//! A literal that comes or goes changes the counter of each counted constraint that has its opposite; of clauses, only
-//! those that the opposite watches are looked at, and only as it falls. A constraint that is taken out leaves its
-//! place and its entries behind: counted on, they cost little until the places are made anew, and searching the lists
+//! A literal that comes or goes changes the counter of each counted constraint that has its opposite. Of clauses, those that its
+//! opposite watches are looked at as it comes; when it went, those that it watches itself are asked for by their two
+//! literals alone. A constraint that is taken out leaves its place and its entries behind: counted on, they cost little until the places are made anew, and searching the lists
 //! for them would cost more. What a place says then is nothing.
 //!
 //! That constraints which do not wait force nothing is no fact of this type: taking literals back breaks it midway.
-//! It is stated between the functions of a walk.
+//! It is stated between the functions of a walk, in the crate above.
 
 ghost use Rattle.std.specs.Prelude.{◌≡◌, ◌+◌, ◌-◌, ◌<◌, ◌≤◌, ◌++◌, ◌∷◌};
 ghost use Rattle.std.specs.Prelude.{◌⊎◌, [], ℕ, false, true, All, Contains, IfSome, IsSome};

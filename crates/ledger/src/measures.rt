@@ -1,4 +1,4 @@
-//! What is measured of a constraint when it comes in.
+//! What is measured of a constraint when it comes in, and of a listing that is followed.
 
 ghost use Rattle.std.specs.Prelude.{All, ◌≡◌, ◌+◌, ◌≤◌, ◌<◌, length, take};
 ghost use Rattle.linear.specs.declared.term.Lit.{Lit};

@@ -1,4 +1,4 @@
--- What is kept between calls.
+-- What stands at the bottom of the trail: what is forced from nothing.
 use Rattle.std.specs.Prelude.{◌≡◌, ℕ, List, Option, Some, length, map}
 use Rattle.ledger.specs.Ledgers.{State, shown}
 use Rattle.watch.specs.Looking.{AreLookedAt}

@@ -1,4 +1,4 @@
-//! Constraints by their ids, over places that are never used twice.
+//! Constraints by their ids, over places that keep their constraint until it goes, and stay empty until all are made anew.
 //!
 //! A place is a number from 0 on, and stays when its constraint goes, so that the lists of literals need no look-up
 //! by id; the id of a place names a reason when a chain is told. Where more stands empty than not, an insertion makes

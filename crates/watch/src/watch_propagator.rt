@@ -1,9 +1,8 @@
-//! The propagator that keeps what it has found: two literals of each watched clause, counters of all other constraints,
-//! occurrences and the closure from nothing.
+//! The propagator that keeps what it has found: over a ledger, what the constraints force from nothing, and above that the
+//! literals that were given last with what they force.
 //!
-//! What it answers is what the plain propagator answers, since both meet the one contract. What it keeps between
-//! calls shows in the time alone: a question goes on from what the constraints force from nothing, and costs the
-//! constraints that its literals touch.
+//! What it answers is what the plain propagator answers, since both meet the one contract. What it keeps shows in the time alone: a
+//! listing goes on from where it parts from the last one, and costs the constraints that its literals touch.
 
 use super::database::Database;
 use super::lending::Occurrences;
