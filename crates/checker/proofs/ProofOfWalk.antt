@@ -259,7 +259,7 @@ Settled sections.End concluded = (a : Judgement) × (concluded ≡ Some a)
 Settled sections.After concluded = (a : Judgement) × (concluded ≡ Some a)
 Settled _ concluded = Unit {0}
 
--- the end line section at the end's section
+-- the end line stands at the end's section
 ends_there : (section : Section) → Says section lines.End → section ≡ sections.End
 ends_there sections.Header e = cc
 ends_there sections.Count e = let no_count = e.1 in cc
@@ -289,7 +289,7 @@ settled_along p at end (next ∷ path) walks settled = settled_along p next end 
 
 -- behind the end something was concluded
 pub concluded_at_end : (p : Opb) (proof : List ℕ) (at : Position) → Reaches p proof at → at.section ≡ sections.After → (a : Judgement) × (at.concluded ≡ Some a)
-concluded_at_end p proof at reached section =
+concluded_at_end p proof at reached stands =
     let settled = settled_along p (beginning p proof reached.start) at reached.path reached.walks tt in
     subst (λ q. Settled q at.concluded) stands settled
 
