@@ -6,6 +6,10 @@
 
 PREFIX ?= /usr/local
 
+# A line with a pipe fails where any part of it does.
+SHELL := bash
+.SHELLFLAGS := -o pipefail -c
+
 # How many crates are proved side by side.
 JOBS ?= $(shell nproc)
 
@@ -15,9 +19,9 @@ all: bin/pbcheck bin/pbopt
 
 # Crates are proved side by side, each as soon as those that it stands on are; what an earlier run kept in out/ is not proved again.
 bin/pbcheck: $(SOURCES)
-	@echo "make: proving the crates, $(JOBS) side by side; from nothing this takes a quarter of an hour, and each proved crate is named"
-	rt all check --jobs $(JOBS) > make.log 2>&1 || (tail -n 40 make.log; exit 1)
-	@grep -E '^rt: [a-z_]+ proved' make.log || true
+	@echo "make: proving the crates, $(JOBS) side by side; from nothing this takes half an hour, and each crate is named as soon as it is proved"
+	@rt all check --jobs $(JOBS) 2>&1 | tee make.log | awk '/^crate / { sub(":", "", $$2); name = $$2 } /^logic=proved/ { print "make: " name " is proved"; fflush() }' \
+		|| (tail -n 40 make.log; exit 1)
 	@echo "make: building pbcheck"
 	cd crates/pbcheck && rt run -- data/pigeons.opb data/pigeons.pbp > /dev/null
 	mkdir -p bin

@@ -5,11 +5,10 @@
 //! `2^120`, and a constraint adds at most as much, so no sum leaves its type, and whether a result is too large is
 //! asked once, behind.
 
-ghost use Rattle.std.specs.Prelude.{◌≡◌, ℕ, List, Bool, ◌+◌, ◌<◌, ◌≤◌, ◌≢◌, ◌^◌, ◌-◌, ◌/◌, ◌↔◌, IsTrue, pos, ◌+ℤ◌, unsigned_abs, Contains, OnOk, OnErr, IsErrOf, IfOk, [], ◌++◌, take, length, slice_index_or, if◌then◌else◌};
-ghost use Rattle.normal_form.specs.Normal.{total, variable_bound, largest_sum, IsNormal, Fits};
-ghost use Rattle.std.specs.List.Sorted.{IsNonDecreasingBy};
+ghost use Rattle.std.specs.Prelude.{◌≡◌, ℕ, List, Bool, ◌+◌, ◌<◌, ◌≤◌, ◌^◌, ◌-◌, ◌/◌, ◌↔◌, IsTrue, pos, ◌+ℤ◌, unsigned_abs, Contains, OnOk, [], length, if◌then◌else◌};
+ghost use Rattle.normal_form.specs.Normal.{total, variable_bound, largest_sum, IsNormal};
 ghost use Rattle.normal_form.specs.Balance.{rise_of, rises_of};
-ghost use Rattle.accumulate.specs.Nets.{terms_from, nets_of, sizes, turned, constraint_of, IsMarked, NamesAll, IsAhead, net_term};
+ghost use Rattle.accumulate.specs.Nets.{terms_from, nets_of, sizes, turned, IsMarked, NamesAll};
 
 use linear::Var;
 use normal_form::{CutFault, LARGEST_SUM, Normal, NormalBuilder, NormalTerm};
@@ -22,7 +21,7 @@ pub(crate) enum Change {
     TakeBack,
 }
 
-// What a term gives its variable.
+/// What a term gives its variable.
 fn rise(term: NormalTerm) -> i128
     requires { term.coef ≤ largest_sum }
     ensures value { result ≡ rise_of term }
@@ -35,7 +34,7 @@ fn rise(term: NormalTerm) -> i128
     }
 }
 
-// What a term adds to the cell of its variable, or what takes that back.
+/// What a term adds to the cell of its variable, or what takes that back.
 fn change_of(term: NormalTerm, change: Change) -> i128
     requires { term.coef ≤ largest_sum }
     ensures value { result ≡ turned change (rise_of term) }
@@ -47,7 +46,7 @@ fn change_of(term: NormalTerm, change: Change) -> i128
     }
 }
 
-// Makes the array as long as the variables of a constraint want.
+/// Makes the array as long as the variables of a constraint want.
 pub(crate) fn lengthen(nets: &mut Vec<i128>, wanted: usize) -> Result<(), AllocError>
     ensures terms { terms_from 0 nets.new.items ≡ terms_from 0 nets.old.items }
     ensures marks { (marks : List ℕ) → IsMarked marks nets.old.items → IsMarked marks nets.new.items }
@@ -59,7 +58,7 @@ pub(crate) fn lengthen(nets: &mut Vec<i128>, wanted: usize) -> Result<(), AllocE
     Ok(())
 }
 
-// Adds to the net coefficient of one variable.
+/// Adds to the net coefficient of one variable.
 fn add_net(nets: &mut Vec<i128>, sum: u128, var: Var, net: i128) -> u128
     requires room { var.0 < length nets.old.items }
     requires sum { sum ≡ sizes nets.old.items }
@@ -78,7 +77,7 @@ fn add_net(nets: &mut Vec<i128>, sum: u128, var: Var, net: i128) -> u128
     sum - before.unsigned_abs() + after.unsigned_abs()
 }
 
-// Adds the terms of a constraint, or takes them back.
+/// Adds the terms of a constraint, or takes them back.
 pub(crate) fn apply(nets: &mut Vec<i128>, sum: u128, other: &Normal, change: Change) -> u128
     requires room { variable_bound other.now.terms ≤ length nets.old.items }
     requires sum { sum ≡ sizes nets.old.items }
@@ -98,7 +97,7 @@ pub(crate) fn apply(nets: &mut Vec<i128>, sum: u128, other: &Normal, change: Cha
     all
 }
 
-// Marks a variable, unless it has a net coefficient and so is marked.
+/// Marks a variable, unless it has a net coefficient and so is marked.
 fn mark_variable(nets: &Vec<i128>, touched: &mut Vec<u32>, var: Var) -> Result<(), AllocError>
     requires room { var.0 < length nets.now.items }
     requires marks { IsMarked touched.old.items nets.now.items }
@@ -113,7 +112,7 @@ fn mark_variable(nets: &Vec<i128>, touched: &mut Vec<u32>, var: Var) -> Result<(
     Ok(())
 }
 
-// Marks the variables of a constraint.
+/// Marks the variables of a constraint.
 pub(crate) fn mark(
     nets: &Vec<i128>,
     touched: &mut Vec<u32>,
@@ -130,7 +129,7 @@ pub(crate) fn mark(
     Ok(())
 }
 
-// How many cells the variables of a constraint want.
+/// How many cells the variables of a constraint want.
 fn room_for(other: &Normal) -> usize
     ensures { variable_bound other.now.terms ≤ result }
 {
@@ -141,7 +140,7 @@ fn room_for(other: &Normal) -> usize
     other.term(count - 1).var.0 as usize + 1
 }
 
-// Makes room for the variables of a constraint, and marks them. No net coefficient changes.
+/// Makes room for the variables of a constraint, and marks them. No net coefficient changes.
 pub(crate) fn prepare(
     nets: &mut Vec<i128>,
     touched: &mut Vec<u32>,
@@ -157,7 +156,7 @@ pub(crate) fn prepare(
     mark(nets, touched, other)
 }
 
-// The degree of a sum, of the coefficient sums before and after: what cancels goes from two coefficients at once.
+/// The degree of a sum, of the coefficient sums before and after: what cancels goes from two coefficients at once.
 pub(crate) fn degree_after(before: u128, degree: u128, other: &Normal, after: u128) -> u128
     requires before { before ≤ largest_sum }
     requires degree { degree ≤ largest_sum }
@@ -169,7 +168,7 @@ pub(crate) fn degree_after(before: u128, degree: u128, other: &Normal, after: u1
     (degree + other.degree()).saturating_sub(cancelled)
 }
 
-// Whether a coefficient sum and a degree are within the limits.
+/// Whether a coefficient sum and a degree are within the limits.
 pub(crate) fn fits(sum: u128, degree: u128) -> bool
     ensures { IsTrue result ↔ (sum ≤ largest_sum) × (degree ≤ largest_sum) }
 {

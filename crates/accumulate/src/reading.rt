@@ -12,7 +12,7 @@ use linear::Var;
 use normal_form::{CutFault, Normal, NormalBuilder, NormalTerm};
 use std::alloc::{AllocError, Global};
 
-// Puts the term of a net coefficient at the end, unless it is 0.
+/// Puts the term of a net coefficient at the end, unless it is 0.
 fn push_net(terms: &mut NormalBuilder, var: Var, net: i128) -> Result<(), AllocError>
     requires { variable_bound terms.old ≤ var.0 }
     ensures { OnOk result (terms.new ≡ terms.old ++ net_term (var.0) net) }
@@ -27,7 +27,7 @@ fn push_net(terms: &mut NormalBuilder, var: Var, net: i128) -> Result<(), AllocE
     })
 }
 
-// Puts the term of a marked variable at the end, unless the variable was there before.
+/// Puts the term of a marked variable at the end, unless the variable was there before.
 fn push_cell(
     terms: &mut NormalBuilder,
     nets: &Vec<i128>,
@@ -52,7 +52,7 @@ fn push_cell(
     Ok(place + 1)
 }
 
-// The terms of the marked variables, which stand in order, perhaps some of them twice.
+/// The terms of the marked variables, which stand in order, perhaps some of them twice.
 pub(crate) fn collect(
     alloc: Global,
     nets: &Vec<i128>,
@@ -71,7 +71,7 @@ pub(crate) fn collect(
     Ok(terms)
 }
 
-// The constraint of terms and a degree that are within the limits.
+/// The constraint of terms and a degree that are within the limits.
 pub(crate) fn finished(terms: NormalBuilder, degree: u128) -> Result<Normal, CutFault>
     requires fits { Fits (record { terms = terms; degree = degree }) }
     ensures terms { IfOk result (λ n. n.terms ≡ terms) }
@@ -81,7 +81,7 @@ pub(crate) fn finished(terms: NormalBuilder, degree: u128) -> Result<Normal, Cut
     terms.finish(degree)
 }
 
-// Sets the cells of the marked variables to 0.
+/// Sets the cells of the marked variables to 0.
 pub(crate) fn clear(nets: &mut Vec<i128>, touched: &Vec<u32>)
     requires marks { IsMarked touched.now.items nets.old.items }
     ensures marks { IsMarked [] nets.new.items }

@@ -1,6 +1,6 @@
 -- A spot that is taken is that of an entry that stands before. So an entry that finds its spot taken repeats a variable, and where none
 -- does no variable is repeated.
-use Rattle.std.proofs.Common.{◌≡◌, ◌<◌, ◌+◌, ℕ, List, Option, None, Some, IsSome, is_some, length, map, get_or, set, refl, sym, ap, subst, ◌∙◌, inl, inr, true, arith}
+use Rattle.std.proofs.Common.{◌≡◌, ◌<◌, ◌+◌, ℕ, List, Option, None, Some, IsSome, is_some, length, map, get_or, set, sym, ap, subst, ◌∙◌, inl, inr, true, arith}
 use Rattle.std.proofs.lemmas.Bool.{cases_eq, false≢true}
 use Rattle.std.proofs.lemmas.List.{get_or-map, get_or-set_other, get_or-set_same, length-map}
 use Rattle.analysis.specs.declared.entry.Entry.{Entry}

@@ -12,7 +12,7 @@ use super::standing::Standing;
 use linear::Lit;
 use normal_form::Normal;
 
-// Whether a literal with this coefficient is forced where the slack is this.
+/// Whether a literal with this coefficient is forced where the slack is this.
 fn is_forced(standing: &Standing<'_>, level: u32, literal: Lit, coef: u128, slack: u128) -> bool
     ensures { IsTrue result ↔ CanForce (literals_up_to level standing.now) slack coef literal }
 {
@@ -21,7 +21,7 @@ fn is_forced(standing: &Standing<'_>, level: u32, literal: Lit, coef: u128, slac
         && !standing.is_true_at(opposite(literal), level)
 }
 
-// Whether a constraint forces a literal where its slack is this.
+/// Whether a constraint forces a literal where its slack is this.
 fn forces(constraint: &Normal, standing: &Standing<'_>, level: u32, slack: u128) -> bool
     requires { sum_over (not_false (literals_up_to level standing.now)) constraint.now.terms ≡ constraint.now.degree + slack }
     ensures { IsTrue result ↔ (l : Lit) × IsForced (literals_up_to level standing.now) l constraint.now }

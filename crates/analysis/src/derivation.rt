@@ -22,7 +22,7 @@ pub(crate) struct Derivation {
     pub(crate) constraint: Normal,
 }
 
-// A coefficient as a number of a line.
+/// A coefficient as a number of a line.
 fn written(coef: u128) -> Result<i128, CutFault>
     ensures { IfOk result (λ number. number ≡ pos coef) }
 {

@@ -13,7 +13,7 @@ use super::standing::Standing;
 use normal_form::{Normal, NormalTerm};
 use std::alloc::{AllocError, Global};
 
-// The greater of two levels.
+/// The greater of two levels.
 fn greater(one: u32, other: u32) -> u32
     ensures { result ≡ max one other }
 {
@@ -31,8 +31,8 @@ pub(crate) fn open_decisions(trail: &[Entry]) -> u32
     greatest
 }
 
-// What a literal of a constraint has to do with the trail: the level since which it is set, `u32::MAX` where it is unset, and
-// whether it is false since then.
+/// What a literal of a constraint has to do with the trail: the level since which it is set, `u32::MAX` where it is unset, and
+/// whether it is false since then.
 #[derive(Clone, Copy, Debug)]
 struct Turn {
     level: u32,
@@ -55,7 +55,7 @@ fn turn_of(term: NormalTerm, standing: &Standing<'_>) -> Turn {
     }
 }
 
-// The turns of a constraint's literals, the one of the greatest level last.
+/// The turns of a constraint's literals, the one of the greatest level last.
 fn turns(
     alloc: Global,
     constraint: &Normal,
@@ -69,8 +69,8 @@ fn turns(
     Ok(turns)
 }
 
-// What the literals that are not false add up to, and the greatest coefficient of an unset one. Sums are within 2^120, since
-// those of a constraint are.
+/// What the literals that are not false add up to, and the greatest coefficient of an unset one. Sums are within 2^120, since
+/// those of a constraint are.
 #[derive(Clone, Copy, Debug)]
 struct Sweep {
     sum: u128,
@@ -104,7 +104,7 @@ impl Sweep {
     }
 }
 
-// The level that the turns before a place come up to.
+/// The level that the turns before a place come up to.
 fn level_before(turns: &[Turn], place: usize) -> u32
     requires { place ≤ length turns.now }
 {
@@ -115,7 +115,7 @@ fn level_before(turns: &[Turn], place: usize) -> u32
     }
 }
 
-// The least level at which a constraint of these turns, in the order of their levels, bites.
+/// The least level at which a constraint of these turns, in the order of their levels, bites.
 fn least_biting(turns: &[Turn], degree: u128) -> Option<u32> {
     let mut sweep = Sweep::under_all(turns);
     let mut place = turns.len();

@@ -17,14 +17,14 @@ use linear::{Lit, Var};
 use normal_form::{Normal, NormalTerm};
 use std::alloc::{AllocError, Global};
 
-// Whether a term is one of a literal.
+/// Whether a term is one of a literal.
 fn is_of(term: NormalTerm, literal: Lit) -> bool
     ensures { result ≡ only (literal.var.0) literal.negated (term.var.0) term.negated }
 {
     term.var.0 == literal.var.0 && term.negated == literal.negated
 }
 
-// What the term at a place adds to the coefficient of a literal.
+/// What the term at a place adds to the coefficient of a literal.
 fn counted(constraint: &Normal, literal: Lit, place: usize) -> u128
     requires { place < length constraint.now.terms }
     ensures { sum_over (only (literal.var.0) literal.negated) (take (place + 1) constraint.now.terms)
@@ -34,7 +34,7 @@ fn counted(constraint: &Normal, literal: Lit, place: usize) -> u128
     if is_of(term, literal) { term.coef } else { 0 }
 }
 
-// The coefficient of a literal.
+/// The coefficient of a literal.
 fn coefficient_of(constraint: &Normal, literal: Lit) -> u128
     ensures { result ≡ coefficient constraint.now (literal.var.0) literal.negated }
 {
@@ -45,8 +45,8 @@ fn coefficient_of(constraint: &Normal, literal: Lit) -> u128
     coef
 }
 
-// The variables of a reason, but for that of the forced literal, that were not false when it was forced, and whose coefficients
-// the divisor does not divide.
+/// The variables of a reason, but for that of the forced literal, that were not false when it was forced, and whose coefficients
+/// the divisor does not divide.
 fn uneven(
     alloc: Global,
     reason: &Normal,

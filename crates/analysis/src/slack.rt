@@ -22,7 +22,7 @@ pub(crate) fn opposite(literal: Lit) -> Lit
     }
 }
 
-// What the term at a place adds to the sum of the literals that are not made false.
+/// What the term at a place adds to the sum of the literals that are not made false.
 fn counted(constraint: &Normal, standing: &Standing<'_>, level: u32, place: usize) -> u128
     requires { place < length constraint.now.terms }
     ensures { sum_over (not_false (literals_up_to level standing.now)) (take (place + 1) constraint.now.terms)
@@ -36,7 +36,7 @@ fn counted(constraint: &Normal, standing: &Standing<'_>, level: u32, place: usiz
     }
 }
 
-// The sum of the coefficients of the literals that are not made false.
+/// The sum of the coefficients of the literals that are not made false.
 fn open_sum(constraint: &Normal, standing: &Standing<'_>, level: u32) -> u128
     ensures { result ≡ sum_over (not_false (literals_up_to level standing.now)) constraint.now.terms }
 {

@@ -31,7 +31,7 @@ impl<'a> Model for Standing<'a> {
     ghost invariant = { λ s. AreSpotsOf s.entries.now s.spots.items };
 }
 
-// One more than the greatest variable's number.
+/// One more than the greatest variable's number.
 fn variable_count(trail: &[Entry]) -> usize
     ensures { All (λ e. e.literal.var.0 < result) trail.now }
 {
@@ -42,7 +42,7 @@ fn variable_count(trail: &[Entry]) -> usize
     count
 }
 
-// Notes where an entry stands, unless its variable stands elsewhere already.
+/// Notes where an entry stands, unless its variable stands elsewhere already.
 fn note(spots: &mut Vec<Option<Spot>>, entry: Entry, place: usize) -> bool
     ensures free { IsTrue result → slice_index_or spots.old.items (entry.literal.var.0) None ≡ None }
     ensures inside { IsTrue result → entry.literal.var.0 < length spots.old.items }

@@ -13,7 +13,7 @@ use linear::Lit;
 use normal_form::Normal;
 use std::alloc::{AllocError, Global};
 
-// A literal that stands on a trail without decisions.
+/// A literal that stands on a trail without decisions.
 fn at_start(literal: Lit) -> Entry
     ensures literal { result.literal ≡ literal }
     ensures level { result.level ≡ 0 }
@@ -25,7 +25,7 @@ fn at_start(literal: Lit) -> Entry
     }
 }
 
-// The trail of a listing, without decisions.
+/// The trail of a listing, without decisions.
 fn trail_of(alloc: Global, listing: &[Lit]) -> Result<Vec<Entry>, AllocError>
     ensures flat { IfOk result (λ trail. literals_up_to 0 trail.items ≡ listing.now) }
     ensures literals { IfOk result (λ trail. map (λ e. e.literal) trail.items ≡ listing.now) }

@@ -23,14 +23,14 @@ use normal_form::{Normal, NormalTerm};
 use propagate::{Id, Propagator};
 use std::alloc::Global;
 
-// A literal of a constraint that is false since a place on the trail, by its coefficient.
+/// A literal of a constraint that is false since a place on the trail, by its coefficient.
 #[derive(Clone, Copy, Debug)]
 struct Falsified {
     place: usize,
     coef: u128,
 }
 
-// A term's literal, if it is false since before a place.
+/// A term's literal, if it is false since before a place.
 fn false_before(term: NormalTerm, standing: &Standing<'_>, before: usize) -> Option<Falsified>
     ensures { IfSome result (λ at. at.place < before) }
 {
@@ -43,7 +43,7 @@ fn false_before(term: NormalTerm, standing: &Standing<'_>, before: usize) -> Opt
     }
 }
 
-// The one of two that came later, if there is any.
+/// The one of two that came later, if there is any.
 fn later(first: Option<Falsified>, second: Option<Falsified>) -> Option<Falsified>
     ensures { (before : ℕ) → IfSome first (λ at. at.place < before) → IfSome second (λ at. at.place < before) → IfSome result (λ at. at.place < before) }
 {
@@ -54,7 +54,7 @@ fn later(first: Option<Falsified>, second: Option<Falsified>) -> Option<Falsifie
     }
 }
 
-// The latest false literal of a constraint before a place.
+/// The latest false literal of a constraint before a place.
 fn latest_false(constraint: &Normal, standing: &Standing<'_>, before: usize) -> Option<Falsified>
     ensures { IfSome result (λ at. at.place < before) }
 {
@@ -68,7 +68,7 @@ fn latest_false(constraint: &Normal, standing: &Standing<'_>, before: usize) -> 
     latest
 }
 
-// The constraint of an id.
+/// The constraint of an id.
 fn cite<'a, P: Propagator>(
     alloc: Global,
     kernel: &Kernel<'a, P>,
@@ -83,7 +83,7 @@ fn cite<'a, P: Propagator>(
     Ok(Derivation::cited(alloc, id, constraint)?)
 }
 
-// What the walk has, resolved with the reason of the literal that made one of its literals false.
+/// What the walk has, resolved with the reason of the literal that made one of its literals false.
 fn resolved<'a, P: Propagator>(
     alloc: Global,
     kernel: &Kernel<'a, P>,

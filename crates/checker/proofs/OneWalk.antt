@@ -11,7 +11,7 @@ use Rattle.proof_rules.proofs.OneStart.{one_start}
 use Rattle.proof_rules.proofs.OneStepFault.{one_step_fault}
 use Rattle.proof_rules.proofs.OneState.{one_state, one_justified}
 use Rattle.proof_text.proofs.OneReading.{one_line}
-use Rattle.proof_text.specs.Faults.{DeniesLine, DeniesPlaced}
+use Rattle.proof_text.specs.Faults.{DeniesLine, DeniesAt}
 use Rattle.proof_text.specs.Lines.{Numbered, lines_of}
 use Rattle.proof_text.specs.Numbering.{names_in}
 use Rattle.proof_text.specs.Spells.{IsLine, line_of, naming}
@@ -73,13 +73,13 @@ one_advance p old a b x y =
     same_position a b both.0 (x.names ∙ same.2 ∙ sym y.names) (x.left ∙ same.3 ∙ sym y.left) both.1 both.2
 
 -- what a fault denies is no line
-placed_never : (f : ProofFault) (section : Section) (old ws : List (List ℕ)) (line : Line) (new : List (List ℕ)) → DeniesPlaced f section old ws → f ≢ readings.OutOfMemory → IsLine section old ws line new → ⊥
+placed_never : (f : ProofFault) (section : Section) (old ws : List (List ℕ)) (line : Line) (new : List (List ℕ)) → DeniesAt f section old ws → f ≢ readings.OutOfMemory → IsLine section old ws line new → ⊥
 placed_never f section old ws line new denies sure is = by f denies sure
   where
     says : line_of section (names_in old (naming section ws)) ws ≡ Some line
     says = ap (λ t. line_of section t ws) (sym is.names) ∙ is.says
 
-    by : (g : ProofFault) → DeniesPlaced g section old ws → g ≢ readings.OutOfMemory → ⊥
+    by : (g : ProofFault) → DeniesAt g section old ws → g ≢ readings.OutOfMemory → ⊥
     by readings.UnknownRule d n = d line says is.proper
     by readings.RuleLeftOut d n = d line says is.proper
     by readings.BadLine d n = d line says is.proper
@@ -171,8 +171,8 @@ refused_code p s (lines.Conclusion c) code why (g, is, sure, fault) (h, also, ce
 refused_code p s lines.End code why x y = absurd x
 
 -- where names are too many, the line is something, and its integers are small: no other fault denies it
-many_alone : (g : ProofFault) (section : Section) (old ws : List (List ℕ)) → DeniesPlaced readings.TooManyIds section old ws
-    → DeniesPlaced g section old ws → g ≢ readings.OutOfMemory → g ≡ readings.TooManyIds
+many_alone : (g : ProofFault) (section : Section) (old ws : List (List ℕ)) → DeniesAt readings.TooManyIds section old ws
+    → DeniesAt g section old ws → g ≢ readings.OutOfMemory → g ≡ readings.TooManyIds
 many_alone readings.UnknownRule section old ws x y sure = absurd (y x.1.0 x.1.1 x.1.2)
 many_alone readings.RuleLeftOut section old ws x y sure = absurd (y x.1.0 x.1.1 x.1.2)
 many_alone readings.BadLine section old ws x y sure = absurd (y x.1.0 x.1.1 x.1.2)
@@ -185,8 +185,8 @@ many_alone readings.Truncated section old ws x y sure = absurd y
 many_alone readings.TextAfterEnd section old ws x y sure = absurd y
 
 -- among the faults of a step, a conclusion or an end, those of a line that says nothing are left open
-placed_alone : (f g : ProofFault) (section : Section) (old ws : List (List ℕ)) → (IsLeftOpen (Reading f) → ⊥) → DeniesPlaced f section old ws
-    → f ≢ readings.OutOfMemory → DeniesPlaced g section old ws → g ≢ readings.OutOfMemory → g ≡ f
+placed_alone : (f g : ProofFault) (section : Section) (old ws : List (List ℕ)) → (IsLeftOpen (Reading f) → ⊥) → DeniesAt f section old ws
+    → f ≢ readings.OutOfMemory → DeniesAt g section old ws → g ≢ readings.OutOfMemory → g ≡ f
 placed_alone readings.UnknownRule g section old ws closed x sure y certain = absurd (closed tt)
 placed_alone readings.RuleLeftOut g section old ws closed x sure y certain = absurd (closed tt)
 placed_alone readings.BadLine g section old ws closed x sure y certain = absurd (closed tt)

@@ -1,4 +1,4 @@
--- What a text proves is accepted, or memory is wanted: no other verdict can be true of it.
+-- What a text proves is accepted, or memory runs out: no other verdict can be true of it.
 use Rattle.std.proofs.Common.{◌≡◌, ◌≢◌, ◌⊎◌, inl, inr, ℕ, List, refl, sym, ap, subst}
 use Rattle.linear.specs.Opb.{Opb}
 use Rattle.linear.specs.Limits.{IsWithin}

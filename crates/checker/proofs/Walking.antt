@@ -1,11 +1,9 @@
 -- The walk of the code: what is read and accepted is one position further, and what is refused is where judging stops.
-use Rattle.std.proofs.Common.{◌≡◌, ◌≢◌, ◌<◌, ◌+◌, ℕ, None, List, [], ◌∷◌, length, arith, refl, sym, ap, subst, ◌∙◌}
+use Rattle.std.proofs.Common.{◌≡◌, ◌≢◌, ◌<◌, ℕ, None, List, [], ◌∷◌, length, arith, refl, sym, ap, subst, ◌∙◌}
 use Rattle.linear.specs.Opb.{Opb}
 use Rattle.proof_rules.specs.Justified.{IsJustified}
 use Rattle.proof_rules.specs.Legal.{Legal}
-use Rattle.proof_rules.specs.Forms.{problem_ids}
 use Rattle.proof_rules.specs.State.{State, IsStart}
-use Rattle.proof_rules.proofs.FileForms.{all_count}
 use Rattle.proof_text.specs.Faults.{DeniesLine}
 use Rattle.proof_text.specs.Lines.{Numbered, lines_of}
 use Rattle.proof_text.specs.declared.fault.ProofFault.{ProofFault}
@@ -13,6 +11,7 @@ use Rattle.proof_text.specs.declared.fault.ProofFault.TheVariants as readings
 use Rattle.proof_text.specs.declared.line.Line.{Line}
 use Rattle.proof_text.specs.declared.line.Line.TheVariants as lines
 use Rattle.proof_text.specs.declared.line.Section.TheVariants as sections
+use Rattle.kernel.specs.Held.{Held}
 use Rattle.checker.specs.Stopped.{IsStopped, Refuses, Stops}
 use Rattle.checker.specs.Stopped.{refused}
 use Rattle.checker.specs.StopsBy.{StopsBy, reading_stop}
@@ -67,17 +66,17 @@ advances_by p old mid new number said reads accepts names left =
     }
 
 -- what is read is refused at the line of this number
-abbrev pub RefusesAt : ℕ → Opb → State → Line → ℕ → Code → Type 0
-RefusesAt number p s said line code = (line ≡ number) × Refuses p s said code
+abbrev pub RefusesAt : ℕ → Held → Line → ℕ → Code → Type 0
+RefusesAt number k said line code = (line ≡ number) × Refuses k.problem k.state said code
 
 -- a line that is read and refused
-pub stops_refused : (p : Opb) (old mid : Position) (number : ℕ) (said : Line) (last : ℕ) (stop : Stop) → Reads old mid number said → StopsBy (RefusesAt number p mid.state said) stop → StopsBy (Stops p old last) stop
-stops_refused p old mid number said last stop reads why = stops_so (RefusesAt number p mid.state said) (Stops p old last) stop by why
+pub stops_refused : (p : Opb) (old mid : Position) (number : ℕ) (said : Line) (last : ℕ) (stop : Stop) → Reads old mid number said → StopsBy (RefusesAt number (record { problem = p; state = mid.state }) said) stop → StopsBy (Stops p old last) stop
+stops_refused p old mid number said last stop reads why = stops_so (RefusesAt number (record { problem = p; state = mid.state }) said) (Stops p old last) stop by why
   where
     state : mid.state ≡ old.state
     state = ap (λ (x : Position). x.state) reads.now_at
 
-    by : (line : ℕ) (code : Code) → RefusesAt number p mid.state said line code → Stops p old last line code
+    by : (line : ℕ) (code : Code) → RefusesAt number (record { problem = p; state = mid.state }) said line code → Stops p old last line code
     by line code r = refused (record {
       next = reads.next;
       line_is = r.0 ∙ reads.number_is;
@@ -117,14 +116,6 @@ begins p proof names left start named all starts = record {
   where
     at_header : List (List ℕ) → List Numbered → Position
     at_header n ls = record { section = sections.Header; names = n; left = ls; state = start; concluded = None }
-
--- the count of the state of a file
-pub counts_file : (p : Opb) (s : State) (count : ℕ) → IsStart p s → count + 1 ≡ s.next → count ≡ problem_ids p.constraints
-counts_file p s count start next =
-    let ns = start.0 in
-    let at : s.next ≡ length ns + 1 = ap (λ (x : State). x.next) start.2 in
-    let long : length ns ≡ problem_ids p.constraints = all_count p.constraints ns start.1 in
-    omega (arith, next, at, long)
 
 -- behind the end, what stands is denied
 pub denied_behind : (at : Position) (ws : List (List ℕ)) → at.section ≡ sections.After → DeniesLine readings.TextAfterEnd at.section at.names ws

@@ -2,7 +2,7 @@
 
 ghost use Rattle.std.specs.Prelude.{ℕ, List};
 ghost use Rattle.opb_read.specs.Faults.{Denies};
-ghost use Rattle.opb_read.specs.FaultPlace.{IsFaultAt};
+ghost use Rattle.opb_read.specs.FaultSpot.{IsFaultAt};
 ghost use Rattle.checker.specs.Verdicts.{IsVerdictOf};
 
 use super::judge::judge;
@@ -23,8 +23,8 @@ type Judging = Deferred<ScanPropagator, WatchPropagator>;
 /// `Accepted`, for any two texts and whoever wrote the proof: the problem's text spells exactly one problem, the
 /// accepted conclusion is true of that problem's own signed terms (under `UNSAT` no 0-1 assignment satisfies it), and
 /// the proof's text spells a legal proof of it. `Refused` at a line: all lines before it are read and legal, and it is
-/// not; so the text is no legal proof. `BadProblem` is the fault that `read` finds in the problem's text. Running out of
-/// memory is never a refusal, but `NoMemory`.
+/// not; so the text is no legal proof. `BadProblem` is the fault that `read` finds in the problem's text. Running out
+/// of memory is never a refusal, but `NoMemory`.
 pub fn check(alloc: Global, opb: &[u8], proof: &[u8]) -> Verdict
     ensures sound { IsVerdictOf opb.now proof.now result }
 {

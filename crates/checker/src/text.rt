@@ -1,6 +1,6 @@
 //! What is printed for a verdict.
 
-ghost use Rattle.std.specs.Prelude.{◌≡◌, IfOk, OnOk, length};
+ghost use Rattle.std.specs.Prelude.{◌≡◌, IfOk, OnOk};
 ghost use Rattle.checker.specs.Printed.{IsPrinted, IsAcceptedText, IsWithBest};
 ghost use Rattle.checker.specs.Printed.{with_conclusion, with_lower, with_upper};
 

@@ -57,7 +57,7 @@ impl<'a, P: Propagator> Walk<'a, P> {
             section: Section::Header,
             names: problem.names().copy(alloc)?,
             reader: ProofReader::new(proof),
-            count: kernel.last_id(),
+            count: kernel.problem_ids(),
             kernel,
             concluded: None,
         })

@@ -1,14 +1,15 @@
 -- What the private functions speak of: merging the terms of two constraints variable by variable, and terms with
 -- other coefficients.
-use Rattle.std.specs.Prelude.{◌≡◌, ℕ, zero, suc, Bool, ◌*◌, ◌^◌, ◌≤◌, ◌+ℤ◌, ℤ, pos, unsigned_abs, List, [], ◌∷◌, ◌++◌, ◌==◌, if◌then◌else◌}
+use Rattle.std.specs.Prelude.{◌≡◌, ℕ, zero, suc, Bool, ◌*◌, ◌≤◌, ◌+ℤ◌, ℤ, pos, unsigned_abs, List, [], ◌∷◌, ◌++◌, ◌==◌, if◌then◌else◌}
 use Rattle.std.specs.Int.{div_ceil}
+use Rattle.linear.specs.Largest.{most_names}
 use Rattle.normal_form.specs.declared.term.NormalTerm.{NormalTerm}
 use Rattle.normal_form.specs.Balance.{rise_of, rises_of}
 use Rattle.normal_form.specs.Normal.{largest_sum}
 
--- the variable of the first term, or 2^32, which is above all variables
+-- the variable of the first term, or the number of names that there may be, which is above all variables
 abbrev pub first_variable : List NormalTerm → ℕ
-first_variable [] = 2 ^ 32
+first_variable [] = most_names
 first_variable (t ∷ ts) = t.var.0
 
 -- what the first term gives its variable, 0 where there is none
@@ -21,7 +22,7 @@ pub record IsHead (ts behind : List NormalTerm) (variable : ℕ) (net : ℤ) : T
   pub first : variable ≡ first_variable ts
   pub gives : net ≡ first_rise ts
   pub size : unsigned_abs net ≤ largest_sum
-  pub last : 2 ^ 32 ≤ variable → ts ≡ []
+  pub last : most_names ≤ variable → ts ≡ []
   pub rest : (t : NormalTerm) (more : List NormalTerm) → ts ≡ t ∷ more → behind ≡ more
 
 -- the terms of r give each set of variables what those of d and e give together

@@ -14,8 +14,8 @@ use super::merging::{Merged, merge};
 use normal_form::{CutFault, Normal};
 use std::alloc::Global;
 
-// The sum of two constraints, of their merged terms. What cancels goes from both of two opposite literals, so
-// the coefficient sum falls by twice as much.
+/// The sum of two constraints, of their merged terms. What cancels goes from both of two opposite literals, so
+/// the coefficient sum falls by twice as much.
 fn with_degree(merged: Merged, left: &Normal, right: &Normal) -> Result<Normal, CutFault>
     requires balance { SumBalances left.now.terms right.now.terms merged.terms }
     requires rises { Rises 0 merged.terms }

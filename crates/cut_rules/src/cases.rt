@@ -1,7 +1,7 @@
 //! The rules' equations computed on small constraints, each the contract of a function that does nothing. A rule that
 //! gives less than it may would be sound all the same, and no law would tell: these cases do.
 
-ghost use Rattle.std.specs.Prelude.{◌≡◌, [], ◌∷◌};
+ghost use Rattle.std.specs.Prelude.{[], ◌∷◌};
 ghost use Rattle.normal_form.specs.Cases.{plain, negated, normal};
 ghost use Rattle.cut_rules.specs.Rules.{IsSum, IsMultiple, IsQuotient, IsSaturation, IsWeakening, IsAxiom};
 ghost use Rattle.cut_rules.specs.Cases.{not_x, three_and_one, two_apart};

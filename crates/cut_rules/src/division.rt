@@ -14,7 +14,7 @@ use super::changes::push_kept;
 use normal_form::{CutFault, Normal, NormalBuilder};
 use std::alloc::{AllocError, Global};
 
-// The terms, each coefficient divided by a divisor and rounded up.
+/// The terms, each coefficient divided by a divisor and rounded up.
 fn divided(alloc: Global, constraint: &Normal, divisor: u128) -> Result<NormalBuilder, AllocError>
     requires { 0 < divisor }
     ensures { IfOk result (λ b. b ≡ changed (parts divisor) constraint.now.terms) }
@@ -27,7 +27,7 @@ fn divided(alloc: Global, constraint: &Normal, divisor: u128) -> Result<NormalBu
     Ok(terms)
 }
 
-// The quotient of a constraint.
+/// The quotient of a constraint.
 fn quotient(alloc: Global, constraint: &Normal, divisor: u128) -> Result<Normal, CutFault>
     requires { 0 < divisor }
     ensures quotient { IfOk result (IsQuotient divisor constraint.now) }

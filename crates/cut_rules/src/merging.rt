@@ -1,5 +1,5 @@
 //! Merging the terms of two constraints: the terms of each variable become one with their net coefficient, or
-//! none where that is 0.
+//! none where that is 0 (addition of cutting planes: Cook, Coullard and Turan, 1987).
 //!
 //! Both lists rise by variable, so one pass takes the least variable on either side each time, reads it where it
 //! stands, and puts the result at the end: the merged terms rise again. A literal and its opposite are one variable with
@@ -7,8 +7,9 @@
 //! The sum of the result is added up on the way: what cancelled is half of what the sums of the two had more, and by it
 //! the degree falls.
 
-ghost use Rattle.std.specs.Prelude.{◌≡◌, ℕ, Bool, ◌+◌, ◌<◌, ◌≤◌, ◌^◌, pos, ◌+ℤ◌, unsigned_abs, IfOk, OnOk, drop, [], if◌then◌else◌};
-ghost use Rattle.normal_form.specs.Normal.{largest_sum, total, variable_bound, Rises};
+ghost use Rattle.std.specs.Prelude.{◌≡◌, ℕ, Bool, ◌+◌, ◌<◌, ◌≤◌, pos, ◌+ℤ◌, unsigned_abs, IfOk, drop, [], if◌then◌else◌};
+ghost use Rattle.linear.specs.Largest.{most_names};
+ghost use Rattle.normal_form.specs.Normal.{largest_sum, total, Rises};
 ghost use Rattle.normal_form.specs.Balance.{rise_of, rises_of};
 ghost use Rattle.cut_rules.specs.Steps.{IsHead, SumBalances};
 
@@ -16,10 +17,10 @@ use linear::Var;
 use normal_form::{Normal, NormalBuilder, NormalTerm};
 use std::alloc::{AllocError, Global};
 
-// Above all variables.
+/// Above all variables.
 const END: u64 = 1 << 32;
 
-// What a term gives its variable.
+/// What a term gives its variable.
 fn rise(term: NormalTerm) -> i128
     requires { term.coef ≤ largest_sum }
     ensures value { result ≡ rise_of term }
@@ -32,7 +33,7 @@ fn rise(term: NormalTerm) -> i128
     }
 }
 
-// The term that is next on one side, read once: its variable, or the end, what it gives that variable, and the place behind it.
+/// The term that is next on one side, read once: its variable, or the end, what it gives that variable, and the place behind it.
 #[derive(Clone, Copy)]
 struct Head {
     variable: u64,
@@ -40,7 +41,7 @@ struct Head {
     behind: usize,
 }
 
-// The term at a place.
+/// The term at a place.
 fn head_at(constraint: &Normal, place: usize) -> Head
     ensures { IsHead (drop place constraint.now.terms) (drop result.behind constraint.now.terms) result.variable result.net }
 {
@@ -59,7 +60,7 @@ fn head_at(constraint: &Normal, place: usize) -> Head
     }
 }
 
-// What one side gives a variable, the place after what was read, and the term there.
+/// What one side gives a variable, the place after what was read, and the term there.
 #[derive(Clone, Copy)]
 struct Part {
     net: i128,
@@ -67,11 +68,11 @@ struct Part {
     head: Head,
 }
 
-// Reads the term at a place if it is one of this variable.
+/// Reads the term at a place if it is one of this variable.
 fn read_part(constraint: &Normal, place: usize, head: Head, variable: u64) -> Part
     requires rises { Rises variable (drop place constraint.now.terms) }
     requires head { IsHead (drop place constraint.now.terms) (drop head.behind constraint.now.terms) head.variable head.net }
-    requires variable { variable < 2 ^ 32 }
+    requires variable { variable < most_names }
     ensures ahead { Rises (variable + 1) (drop result.next constraint.now.terms) }
     ensures gives { (set : ℕ → Bool) → rises_of set (drop place constraint.now.terms) ≡ (if set variable then result.net else pos 0) +ℤ rises_of set (drop result.next constraint.now.terms) }
     ensures total { total (drop place constraint.now.terms) ≡ unsigned_abs result.net + total (drop result.next constraint.now.terms) }

@@ -3,7 +3,7 @@
 //! Whether the result is within the limits is asked of the sum and the degree before any coefficient is multiplied:
 //! then no product can leave its type.
 
-ghost use Rattle.std.specs.Prelude.{◌≡◌, ◌↔◌, ◌*◌, ◌≤◌, ◌^◌, pos, ◌<ℤ◌, unsigned_abs, IfOk, OnOk, IsErrOf, IsTrue};
+ghost use Rattle.std.specs.Prelude.{◌≡◌, ◌↔◌, ◌*◌, ◌≤◌, pos, ◌<ℤ◌, unsigned_abs, IfOk, OnOk, IsErrOf, IsTrue};
 ghost use Rattle.linear.specs.Valuation.{Valuation};
 ghost use Rattle.normal_form.specs.Normal.{NormalConstraint, IsNormal, Fits, Holds, total, largest_sum};
 ghost use Rattle.cut_rules.specs.Rules.{IsMultiple, IsTooLarge};
@@ -13,7 +13,7 @@ use super::changes::push_kept;
 use normal_form::{CutFault, LARGEST_SUM, Normal, NormalBuilder};
 use std::alloc::{AllocError, Global};
 
-// Whether a product is within the limit.
+/// Whether a product is within the limit.
 fn product_fits(factor: u128, number: u128) -> bool
     ensures { IsTrue result ↔ factor * number ≤ largest_sum }
 {
@@ -23,7 +23,7 @@ fn product_fits(factor: u128, number: u128) -> bool
     }
 }
 
-// Whether a multiple of a constraint is within the limits.
+/// Whether a multiple of a constraint is within the limits.
 fn multiple_fits(constraint: &Normal, factor: u128) -> bool
     ensures fits { IsTrue result ↔ (factor * total constraint.now.terms ≤ largest_sum) × (factor * constraint.now.degree ≤ largest_sum) }
     ensures normal { IsNormal constraint.now }
@@ -31,7 +31,7 @@ fn multiple_fits(constraint: &Normal, factor: u128) -> bool
     product_fits(factor, constraint.sum()) && product_fits(factor, constraint.degree())
 }
 
-// The terms, each coefficient times a factor.
+/// The terms, each coefficient times a factor.
 fn scaled(alloc: Global, constraint: &Normal, factor: u128) -> Result<NormalBuilder, AllocError>
     requires { factor * total constraint.now.terms ≤ largest_sum }
     ensures { IfOk result (λ b. b ≡ changed (times factor) constraint.now.terms) }
@@ -44,7 +44,7 @@ fn scaled(alloc: Global, constraint: &Normal, factor: u128) -> Result<NormalBuil
     Ok(terms)
 }
 
-// A multiple of a constraint.
+/// A multiple of a constraint.
 fn multiple(alloc: Global, constraint: &Normal, factor: u128) -> Result<Normal, CutFault>
     ensures multiple { IfOk result (IsMultiple factor constraint.now) }
     ensures normal { IfOk result IsNormal }

@@ -13,7 +13,7 @@ use super::changes::push_kept;
 use normal_form::{CutFault, Normal, NormalBuilder};
 use std::alloc::{AllocError, Global};
 
-// The terms, each coefficient at most the cap.
+/// The terms, each coefficient at most the cap.
 fn capped(alloc: Global, constraint: &Normal, cap: u128) -> Result<NormalBuilder, AllocError>
     ensures { IfOk result (λ b. b ≡ changed (λ _ c. min c cap) constraint.now.terms) }
 {

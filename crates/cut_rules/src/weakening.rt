@@ -14,21 +14,21 @@ use linear::Var;
 use normal_form::{CutFault, Normal, NormalBuilder, NormalTerm};
 use std::alloc::{AllocError, Global};
 
-// The terms without a variable, and the coefficient that went.
+/// The terms without a variable, and the coefficient that went.
 #[derive(Drop)]
 struct Weakened {
     terms: NormalBuilder,
     gone: u128,
 }
 
-// The coefficient that a term keeps.
+/// The coefficient that a term keeps.
 fn kept_coefficient(term: NormalTerm, var: Var) -> u128
     ensures { result ≡ less (var.0) (term.var.0) term.coef }
 {
     if term.var.0 == var.0 { 0 } else { term.coef }
 }
 
-// Leaves out the term of a variable.
+/// Leaves out the term of a variable.
 fn without(alloc: Global, constraint: &Normal, var: Var) -> Result<Weakened, AllocError>
     ensures terms { IfOk result (λ w. w.terms ≡ changed (less (var.0)) constraint.now.terms) }
     ensures gone { IfOk result (λ w. w.gone ≡ coefficient constraint.now (var.0) false + coefficient constraint.now (var.0) true) }

@@ -10,7 +10,7 @@ use Rattle.linear.specs.Sum.{sum_of}
 use Rattle.linear.specs.Valuation.{Valuation, literal_true, valuation_of}
 use Rattle.normal_form.specs.Normal.{NormalConstraint}
 use Rattle.normal_form.specs.NormalOf.{IsNormalOf, size_sum}
-use Rattle.substitution.specs.Objective.{largest_objective}
+use Rattle.linear.specs.Largest.{largest_objective}
 use Rattle.substitution.proofs.Difference.{objective_read}
 use Rattle.proof_rules.specs.Legal.{Improves, Logs, worth_of}
 use Rattle.proof_rules.specs.Solution.{at_most}

@@ -1,8 +1,6 @@
 -- The goals of a `red` step that are open.
 use Rattle.std.specs.Prelude.{◌≡◌, ◌↔◌, ◌⊎◌, Bool, ℕ, ◌<◌, List, [], ◌∷◌, ◌++◌, MatchOption, Option, Some}
 use Rattle.std.specs.FinMap as map
-use Rattle.linear.specs.Opb.{Opb}
-use Rattle.linear.specs.declared.term.Term.{Term}
 use Rattle.linear.specs.declared.term.Var.{Var}
 use Rattle.normal_form.specs.Negation.{IsNegation}
 use Rattle.normal_form.specs.Normal.{NormalConstraint}
@@ -12,7 +10,7 @@ use Rattle.substitution.specs.Covering.{Covers}
 use Rattle.substitution.specs.Images.{Images}
 use Rattle.substitution.specs.Under.{IsUnder}
 use Rattle.proof_rules.specs.Fault.{IsGoalFault}
-use Rattle.proof_rules.specs.Legal.{IsShownUnder, IsShownNotRaised, Redundant}
+use Rattle.proof_rules.specs.Legal.{IsShownUnder, Redundant}
 use Rattle.proof_rules.specs.State.{Live, constraints}
 use Rattle.proof_rules.specs.declared.fault.StepFault.{StepFault}
 use Rattle.proof_rules.specs.declared.fault.StepFault.TheVariants as faults
@@ -41,12 +39,6 @@ IsOpenLive live from images (faults.GoalOpen id) =
     (e : NormalConstraint) × (map.get live id ≡ Some e) × (IsShownUnder from images e → ⊥)
     × ((k : ℕ) (d : NormalConstraint) → k < id → map.get live k ≡ Some d → IsShownUnder from images d)
 IsOpenLive live from images _ = ⊥
-
--- the goal of the objective is open
-abbrev pub IsRaised : Opb → List NormalConstraint → Images → StepFault → Type 0
-IsRaised p from images faults.GoalOpenObjective =
-    (objective : List Term) × (p.objective ≡ Some objective) × (IsShownNotRaised from images objective → ⊥)
-IsRaised p from images _ = ⊥
 
 -- all goals of a new constraint are shown, beside its negation
 abbrev pub AreGoalsShown : Held → Images → NormalConstraint → Type 0

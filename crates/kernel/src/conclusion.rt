@@ -3,7 +3,7 @@
 ghost use Rattle.std.specs.Prelude.{◌≡◌, ◌↔◌, ◌≤◌, IfOk, IfErr, IfSome, IsTrue, OnOk};
 ghost use Rattle.std.specs.Option.{option_copied};
 ghost use Rattle.normal_form.specs.NormalOf.{size_sum};
-ghost use Rattle.substitution.specs.Objective.{largest_objective};
+ghost use Rattle.linear.specs.Largest.{largest_objective};
 ghost use Rattle.proof_rules.specs.Claim.{Claim, ClaimsUpper, IsSolution};
 ghost use Rattle.proof_rules.specs.Fault.{OrMemory, IsConclusionFault, IsHintFault, IsLowerFault, IsBoundFault, IsUnsatFault};
 ghost use Rattle.proof_rules.specs.Justified.{IsJustified, IsBest, IsExhausted, EntitlesLower, TakesHint};
@@ -45,8 +45,7 @@ impl<'a, P: Propagator> Kernel<'a, P> {
         ensures fault { IfErr result (λ f. OrMemory f (IsConclusionFault self.old.problem self.old.state conclusion.now f)) }
         ensures same { self.new ≡ self.old }
     {
-        // That the kernel keeps an answer is known by its type; this makes it known here.
-        let _ = &self.source;
+        self.reveal();
         let best = self.judge(conclusion)?;
         Ok(Accepted::new(copied_conclusion(conclusion)?, best))
     }

@@ -1,7 +1,7 @@
 //! The live constraints of a proof by their ids, and the id that the next one takes. That every id is above 0 and below
 //! the next one is a fact of the type: so the next one is free, and a number beyond all ids names nothing.
 
-ghost use Rattle.std.specs.Prelude.{◌≡◌, ◌≤◌, ◌^◌, MatchOption};
+ghost use Rattle.std.specs.Prelude.{◌≡◌, ◌≤◌, MatchOption};
 ghost use Rattle.proof_rules.specs.State.{id_limit, id_of};
 
 use linear::{Lit, Var};
@@ -126,7 +126,7 @@ impl<P: Propagator> Database<P> {
         }
     }
 
-    // Adds the ids of the live constraints that have a variable to a set.
+    /// Adds the ids of the live constraints that have a variable to a set.
     fn add_variable(&mut self, variable: Var, ids: &mut Ids) -> Result<(), AllocError>
         ensures same { self.new ≡ self.old }
         ensures added { OnOk result (AddsVariable self.old.live variable ids.old ids.new) }

@@ -31,8 +31,8 @@ pub struct Kernel<'a, P: Propagator> {
     pub(crate) database: Database<P>,
     pub(crate) log: Log,
     pub(crate) problem_ids: u64,
-    // What `pol` steps add up in. What it holds between them is of no account: it is kept for its memory, a cell for
-    // each variable, which would else be taken and cleared for each step.
+    /// What `pol` steps add up in. What it holds between them is of no account: it is kept for its memory, a cell for
+    /// each variable, which would else be taken and cleared for each step.
     pub(crate) sum: Accumulator,
 }
 
@@ -74,6 +74,13 @@ impl<'a, P: Propagator> Kernel<'a, P> {
             problem_ids,
             sum: Accumulator::new(alloc),
         })
+    }
+
+    /// What holds of every kernel, for a proof that needs it where nothing else of the kernel is asked.
+    pub(crate) fn reveal(&self)
+        ensures { IsKept self.now }
+    {
+        let _ = &self.source;
     }
 
     /// The id that was given last; 0 where none was.

@@ -3,6 +3,7 @@
 #![tactic(auto)]
 
 mod accepted;
+mod admission;
 mod conclusion;
 mod database;
 mod deletion;

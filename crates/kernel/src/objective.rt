@@ -3,7 +3,7 @@
 ghost use Rattle.std.specs.Prelude.{◌≡◌, ◌+◌, ◌-ℤ◌, ◌≤◌, IfErr, IfOk, IsErrOf, OnErr, map, pos, unsigned_abs};
 ghost use Rattle.normal_form.specs.Normal.{Fits, IsNormal, largest_sum};
 ghost use Rattle.normal_form.specs.NormalOf.{IsNormalOf, sign_changed, size_sum};
-ghost use Rattle.substitution.specs.Objective.{largest_objective};
+ghost use Rattle.linear.specs.Largest.{largest_objective};
 ghost use Rattle.proof_rules.specs.Solution.{at_least, at_most};
 ghost use Rattle.proof_rules.specs.Fault.{OrMemory};
 ghost use Rattle.kernel.specs.Held.{IsUnfit};

@@ -4,17 +4,17 @@
 //! constraints have no variable of the witness, and become themselves. They are not looked at: the propagator says which ones
 //! have a variable, so that a step costs what its witness touches, however large the database is.
 
-ghost use Rattle.std.specs.Prelude.{◌≡◌, ◌↔◌, ◌++◌, ◌∷◌, [], Some, All, IfOk, IfErr, IfSome, IsErrOf, IsTrue, OnErr, OnOk};
+ghost use Rattle.std.specs.Prelude.{◌≡◌, ◌↔◌, ◌++◌, Some, All, IfOk, IfErr, IsErrOf, IsTrue, OnErr, OnOk};
 ghost use Rattle.std.specs.FinMap as map;
 ghost use Rattle.linear.specs.declared.constraint.Relation.TheVariants.{AtLeast};
 ghost use Rattle.normal_form.specs.Normal.{NormalConstraint, Rises};
 ghost use Rattle.proof_rules.specs.Fault.{OrMemory, IsRedFault};
-ghost use Rattle.proof_rules.specs.Legal.{IsShownUnder, IsShownNotRaised, LegalRed};
-ghost use Rattle.kernel.specs.Redundancy.{AreGoalsShown, IsGoalOpen, IsOpenLive, IsRaised};
+ghost use Rattle.proof_rules.specs.Legal.{IsShownUnder, LegalRed};
+ghost use Rattle.kernel.specs.Redundancy.{AreGoalsShown, IsGoalOpen, IsOpenLive};
 
+use super::admission::admitted;
 use super::database::Database;
 use super::kernel::{Applied, Kernel};
-use super::rup::admitted;
 use super::shown::is_shown;
 use linear::{Problem, Signed};
 use normal_form::{Normal, negate};
@@ -52,7 +52,7 @@ impl<'a, P: Propagator> Kernel<'a, P> {
         ensures shown { OnOk result (AreGoalsShown self.old witness.now constraint.now) }
         ensures fault { IfErr result (λ f. OrMemory f (IsGoalOpen self.old witness.now constraint.now f)) }
     {
-        let _ = &self.source;
+        self.reveal();
         if constraint.degree() == 0 {
             return Ok(());
         }

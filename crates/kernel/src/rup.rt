@@ -3,28 +3,14 @@
 
 ghost use Rattle.std.specs.Prelude.{◌≡◌, Some, IfOk, IfErr, OnOk, OnErr};
 ghost use Rattle.linear.specs.declared.constraint.Relation.TheVariants.{AtLeast};
-ghost use Rattle.normal_form.specs.Normal.{NormalConstraint, IsNormal};
 ghost use Rattle.proof_rules.specs.Fault.{OrMemory, IsRupFault};
 ghost use Rattle.proof_rules.specs.Legal.{LegalRup};
-ghost use Rattle.proof_rules.specs.Shown.{IsAdmitted};
-ghost use Rattle.kernel.specs.Held.{IsUnadmitted};
 
+use super::admission::admitted;
 use super::kernel::{Applied, Kernel};
 use linear::Signed;
-use normal_form::{Normal, normalize};
 use proof_rules::StepFault;
 use propagate::Propagator;
-use std::alloc::Global;
-
-/// The normal form of a written constraint, where it is within the limits.
-pub(crate) fn admitted(alloc: Global, constraint: &Signed) -> Result<Normal, StepFault>
-    requires { constraint.now.relation ≡ AtLeast }
-    ensures form { IfOk result (IsAdmitted constraint.now) }
-    ensures normal { IfOk result IsNormal }
-    ensures fault { IfErr result (λ f. OrMemory f (IsUnadmitted constraint.now f)) }
-{
-    Ok(normalize(alloc, constraint)?)
-}
 
 impl<'a, P: Propagator> Kernel<'a, P> {
     /// Adds a constraint that is shown from the live ones. The limits are judged first, then the ids.

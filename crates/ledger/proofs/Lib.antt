@@ -19,4 +19,4 @@ pub mod WatchMoves
 pub mod WatchedPlaces
 pub mod WatchedQuiet
 pub mod LastLiteral
-pub mod Apart
+pub mod TrailLiterals

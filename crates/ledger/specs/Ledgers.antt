@@ -1,6 +1,7 @@
 -- Constraints with the places of their literals and the counters of what a listing leaves open.
-use Rattle.std.specs.Prelude.{◌≡◌, ℕ, ◌+◌, ◌*◌, ◌<◌, ◌≤◌, List, [], Option, Some, None, All, length, map, take, slice_index_or}
+use Rattle.std.specs.Prelude.{◌≡◌, ℕ, ◌+◌, ◌*◌, ◌<◌, ◌≤◌, false, List, [], Option, Some, None, All, length, map, take, slice_index_or}
 use Rattle.linear.specs.declared.term.Lit.{Lit}
+use Rattle.normal_form.specs.declared.term.NormalTerm.{NormalTerm}
 use Rattle.normal_form.specs.Normal.{NormalConstraint, IsNormal, sum_over, variable_bound}
 use Rattle.propagate.specs.Literals.{coefficient_of}
 use Rattle.propagate.specs.Slack.{IsForced, not_false}
@@ -36,6 +37,15 @@ constraint_at constraints place = slice_index_or constraints place nothing
 -- what the literals that are not made false add up to
 abbrev pub open_sum : List Lit → NormalConstraint → ℕ
 open_sum listing n = sum_over (not_false listing) n.terms
+
+-- the constraint at a place has this slack
+abbrev pub HasSlack : List NormalConstraint → List Lit → ℕ → ℕ → Type 0
+HasSlack constraints listing place slack =
+    open_sum listing (constraint_at constraints place) ≡ (constraint_at constraints place).degree + slack
+
+-- the term at a place of a constraint
+abbrev pub term_at : List NormalConstraint → ℕ → ℕ → NormalTerm
+term_at constraints place index = slice_index_or (constraint_at constraints place).terms index (record { coef = 0; var = record { 0 = 0 }; negated = false })
 
 -- a table of occurrences of these constraints
 pub record IsIndex (constraints : List NormalConstraint) (variables : ℕ) (table : List (List Occurrence)) : Type 0 where

@@ -12,7 +12,7 @@ use super::trail::Trail;
 use linear::Lit;
 use normal_form::Normal;
 
-// Whether any one of its literals satisfies a constraint.
+/// Whether any one of its literals satisfies a constraint.
 fn is_clause(constraint: &Normal) -> bool
     ensures { IsTrue result → IsClause constraint.now }
 {
@@ -24,7 +24,7 @@ fn is_clause(constraint: &Normal) -> bool
     true
 }
 
-// The literal of a term, where it is open and none of two others.
+/// The literal of a term, where it is open and none of two others.
 fn open_at(constraint: &Normal, trail: &Trail, index: usize, others: Pair) -> Option<Lit>
     requires index { index < length constraint.now.terms }
     requires rises { Rises 0 constraint.now.terms }
@@ -61,7 +61,7 @@ pub(crate) fn open_beside(constraint: &Normal, trail: &Trail, others: Pair) -> O
     None
 }
 
-// The place of the first term from a place on whose literal is open.
+/// The place of the first term from a place on whose literal is open.
 fn open_term(constraint: &Normal, trail: &Trail, from: usize) -> Option<usize>
     requires { variable_bound constraint.now.terms ≤ trail.now.1 }
     ensures { IfSome result (λ k. (from ≤ k) × (k < length constraint.now.terms) × ((d : NormalTerm)

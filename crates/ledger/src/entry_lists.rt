@@ -19,7 +19,7 @@ use super::watchers::Watchers;
 use normal_form::Normal;
 use std::alloc::AllocError;
 
-// Puts in the entries of the first terms, as many as memory is there for.
+/// Puts in the entries of the first terms, as many as memory is there for.
 fn enter_some(table: &mut Table<Occurrence>, place: usize, constraint: &Normal) -> usize
     requires { 2 * variable_bound constraint.now.terms ≤ length table.old }
     ensures length { length table.new ≡ length table.old }
@@ -41,7 +41,7 @@ fn enter_some(table: &mut Table<Occurrence>, place: usize, constraint: &Normal) 
     count
 }
 
-// Puts in the entries of a constraint at a place, or none.
+/// Puts in the entries of a constraint at a place, or none.
 fn enter(table: &mut Table<Occurrence>, place: usize, constraint: &Normal) -> Result<(), AllocError>
     requires { 2 * variable_bound constraint.now.terms ≤ length table.old }
     ensures length { length table.new ≡ length table.old }

@@ -187,7 +187,7 @@ impl Ledger {
         self.watchers.queue_last(&self.trail, literal, queue);
     }
 
-    // What is open in the constraint of a place: it is counted, or added up where it is watched.
+    /// What is open in the constraint of a place: it is counted, or added up where it is watched.
     fn open(&self, place: usize, constraint: &Normal) -> u128
         requires { slice_index_or self.now.slots place None ≡ Some constraint.now }
         ensures { result ≡ open_sum self.now.listing constraint.now }
@@ -377,7 +377,7 @@ impl Ledger {
         self.trail.widen(variables)
     }
 
-    // Adds a constraint at the next place, to be counted.
+    /// Adds a constraint at the next place, to be counted.
     fn attach_counted(&mut self, constraint: Normal) -> Result<(), AllocError>
         requires { variable_bound constraint.terms ≤ self.old.variables }
         ensures ok { OnOk result (self.new ≡ record self.old { slots = self.old.slots ++ Some constraint ∷ [] }) }
@@ -393,7 +393,7 @@ impl Ledger {
         Ok(())
     }
 
-    // Adds a clause at the next place, to be watched by two open literals.
+    /// Adds a clause at the next place, to be watched by two open literals.
     fn attach_watched(&mut self, constraint: Normal, pair: Pair) -> Result<(), AllocError>
         requires variables { variable_bound constraint.terms ≤ self.old.variables }
         requires pair { IsPairOf constraint pair }
@@ -446,7 +446,7 @@ impl Ledger {
     }
 }
 
-// Makes room for one place more.
+/// Makes room for one place more.
 fn make_room(
     slots: &mut Vec<Option<Normal>>,
     counters: &mut Vec<u128>,

@@ -25,7 +25,6 @@ mod watchers;
 
 pub use hint::Hint;
 pub use ledger::Ledger;
-pub use measures::{literal_count, variable_count};
 pub use occurrence::{Entries, opposite_of};
 pub use queue::Queue;
 pub use trail::Trail;

@@ -13,7 +13,7 @@ use super::occurrence::Occurrence;
 use super::queue::Queue;
 use normal_form::Normal;
 
-// Whether a number is less than the degree of the constraint at a place.
+/// Whether a number is less than the degree of the constraint at a place.
 fn falls_short(slots: &[Option<Normal>], place: usize, number: u128) -> bool
     ensures { IsTrue result ↔ number < (constraint_at (shown slots.now) place).degree }
 {
@@ -23,8 +23,8 @@ fn falls_short(slots: &[Option<Normal>], place: usize, number: u128) -> bool
     }
 }
 
-// Queues a place whose counter was lowered, where it is below a limit, and before all others where its constraint is
-// broken then.
+/// Queues a place whose counter was lowered, where it is below a limit, and before all others where its constraint is
+/// broken then.
 fn add_lowered(
     slots: &[Option<Normal>],
     queue: &mut Queue,
@@ -76,7 +76,7 @@ pub(crate) fn lower(
     }
 }
 
-// Queues a place where a number is below a limit.
+/// Queues a place where a number is below a limit.
 fn add_below(queue: &mut Queue, place: usize, number: u128, limit: u128)
     requires { place < queue.old.1 }
     ensures count { queue.new.1 ≡ queue.old.1 }

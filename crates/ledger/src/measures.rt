@@ -1,8 +1,7 @@
-//! What is measured of a constraint when it comes in, and of a listing that is followed.
+//! What is measured of a constraint when it comes in.
 
-ghost use Rattle.std.specs.Prelude.{All, ◌≡◌, ◌+◌, ◌≤◌, ◌<◌, length, take};
+ghost use Rattle.std.specs.Prelude.{◌≡◌, ◌+◌, ◌≤◌, ◌<◌, length, take};
 ghost use Rattle.linear.specs.declared.term.Lit.{Lit};
-ghost use Rattle.linear.specs.Largest.{most_names};
 ghost use Rattle.normal_form.specs.Normal.{largest_sum, sum_over, variable_bound};
 ghost use Rattle.propagate.specs.Literals.{coefficient_of};
 ghost use Rattle.propagate.specs.Slack.{not_false};
@@ -10,10 +9,9 @@ ghost use Rattle.ledger.specs.Ledgers.{open_sum};
 
 use super::occurrence::opposite_of;
 use super::trail::Trail;
-use linear::Lit;
 use normal_form::Normal;
 
-// What the term at a place adds to the sum of the literals that are not made false.
+/// What the term at a place adds to the sum of the literals that are not made false.
 fn counted(constraint: &Normal, trail: &Trail, place: usize) -> u128
     requires place { place < length constraint.now.terms }
     requires variables { variable_bound constraint.now.terms ≤ trail.now.1 }
@@ -50,28 +48,4 @@ pub(crate) fn largest(constraint: &Normal) -> u128
         largest = largest.max(constraint.term(place).coef);
     }
     largest
-}
-
-/// The least number above all variables: that of the last term is the greatest.
-pub fn variable_count(constraint: &Normal) -> usize
-    ensures value { result ≡ variable_bound constraint.now.terms }
-    ensures limit { result ≤ most_names }
-{
-    let count = constraint.len();
-    if count == 0 {
-        return 0;
-    }
-    constraint.term(count - 1).var.0 as usize + 1
-}
-
-/// The least number above all variables of some literals.
-pub fn literal_count(literals: &[Lit]) -> usize
-    ensures each { All (λ l. l.var.0 < result) literals.now }
-    ensures limit { result ≤ most_names }
-{
-    let mut count: usize = 0;
-    for literal in literals {
-        count = count.max(literal.var.0 as usize + 1);
-    }
-    count
 }

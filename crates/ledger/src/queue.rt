@@ -121,7 +121,7 @@ impl Queue {
     }
 }
 
-// Makes room for so many places, and where there is none for as many again: a ring that grew by one place would be made anew for each.
+/// Makes room for so many places, and where there is none for as many again: a ring that grew by one place would be made anew for each.
 fn make_room(places: &mut VecDeque<usize>, count: usize) -> Result<(), AllocError>
     ensures items { places.new.items ≡ places.old.items }
     ensures more { deque_capacity places.old ≤ deque_capacity places.new }

@@ -58,7 +58,7 @@ impl Trail {
         let _ = &self.listing;
     }
 
-    // Makes room for one variable more.
+    /// Makes room for one variable more.
     fn grow(&mut self) -> Result<(), AllocError>
         ensures ok { OnOk result (self.new ≡ (self.old.0, self.old.1 + 1)) }
         ensures err { OnErr result (self.new ≡ self.old) }
@@ -92,7 +92,7 @@ impl Trail {
     }
 
     /// The literals, in the order in which they were listed: none twice, and none beside its opposite.
-    pub fn listing(&self) -> &[Lit]
+    pub(crate) fn listing(&self) -> &[Lit]
         ensures listing { result.now ≡ self.now.0 }
         ensures once { IsOnce self.now.0 }
         ensures consistent { IsConsistent self.now.0 }

@@ -81,7 +81,7 @@ impl Watchers {
         }
     }
 
-    // Puts a place into the row of a literal.
+    /// Puts a place into the row of a literal.
     fn put(&mut self, literal: Lit, place: usize) -> Result<(), AllocError>
         requires { code literal < length self.old.rows }
         ensures pairs { self.new.pairs ≡ self.old.pairs }
@@ -132,7 +132,7 @@ impl Watchers {
         self.pairs.pop();
     }
 
-    // The literal that watches the clause of a place beside one that falls, where that one does.
+    /// The literal that watches the clause of a place beside one that falls, where that one does.
     fn beside(&self, place: usize, fallen: Lit) -> Option<Lit>
         ensures none { MatchOption result ((p : Pair) → slice_index_or self.now.pairs place None ≡ Some p → IsOneOf p fallen → ⊥)
             (IsBeside (slice_index_or self.now.pairs place None) fallen) }
@@ -140,7 +140,7 @@ impl Watchers {
         self.pair(place)?.beside(fallen)
     }
 
-    // What is found of the clause at a place when a literal falls.
+    /// What is found of the clause at a place when a literal falls.
     fn look(&self, slots: &[Option<Normal>], trail: &Trail, fallen: Lit, place: usize) -> Finding
         requires watched { AreWatched slots.now trail.now.0 trail.now.1 self.now }
         requires within { (k : ℕ) (n : NormalConstraint) → slice_index_or slots.now k None ≡ Some n
@@ -177,7 +177,7 @@ impl Watchers {
         }
     }
 
-    // Drops the entry at an index of a literal's row.
+    /// Drops the entry at an index of a literal's row.
     fn drop_entry(&mut self, literal: Lit, index: usize)
         requires row { code literal < length self.old.rows }
         requires index { index < length (slice_index_or self.old.rows (code literal) []) }
@@ -189,7 +189,7 @@ impl Watchers {
         self.rows.swap_remove(code_of(literal), index);
     }
 
-    // Looks at the clause of an entry of a literal that falls; the index of the next entry.
+    /// Looks at the clause of an entry of a literal that falls; the index of the next entry.
     fn pass(
         &mut self,
         slots: &[Option<Normal>],
@@ -281,7 +281,7 @@ impl Watchers {
         }
     }
 
-    // Queues a place where the literal that watches it beside another one is made false.
+    /// Queues a place where the literal that watches it beside another one is made false.
     fn queue_at(&self, trail: &Trail, literal: Lit, place: usize, queue: &mut Queue)
         requires within { (k : ℕ) (p : Pair) → slice_index_or self.now.pairs k None ≡ Some p → IsPairWithin trail.now.1 p }
         requires count { queue.old.1 ≡ length self.now.pairs }

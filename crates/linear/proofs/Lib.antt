@@ -1,4 +1,5 @@
 pub mod Tables
 pub mod NumbersOfNames
 pub mod TermByTerm
+pub mod SameTerm
 mod ShortPlaces

@@ -1,5 +1,6 @@
--- The limits of a problem file, each a number with a name of its own, and those that follow from them. No other file of
--- the definitions has these numbers, so that a limit changes in one place; the code's are in `src/limits.rt`.
+-- The limits of a problem file, each a number with a name of its own, and those that follow from them, so that a limit
+-- changes in one place; the code's are in `src/limits.rt`. What is limited for itself stands where it is defined: an
+-- integer of a text in `pb_text`, the sum of a normal constraint in `normal_form`, an id in `proof_rules`.
 use Rattle.std.specs.Prelude.{ℕ, ◌^◌, ◌*◌}
 
 -- the size of an integer

@@ -5,7 +5,7 @@
 //! is kept once. A new one is hashed twice, to look it up and to put it in: the set takes a name only as one that is owned, and a
 //! copy for each occurrence would cost more.
 
-ghost use Rattle.std.specs.Prelude.{◌≡◌, ◌<◌, ◌≤◌, ◌↔◌, true, false, [], Some, None, length, ◌+◌, take, slice_get, MatchOption, IfOk, IfSome, OnOk, OnErr, IsTrue};
+ghost use Rattle.std.specs.Prelude.{◌≡◌, ◌<◌, ◌≤◌, ◌↔◌, true, false, [], Some, None, length, take, slice_get, MatchOption, IfOk, IfSome, OnOk, OnErr, IsTrue};
 ghost use Rattle.std.specs.Option.{option_copied};
 ghost use Rattle.linear.specs.Largest.{most_names};
 ghost use Rattle.linear.specs.Table.{has_name, place_of, with_name, IsFullFor, IsTable};
@@ -95,7 +95,7 @@ impl Names {
     }
 
     /// The variable of a name, which takes the next number where the table does not have it yet. Where memory runs out
-    /// memory the table stays as it was.
+    /// the table stays as it was.
     pub fn intern(&mut self, name: &[u8]) -> Result<Var, AllocError>
         requires spelled { is_name name.now ≡ true }
         requires room { length self.old < most_names }

@@ -4,7 +4,7 @@
 //! ask again. What it means is the plain sum over its own signed terms, in which a variable may stand many times; the normal
 //! forms of cutting planes come above, and are shown to mean the same.
 
-ghost use Rattle.std.specs.Prelude.{◌≡◌, ◌↔◌, length, IsTrue, IfOk};
+ghost use Rattle.std.specs.Prelude.{◌≡◌, ◌↔◌, length, IsTrue};
 ghost use Rattle.std.specs.Option.{option_copied};
 
 use super::assignment::Assignment;
@@ -83,20 +83,6 @@ impl Problem {
         self.constraints.as_slice()
     }
 
-    /// Another problem that is the same.
-    pub fn copy(&self, alloc: Global) -> Result<Problem, AllocError>
-        ensures { IfOk result (λ p. p ≡ self.now) }
-    {
-        let names = self.names.copy(alloc)?;
-        let objective = copied_objective(&self.objective)?;
-        let constraints = copied_constraints(alloc, self.constraints.as_slice())?;
-        Ok(Problem {
-            names,
-            objective,
-            constraints,
-        })
-    }
-
     /// Whether an assignment, one value for each name, meets every constraint.
     pub fn satisfied(&self, assignment: &Assignment) -> bool
         requires { length assignment.now ≡ length self.now.names }
@@ -120,29 +106,4 @@ impl Problem {
             Some(terms) => sum(assignment, terms.as_slice()),
         }
     }
-}
-
-fn copied_objective(objective: &Option<Seq<Term>>) -> Result<Option<Seq<Term>>, AllocError>
-    ensures { IfOk result (λ copy. copy ≡ objective.now) }
-{
-    match objective {
-        None => Ok(None),
-        Some(terms) => Ok(Some(terms.clone()?)),
-    }
-}
-
-fn copied_constraints(alloc: Global, constraints: &[Signed]) -> Result<Vec<Signed>, AllocError>
-    ensures { IfOk result (λ copy. copy.items ≡ constraints.now) }
-{
-    let mut copy = Vec::with_capacity(alloc, constraints.len())?;
-    for constraint in constraints {
-        copy.push(copied(constraint)?)?;
-    }
-    Ok(copy)
-}
-
-fn copied(constraint: &Signed) -> Result<Signed, AllocError>
-    ensures { IfOk result (λ copy. copy ≡ constraint.now) }
-{
-    constraint.clone()
 }

@@ -8,6 +8,8 @@ pub mod NormalForm
 pub mod SignChanges
 pub mod Negations
 pub mod Runs
+mod LastVariable
+pub mod SmallSizes
 pub mod Reorder
 pub mod Floors
 pub mod FormDegrees

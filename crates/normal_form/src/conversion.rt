@@ -22,7 +22,7 @@ use super::opposites::flip;
 use linear::{Relation, Signed};
 use std::alloc::Global;
 
-// The form of a constraint read as `>=`, of its merged terms.
+/// The form of a constraint read as `>=`, of its merged terms.
 fn at_least(merged: NormalBuilder, constraint: &Signed) -> Result<Normal, CutFault>
     requires sizes { size_sum constraint.now.terms ≤ largest_sum }
     requires balance { Balances constraint.now.terms merged }
@@ -39,7 +39,7 @@ fn at_least(merged: NormalBuilder, constraint: &Signed) -> Result<Normal, CutFau
     merged.finish(degree)
 }
 
-// The form of a constraint with all signs changed read as `>=`, of its merged terms.
+/// The form of a constraint with all signs changed read as `>=`, of its merged terms.
 fn at_most(merged: NormalBuilder, constraint: &Signed) -> Result<Normal, CutFault>
     requires sizes { size_sum constraint.now.terms ≤ largest_sum }
     requires balance { Balances (map sign_changed constraint.now.terms) merged }

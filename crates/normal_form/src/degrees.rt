@@ -13,14 +13,14 @@ use super::term::NormalTerm;
 use super::terms::Terms;
 use linear::Term;
 
-// The coefficient of a negated term, 0 of another.
+/// The coefficient of a negated term, 0 of another.
 fn when_negated(term: Term) -> i128
     ensures { result ≡ if term.negated then term.coef else pos 0 }
 {
     if term.negated { term.coef } else { 0 }
 }
 
-// The sum of the coefficients of all negated terms.
+/// The sum of the coefficients of all negated terms.
 fn negated_sum(terms: &[Term]) -> i128
     requires { size_sum terms.now ≤ largest_sum }
     ensures value { result ≡ negated_sum terms.now }
@@ -33,14 +33,14 @@ fn negated_sum(terms: &[Term]) -> i128
     sum
 }
 
-// What a term's negated literal counts.
+/// What a term's negated literal counts.
 fn negated_coefficient(term: NormalTerm) -> u128
     ensures { result ≡ if term.negated then term.coef else 0 }
 {
     if term.negated { term.coef } else { 0 }
 }
 
-// What the coefficients of the negated literals add up to.
+/// What the coefficients of the negated literals add up to.
 fn negated_total(terms: &Terms) -> i128
     requires { total terms.now ≤ largest_sum }
     ensures value { result ≡ pos (sum_over (λ _ negated. negated) terms.now) }
@@ -53,7 +53,7 @@ fn negated_total(terms: &Terms) -> i128
     sum as i128
 }
 
-// A number, or 0 where it is below.
+/// A number, or 0 where it is below.
 fn at_least_zero(number: i128) -> u128
     ensures { result ≡ at_least_zero number }
 {

@@ -3,6 +3,7 @@
 #![tactic(auto)]
 
 mod builder;
+pub mod cases;
 mod conversion;
 mod degrees;
 mod fault;

@@ -7,11 +7,11 @@
 //! before the sign of the rest decides between a literal and its opposite. That the sizes together are within the
 //! limit is asked before anything is added, so no sum on the way can leave its type.
 
-ghost use Rattle.std.specs.Prelude.{◌≡◌, ℕ, Bool, ◌+◌, ◌<◌, ◌≤◌, ◌≢◌, pos, ◌+ℤ◌, ◌↔◌, unsigned_abs, IsTrue, IfOk, OnOk, length, take, slice_index_or, if◌then◌else◌};
+ghost use Rattle.std.specs.Prelude.{◌≡◌, ℕ, Bool, ◌+◌, ◌<◌, ◌≤◌, ◌≢◌, pos, ◌+ℤ◌, ◌↔◌, unsigned_abs, IsTrue, IfOk, length, take, slice_index_or, if◌then◌else◌};
 ghost use Rattle.std.specs.List.Sorted.{IsNonDecreasingBy};
-ghost use Rattle.normal_form.specs.Normal.{largest_sum, variable_bound};
+ghost use Rattle.normal_form.specs.Normal.{largest_sum};
 ghost use Rattle.normal_form.specs.NormalOf.{size_sum, slope};
-ghost use Rattle.normal_form.specs.Balance.{Balances, slopes, rises_of};
+ghost use Rattle.normal_form.specs.Balance.{Balances, slopes};
 ghost use Rattle.linear.specs.declared.term.Term.{Term};
 
 use super::builder::NormalBuilder;
@@ -19,7 +19,7 @@ use super::normal::LARGEST_SUM;
 use linear::Term;
 use std::alloc::{AllocError, Global};
 
-// Whether the sizes of the coefficients add up to at most the limit of coefficient sums.
+/// Whether the sizes of the coefficients add up to at most the limit of coefficient sums.
 pub(crate) fn sizes_fit(terms: &[Term]) -> bool
     ensures { IsTrue result ↔ size_sum terms.now ≤ largest_sum }
 {
@@ -30,7 +30,7 @@ pub(crate) fn sizes_fit(terms: &[Term]) -> bool
     sum <= LARGEST_SUM
 }
 
-// What a term gives its variable.
+/// What a term gives its variable.
 fn slope(term: Term) -> i128
     requires { unsigned_abs term.coef ≤ largest_sum }
     ensures { result ≡ slope term }
@@ -38,14 +38,14 @@ fn slope(term: Term) -> i128
     if term.negated { -term.coef } else { term.coef }
 }
 
-// The terms of one variable that stand together: their net coefficient, and the place after the last.
+/// The terms of one variable that stand together: their net coefficient, and the place after the last.
 #[derive(Clone, Copy)]
 struct Run {
     net: i128,
     end: usize,
 }
 
-// The run that begins at a place.
+/// The run that begins at a place.
 fn run_from(sorted: &[Term], start: usize) -> Run
     requires place { start < length sorted.now }
     requires sizes { size_sum sorted.now ≤ largest_sum }
@@ -63,7 +63,7 @@ fn run_from(sorted: &[Term], start: usize) -> Run
     Run { net, end }
 }
 
-// Merges terms that stand in order of their variables.
+/// Merges terms that stand in order of their variables.
 fn merge_runs(alloc: Global, sorted: &[Term]) -> Result<NormalBuilder, AllocError>
     requires order { IsNonDecreasingBy (λ t. t.var.0) sorted.now }
     requires sizes { size_sum sorted.now ≤ largest_sum }

@@ -4,8 +4,9 @@
 //! bounds every sum over some of the terms: what is below the limit needs no test on the way. The limit, 2^120, leaves
 //! room in the code's numbers for the sum of two constraints and a sign.
 
-ghost use Rattle.std.specs.Prelude.{◌≡◌, ◌<◌, ◌-◌, ◌^◌, ◌↔◌, min, IfOk, IsErrOf, OnErr, length, slice_index_or, []};
-ghost use Rattle.normal_form.specs.Normal.{IsNormal, Rises, Fits, total};
+ghost use Rattle.std.specs.Prelude.{◌≡◌, ◌<◌, ◌≤◌, ◌-◌, ◌^◌, ◌↔◌, min, IfOk, IsErrOf, OnErr, length, slice_index_or, []};
+ghost use Rattle.linear.specs.Largest.{most_names};
+ghost use Rattle.normal_form.specs.Normal.{IsNormal, Rises, Fits, total, variable_bound};
 
 use super::fault::CutFault;
 use super::term::NormalTerm;
@@ -76,6 +77,18 @@ impl Normal {
         ensures value { result ≡ slice_index_or self.now.terms place result }
     {
         self.terms.get(place)
+    }
+
+    /// The least number above all its variables: that of the last term is the greatest.
+    pub fn variable_count(&self) -> usize
+        ensures value { result ≡ variable_bound self.now.terms }
+        ensures limit { result ≤ most_names }
+    {
+        let count = self.len();
+        if count == 0 {
+            return 0;
+        }
+        self.term(count - 1).var.0 as usize + 1
     }
 
     /// The terms, in rising order of variables.

@@ -19,7 +19,7 @@ pub fn holds(constraint: &Normal, assignment: &Assignment) -> bool
     constraint.degree() <= weight
 }
 
-// What the term at a place adds to the weight: its coefficient where its literal is true.
+/// What the term at a place adds to the weight: its coefficient where its literal is true.
 fn counted(constraint: &Normal, assignment: &Assignment, place: usize) -> u128
     requires place { place < length constraint.now.terms }
     requires values { variable_bound constraint.now.terms ≤ length assignment.now }

@@ -11,11 +11,11 @@ use Rattle.opb_read.specs.Kinds.{is_integer, is_semicolon, relation_of, begins_o
 use Rattle.opb_read.specs.Ahead.{begins_constraint, begins_integer, next_relation, starts_constraint}
 use Rattle.opb_read.specs.Denial.{IsForm}
 use Rattle.opb_read.specs.FaultCodes.{code_at}
-use Rattle.opb_read.specs.Places.{next_place, begun}
+use Rattle.opb_read.specs.Spots.{next_spot, begun}
 use Rattle.opb_read.specs.Progress.{IsOver, Refuses, HoldsLimits, at_start, start_of, Reaches, StopsAt}
 use Rattle.opb_read.specs.declared.fault.OpbCode.{OpbCode}
-use Rattle.opb_read.specs.declared.place.Place.{Place}
-use Rattle.opb_read.specs.declared.place.Place.TheVariants.{Start, ObjectiveMark, Coefficient, Relation}
+use Rattle.opb_read.specs.declared.spot.Spot.{Spot}
+use Rattle.opb_read.specs.declared.spot.Spot.TheVariants.{Start, ObjectiveMark, Coefficient, Relation}
 use Rattle.opb_read.proofs.CasesOfCodes.{tells_form}
 use Rattle.opb_read.proofs.AllConstraints.{begins_none}
 use Rattle.opb_read.proofs.TokensPassed.{reaches_then, reaches_holds, stops_here, stops_then, over_constraints}
@@ -48,22 +48,22 @@ starts_with_relation (t ∷ rest) h i r = by (is_integer t.kind) (relation_of t.
 
 -- where a token that begins one leads
 record Begins (k : Kind) : Type 0 where
-  place : Place
-  stands : next_place Start k ≡ Some place
-  one : begun place ≡ 1
+  spot : Spot
+  stands : next_spot Start k ≡ Some spot
+  one : begun spot ≡ 1
   inside : is_semicolon k ≡ false
 
 begins : (k : Kind) → begins_constraint k ≡ true → Begins k
-begins kinds.Integer h = record { place = Coefficient; stands = refl; one = refl; inside = refl }
+begins kinds.Integer h = record { spot = Coefficient; stands = refl; one = refl; inside = refl }
 begins kinds.Literal h = cc
 begins kinds.Stray h = cc
 begins kinds.Misspelt h = cc
 begins kinds.Other h = cc
 begins (kinds.Symbol symbols.Semicolon) h = cc
 begins (kinds.Symbol symbols.Colon) h = cc
-begins (kinds.Symbol symbols.AtLeast) h = record { place = Relation; stands = refl; one = refl; inside = refl }
+begins (kinds.Symbol symbols.AtLeast) h = record { spot = Relation; stands = refl; one = refl; inside = refl }
 begins (kinds.Symbol symbols.AtMost) h = cc
-begins (kinds.Symbol symbols.Equals) h = record { place = Relation; stands = refl; one = refl; inside = refl }
+begins (kinds.Symbol symbols.Equals) h = record { spot = Relation; stands = refl; one = refl; inside = refl }
 begins (kinds.Symbol symbols.Arrow) h = cc
 
 -- the first token of one constraint too many
@@ -71,7 +71,7 @@ pub refused_many : (names : List (List ℕ)) (n : ℕ) (left : List Lexeme) (t :
     → IsOver (at_start names n) left
 refused_many names n left t at h full =
     let b = begins t.kind h in
-    over_constraints (at_start names n) left t b.place at b.stands b.inside b.one full
+    over_constraints (at_start names n) left t b.spot at b.stands b.inside b.one full
 
 -- constraints that were passed, so many of them
 abbrev pub PassesConstraints : List (List ℕ) → List Lexeme → ℕ → List (List ℕ) → List Lexeme → Type 0

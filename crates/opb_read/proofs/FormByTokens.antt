@@ -1,4 +1,4 @@
--- Which tokens spell statements, judged token by token from a place.
+-- Which tokens spell statements, judged token by token from a spot.
 use Rattle.std.proofs.Common.{◌≡◌, ℕ, Bool, true, false, ◌&&◌, if◌then◌else◌, is_some, Option, Some, None, List, [], ◌∷◌, drop, refl, sym, ap, ◌∙◌}
 use Rattle.std.specs.Option.{option_map}
 use Rattle.pb_text.specs.Lexeme.{Lexeme}
@@ -15,23 +15,23 @@ use Rattle.opb_read.specs.Ahead.{begins_literal}
 use Rattle.opb_read.specs.Pieces.{Pieces, pieces}
 use Rattle.opb_read.specs.Forms.{terms_of, behind_terms, Closing, closing_of, constraints_of, objective_of, names_in}
 use Rattle.opb_read.specs.Spells.{problem_of, decision_problem, optimisation_problem}
-use Rattle.opb_read.specs.Places.{next_place, is_start}
+use Rattle.opb_read.specs.Spots.{next_spot, is_start}
 use Rattle.opb_read.specs.Progress.{start_of}
-use Rattle.opb_read.specs.declared.place.Place.{Place}
-use Rattle.opb_read.specs.declared.place.Place.TheVariants.{Start, ObjectiveMark, ObjectiveCoefficient, ObjectiveLiteral, Coefficient, Literal, Relation, RightSide}
+use Rattle.opb_read.specs.declared.spot.Spot.{Spot}
+use Rattle.opb_read.specs.declared.spot.Spot.TheVariants.{Start, ObjectiveMark, ObjectiveCoefficient, ObjectiveLiteral, Coefficient, Literal, Relation, RightSide}
 use Rattle.opb_read.proofs.Sums.{behind_pair, behind_none}
 use Rattle.opb_read.proofs.Statements.{within_piece, end_of_piece}
 
--- may these tokens stand one after another from a place up to the end
-abbrev pub accepts : Place → List Lexeme → Bool
+-- may these tokens stand one after another from a spot up to the end
+abbrev pub accepts : Spot → List Lexeme → Bool
 accepts p [] = is_start p
-accepts p (t ∷ ts) = elim (next_place p t.kind) [ None ↦ false | Some q ↦ accepts q ts ]
+accepts p (t ∷ ts) = elim (next_spot p t.kind) [ None ↦ false | Some q ↦ accepts q ts ]
 
-pub accepts_next : (p : Place) (t : Lexeme) (ts : List Lexeme) (q : Place) → next_place p t.kind ≡ Some q → accepts p (t ∷ ts) ≡ accepts q ts
-accepts_next p t ts q e = ap (λ (o : Option Place). let r : Bool = elim o [ None ↦ false | Some x ↦ accepts x ts ] in r) e
+pub accepts_next : (p : Spot) (t : Lexeme) (ts : List Lexeme) (q : Spot) → next_spot p t.kind ≡ Some q → accepts p (t ∷ ts) ≡ accepts q ts
+accepts_next p t ts q e = ap (λ (o : Option Spot). let r : Bool = elim o [ None ↦ false | Some x ↦ accepts x ts ] in r) e
 
-pub accepts_none : (p : Place) (t : Lexeme) (ts : List Lexeme) → next_place p t.kind ≡ None → accepts p (t ∷ ts) ≡ false
-accepts_none p t ts e = ap (λ (o : Option Place). let r : Bool = elim o [ None ↦ false | Some x ↦ accepts x ts ] in r) e
+pub accepts_none : (p : Spot) (t : Lexeme) (ts : List Lexeme) → next_spot p t.kind ≡ None → accepts p (t ∷ ts) ≡ false
+accepts_none p t ts e = ap (λ (o : Option Spot). let r : Bool = elim o [ None ↦ false | Some x ↦ accepts x ts ] in r) e
 
 abbrev is_nil : List Lexeme → Bool
 is_nil [] = true
@@ -59,8 +59,8 @@ abbrev is_right : List Lexeme → Bool
 is_right [] = false
 is_right (b ∷ rest) = is_integer b.kind && is_nil rest
 
--- what the rest of a statement is, from a place on, and the pieces behind it
-abbrev pub spelled : Place → List Lexeme → List (List Lexeme) → Bool
+-- what the rest of a statement is, from a spot on, and the pieces behind it
+abbrev pub spelled : Spot → List Lexeme → List (List Lexeme) → Bool
 spelled Start first others = are_constraints first others
 spelled Coefficient first others = closed (begins_literal first && is_constraint (drop 1 first)) others
 spelled Literal first others = closed (is_constraint first) others
@@ -132,8 +132,8 @@ not_first t f [] = refl
 not_first t f (n ∷ os) = refl
 
 -- where a term or a relation may follow
-in_constraint : (p : Place) (t : Lexeme) (ts f : List Lexeme) (others : List (List Lexeme))
-    → next_place p t.kind ≡ (if is_integer t.kind then Some Coefficient else if is_some (relation_of t.kind) then Some Relation else None)
+in_constraint : (p : Spot) (t : Lexeme) (ts f : List Lexeme) (others : List (List Lexeme))
+    → next_spot p t.kind ≡ (if is_integer t.kind then Some Coefficient else if is_some (relation_of t.kind) then Some Relation else None)
     → accepts Coefficient ts ≡ spelled Coefficient f others → accepts Relation ts ≡ spelled Relation f others
     → accepts p (t ∷ ts) ≡ closed (is_constraint (t ∷ f)) others
 in_constraint p t ts f others e hc hr = by (is_integer t.kind) refl (is_some (relation_of t.kind)) refl
@@ -159,8 +159,8 @@ in_constraint p t ts f others e hc hr = by (is_integer t.kind) refl (is_some (re
         ∙ ap (λ b. closed b others) (sym (ap (λ l. is_some (closing_of l)) (behind_other t f ei) ∙ closing_none t f er))
 
 -- where a literal has to follow
-a_literal : (p q : Place) (t : Lexeme) (ts f : List Lexeme) (others : List (List Lexeme)) (form : List Lexeme → Bool)
-    → next_place p t.kind ≡ (if is_literal t.kind then Some q else None) → accepts q ts ≡ closed (form f) others
+a_literal : (p q : Spot) (t : Lexeme) (ts f : List Lexeme) (others : List (List Lexeme)) (form : List Lexeme → Bool)
+    → next_spot p t.kind ≡ (if is_literal t.kind then Some q else None) → accepts q ts ≡ closed (form f) others
     → accepts p (t ∷ ts) ≡ closed (is_literal t.kind && form f) others
 a_literal p q t ts f others form e h = by (is_literal t.kind) refl
   where
@@ -169,8 +169,8 @@ a_literal p q t ts f others form e h = by (is_literal t.kind) refl
     by false el = accepts_none p t ts (e ∙ ap (λ b. if b then Some q else None) el) ∙ sym (closed_not others)
 
 -- where a term of the objective may follow, or a `;`
-in_objective : (p : Place) (t : Lexeme) (ts f : List Lexeme) (others : List (List Lexeme)) → is_semicolon t.kind ≡ false
-    → next_place p t.kind ≡ (if is_integer t.kind then Some ObjectiveCoefficient else if is_semicolon t.kind then Some Start else None)
+in_objective : (p : Spot) (t : Lexeme) (ts f : List Lexeme) (others : List (List Lexeme)) → is_semicolon t.kind ≡ false
+    → next_spot p t.kind ≡ (if is_integer t.kind then Some ObjectiveCoefficient else if is_semicolon t.kind then Some Start else None)
     → accepts ObjectiveCoefficient ts ≡ spelled ObjectiveCoefficient f others
     → accepts p (t ∷ ts) ≡ closed (is_nil (behind_terms (t ∷ f))) others
 in_objective p t ts f others es e hc = by (is_integer t.kind) refl
@@ -202,7 +202,7 @@ semicolon_no_integer kinds.Misspelt h = cc
 semicolon_no_integer kinds.Other h = cc
 
 -- at the `;` of a piece
-at_end : (p : Place) (t : Lexeme) (ts f : List Lexeme) (others : List (List Lexeme)) → is_semicolon t.kind ≡ true → accepts Start ts ≡ are_constraints f others
+at_end : (p : Spot) (t : Lexeme) (ts f : List Lexeme) (others : List (List Lexeme)) → is_semicolon t.kind ≡ true → accepts Start ts ≡ are_constraints f others
     → accepts p (t ∷ ts) ≡ spelled p [] (f ∷ others)
 at_end Start t ts f others e h =
     let other = semicolon_no_integer t.kind e in
@@ -226,7 +226,7 @@ at_end ObjectiveLiteral t ts f others e h =
 at_end ObjectiveCoefficient t ts f others e h = accepts_none ObjectiveCoefficient t ts (ap (λ b. if b then Some ObjectiveLiteral else None) (semicolon_no_integer t.kind e).1)
 
 -- a token within a piece
-within : (p : Place) (t : Lexeme) (ts f : List Lexeme) (others : List (List Lexeme)) → is_semicolon t.kind ≡ false → ((q : Place) → accepts q ts ≡ spelled q f others)
+within : (p : Spot) (t : Lexeme) (ts f : List Lexeme) (others : List (List Lexeme)) → is_semicolon t.kind ≡ false → ((q : Spot) → accepts q ts ≡ spelled q f others)
     → accepts p (t ∷ ts) ≡ spelled p (t ∷ f) others
 within Start t ts f others e h = in_constraint Start t ts f others refl (h Coefficient) (h Relation) ∙ sym (not_first t f others)
 within Literal t ts f others e h = in_constraint Literal t ts f others refl (h Coefficient) (h Relation)
@@ -241,7 +241,7 @@ within ObjectiveMark t ts f others e h = in_objective ObjectiveMark t ts f other
 within ObjectiveLiteral t ts f others e h = in_objective ObjectiveLiteral t ts f others e refl (h ObjectiveCoefficient)
 within ObjectiveCoefficient t ts f others e h = a_literal ObjectiveCoefficient ObjectiveLiteral t ts f others (λ l. is_nil (behind_terms l)) refl (h ObjectiveLiteral)
 
-at_nothing : (p : Place) → is_start p ≡ spelled p [] []
+at_nothing : (p : Spot) → is_start p ≡ spelled p [] []
 at_nothing Start = refl
 at_nothing Coefficient = refl
 at_nothing Literal = refl
@@ -252,11 +252,11 @@ at_nothing ObjectiveCoefficient = refl
 at_nothing ObjectiveLiteral = refl
 
 -- tokens may stand one after another exactly where their pieces have their form
-pub accepts_spelled : (tokens : List Lexeme) (p : Place) → accepts p tokens ≡ spelled p (pieces tokens).first (pieces tokens).others
+pub accepts_spelled : (tokens : List Lexeme) (p : Spot) → accepts p tokens ≡ spelled p (pieces tokens).first (pieces tokens).others
 accepts_spelled [] p = at_nothing p
 accepts_spelled (t ∷ ts) p = by (is_semicolon t.kind) refl (accepts_spelled ts)
   where
-    by : (e : Bool) → is_semicolon t.kind ≡ e → ((q : Place) → accepts q ts ≡ spelled q (pieces ts).first (pieces ts).others)
+    by : (e : Bool) → is_semicolon t.kind ≡ e → ((q : Spot) → accepts q ts ≡ spelled q (pieces ts).first (pieces ts).others)
         → accepts p (t ∷ ts) ≡ spelled p (pieces (t ∷ ts)).first (pieces (t ∷ ts)).others
     by true e h =
         at_end p t ts (pieces ts).first (pieces ts).others e (h Start) ∙ sym (ap (λ (x : Pieces). spelled p x.first x.others) (end_of_piece t ts e))
@@ -297,7 +297,7 @@ optimisation_form names p = by p.others (objective_of names p.first) (objective_
     by (n ∷ os) (Some ts) h = is_some_map _ (constraints_of names n os) ∙ constraints_form names n os ∙ ap (λ b. b && are_constraints n os) h
 
 -- tokens say a problem exactly where its statements may stand one after another
-pub problem_form : (tokens : List Lexeme) → is_some (problem_of tokens) ≡ accepts (start_of tokens).place (statements_of tokens)
+pub problem_form : (tokens : List Lexeme) → is_some (problem_of tokens) ≡ accepts (start_of tokens).spot (statements_of tokens)
 unfolding problem_of
 problem_form tokens = by (begins_objective tokens)
   where

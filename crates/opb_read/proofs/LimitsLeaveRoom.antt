@@ -16,11 +16,11 @@ use Rattle.opb_read.specs.Kinds.{is_integer, is_literal, is_semicolon, relation_
 use Rattle.opb_read.specs.Pieces.{Pieces, pieces}
 use Rattle.opb_read.specs.Forms.{is_term, term_of, terms_of, behind_terms, names_in, Closing, closing_of, constraint_of, constraints_of, objective_of}
 use Rattle.opb_read.specs.Spells.{problem_of, decision_problem, optimisation_problem}
-use Rattle.opb_read.specs.Places.{next_place, begun}
+use Rattle.opb_read.specs.Spots.{next_spot, begun}
 use Rattle.opb_read.specs.Progress.{Progress, moved, KeepsCounts, Passes, IsOver, IsLarge, start_of}
-use Rattle.opb_read.specs.FaultPlace.{next_token}
-use Rattle.opb_read.specs.declared.place.Place.{Place}
-use Rattle.opb_read.specs.declared.place.Place.TheVariants.{Start, ObjectiveMark, ObjectiveCoefficient, ObjectiveLiteral, Coefficient, Literal, Relation, RightSide}
+use Rattle.opb_read.specs.FaultSpot.{next_token}
+use Rattle.opb_read.specs.declared.spot.Spot.{Spot}
+use Rattle.opb_read.specs.declared.spot.Spot.TheVariants.{Start, ObjectiveMark, ObjectiveCoefficient, ObjectiveLiteral, Coefficient, Literal, Relation, RightSide}
 use Rattle.opb_read.proofs.NumbersOfNames.{names_in-more}
 use Rattle.opb_read.proofs.Statements.{within_piece, end_of_piece, both_true}
 use Rattle.opb_read.proofs.Sums.{terms_pair, behind_pair, terms_none, behind_none}
@@ -33,14 +33,14 @@ pub record Room (s : Progress) (tokens : List Lexeme) : Type 0 where
   pub variables : length (names_in s.names tokens) ≤ most_variables
   pub first : s.terms + literals (pieces tokens).first ≤ most_terms
   pub others : All IsFew (pieces tokens).others
-  pub constraints : s.constraints + length (pieces tokens).others ≤ most_constraints + in_objective s.place
-  pub accepted : accepts s.place tokens ≡ true
+  pub constraints : s.constraints + length (pieces tokens).others ≤ most_constraints + in_objective s.spot
+  pub accepted : accepts s.spot tokens ≡ true
 
 -- a `;` is still due where a statement stands open
-due : (p : Place) (tokens : List Lexeme) → begun p + in_objective p ≡ 1 → accepts p tokens ≡ true → 0 < length (pieces tokens).others
+due : (p : Spot) (tokens : List Lexeme) → begun p + in_objective p ≡ 1 → accepts p tokens ≡ true → 0 < length (pieces tokens).others
 due p tokens one h = by p (pieces tokens).others one (sym (accepts_spelled tokens p) ∙ h)
   where
-    by : (q : Place) (o : List (List Lexeme)) → begun q + in_objective q ≡ 1 → spelled q (pieces tokens).first o ≡ true → 0 < length o
+    by : (q : Spot) (o : List (List Lexeme)) → begun q + in_objective q ≡ 1 → spelled q (pieces tokens).first o ≡ true → 0 < length o
     by q (n ∷ os) e g = omega arith
     by Start [] e g = absurd (omega (arith, e))
     by Coefficient [] e g = cc
@@ -52,24 +52,24 @@ due p tokens one h = by p (pieces tokens).others one (sym (accepts_spelled token
     by ObjectiveLiteral [] e g = cc
 
 -- a token that may stand keeps the limits, and leaves room for the others
-record Fits (s : Progress) (t : Lexeme) (p : Place) (ts : List Lexeme) : Type 0 where
+record Fits (s : Progress) (t : Lexeme) (p : Spot) (ts : List Lexeme) : Type 0 where
   integer : IsSmall t
   keeps : KeepsCounts s t p
   room : Room (moved s t p) ts
 
-fits_end : (s : Progress) (t : Lexeme) (p : Place) (ts : List Lexeme) → is_semicolon t.kind ≡ true → next_place s.place t.kind ≡ Some p → Room s (t ∷ ts) → Fits s t p ts
+fits_end : (s : Progress) (t : Lexeme) (p : Spot) (ts : List Lexeme) → is_semicolon t.kind ≡ true → next_spot s.spot t.kind ≡ Some p → Room s (t ∷ ts) → Fits s t p ts
 fits_end s t p ts e stands r =
     let f = (pieces ts).first in
     let o = (pieces ts).others in
     let at = end_of_piece t ts e in
-    let end = at_end s.place p t.kind e stands in
+    let end = at_end s.spot p t.kind e stands in
     let zero_terms : (moved s t p).terms ≡ 0 = terms_end s t p e in
-    let more : (moved s t p).constraints ≡ s.constraints + begun s.place = constraints_end s t p e in
-    let some : s.constraints + length (f ∷ o) ≤ most_constraints + in_objective s.place =
-    subst (λ (x : Pieces). s.constraints + length x.others ≤ most_constraints + in_objective s.place) at r.constraints in
+    let more : (moved s t p).constraints ≡ s.constraints + begun s.spot = constraints_end s t p e in
+    let some : s.constraints + length (f ∷ o) ≤ most_constraints + in_objective s.spot =
+    subst (λ (x : Pieces). s.constraints + length x.others ≤ most_constraints + in_objective s.spot) at r.constraints in
     let few : All IsFew (f ∷ o) = subst (λ (x : Pieces). All IsFew x.others) at r.others in
     let at_first : literals f ≤ most_terms = All-head IsFew f o few in
-    let one : begun s.place + in_objective s.place ≡ 1 = end.one in
+    let one : begun s.spot + in_objective s.spot ≡ 1 = end.one in
     let none : in_objective p ≡ 0 = ap in_objective end.start in
     let closed : begun p ≡ 0 = ap begun end.start in
     let count : length (f ∷ o) ≡ 1 + length o = omega arith in
@@ -87,25 +87,25 @@ fits_end s t p ts e stands r =
         first = omega (arith, zero_terms, at_first);
         others = All-tail IsFew f o few;
         constraints = omega (arith, more, some, one, none, count);
-        accepted = sym (accepts_next s.place t ts p stands) ∙ r.accepted;
+        accepted = sym (accepts_next s.spot t ts p stands) ∙ r.accepted;
       };
     }
 
-fits_inside : (s : Progress) (t : Lexeme) (p : Place) (ts : List Lexeme) → is_semicolon t.kind ≡ false → next_place s.place t.kind ≡ Some p → Room s (t ∷ ts) → Fits s t p ts
+fits_inside : (s : Progress) (t : Lexeme) (p : Spot) (ts : List Lexeme) → is_semicolon t.kind ≡ false → next_spot s.spot t.kind ≡ Some p → Room s (t ∷ ts) → Fits s t p ts
 fits_inside s t p ts e stands r =
     let f = (pieces ts).first in
     let o = (pieces ts).others in
     let at = within_piece t ts e in
-    let leads = inside s.place p t.kind e stands in
+    let leads = inside s.spot p t.kind e stands in
     let n : (moved s t p).terms ≡ s.terms + cond (is_literal t.kind) 1 0 = terms_inside s t p (is_literal t.kind) refl e in
     let more : (moved s t p).constraints ≡ s.constraints = constraints_inside s t p e in
     let all : literals (t ∷ f) ≡ cond (is_literal t.kind) 1 0 + literals f = literals-cons t f (is_literal t.kind) refl in
     let at_first : s.terms + literals (t ∷ f) ≤ most_terms = subst (λ (x : Pieces). s.terms + literals x.first ≤ most_terms) at r.first in
-    let some : s.constraints + length o ≤ most_constraints + in_objective s.place =
-    subst (λ (x : Pieces). s.constraints + length x.others ≤ most_constraints + in_objective s.place) at r.constraints in
-    let accepted : accepts p ts ≡ true = sym (accepts_next s.place t ts p stands) ∙ r.accepted in
+    let some : s.constraints + length o ≤ most_constraints + in_objective s.spot =
+    subst (λ (x : Pieces). s.constraints + length x.others ≤ most_constraints + in_objective s.spot) at r.constraints in
+    let accepted : accepts p ts ≡ true = sym (accepts_next s.spot t ts p stands) ∙ r.accepted in
     let unclosed : begun p + in_objective p ≡ 1 = leads.unclosed in
-    let same : in_objective p ≡ in_objective s.place = leads.same in
+    let same : in_objective p ≡ in_objective s.spot = leads.same in
     let left : 0 < length o = due p ts unclosed accepted in
     let grown : length (moved s t p).names ≤ length (names_in s.names (t ∷ ts)) = names_in-more (moved s t p).names ts in
     record {
@@ -125,7 +125,7 @@ fits_inside s t p ts e stands r =
       };
     }
 
-fits : (s : Progress) (t : Lexeme) (p : Place) (ts : List Lexeme) → next_place s.place t.kind ≡ Some p → Room s (t ∷ ts) → Fits s t p ts
+fits : (s : Progress) (t : Lexeme) (p : Spot) (ts : List Lexeme) → next_spot s.spot t.kind ≡ Some p → Room s (t ∷ ts) → Fits s t p ts
 fits s t p ts stands r = by (is_semicolon t.kind) refl
   where
     by : (b : Bool) → is_semicolon t.kind ≡ b → Fits s t p ts
@@ -135,7 +135,7 @@ fits s t p ts stands r = by (is_semicolon t.kind) refl
 pub passes_room : (passed more : List Lexeme) (s q : Progress) → Passes s passed q → Room s (passed ++ more) → Room q more
 passes_room [] more s q h r = subst (λ x. Room x more) (sym h) r
 passes_room (t ∷ ts) more s q h r =
-    let here = fits s t h.0.place (ts ++ more) h.1.stands r in
+    let here = fits s t h.0.spot (ts ++ more) h.1.stands r in
     passes_room ts more h.0 q h.2 (subst (λ x. Room x (ts ++ more)) (sym h.1.moves) here.room)
 
 -- where all have room, the next token breaks no limit
@@ -144,8 +144,8 @@ not_over q rest [] e over r = let none : ◌≡◌ {A = Option Lexeme} None (Som
 not_over q rest (m ∷ ms) e over r =
     let some : ◌≡◌ {A = Option Lexeme} (Some m) (Some over.token) = e ∙ ap next_token over.next in
     let same : m ≡ over.token = cc in
-    let stands : next_place q.place m.kind ≡ Some over.place = ap (λ (x : Lexeme). next_place q.place x.kind) same ∙ over.stands in
-    over.breaks (subst (λ x. KeepsCounts q x over.place) same (fits q m over.place ms stands r).keeps)
+    let stands : next_spot q.spot m.kind ≡ Some over.spot = ap (λ (x : Lexeme). next_spot q.spot x.kind) same ∙ over.stands in
+    over.breaks (subst (λ x. KeepsCounts q x over.spot) same (fits q m over.spot ms stands r).keeps)
 
 pub not_large : (q : Progress) (rest more : List Lexeme) → next_token more ≡ next_token rest → IsLarge q rest → Room q more → ⊥
 not_large q rest [] e large r = let none : ◌≡◌ {A = Option Lexeme} None (Some large.token) = e ∙ ap next_token large.next in cc
@@ -329,7 +329,7 @@ pieces_small (t ∷ ts) f o = by (is_semicolon t.kind) refl (pieces_small ts)
 
 -- a problem of no objective leaves room
 room_plain : (tokens : List Lexeme) (p : Opb) → begins_objective tokens ≡ false → problem_of tokens ≡ Some p → IsWithin p → accepts Start tokens ≡ true
-    → Room (record { place = Start; names = []; terms = 0; constraints = 0 }) tokens
+    → Room (record { spot = Start; names = []; terms = 0; constraints = 0 }) tokens
 unfolding problem_of
 room_plain tokens p e h w ok = by (constraints_of names (pieces tokens).first (pieces tokens).others) refl at
   where
@@ -341,7 +341,7 @@ room_plain tokens p e h w ok = by (constraints_of names (pieces tokens).first (p
 
     by : (o : Option (List Signed)) → constraints_of names (pieces tokens).first (pieces tokens).others ≡ o
         → option_map (λ cs. let q : Opb = record { names = names; objective = None; constraints = cs } in q) o ≡ Some p
-        → Room (record { place = Start; names = []; terms = 0; constraints = 0 }) tokens
+        → Room (record { spot = Start; names = []; terms = 0; constraints = 0 }) tokens
     by None g k = cc
     by (Some cs) g k =
         let same : ◌≡◌ {A = Opb} (record { names = names; objective = None; constraints = cs }) p = cc in
@@ -361,7 +361,7 @@ room_plain tokens p e h w ok = by (constraints_of names (pieces tokens).first (p
 
 -- so does one with an objective, behind its mark
 room_marked : (tokens : List Lexeme) (p : Opb) → begins_objective tokens ≡ true → problem_of tokens ≡ Some p → IsWithin p → accepts ObjectiveMark (drop 2 tokens) ≡ true
-    → Room (record { place = ObjectiveMark; names = []; terms = 0; constraints = 0 }) (drop 2 tokens)
+    → Room (record { spot = ObjectiveMark; names = []; terms = 0; constraints = 0 }) (drop 2 tokens)
 unfolding problem_of
 room_marked tokens p e h w ok = by (pieces body).others refl (objective_of names (pieces body).first) refl at
   where
@@ -377,7 +377,7 @@ room_marked tokens p e h w ok = by (pieces body).others refl (objective_of names
     read : (n : List Lexeme) (os : List (List Lexeme)) (ts : List Term) → (pieces body).others ≡ n ∷ os → objective_of names (pieces body).first ≡ Some ts
         → (o : Option (List Signed)) → constraints_of names n os ≡ o
         → option_map (λ cs. let q : Opb = record { names = names; objective = Some ts; constraints = cs } in q) o ≡ Some p
-        → Room (record { place = ObjectiveMark; names = []; terms = 0; constraints = 0 }) body
+        → Room (record { spot = ObjectiveMark; names = []; terms = 0; constraints = 0 }) body
     read n os ts eo es None g k = cc
     read n os ts eo es (Some cs) g k =
         let same : ◌≡◌ {A = Opb} (record { names = names; objective = Some ts; constraints = cs }) p = cc in
@@ -399,7 +399,7 @@ room_marked tokens p e h w ok = by (pieces body).others refl (objective_of names
 
     by : (o : List (List Lexeme)) → (pieces body).others ≡ o → (s : Option (List Term)) → objective_of names (pieces body).first ≡ s
         → (let r : Option Opb = elim o [ [] ↦ None | next ∷ others ↦ elim s [ None ↦ None | Some ts ↦ option_map (λ cs. record { names = names; objective = Some ts; constraints = cs }) (constraints_of names next others) ] ] in r) ≡ Some p
-        → Room (record { place = ObjectiveMark; names = []; terms = 0; constraints = 0 }) body
+        → Room (record { spot = ObjectiveMark; names = []; terms = 0; constraints = 0 }) body
     by [] eo s es k = cc
     by (n ∷ os) eo None es k = cc
     by (n ∷ os) eo (Some ts) es k = read n os ts eo es (constraints_of names n os) refl k
@@ -409,6 +409,6 @@ pub problem_room : (tokens : List Lexeme) (p : Opb) → problem_of tokens ≡ So
 problem_room tokens p h w = by (begins_objective tokens) refl (sym (problem_form tokens) ∙ ap is_some h)
   where
     by : (b : Bool) → begins_objective tokens ≡ b → accepts (if b then ObjectiveMark else Start) (if b then drop 2 tokens else tokens) ≡ true
-        → Room (record { place = if b then ObjectiveMark else Start; names = []; terms = 0; constraints = 0 }) (if b then drop 2 tokens else tokens)
+        → Room (record { spot = if b then ObjectiveMark else Start; names = []; terms = 0; constraints = 0 }) (if b then drop 2 tokens else tokens)
     by true e ok = room_marked tokens p e h w ok
     by false e ok = room_plain tokens p e h w ok

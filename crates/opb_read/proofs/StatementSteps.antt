@@ -13,42 +13,42 @@ use Rattle.opb_read.specs.Ahead.{begins_integer, begins_semicolon, next_relation
 use Rattle.opb_read.specs.Denial.{IsForm}
 use Rattle.opb_read.specs.FaultCodes.{code_at}
 use Rattle.opb_read.specs.Forms.{is_term, term_of, terms_of, behind_terms}
-use Rattle.opb_read.specs.Places.{next_place, may_stand, is_start, begun}
+use Rattle.opb_read.specs.Spots.{next_spot, may_stand, is_start, begun}
 use Rattle.opb_read.specs.Progress.{Progress, Reaches, StopsAt, HoldsLimits, at_start, at_mark, IsInSum, behind_sum, IsBehindSum}
 use Rattle.opb_read.specs.declared.fault.OpbCode.{OpbCode}
 use Rattle.opb_read.specs.declared.fault.OpbCode.TheVariants.{IntegerTooLarge}
-use Rattle.opb_read.specs.declared.place.Place.{Place}
-use Rattle.opb_read.specs.declared.place.Place.TheVariants.{Start, ObjectiveMark, ObjectiveCoefficient, ObjectiveLiteral, Coefficient, Literal, Relation, RightSide}
+use Rattle.opb_read.specs.declared.spot.Spot.{Spot}
+use Rattle.opb_read.specs.declared.spot.Spot.TheVariants.{Start, ObjectiveMark, ObjectiveCoefficient, ObjectiveLiteral, Coefficient, Literal, Relation, RightSide}
 use Rattle.opb_read.proofs.CasesOfCodes.{tells_form}
 use Rattle.opb_read.proofs.Sums.{terms_pair, behind_none}
 use Rattle.opb_read.proofs.FormByTokens.{semicolon_no_integer}
-use Rattle.opb_read.proofs.TokensPassed.{placed, reaches_one, reaches_then, reaches_holds, stops_here, stops_then, step_integer, step_relation, step_end, large_integer}
+use Rattle.opb_read.proofs.TokensPassed.{at_spot, reaches_one, reaches_then, reaches_holds, stops_here, stops_then, step_integer, step_relation, step_end, large_integer}
 
 -- no relation stands behind the sum
 pub stops_at_relation : (code : OpbCode) (s : Progress) (names : List (List ℕ)) (left : List Lexeme) → IsForm code → code ≡ code_at Literal left → IsBehindSum s names left → next_relation left ≡ None → StopsAt code s left left
 stops_at_relation code s names left form named h none =
-    stops_here code s left (tells_form code _ _ _ form (record { stands = by left refl none; named = named ∙ ap (λ (p : Place). code_at p left) (sym (h.due none)) }))
+    stops_here code s left (tells_form code _ _ _ form (record { stands = by left refl none; named = named ∙ ap (λ (p : Spot). code_at p left) (sym (h.due none)) }))
   where
-    by : (l : List Lexeme) → left ≡ l → next_relation l ≡ None → may_stand s.place l ≡ false
+    by : (l : List Lexeme) → left ≡ l → next_relation l ≡ None → may_stand s.spot l ≡ false
     by [] e n = h.ends e
     by (t ∷ rest) e n = ap is_some (h.stands t rest e ∙ ap (λ (r : Option linear.Relation). if is_some r then Some Relation else None) n)
 
 -- the relation, passed
 pub relation_passed : (s : Progress) (names : List (List ℕ)) (left left1 : List Lexeme) (r : linear.Relation) → IsBehindSum s names left → next_relation left ≡ Some r → left1 ≡ drop 1 left
-    → Reaches s left (placed s Relation) left1
+    → Reaches s left (at_spot s Relation) left1
 relation_passed s names left left1 r h e at = by left refl e at
   where
-    by : (l : List Lexeme) → left ≡ l → next_relation l ≡ Some r → left1 ≡ drop 1 l → Reaches s left (placed s Relation) left1
+    by : (l : List Lexeme) → left ≡ l → next_relation l ≡ Some r → left1 ≡ drop 1 l → Reaches s left (at_spot s Relation) left1
     by [] g n d = cc
     by (t ∷ rest) g n d =
-        let stands : next_place s.place t.kind ≡ Some Relation = h.stands t rest g ∙ ap (λ (x : Option linear.Relation). if is_some x then Some Relation else None) n in
-        reaches_one s left t left1 (placed s Relation) (g ∙ ap (λ l. t ∷ l) (sym d)) (step_relation s t r n stands h.within h.few)
+        let stands : next_spot s.spot t.kind ≡ Some Relation = h.stands t rest g ∙ ap (λ (x : Option linear.Relation). if is_some x then Some Relation else None) n in
+        reaches_one s left t left1 (at_spot s Relation) (g ∙ ap (λ l. t ∷ l) (sym d)) (step_relation s t r n stands h.within h.few)
 
 -- no integer stands behind the relation
 pub stops_at_right : (code : OpbCode) (s : Progress) (names : List (List ℕ)) (left left1 : List Lexeme) (r : linear.Relation) → IsForm code → code ≡ code_at Relation left1 → IsBehindSum s names left → next_relation left ≡ Some r
     → left1 ≡ drop 1 left → begins_integer left1 ≡ false → StopsAt code s left left1
 stops_at_right code s names left left1 r form named h e at none =
-    stops_then code s (placed s Relation) left left1 left1 (relation_passed s names left left1 r h e at) (stops_here code (placed s Relation) left1 (tells_form code _ _ _ form (record { stands = by left1 none; named = named })))
+    stops_then code s (at_spot s Relation) left left1 left1 (relation_passed s names left left1 r h e at) (stops_here code (at_spot s Relation) left1 (tells_form code _ _ _ form (record { stands = by left1 none; named = named })))
   where
     by : (l : List Lexeme) → begins_integer l ≡ false → may_stand Relation l ≡ false
     by [] n = refl
@@ -58,28 +58,28 @@ stops_at_right code s names left left1 r form named h e at none =
 pub stops_at_large : (s : Progress) (names : List (List ℕ)) (left left1 : List Lexeme) (r : linear.Relation) (b : Lexeme) → IsBehindSum s names left → next_relation left ≡ Some r → left1 ≡ drop 1 left
     → left1 ≡ b ∷ drop 1 left1 → b.kind ≡ kinds.Integer → largest_integer < unsigned_abs (integer_value b.text) → StopsAt IntegerTooLarge s left left1
 stops_at_large s names left left1 r b h e at eb kb large =
-    stops_then IntegerTooLarge s (placed s Relation) left left1 left1
+    stops_then IntegerTooLarge s (at_spot s Relation) left left1 left1
     (relation_passed s names left left1 r h e at)
-    (stops_here IntegerTooLarge (placed s Relation) left1
-    (large_integer (placed s Relation) left1 b RightSide eb kb refl (reaches_holds s (placed s Relation) left left1 h.within (relation_passed s names left left1 r h e at)) (omega (arith, h.few)) large))
+    (stops_here IntegerTooLarge (at_spot s Relation) left1
+    (large_integer (at_spot s Relation) left1 b RightSide eb kb refl (reaches_holds s (at_spot s Relation) left left1 h.within (relation_passed s names left left1 r h e at)) (omega (arith, h.few)) large))
 
 -- the right side, passed
 pub right_passed : (s : Progress) (names : List (List ℕ)) (left left1 left2 : List Lexeme) (r : linear.Relation) (b : Lexeme) → IsBehindSum s names left → next_relation left ≡ Some r
-    → left1 ≡ drop 1 left → left1 ≡ b ∷ left2 → b.kind ≡ kinds.Integer → unsigned_abs (integer_value b.text) ≤ largest_integer → Reaches s left (placed s RightSide) left2
+    → left1 ≡ drop 1 left → left1 ≡ b ∷ left2 → b.kind ≡ kinds.Integer → unsigned_abs (integer_value b.text) ≤ largest_integer → Reaches s left (at_spot s RightSide) left2
 right_passed s names left left1 left2 r b h e at eb kb small =
     let here = relation_passed s names left left1 r h e at in
-    reaches_then s (placed s Relation) (placed s RightSide) left left1 left2 here
-    (reaches_one (placed s Relation) left1 b left2 (placed s RightSide) eb
-    (step_integer (placed s Relation) b RightSide kb refl (reaches_holds s (placed s Relation) left left1 h.within here) small (omega (arith, h.few))))
+    reaches_then s (at_spot s Relation) (at_spot s RightSide) left left1 left2 here
+    (reaches_one (at_spot s Relation) left1 b left2 (at_spot s RightSide) eb
+    (step_integer (at_spot s Relation) b RightSide kb refl (reaches_holds s (at_spot s Relation) left left1 h.within here) small (omega (arith, h.few))))
 
 -- no `;` stands behind the right side
 pub stops_at_end : (code : OpbCode) (s : Progress) (names : List (List ℕ)) (left left1 left2 : List Lexeme) (r : linear.Relation) (b : Lexeme) → IsForm code → code ≡ code_at RightSide left2 → IsBehindSum s names left
     → next_relation left ≡ Some r → left1 ≡ drop 1 left → left1 ≡ b ∷ left2 → b.kind ≡ kinds.Integer → unsigned_abs (integer_value b.text) ≤ largest_integer
     → begins_semicolon left2 ≡ false → StopsAt code s left left2
 stops_at_end code s names left left1 left2 r b form named h e at eb kb small none =
-    stops_then code s (placed s RightSide) left left2 left2
+    stops_then code s (at_spot s RightSide) left left2 left2
     (right_passed s names left left1 left2 r b h e at eb kb small)
-    (stops_here code (placed s RightSide) left2 (tells_form code _ _ _ form (record { stands = by left2 none; named = named })))
+    (stops_here code (at_spot s RightSide) left2 (tells_form code _ _ _ form (record { stands = by left2 none; named = named })))
   where
     by : (l : List Lexeme) → begins_semicolon l ≡ false → may_stand RightSide l ≡ false
     by [] n = refl
@@ -91,15 +91,15 @@ pub closing_passed : (s : Progress) (names : List (List ℕ)) (left left1 left2 
     → Reaches s left (at_start names (s.constraints + 1)) left3
 closing_passed s names left left1 left2 left3 r b h e at eb kb small end at3 =
     let here = right_passed s names left left1 left2 r b h e at eb kb small in
-    let holds = reaches_holds s (placed s RightSide) left left2 h.within here in
+    let holds = reaches_holds s (at_spot s RightSide) left left2 h.within here in
     subst (λ n. Reaches s left (at_start n (s.constraints + 1)) left3) h.table
-    (reaches_then s (placed s RightSide) (at_start s.names (s.constraints + 1)) left left2 left3 here (by left2 refl holds end at3))
+    (reaches_then s (at_spot s RightSide) (at_start s.names (s.constraints + 1)) left left2 left3 here (by left2 refl holds end at3))
   where
-    by : (l : List Lexeme) → left2 ≡ l → HoldsLimits (placed s RightSide) → begins_semicolon l ≡ true → left3 ≡ drop 1 l → Reaches (placed s RightSide) left2 (at_start s.names (s.constraints + 1)) left3
+    by : (l : List Lexeme) → left2 ≡ l → HoldsLimits (at_spot s RightSide) → begins_semicolon l ≡ true → left3 ≡ drop 1 l → Reaches (at_spot s RightSide) left2 (at_start s.names (s.constraints + 1)) left3
     by [] g holds n d = cc
     by (t ∷ rest) g holds n d =
-        reaches_one (placed s RightSide) left2 t left3 (at_start s.names (s.constraints + 1)) (g ∙ ap (λ l. t ∷ l) (sym d))
-        (step_end (placed s RightSide) t n (ap (λ x. if x then Some Start else None) n) holds)
+        reaches_one (at_spot s RightSide) left2 t left3 (at_start s.names (s.constraints + 1)) (g ∙ ap (λ l. t ∷ l) (sym d))
+        (step_end (at_spot s RightSide) t n (ap (λ x. if x then Some Start else None) n) holds)
 
 -- at the front of a constraint stands its sum
 pub in_constraint_sum : (names : List (List ℕ)) (n : ℕ) → HoldsLimits (at_start names n) → n < most_constraints → IsInSum (at_start names n) names 0 Coefficient Literal
@@ -132,7 +132,7 @@ behind_its_sum names now n count left left1 h few r none some = record {
   few = few;
 }
   where
-    at : (b : Bool) (t : Lexeme) → is_integer t.kind ≡ false → next_place (if b then Start else Literal) t.kind ≡ (if is_some (relation_of t.kind) then Some Relation else None)
+    at : (b : Bool) (t : Lexeme) → is_integer t.kind ≡ false → next_spot (if b then Start else Literal) t.kind ≡ (if is_some (relation_of t.kind) then Some Relation else None)
     at true t i = ap (λ x. if x then Some Coefficient else if is_some (relation_of t.kind) then Some Relation else None) i
     at false t i = ap (λ x. if x then Some Coefficient else if is_some (relation_of t.kind) then Some Relation else None) i
 
@@ -166,7 +166,7 @@ mark_passed names now count left left1 left2 h r end at =
     let holds = reaches_holds (at_mark names) q left left1 h r in
     reaches_then (at_mark names) q (at_start now 0) left left1 left2 r (by left1 refl end at holds)
   where
-    stands : (b : Bool) (t : Lexeme) → is_semicolon t.kind ≡ true → next_place (if b then ObjectiveMark else ObjectiveLiteral) t.kind ≡ Some Start
+    stands : (b : Bool) (t : Lexeme) → is_semicolon t.kind ≡ true → next_spot (if b then ObjectiveMark else ObjectiveLiteral) t.kind ≡ Some Start
     stands true t e = ap (λ x. if x then Some ObjectiveCoefficient else if is_semicolon t.kind then Some Start else None) (semicolon_no_integer t.kind e).0 ∙ ap (λ x. if x then Some Start else None) e
     stands false t e = ap (λ x. if x then Some ObjectiveCoefficient else if is_semicolon t.kind then Some Start else None) (semicolon_no_integer t.kind e).0 ∙ ap (λ x. if x then Some Start else None) e
 
@@ -179,6 +179,6 @@ mark_passed names now count left left1 left2 h r end at =
     by [] g n d k = cc
     by (t ∷ rest) g n d k =
         let q = behind_sum (at_mark names) ObjectiveLiteral now count in
-        let zero_begun : q.constraints + begun q.place ≡ 0 = omega (arith, none_begun (count == 0)) in
+        let zero_begun : q.constraints + begun q.spot ≡ 0 = omega (arith, none_begun (count == 0)) in
         subst (λ m. Reaches q left1 (at_start now m) left2) zero_begun
-        (reaches_one q left1 t left2 (at_start now (q.constraints + begun q.place)) (g ∙ ap (λ l. t ∷ l) (sym d)) (step_end q t n (stands (count == 0) t n) k))
+        (reaches_one q left1 t left2 (at_start now (q.constraints + begun q.spot)) (g ∙ ap (λ l. t ∷ l) (sym d)) (step_end q t n (stands (count == 0) t n) k))

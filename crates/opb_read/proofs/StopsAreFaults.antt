@@ -11,11 +11,11 @@ use Rattle.opb_read.specs.Forms.{names_in}
 use Rattle.opb_read.specs.Spells.{problem_of}
 use Rattle.opb_read.specs.Denial.{Tells, IsForm}
 use Rattle.opb_read.specs.Progress.{Progress, Passes, Refuses, HoldsLimits, StopsAt, start_of}
-use Rattle.opb_read.specs.FaultPlace.{CanGoOn, is_begun, pieces_of, constraint_pieces, AreCountsWithin, IsWithinSoFar, next_token, IsNoForm, IsTooLarge, IsTooMany, line_of_next, place_behind, IsCodeThere, IsFaultAt}
+use Rattle.opb_read.specs.FaultSpot.{CanGoOn, is_begun, pieces_of, constraint_pieces, AreCountsWithin, IsWithinSoFar, next_token, IsNoForm, IsTooLarge, IsTooMany, line_of_next, spot_behind, IsCodeThere, IsFaultAt}
 use Rattle.opb_read.specs.declared.fault.OpbCode.{OpbCode}
-use Rattle.opb_read.specs.declared.place.Place.TheVariants.{Start, ObjectiveMark}
+use Rattle.opb_read.specs.declared.spot.Spot.TheVariants.{Start, ObjectiveMark}
 use Rattle.opb_read.proofs.CasesOfCodes.{tells_more, form_told}
-use Rattle.opb_read.specs.declared.place.Place.{Place}
+use Rattle.opb_read.specs.declared.spot.Spot.{Spot}
 use Rattle.std.specs.Prelude.{Option, None}
 use Rattle.opb_read.proofs.FormByTokens.{accepts}
 use Rattle.opb_read.proofs.TokensPassed.{passes_holds}
@@ -23,7 +23,7 @@ use Rattle.opb_read.proofs.PassedCanGoOn.{passes_accepts, goes_on_plain, goes_on
 use Rattle.opb_read.proofs.CountsOfPassed.{IsSmall, IsFew, literals, begun-cons, CountsFrom, passes_integers, counts_all, counts_one, keeps_one}
 use Rattle.opb_read.proofs.LimitsLeaveRoom.{Room, passes_room, not_over, not_large, problem_room}
 
--- what was passed, in the words of the fault's place
+-- what was passed, in the words of the fault's spot
 record Found (code : OpbCode) (tokens rest : List Lexeme) : Type 0 where
   before : List Lexeme
   split : tokens ≡ before ++ rest
@@ -49,10 +49,10 @@ next_is rest t at = ap next_token at
 
 -- the counts of the statements, and of the tokens that they stand in
 abbrev pub plain : Progress
-plain = record { place = Start; names = []; terms = 0; constraints = 0 }
+plain = record { spot = Start; names = []; terms = 0; constraints = 0 }
 
 abbrev pub marked : Progress
-marked = record { place = ObjectiveMark; names = []; terms = 0; constraints = 0 }
+marked = record { spot = ObjectiveMark; names = []; terms = 0; constraints = 0 }
 
 plain_holds : HoldsLimits plain
 plain_holds = record { variables = omega arith; terms = omega arith; constraints = omega arith }
@@ -135,17 +135,17 @@ marked_counts a b passed e w =
 -- whatever makes a problem within the limits leaves room
 room_plain : (tokens : List Lexeme) (p : Opb) → begins_objective tokens ≡ false → problem_of tokens ≡ Some p → IsWithin p → Room plain tokens
 room_plain tokens p e is w =
-    subst (λ b. Room (record { place = if b then ObjectiveMark else Start; names = []; terms = 0; constraints = 0 }) (if b then drop 2 tokens else tokens)) e (problem_room tokens p is w)
+    subst (λ b. Room (record { spot = if b then ObjectiveMark else Start; names = []; terms = 0; constraints = 0 }) (if b then drop 2 tokens else tokens)) e (problem_room tokens p is w)
 
 room_marked : (a b : Lexeme) (body : List Lexeme) (p : Opb) → begins_objective (a ∷ b ∷ []) ≡ true → problem_of (a ∷ b ∷ body) ≡ Some p → IsWithin p → Room marked body
 room_marked a b body p e is w =
-    subst (λ x. Room (record { place = if x then ObjectiveMark else Start; names = []; terms = 0; constraints = 0 }) (if x then body else a ∷ b ∷ body)) e (problem_room (a ∷ b ∷ body) p is w)
+    subst (λ x. Room (record { spot = if x then ObjectiveMark else Start; names = []; terms = 0; constraints = 0 }) (if x then body else a ∷ b ∷ body)) e (problem_room (a ∷ b ∷ body) p is w)
 
--- what was passed leads to the place where it ends
-passes_place : (passed : List Lexeme) (s q : Progress) → Passes s passed q → place_behind s.place passed ≡ Some q.place
-passes_place [] s q h = let e : q ≡ s = h in ap (λ (x : Progress). let p : Option Place = Some x.place in p) (sym e)
-passes_place (t ∷ ts) s q h =
-    ap (λ (o : Option Place). let p : Option Place = elim o [ None ↦ None | Some next ↦ place_behind next ts ] in p) h.1.stands ∙ passes_place ts h.0 q h.2
+-- what was passed leads to the spot where it ends
+passes_spot : (passed : List Lexeme) (s q : Progress) → Passes s passed q → spot_behind s.spot passed ≡ Some q.spot
+passes_spot [] s q h = let e : q ≡ s = h in ap (λ (x : Progress). let p : Option Spot = Some x.spot in p) (sym e)
+passes_spot (t ∷ ts) s q h =
+    ap (λ (o : Option Spot). let p : Option Spot = elim o [ None ↦ None | Some next ↦ spot_behind next ts ] in p) h.1.stands ∙ passes_spot ts h.0 q h.2
 
 found_plain : (code : OpbCode) (tokens before rest : List Lexeme) (q : Progress) → begins_objective tokens ≡ false → tokens ≡ before ++ rest → Passes plain before q
     → Refuses code q rest → Found code tokens rest
@@ -153,31 +153,31 @@ found_plain code tokens before rest q e split h stop =
     record {
       before = before;
       split = split;
-      begins = subst (λ b. CanGoOn b before) (sym front) (goes_on_plain before q.place (before_plain before rest front) reads);
+      begins = subst (λ b. CanGoOn b before) (sym front) (goes_on_plain before q.spot (before_plain before rest front) reads);
       within = record { integers = subst (All IsSmall) (sym (is_plain before (before_plain before rest front)).all) (passes_integers before plain q h); counts = counts_plain before (before_plain before rest front) (subst (CountsFrom plain) (append-nil before) (counts_all before plain q plain_holds holds h)) };
       stops = tells_more code _ _ _ _ _ _
-          (λ form. no_form_plain before rest q.place reads front form.stands)
+          (λ form. no_form_plain before rest q.spot reads front form.stands)
           (λ large. record {
             token = large.token;
             next = next_is rest large.token large.next;
             integer = large.integer;
-            stands = subst (λ b. CanGoOn b (before ++ large.token ∷ [])) (sym front) (goes_on_plain (before ++ large.token ∷ []) large.place (before_next before rest large.token large.next front) (reads_one Start q.place large.place before large.token reads large.stands));
-            counts = counts_plain (before ++ large.token ∷ []) (before_next before rest large.token large.next front) (counts_one before large.token large.place plain q plain_holds holds h large.stands large.counts);
+            stands = subst (λ b. CanGoOn b (before ++ large.token ∷ [])) (sym front) (goes_on_plain (before ++ large.token ∷ []) large.spot (before_next before rest large.token large.next front) (reads_one Start q.spot large.spot before large.token reads large.stands));
+            counts = counts_plain (before ++ large.token ∷ []) (before_next before rest large.token large.next front) (counts_one before large.token large.spot plain q plain_holds holds h large.stands large.counts);
             none = λ more alike p is w. not_large q rest more alike.token large (passes_room before more plain q h (room_plain (before ++ more) p (alike.front ∙ front) is w));
           })
           (λ over. record {
             token = over.token;
             next = next_is rest over.token over.next;
-            stands = subst (λ b. CanGoOn b (before ++ over.token ∷ [])) (sym front) (goes_on_plain (before ++ over.token ∷ []) over.place (before_next before rest over.token over.next front) (reads_one Start q.place over.place before over.token reads over.stands));
-            counts = λ w. over.breaks (keeps_one before over.token over.place plain q h over.stands (plain_counts (before ++ over.token ∷ []) (before_next before rest over.token over.next front) w));
+            stands = subst (λ b. CanGoOn b (before ++ over.token ∷ [])) (sym front) (goes_on_plain (before ++ over.token ∷ []) over.spot (before_next before rest over.token over.next front) (reads_one Start q.spot over.spot before over.token reads over.stands));
+            counts = λ w. over.breaks (keeps_one before over.token over.spot plain q h over.stands (plain_counts (before ++ over.token ∷ []) (before_next before rest over.token over.next front) w));
             none = λ more alike p is w. not_over q rest more alike.token over (passes_room before more plain q h (room_plain (before ++ more) p (alike.front ∙ front) is w));
           })
           stop;
       code_is = λ form. record {
-        place = q.place;
-        leads = ap (λ b. place_behind (if b then ObjectiveMark else Start) (statements_of before)) (before_plain before rest front)
-            ∙ ap (place_behind Start) (is_plain before (before_plain before rest front)).all
-            ∙ passes_place before plain q h;
+        spot = q.spot;
+        leads = ap (λ b. spot_behind (if b then ObjectiveMark else Start) (statements_of before)) (before_plain before rest front)
+            ∙ ap (spot_behind Start) (is_plain before (before_plain before rest front)).all
+            ∙ passes_spot before plain q h;
         named = (form_told code _ _ _ form stop).named;
       };
     }
@@ -185,7 +185,7 @@ found_plain code tokens before rest q e split h stop =
     front : begins_objective (before ++ rest) ≡ false
     front = sym (ap begins_objective split) ∙ e
 
-    reads : (more : List Lexeme) → accepts Start (before ++ more) ≡ accepts q.place more
+    reads : (more : List Lexeme) → accepts Start (before ++ more) ≡ accepts q.spot more
     reads more = passes_accepts before more plain q h
 
     holds : HoldsLimits q
@@ -197,39 +197,39 @@ found_marked code tokens a b passed rest q e split h stop =
     record {
       before = a ∷ b ∷ passed;
       split = split;
-      begins = subst (λ x. CanGoOn x (a ∷ b ∷ passed)) (sym e) (goes_on_marked a b passed q.place e reads);
+      begins = subst (λ x. CanGoOn x (a ∷ b ∷ passed)) (sym e) (goes_on_marked a b passed q.spot e reads);
       within = record {
         integers = subst (All IsSmall) (sym (is_marked a b passed e).all) (passes_integers passed marked q h);
         counts = counts_marked a b passed e (subst (CountsFrom marked) (append-nil passed) (counts_all passed marked q marked_holds holds h));
       };
       stops = tells_more code _ _ _ _ _ _
-          (λ form. no_form_marked a b passed rest q.place reads e form.stands)
+          (λ form. no_form_marked a b passed rest q.spot reads e form.stands)
           (λ large. record {
             token = large.token;
             next = next_is rest large.token large.next;
             integer = large.integer;
-            stands = subst (λ x. CanGoOn x (a ∷ b ∷ (passed ++ large.token ∷ []))) (sym e) (goes_on_marked a b (passed ++ large.token ∷ []) large.place e (reads_one ObjectiveMark q.place large.place passed large.token reads large.stands));
-            counts = counts_marked a b (passed ++ large.token ∷ []) e (counts_one passed large.token large.place marked q marked_holds holds h large.stands large.counts);
+            stands = subst (λ x. CanGoOn x (a ∷ b ∷ (passed ++ large.token ∷ []))) (sym e) (goes_on_marked a b (passed ++ large.token ∷ []) large.spot e (reads_one ObjectiveMark q.spot large.spot passed large.token reads large.stands));
+            counts = counts_marked a b (passed ++ large.token ∷ []) e (counts_one passed large.token large.spot marked q marked_holds holds h large.stands large.counts);
             none = λ more alike p is w. not_large q rest more alike.token large (passes_room passed more marked q h (room_marked a b (passed ++ more) p e is w));
           })
           (λ over. record {
             token = over.token;
             next = next_is rest over.token over.next;
-            stands = subst (λ x. CanGoOn x (a ∷ b ∷ (passed ++ over.token ∷ []))) (sym e) (goes_on_marked a b (passed ++ over.token ∷ []) over.place e (reads_one ObjectiveMark q.place over.place passed over.token reads over.stands));
-            counts = λ w. over.breaks (keeps_one passed over.token over.place marked q h over.stands (marked_counts a b (passed ++ over.token ∷ []) e w));
+            stands = subst (λ x. CanGoOn x (a ∷ b ∷ (passed ++ over.token ∷ []))) (sym e) (goes_on_marked a b (passed ++ over.token ∷ []) over.spot e (reads_one ObjectiveMark q.spot over.spot passed over.token reads over.stands));
+            counts = λ w. over.breaks (keeps_one passed over.token over.spot marked q h over.stands (marked_counts a b (passed ++ over.token ∷ []) e w));
             none = λ more alike p is w. not_over q rest more alike.token over (passes_room passed more marked q h (room_marked a b (passed ++ more) p e is w));
           })
           stop;
       code_is = λ form. record {
-        place = q.place;
-        leads = ap (λ x. place_behind (if x then ObjectiveMark else Start) (statements_of (a ∷ b ∷ passed))) e
-            ∙ ap (place_behind ObjectiveMark) (is_marked a b passed e).all
-            ∙ passes_place passed marked q h;
+        spot = q.spot;
+        leads = ap (λ x. spot_behind (if x then ObjectiveMark else Start) (statements_of (a ∷ b ∷ passed))) e
+            ∙ ap (spot_behind ObjectiveMark) (is_marked a b passed e).all
+            ∙ passes_spot passed marked q h;
         named = (form_told code _ _ _ form stop).named;
       };
     }
   where
-    reads : (more : List Lexeme) → accepts ObjectiveMark (passed ++ more) ≡ accepts q.place more
+    reads : (more : List Lexeme) → accepts ObjectiveMark (passed ++ more) ≡ accepts q.spot more
     reads more = passes_accepts passed more marked q h
 
     holds : HoldsLimits q
@@ -251,7 +251,7 @@ found code tokens rest h = by (begins_objective tokens) refl h.reaches.split h.r
     passed = h.reaches.passed
 
     by : (b : Bool) → begins_objective tokens ≡ b → (if b then drop 2 tokens else tokens) ≡ passed ++ rest
-        → Passes (record { place = if b then ObjectiveMark else Start; names = []; terms = 0; constraints = 0 }) passed q → Found code tokens rest
+        → Passes (record { spot = if b then ObjectiveMark else Start; names = []; terms = 0; constraints = 0 }) passed q → Found code tokens rest
     by false e split p = found_plain code tokens passed rest q e split p h.refuses
     by true e split p =
         let two = front_two tokens e in

@@ -1,5 +1,5 @@
 -- What the tokens that stand next say of a sum.
-use Rattle.std.proofs.Common.{◌≡◌, ℕ, ℤ, ◌+◌, ◌<◌, ◌≤◌, Bool, true, false, ◌&&◌, List, [], ◌∷◌, ◌++◌, length, drop, if◌then◌else◌, refl, sym, ap, subst, ◌∙◌, arith, length-append}
+use Rattle.std.proofs.Common.{◌≡◌, ℕ, ◌+◌, ◌<◌, ◌≤◌, Bool, true, false, ◌&&◌, List, [], ◌∷◌, ◌++◌, length, drop, if◌then◌else◌, refl, sym, ap, subst, ◌∙◌, arith, length-append}
 use Rattle.std.specs.Prelude.{All, unsigned_abs}
 use Rattle.std.proofs.lemmas.List.Elements.{All-head, All-tail}
 use Rattle.pb_text.specs.Lexeme.{Lexeme}
@@ -10,6 +10,7 @@ use Rattle.pb_text.specs.declared.kind.Kind.TheVariants.{Symbol, Stray, Integer,
 use Rattle.linear.specs.declared.term.Term.{Term}
 use Rattle.linear.specs.Limits.{IsTermWithin, largest_integer, most_terms, most_variables}
 use Rattle.linear.specs.Table.{with_name, place_of}
+use Rattle.linear.proofs.SameTerm.{same_term}
 use Rattle.opb_read.specs.Kinds.{is_integer, is_literal}
 use Rattle.opb_read.specs.Ahead.{begins_integer, begins_literal}
 use Rattle.opb_read.specs.Forms.{is_term, term_of, terms_of, behind_terms, names_in}
@@ -57,13 +58,6 @@ pub names_pair : (names : List (List ℕ)) (a b : Lexeme) (rest : List Lexeme) �
 names_pair names a b rest ea eb =
     ap (λ k. names_in (if is_literal k then with_name names (name_of a.text) else names) (b ∷ rest)) ea
     ∙ ap (λ k. names_in (if is_literal k then with_name names (name_of b.text) else names) rest) eb
-
-same_term : (c d : ℤ) (v w : ℕ) (m n : Bool) → c ≡ d → v ≡ w → m ≡ n
-    → ◌≡◌ {A = Term} (record { coef = c; var = record { 0 = v }; negated = m }) (record { coef = d; var = record { 0 = w }; negated = n })
-same_term c d v w m n ec ev en =
-    ap (λ x. let t : Term = record { coef = x; var = record { 0 = v }; negated = m } in t) ec
-    ∙ ap (λ x. let t : Term = record { coef = d; var = record { 0 = x }; negated = m } in t) ev
-    ∙ ap (λ x. let t : Term = record { coef = d; var = record { 0 = w }; negated = x } in t) en
 
 -- the term that stands next, its variable numbered by the names so far
 pub next_term : (names : List (List ℕ)) (a b : Lexeme) (rest : List Lexeme) (t : Term) → a.kind ≡ Integer → b.kind ≡ Literal

@@ -1,4 +1,4 @@
--- Which of the codes of form a token has that cannot stand in its place: the table of faults, place by place. In each row
+-- Which of the codes of form a token has that cannot stand in its place: the table of faults, spot by spot. In each row
 -- the entries are tried in order; the end of the text counts as a token.
 use Rattle.std.specs.Prelude.{◌||◌, if◌then◌else◌, Option, Some, None, List, [], ◌∷◌, codes}
 use Rattle.pb_text.specs.Ahead.{next_kind}
@@ -9,8 +9,8 @@ use Rattle.pb_text.specs.declared.kind.Symbol.TheVariants as symbols
 use Rattle.opb_read.specs.Kinds.{begins_mark}
 use Rattle.opb_read.specs.declared.fault.OpbCode.{OpbCode}
 use Rattle.opb_read.specs.declared.fault.OpbCode.TheVariants.{BadToken, NoRelation, NoSemicolon, BadName, ObjectiveLate, UnsupportedForm}
-use Rattle.opb_read.specs.declared.place.Place.{Place}
-use Rattle.opb_read.specs.declared.place.Place.TheVariants as places
+use Rattle.opb_read.specs.declared.spot.Spot.{Spot}
+use Rattle.opb_read.specs.declared.spot.Spot.TheVariants as spots
 
 -- what every row ends with: the end of the text, a misspelt name, or any other token
 abbrev pub other_code : Option Kind → OpbCode
@@ -51,13 +51,13 @@ code_at_start (t ∷ rest) =
     else if begins 91 t.text then UnsupportedForm
     else code_of_kind_at_start (Some t.kind)
 
--- the code of the token that stands next, or of the end, at a place where it may not stand
-abbrev pub code_at : Place → List Lexeme → OpbCode
-code_at places.Start left = code_at_start left
-code_at places.ObjectiveMark left = other_code (next_kind left)
-code_at places.ObjectiveCoefficient left = code_behind_objective_coefficient (next_kind left)
-code_at places.ObjectiveLiteral left = code_behind_objective_literal (next_kind left)
-code_at places.Coefficient left = other_code (next_kind left)
-code_at places.Literal left = code_behind_literal (next_kind left)
-code_at places.Relation left = other_code (next_kind left)
-code_at places.RightSide left = NoSemicolon
+-- the code of the token that stands next, or of the end, at a spot where it may not stand
+abbrev pub code_at : Spot → List Lexeme → OpbCode
+code_at spots.Start left = code_at_start left
+code_at spots.ObjectiveMark left = other_code (next_kind left)
+code_at spots.ObjectiveCoefficient left = code_behind_objective_coefficient (next_kind left)
+code_at spots.ObjectiveLiteral left = code_behind_objective_literal (next_kind left)
+code_at spots.Coefficient left = other_code (next_kind left)
+code_at spots.Literal left = code_behind_literal (next_kind left)
+code_at spots.Relation left = other_code (next_kind left)
+code_at spots.RightSide left = NoSemicolon

@@ -6,7 +6,7 @@ use Rattle.opb_read.specs.Spells.{Spells}
 use Rattle.opb_read.specs.declared.fault.OpbCode.{OpbCode}
 use Rattle.opb_read.specs.declared.fault.OpbCode.TheVariants.{BadToken, NoRelation, NoSemicolon, BadName, ObjectiveLate, UnsupportedForm, IntegerTooLarge, TooMany, OutOfMemory}
 
--- A fault of form: the text spells no problem. A limit that is broken: it spells none within the limits. Want of
+-- A fault of form: the text spells no problem. A limit that is broken: it spells none within the limits. Running out of
 -- memory says nothing.
 abbrev pub Denies : OpbCode → List ℕ → Type 0
 Denies IntegerTooLarge text = (p : Opb) → Spells text p → IsWithin p → ⊥

@@ -6,8 +6,8 @@ pub mod Spells
 pub mod Faults
 pub mod Ahead
 pub mod Denial
-pub mod Places
+pub mod Spots
 pub mod FaultCodes
 pub mod Progress
-pub mod FaultPlace
+pub mod FaultSpot
 pub mod Cases

@@ -6,8 +6,8 @@ ghost use Rattle.pb_text.specs.Lexeme.{lexemes};
 ghost use Rattle.opb_read.specs.Cases.{at_least, equal, negated, plain, problem, spelled};
 ghost use Rattle.opb_read.specs.FaultCodes.{code_at};
 
-use crate::fault::OpbCode;
-use crate::place::Place;
+use super::fault::OpbCode;
+use super::spot::Spot;
 
 /// Texts that spell problems: terms as they are written, a variable however often; names numbered in order of first occurrence,
 /// the objective's first; an equality as one; comments, white space and signs count for nothing by themselves.
@@ -55,16 +55,16 @@ pub fn texts_spell_nothing()
     ensures no_statement { spelled (codes "1 x1 >= 1 ; ;") ≡ None }
 {}
 
-/// Codes at places: a token is told by where it stands, and not by itself.
-pub fn codes_by_place()
-    ensures bare_coefficient { code_at Place.Coefficient (lexemes (codes "<= 1 ;")) ≡ OpbCode.BadToken }
-    ensures behind_a_literal { code_at Place.Literal (lexemes (codes "<= 1 ;")) ≡ OpbCode.UnsupportedForm }
-    ensures literal_as_right_side { code_at Place.Relation (lexemes (codes "x1 ;")) ≡ OpbCode.BadToken }
-    ensures product { code_at Place.ObjectiveLiteral (lexemes (codes "x1 ;")) ≡ OpbCode.UnsupportedForm }
-    ensures constant { code_at Place.ObjectiveCoefficient (lexemes (codes "; ")) ≡ OpbCode.UnsupportedForm }
-    ensures late { code_at Place.Start (lexemes (codes "min: ;")) ≡ OpbCode.ObjectiveLate }
-    ensures no_mark { code_at Place.Start (lexemes (codes "min ;")) ≡ OpbCode.BadToken }
-    ensures weight { code_at Place.Start (lexemes (codes "[1] 1 x1 >= 1 ;")) ≡ OpbCode.UnsupportedForm }
-    ensures misspelt { code_at Place.Start (lexemes (codes "x ;")) ≡ OpbCode.BadName }
-    ensures the_end { code_at Place.Relation (lexemes []) ≡ OpbCode.NoSemicolon }
+/// Codes at spots: a token is told by where it stands, and not by itself.
+pub fn codes_by_spot()
+    ensures bare_coefficient { code_at Spot.Coefficient (lexemes (codes "<= 1 ;")) ≡ OpbCode.BadToken }
+    ensures behind_a_literal { code_at Spot.Literal (lexemes (codes "<= 1 ;")) ≡ OpbCode.UnsupportedForm }
+    ensures literal_as_right_side { code_at Spot.Relation (lexemes (codes "x1 ;")) ≡ OpbCode.BadToken }
+    ensures product { code_at Spot.ObjectiveLiteral (lexemes (codes "x1 ;")) ≡ OpbCode.UnsupportedForm }
+    ensures constant { code_at Spot.ObjectiveCoefficient (lexemes (codes "; ")) ≡ OpbCode.UnsupportedForm }
+    ensures late { code_at Spot.Start (lexemes (codes "min: ;")) ≡ OpbCode.ObjectiveLate }
+    ensures no_mark { code_at Spot.Start (lexemes (codes "min ;")) ≡ OpbCode.BadToken }
+    ensures weight { code_at Spot.Start (lexemes (codes "[1] 1 x1 >= 1 ;")) ≡ OpbCode.UnsupportedForm }
+    ensures misspelt { code_at Spot.Start (lexemes (codes "x ;")) ≡ OpbCode.BadName }
+    ensures the_end { code_at Spot.Relation (lexemes []) ≡ OpbCode.NoSemicolon }
 {}

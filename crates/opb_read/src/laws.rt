@@ -9,9 +9,9 @@ ghost use Rattle.linear.specs.Opb.{Opb};
 ghost use Rattle.opb_read.specs.Forms.{constraint_of, objective_of};
 ghost use Rattle.opb_read.specs.Spells.{Spells};
 ghost use Rattle.opb_read.specs.Written.{WritesConstraint, WritesSum};
-ghost use Rattle.opb_read.specs.FaultPlace.{IsFaultAt};
+ghost use Rattle.opb_read.specs.FaultSpot.{IsFaultAt};
 
-use crate::fault::OpbCode;
+use super::fault::OpbCode;
 
 /// A text spells at most one problem.
 #[tactic(auto, using(crate::proofs::Spelled::one_problem))]
@@ -33,7 +33,7 @@ pub fn objectives_as_written()
 {}
 
 /// Two faults of one text stand on one line, whatever their codes, out of memory aside: what the contract of `read` says of
-/// a fault's place fixes its line.
-pub fn one_place()
+/// a fault's spot fixes its line.
+pub fn one_spot()
     ensures { (text : List ℕ) (c d : OpbCode) (k l : ℕ) → c ≢ OpbCode.OutOfMemory → d ≢ OpbCode.OutOfMemory → IsFaultAt text c k → IsFaultAt text d l → k ≡ l }
 {}

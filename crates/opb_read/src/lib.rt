@@ -9,11 +9,11 @@ mod ahead;
 pub mod cases;
 mod fault;
 pub mod laws;
-mod place;
 mod reader;
 mod reading;
+mod spot;
 mod variables;
 
 pub use fault::{OpbCode, OpbFault};
-pub use laws::{constraints_as_written, objectives_as_written, one_place, one_problem};
+pub use laws::{constraints_as_written, objectives_as_written, one_problem, one_spot};
 pub use reading::read;

@@ -5,8 +5,8 @@
 //! one token after another, so that a fault stands at the first token that cannot stand in its place. At a fault, the token
 //! that has it stands next. So nothing is kept of a statement but its terms, and the line of a fault is that of the next token.
 
-ghost use Rattle.std.specs.Prelude.{◌≡◌, ◌≢◌, ◌<◌, ◌≤◌, ◌+◌, ℕ, List, true, false, Some, [], ◌∷◌, length, drop, unsigned_abs, IfOk, IfErr, IfSome, OnOk, OnErr, All, MatchOption};
-ghost use Rattle.linear.specs.Limits.{largest_integer, most_constraints, most_terms, most_variables, IsConstraintWithin, IsSumWithin, IsTermWithin};
+ghost use Rattle.std.specs.Prelude.{◌≡◌, ◌<◌, ◌≤◌, ◌+◌, ℕ, List, true, false, Some, [], ◌∷◌, length, drop, unsigned_abs, IfOk, IfErr, IfSome, OnOk, OnErr, All, MatchOption};
+ghost use Rattle.linear.specs.Limits.{largest_integer, most_constraints, most_terms, IsConstraintWithin, IsSumWithin, IsTermWithin};
 ghost use Rattle.pb_text.specs.Lexeme.{lexemes};
 ghost use Rattle.pb_text.specs.Number.{integer_value};
 ghost use Rattle.pb_text.specs.Token.{lexeme_of};
@@ -18,10 +18,10 @@ ghost use Rattle.opb_read.specs.Kinds.{statements_of};
 ghost use Rattle.opb_read.specs.Pieces.{pieces};
 ghost use Rattle.opb_read.specs.Progress.{Progress, HoldsLimits, IsBehindSum, PassesTerms, Reaches, Refuses, StopsAt, StopsInSum, at_mark, at_start, start_of};
 
-use crate::ahead::{begins_constraint, begins_objective, next_integer, next_relation};
-use crate::fault::OpbCode;
-use crate::place::Place;
-use crate::variables::Variables;
+use super::ahead::{begins_constraint, begins_objective, next_integer, next_relation};
+use super::fault::OpbCode;
+use super::spot::Spot;
+use super::variables::Variables;
 use linear::{LARGEST_INTEGER, MOST_CONSTRAINTS, MOST_TERMS, Relation, Seq, Signed, Term};
 use pb_text::{Kind, Lookahead, Symbol, Token, as_literal, integer};
 use std::alloc::Global;
@@ -32,8 +32,8 @@ use std::mem::replace;
 pub struct Reader<'a> {
     pub left: Lookahead<'a>,
     pub variables: Variables,
-    // Where the terms of a sum are gathered before they are copied to memory of their own, so that each sum takes memory
-    // once and just what it needs. What it holds between sums is of no account.
+    /// Where the terms of a sum are gathered before they are copied to memory of their own, so that each sum takes memory
+    /// once and just what it needs. What it holds between sums is of no account.
     terms: Vec<Term>,
 }
 
@@ -53,7 +53,7 @@ impl<'a> Reader<'a> {
     // Sums: integers and literals in turn.
 
     /// The term that begins with this coefficient, behind so many terms of its statement.
-    fn term(&mut self, coefficient: Token<'a>, count: usize, behind: Place) -> Result<Term, OpbCode>
+    fn term(&mut self, coefficient: Token<'a>, count: usize, behind: Spot) -> Result<Term, OpbCode>
         requires next { self.old.left ≡ lexeme_of coefficient ∷ drop 1 self.old.left }
         requires integer { coefficient.kind ≡ Kind.Integer }
         requires few { count ≤ most_terms }
@@ -90,8 +90,8 @@ impl<'a> Reader<'a> {
         })
     }
 
-    /// The terms that stand next; `behind` is the place behind a coefficient.
-    pub(crate) fn sum(&mut self, alloc: Global, behind: Place) -> Result<Vec<Term>, OpbCode>
+    /// The terms that stand next; `behind` is the spot behind a coefficient.
+    pub(crate) fn sum(&mut self, alloc: Global, behind: Spot) -> Result<Vec<Term>, OpbCode>
         ensures terms { IfOk result (λ v. v.items ≡ terms_of (names_in self.old.variables self.old.left) self.old.left) }
         ensures left { OnOk result (self.new.left ≡ behind_terms self.old.left) }
         ensures end { OnOk result (begins_integer self.new.left ≡ false) }
@@ -120,8 +120,8 @@ impl<'a> Reader<'a> {
 
     // Constraints: a sum, a relation, an integer and `;`.
 
-    /// Passes the `;` that closes a statement; `behind` is the place where it is due.
-    pub(crate) fn semicolon(&mut self, behind: Place) -> Result<(), OpbCode>
+    /// Passes the `;` that closes a statement; `behind` is the spot where it is due.
+    pub(crate) fn semicolon(&mut self, behind: Spot) -> Result<(), OpbCode>
         ensures ok { OnOk result (begins_semicolon self.old.left ≡ true) }
         ensures left { OnOk result (self.new.left ≡ drop 1 self.old.left) }
         ensures variables { self.new.variables ≡ self.old.variables }
@@ -151,17 +151,17 @@ impl<'a> Reader<'a> {
             (s : Progress) → IsBehindSum s self.old.variables self.old.left → StopsAt code s self.old.left self.new.left) }
     {
         let Some(relation) = next_relation(&self.left) else {
-            return Err(Place::Literal.fault(&self.left));
+            return Err(Spot::Literal.fault(&self.left));
         };
         self.left.advance();
         let Some(token) = next_integer(&self.left) else {
-            return Err(Place::Relation.fault(&self.left));
+            return Err(Spot::Relation.fault(&self.left));
         };
         let Some(right) = file_integer(token) else {
             return Err(OpbCode::IntegerTooLarge);
         };
         self.left.advance();
-        self.semicolon(Place::RightSide)?;
+        self.semicolon(Spot::RightSide)?;
         Ok((relation, right))
     }
 
@@ -182,7 +182,7 @@ impl<'a> Reader<'a> {
             n < most_constraints →
             StopsAt code (at_start self.old.variables n) self.old.left self.new.left) }
     {
-        let terms = self.sum(alloc, Place::Coefficient)?;
+        let terms = self.sum(alloc, Spot::Coefficient)?;
         let (relation, right) = self.closing()?;
         Ok(Signed {
             terms: Seq::from_vec(terms),
@@ -201,7 +201,7 @@ impl<'a> Reader<'a> {
         ensures refuses { IfErr result (λ code. (names : List (List ℕ)) → Refuses code (at_start names count) self.now.left) }
     {
         if !begins_constraint(token.kind) {
-            return Err(Place::Start.fault(&self.left));
+            return Err(Spot::Start.fault(&self.left));
         }
         if count == MOST_CONSTRAINTS {
             return Err(OpbCode::TooMany);
@@ -245,8 +245,8 @@ impl<'a> Reader<'a> {
         ensures stops { IfErr result (λ code.
             HoldsLimits (at_mark self.old.variables) → StopsAt code (at_mark self.old.variables) self.old.left self.new.left) }
     {
-        let terms = self.sum(alloc, Place::ObjectiveCoefficient)?;
-        let behind = Place::behind_terms(&terms);
+        let terms = self.sum(alloc, Spot::ObjectiveCoefficient)?;
+        let behind = Spot::behind_terms(&terms);
         self.semicolon(behind)?;
         Ok(Seq::from_vec(terms))
     }

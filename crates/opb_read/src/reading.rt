@@ -7,10 +7,10 @@ ghost use Rattle.opb_read.specs.Faults.{Denies};
 ghost use Rattle.opb_read.specs.Denial.{DeniesProblem};
 ghost use Rattle.opb_read.specs.Kinds.{statements_of};
 ghost use Rattle.opb_read.specs.Progress.{StopsAt, start_of};
-ghost use Rattle.opb_read.specs.FaultPlace.{IsFaultAt};
+ghost use Rattle.opb_read.specs.FaultSpot.{IsFaultAt};
 
-use crate::fault::{OpbCode, OpbFault};
-use crate::reader::Reader;
+use super::fault::{OpbCode, OpbFault};
+use super::reader::Reader;
 use linear::{Problem, Seq, Signed, Term};
 use std::alloc::Global;
 
@@ -42,17 +42,18 @@ fn statements(reader: &mut Reader<'_>, alloc: Global) -> Result<Statements, OpbC
 /// Reading goes from left to right, and the first token that cannot stand in its place gives the fault, with its line;
 /// the end of the text counts as a token. Codes 1 to 6 come only where the text spells no problem, 7 and 8 only where it
 /// spells none within the limits. All before the fault's token is within the limits and can go on to a problem; with that
-/// token it can go on to none, and its code of 1 to 6 is the one that the table of faults gives at the place to which the
+/// token it can go on to none, and its code of 1 to 6 is the one that the table of faults gives at the spot to which the
 /// tokens before it lead (`code_at`). With the token of a 7 or 8 it can go on to a problem, but to none within the limits:
 /// a 7 is an integer that is too large, an 8 makes the terms of a statement, the variables or the constraints too many.
 ///
 /// A refused growth is `OutOfMemory`, with the line of the token where it came: the first token of the term or of the
-/// constraint that found no room, or the literal whose name found none. That a growth was refused no clause can say.
+/// constraint that found no room, the literal whose name found none, or the token behind a sum that found none. That a
+/// growth was refused no clause can say.
 pub fn read(alloc: Global, text: &[u8]) -> Result<Problem, OpbFault>
     ensures spells { IfOk result (λ p. Spells text.now p) }
     ensures within { IfOk result (λ p. IsWithin p) }
     ensures denies { IfErr result (λ f. Denies f.code text.now) }
-    ensures place { IfErr result (λ f. IsFaultAt text.now f.code f.line) }
+    ensures spot { IfErr result (λ f. IsFaultAt text.now f.code f.line) }
 {
     let mut reader = Reader::new(alloc, text);
     match statements(&mut reader, alloc) {

@@ -1,6 +1,6 @@
 //! The variables of a text, no more than the limit: the bound is a fact of the type, so that no reader has to carry it.
 
-use crate::fault::OpbCode;
+use super::fault::OpbCode;
 use linear::{MOST_VARIABLES, Names, Var};
 use std::alloc::Global;
 use std::marker::Model;

@@ -94,10 +94,10 @@ same_value : (v w : ℤ) (o : Option ℤ) → o ≡ Some v → o ≡ Some w → 
 same_value v w o e f = cc
 
 pub checked_optimum : (opb proof : List ℕ) (l : Logbook) (a : Judgement) (s : NamedValues) → IsOptimum l → IsLogOf opb l → IsWritten l proof → IsAcceptedOf opb proof l a → IsBestOf l s → IsCheckedOptimum opb proof a s
-checked_optimum opb proof l a s (v, improve, concluded) of_text written accepted best =
+checked_optimum opb proof l a s (v, least_is, concluded) of_text written accepted best =
     let p = of_text.legal in
     let asked = bounds_ask l.problem l.state v p.entitled.0 (subst (λ c. IsJustified l.problem l.state c p.entitled.0) concluded p.entitled.1) in
-    let worth : v ≡ worth_of l.problem s.values = same_value v (worth_of l.problem s.values) l.state.least improve (with_objective l.problem.objective asked.0 asked.1 best.least) in
+    let worth : v ≡ worth_of l.problem s.values = same_value v (worth_of l.problem s.values) l.state.least least_is (with_objective l.problem.objective asked.0 asked.1 best.least) in
     let there : v ≡ worth_of accepted.is_true.problem s.values = worth ∙ ap (λ q. worth_of q s.values) (sym accepted.problem) in
     record {
       is_true = accepted.is_true;

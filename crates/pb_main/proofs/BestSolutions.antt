@@ -45,10 +45,10 @@ bounded l p lower v is =
     bound_logged l.problem l.state lower v p.entitled.0 (subst (λ c. IsJustified l.problem l.state c p.entitled.0) is p.entitled.1)
 
 pub optimum_logged : (l : Logbook) → IsProof l → IsOptimum l → l.state.logged ≢ []
-optimum_logged l p (v, improve, is) = bounded l p (lowers.At v) v is
+optimum_logged l p (v, least_is, is) = bounded l p (lowers.At v) v is
 
 far_logged : (limit : ℕ) (l : Logbook) → IsProof l → IsBestSoFar limit l → l.state.logged ≢ []
-far_logged limit l p (may, (v, improve, is)) = bounded l p lowers.MinusInf v is
+far_logged limit l p (may, (v, least_is, is)) = bounded l p lowers.MinusInf v is
 
 -- a search that found some solution
 
@@ -130,14 +130,14 @@ copied_there None = refl
 copied_there (Some x) = refl
 
 pub optimum_least : (l : Logbook) → IsProof l → IsOptimum l → BestIsLeast l
-optimum_least l p (v, improve, is) values best =
+optimum_least l p (v, least_is, is) values best =
     let same : p.entitled.0 ≡ Some values = best_logged l.problem l.state l.conclusion p.entitled.0 (Some values) p.entitled.1 (ap hint_of is) best in
     let bounds = conclusions.Bounds (lowers.At v) (uppers.At v) None in
     let claim : Claim l.problem bounds (Some values) = subst (λ c. Claim l.problem c (Some values)) is (subst (λ b. Claim l.problem l.conclusion b) same (log_claims l p)) in
     let low : v ≤ℤ worth_of l.problem values = claim.concludes.0 (valuation_of values) claim.solution.satisfies in
     let high : worth_of l.problem values ≤ℤ v = claim.concludes.1 in
     let worth : v ≡ worth_of l.problem values = omega (arith, ints, low, high) in
-    if_asked l.problem.objective (improve ∙ ap Some worth)
+    if_asked l.problem.objective (least_is ∙ ap Some worth)
 
 -- what a log improved to
 

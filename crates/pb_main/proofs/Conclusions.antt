@@ -21,26 +21,26 @@ use Rattle.pb_main.proofs.BestSolutions.{log_preserved}
 -- the least improving value, where bounds are concluded from it
 bound_writable : (l : Logbook) → IsProof l → IsWithin l.problem → (lower : Lower) (v : ℤ) → l.state.least ≡ Some v → l.conclusion ≡ conclusions.Bounds lower (uppers.At v) None
     → IsWritable v
-bound_writable l p within lower v improve is =
+bound_writable l p within lower v least_is is =
     let justified = subst (λ c. IsJustified l.problem l.state c p.entitled.0) is p.entitled.1 in
     let objective : List Term = justified.2.0 in
     let asked : l.problem.objective ≡ Some objective = justified.2.1 in
-    let least = subst (λ o. IfSome o (λ w. Any (λ g. worth_of l.problem g ≡ w) l.state.logged)) improve (log_preserved l p).least in
+    let least = subst (λ o. IfSome o (λ w. Any (λ g. worth_of l.problem g ≡ w) l.state.logged)) least_is (log_preserved l p).least in
     let small = worth_small l.problem least.1 objective (sym asked) within in
     let same : unsigned_abs (worth_of l.problem least.1) ≡ unsigned_abs v = ap unsigned_abs least.4 in
     omega (arith, small, same)
 
 pub conclusion_writable : (limit : ℕ) (l : Logbook) (found : Found) → IsProof l → IsWithin l.problem → BearsOut limit l found
     → IsConclusionWritable (length l.problem.names) l.conclusion
-conclusion_writable limit l founds.Optimum p within (v, improve, is) =
-    let small = bound_writable l p within (lowers.At v) v improve is in
+conclusion_writable limit l founds.Optimum p within (v, least_is, is) =
+    let small = bound_writable l p within (lowers.At v) v least_is is in
     subst (IsConclusionWritable (length l.problem.names)) (sym is) (small, small, tt)
 conclusion_writable limit l founds.Unsat p within is = subst (IsConclusionWritable (length l.problem.names)) (sym is) tt
 conclusion_writable limit l founds.Sat p within bears = by l.problem.objective bears
   where
     by : (o : Option (List Term)) → MatchOption o (IsSolvedByAny l) (λ _. IsBestSoFar limit l) → IsConclusionWritable (length l.problem.names) l.conclusion
     by None any = subst (IsConclusionWritable (length l.problem.names)) (sym any.1) tt
-    by (Some objective) (may, (v, improve, is)) =
-        subst (IsConclusionWritable (length l.problem.names)) (sym is) (tt, bound_writable l p within lowers.MinusInf v improve is, tt)
+    by (Some objective) (may, (v, least_is, is)) =
+        subst (IsConclusionWritable (length l.problem.names)) (sym is) (tt, bound_writable l p within lowers.MinusInf v least_is is, tt)
 conclusion_writable limit l (founds.Unknown ends.Limit) p within bears = subst (IsConclusionWritable (length l.problem.names)) (sym bears.2) tt
 conclusion_writable limit l (founds.Unknown ends.Memory) p within bears = absurd bears

@@ -34,7 +34,7 @@ pub fn told_by_what_was_accepted()
         → s.values ≡ false ∷ [] → IsOutcomeOf opb proof limit (outcomes.Optimum accepted s) → ⊥ }
 {}
 
-/// Where memory was wanted there may be no bytes, whatever the text; where the text is no problem, or none that is supported, there are
+/// Where memory ran out there may be no bytes, whatever the text; where the text is no problem, or none that is supported, there are
 /// none, and which of the two it is hangs on the fault.
 pub fn unanswered()
     ensures memory { (opb : List ℕ) → (limit : ℕ) → IsOutcomeOf opb [] limit (outcomes.Unknown reasons.Memory) }

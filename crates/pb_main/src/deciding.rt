@@ -7,7 +7,7 @@
 
 ghost use Rattle.std.specs.Prelude.{◌≡◌, ◌≤◌, ℕ, [], List};
 ghost use Rattle.linear.specs.Limits.{IsWithin};
-ghost use Rattle.opb_read.specs.FaultPlace.{IsFaultAt};
+ghost use Rattle.opb_read.specs.FaultSpot.{IsFaultAt};
 ghost use Rattle.opb_read.specs.Faults.{Denies};
 ghost use Rattle.opb_read.specs.Spells.{Spells};
 ghost use Rattle.search.specs.Log.{IsProof};
@@ -111,7 +111,7 @@ fn with_proof<'a, P: Propagator>(
     }
 }
 
-/// What was found, as far as the checker accepts it: an optimum for which it wants memory is a solution, and that there
+/// What was found, as far as the checker accepts it: an optimum for which it runs out of memory is a solution, and that there
 /// is none is no answer without its word.
 fn concluded<'a, P: Propagator>(
     alloc: Global,

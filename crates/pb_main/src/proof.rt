@@ -38,7 +38,7 @@ pub(crate) fn proof_of<'a, P: Propagator>(
     }
 }
 
-/// What the checker accepts, judging the written proof of a log; none where it wants memory. It never refuses: the log's
+/// What the checker accepts, judging the written proof of a log; none where it runs out of memory. It never refuses: the log's
 /// steps are legal by its type, its conclusion is entitled to, and what is written reads back.
 pub(crate) fn accepted<'a, P: Propagator>(
     alloc: Global,

@@ -9,7 +9,7 @@ ghost use Rattle.pb_text.specs.Lexeme as kinds;
 ghost use Rattle.pb_text.specs.Name as names;
 ghost use Rattle.pb_text.specs.Word as words;
 
-use crate::kind::{Kind, Symbol};
+use super::kind::{Kind, Symbol};
 
 fn begins_name(b: u8) -> bool
     ensures { result ≡ names.begins_name b }

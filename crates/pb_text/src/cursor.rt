@@ -5,14 +5,14 @@
 //! word, since words end at symbols and not only at white space (`x1>=1` is three tokens). The format is that of OPB by Roussel
 //! and Manquinho, and of VeriPB's proofs, with white space before symbols left free.
 
-ghost use Rattle.std.specs.Prelude.{◌≡◌, ℕ, ◌+◌, ◌<◌, ◌≤◌, ◌==◌, false, [], ◌∷◌, true, length, take, drop, MatchOption};
+ghost use Rattle.std.specs.Prelude.{◌≡◌, ◌+◌, ◌<◌, ◌≤◌, ◌==◌, false, [], ◌∷◌, true, length, take, drop, MatchOption};
 ghost use Rattle.std.specs.List.{position_or_len};
 ghost use Rattle.pb_text.specs.Cursor.{ahead, comment_at, IsAtToken};
 ghost use Rattle.pb_text.specs.Cutting.{begins_white, begins_word, behind};
 ghost use Rattle.pb_text.specs.Lexeme as cutting;
 ghost use Rattle.pb_text.specs.Lexeme.{Position, cut, lexemes_from, lexeme_at};
 
-use crate::spot::{Cursor, Spot};
+use super::spot::{Cursor, Spot};
 
 // White space and comment lines.
 

@@ -6,7 +6,7 @@ ghost use Rattle.pb_text.specs.Span.{AreInOrder, StandsIn};
 ghost use Rattle.pb_text.specs.TokensOf.{AreTokensOf};
 ghost use Rattle.pb_text.specs.Word.{is_integer, is_literal, is_misspelt};
 
-use crate::kind::Kind;
+use super::kind::Kind;
 
 /// A text has exactly one list of tokens in the words of the formats, and it is the one that `Tokens` gives: slices of the
 /// text one behind another; between them white space and comment lines alone, of which no token has a byte; each a symbol

@@ -7,9 +7,9 @@
 
 ghost use Rattle.std.specs.Prelude.{◌≡◌};
 
-use crate::kind::Kind;
-use crate::token::Token;
-use crate::tokens::{Tokens, end_line};
+use super::kind::Kind;
+use super::token::Token;
+use super::tokens::{Tokens, end_line};
 use std::marker::Model;
 
 /// The tokens that are left, of which the next two can be seen.
@@ -93,7 +93,7 @@ impl<'a> Lookahead<'a> {
     }
 
     /// Passes the next token.
-    // The one place where reading cuts tokens: what it cuts is written where it stays, and copied once.
+    /// The one place where reading cuts tokens: what it cuts is written where it stays, and copied once.
     #[inline(never)]
     pub fn advance(&mut self)
         ensures { self.new ≡ drop 1 self.old }

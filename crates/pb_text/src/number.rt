@@ -11,8 +11,8 @@ ghost use Rattle.pb_text.specs.Name.{is_digit};
 ghost use Rattle.pb_text.specs.Number.{digits_value, integer_size, integer_value, is_negative, largest_number};
 ghost use Rattle.pb_text.specs.Word.{without_sign};
 
-use crate::kind::Kind;
-use crate::token::Token;
+use super::kind::Kind;
+use super::token::Token;
 
 /// Why a token gives no number.
 #[derive(Clone, Copy, Debug, PartialEq, Eq)]

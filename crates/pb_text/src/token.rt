@@ -5,7 +5,7 @@ ghost use Rattle.pb_text.specs.Lexeme as lexeme;
 ghost use Rattle.pb_text.specs.Name as names;
 ghost use Rattle.pb_text.specs.Word.{is_literal, is_negated, name_of};
 
-use crate::kind::Kind;
+use super::kind::Kind;
 
 /// A word, a symbol or a stray byte of a text.
 #[derive(Clone, Copy, Debug)]

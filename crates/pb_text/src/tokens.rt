@@ -4,10 +4,10 @@
 ghost use Rattle.std.specs.Prelude.{◌≡◌, length};
 ghost use Rattle.pb_text.specs.Span.{line_of};
 
-use crate::classify::kind_of;
-use crate::cursor::{past_gaps, token_length};
-use crate::spot::{Cursor, Spot};
-use crate::token::Token;
+use super::classify::kind_of;
+use super::cursor::{past_gaps, token_length};
+use super::spot::{Cursor, Spot};
+use super::token::Token;
 use std::marker::Model;
 
 /// The tokens of a text that are still to come. One pass over the text gives them all, and nothing is copied.

@@ -71,7 +71,7 @@ impl<'a> Operand<'a> {
         }
     }
 
-    // Whether more may be added to it.
+    /// Whether more may be added to it.
     fn is_sum(&self) -> bool {
         match self {
             Operand::Sum(_) => true,
@@ -79,7 +79,7 @@ impl<'a> Operand<'a> {
         }
     }
 
-    // Whether it is lent.
+    /// Whether it is lent.
     fn is_live(&self) -> bool {
         match self {
             Operand::Live(_) => true,
@@ -87,7 +87,7 @@ impl<'a> Operand<'a> {
         }
     }
 
-    // What it becomes by weakening: a sum stays one.
+    /// What it becomes by weakening: a sum stays one.
     fn weakened(&self, made: Normal) -> Operand<'a>
         ensures { operand_value result ≡ made }
     {
@@ -114,7 +114,7 @@ pub struct Stack<'a> {
     held: Held,
     sum: Accumulator,
     above: SmallVec<Operand<'a>, 8>,
-    // How many terms were added to the running sum, less those of copies made above it since. Only speed depends on it.
+    /// How many terms were added to the running sum, less those of copies made above it since. Only speed depends on it.
     added: usize,
 }
 
@@ -199,7 +199,7 @@ impl<'a> Stack<'a> {
         }
     }
 
-    // Adds the two on top, neither of which is the running sum.
+    /// Adds the two on top, neither of which is the running sum.
     fn add_apart(&mut self, alloc: Global) -> Result<(), StepFault>
         ensures ok { (given : Given) → OnOk result (AppliesItem given items.Add self.old self.new) }
         ensures fault { IfErr result (λ f. OrMemory f (IsAddFault self.old f)) }
@@ -218,9 +218,9 @@ impl<'a> Stack<'a> {
         self.push_running_sum(alloc, left.constraint(), right.constraint())
     }
 
-    // Whether the sum of two operands is made as a constraint of its own. Two that are no sums themselves may be all
-    // that the line adds, and one copy is cheaper than the accumulator. Above a running sum a copy is cheaper than to
-    // read that off, as long as it has no more terms than were added there.
+    /// Whether the sum of two operands is made as a constraint of its own. Two that are no sums themselves may be all
+    /// that the line adds, and one copy is cheaper than the accumulator. Above a running sum a copy is cheaper than to
+    /// read that off, as long as it has no more terms than were added there.
     fn is_cheap_to_copy(&self, left: &Operand<'a>, right: &Operand<'a>) -> bool {
         match self.held {
             Held::Nothing => !left.is_sum() && !right.is_sum(),
@@ -233,7 +233,7 @@ impl<'a> Stack<'a> {
         }
     }
 
-    // Puts a sum on top, as the running one. If there was one, it is read off.
+    /// Puts a sum on top, as the running one. If there was one, it is read off.
     fn push_running_sum(
         &mut self,
         alloc: Global,
@@ -274,7 +274,7 @@ impl<'a> Stack<'a> {
         }
     }
 
-    // Weakens the operand on top.
+    /// Weakens the operand on top.
     fn weaken_operand(&mut self, alloc: Global, var: Var) -> Result<(), StepFault>
         ensures ok { (given : Given) → OnOk result (AppliesItem given (items.Weaken var) self.old self.new) }
         ensures fault { IfErr result (λ f. OrMemory f (IsShapeFault self.old f)) }
@@ -292,9 +292,9 @@ impl<'a> Stack<'a> {
         Ok(())
     }
 
-    // Whether an operand is weakened by a copy. A live one is, since it would have to be copied in any case; one that was made is
-    // likely to be weakened again. Above a running sum copies are cheaper than to read that off, until they have had as many terms as
-    // were added there.
+    /// Whether an operand is weakened by a copy. A live one is, since it would have to be copied in any case; one that was made is
+    /// likely to be weakened again. Above a running sum copies are cheaper than to read that off, until they have had as many terms as
+    /// were added there.
     fn is_cheap_to_weaken(&self, operand: &Operand<'a>) -> bool {
         match self.held {
             Held::Nothing => operand.is_live(),
@@ -302,8 +302,8 @@ impl<'a> Stack<'a> {
         }
     }
 
-    // Puts a constraint on top, weakened by a variable, as the running sum: to weaken that once more is one look. If there was one,
-    // it is read off.
+    /// Puts a constraint on top, weakened by a variable, as the running sum: to weaken that once more is one look. If there was one,
+    /// it is read off.
     fn push_weakened(
         &mut self,
         alloc: Global,
@@ -327,7 +327,7 @@ impl<'a> Stack<'a> {
     }
 }
 
-// Makes a running sum of a constraint, weakened by a variable.
+/// Makes a running sum of a constraint, weakened by a variable.
 fn load_weakened(sum: &mut Accumulator, constraint: &Normal, var: Var) -> Result<(), AllocError>
     ensures { OnOk result (IsWeakening (var.0) constraint.now sum.new) }
 {
@@ -336,7 +336,7 @@ fn load_weakened(sum: &mut Accumulator, constraint: &Normal, var: Var) -> Result
     Ok(())
 }
 
-// Adds an operand to a running sum. How many terms it has.
+/// Adds an operand to a running sum. How many terms it has.
 fn add_operand(sum: &mut Accumulator, operand: &Operand<'_>) -> Result<usize, StepFault>
     ensures sum { OnOk result (IsSum sum.old (operand_value operand.now) sum.new) }
     ensures fits { OnOk result (Fits sum.new) }
@@ -346,7 +346,7 @@ fn add_operand(sum: &mut Accumulator, operand: &Operand<'_>) -> Result<usize, St
     Ok(operand.constraint().len())
 }
 
-// Adds the last operand below a running sum to it. How many terms it has.
+/// Adds the last operand below a running sum to it. How many terms it has.
 fn add_from_below(
     sum: &mut Accumulator,
     below: &mut SmallVec<Operand<'_>, 2>,
@@ -360,7 +360,7 @@ fn add_from_below(
     }
 }
 
-// Adds to a running sum what stands on it, or else the operand below. How many terms that has.
+/// Adds to a running sum what stands on it, or else the operand below. How many terms that has.
 fn add_beside<'a>(
     above: &mut SmallVec<Operand<'a>, 8>,
     sum: &mut Accumulator,
@@ -376,7 +376,7 @@ fn add_beside<'a>(
     }
 }
 
-// Reads a running sum off, and puts it on the operands below.
+/// Reads a running sum off, and puts it on the operands below.
 fn read_off(
     alloc: Global,
     held: Held,
@@ -396,7 +396,7 @@ fn read_off(
     }
 }
 
-// Puts a running sum, and what stands above it, on the operands below.
+/// Puts a running sum, and what stands above it, on the operands below.
 fn put_away<'a>(
     alloc: Global,
     held: Held,

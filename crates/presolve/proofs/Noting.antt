@@ -1,11 +1,11 @@
 -- What a table of literals says after more was noted in it.
-use Rattle.std.proofs.Common.{◌≡◌, ℕ, ◌+◌, ◌*◌, ◌^◌, ◌<◌, ◌≤◌, ◌⊎◌, inl, inr, ◌||◌, Bool, true, false, cond, not, List, [], ◌∷◌, Some, map, length, get_or, take, All, unsigned_abs, refl, sym, ap, subst, ◌∙◌, arith}
+use Rattle.std.proofs.Common.{◌≡◌, ℕ, ◌+◌, ◌<◌, ◌≤◌, ◌⊎◌, inl, inr, ◌||◌, Bool, true, false, cond, not, List, [], ◌∷◌, Some, map, length, get_or, take, All, unsigned_abs, refl, sym, ap, subst, ◌∙◌, arith}
 use Rattle.std.specs.Prelude.{ℤ, pos, negsuc, neg_ℤ, ◌≤ℤ◌, ◌↔◌, ◌==◌}
 use Rattle.std.proofs.lemmas.Bool.{false≢true}
 use Rattle.std.proofs.lemmas.Int.{ints}
 use Rattle.std.proofs.lemmas.List.{take_more}
-use Rattle.std.proofs.lemmas.List.Elements.{All-nil, All-head, All-tail, All-more, All-pop}
-use Rattle.linear.specs.Limits.{IsTermWithin, IsSumWithin, IsConstraintWithin}
+use Rattle.std.proofs.lemmas.List.Elements.{All-nil, All-more, All-pop}
+use Rattle.linear.specs.Limits.{IsSumWithin, IsConstraintWithin}
 use Rattle.linear.specs.declared.constraint.Relation.{Relation}
 use Rattle.linear.specs.declared.constraint.Relation.TheVariants as relations
 use Rattle.linear.specs.declared.constraint.Signed.{Signed}
@@ -15,6 +15,7 @@ use Rattle.normal_form.specs.Normal.{NormalConstraint, Rises, coefficient, large
 use Rattle.normal_form.specs.NormalOf.{IsNormalOf, IsBothOf, at_least_zero, net, sign_changed, signs_changed, size_sum}
 use Rattle.normal_form.proofs.NormalForm.{one_form}
 use Rattle.normal_form.proofs.Sums.{rises_at, sum_over_more}
+use Rattle.normal_form.proofs.SmallSizes.{size_sum_small}
 use Rattle.presolve.specs.Fixing.{price}
 use Rattle.presolve.specs.Standing.{IsAbsent, IsFormAs, StandsNowhere}
 use Rattle.presolve.specs.Uses.{Notes, NotesForm, stands}
@@ -119,14 +120,6 @@ less_absent c n v true form =
 
 pub less_noted : (c : Signed) (n : NormalConstraint) (old new : List Uses) → IsNormalOf (signs_changed c) n → NotesForm n old new → Notes (λ v s. price c.terms v (not s) ≤ℤ pos 0) old new
 less_noted c n old new form noted = notes_as (λ v s. coefficient n v s ≡ 0) (λ v s. price c.terms v (not s) ≤ℤ pos 0) old new (λ v s. less_absent c n v s form) noted
-
--- terms within the limits have small sizes
-size_sum_small : (n : ℕ) (ts : List Term) → All (IsTermWithin n) ts → size_sum ts ≤ length ts * 2 ^ 62
-size_sum_small n [] h = omega arith
-size_sum_small n (t ∷ ts) h =
-    let here : unsigned_abs t.coef ≤ 2 ^ 62 = (All-head (IsTermWithin n) t ts h).coefficient in
-    let rest = size_sum_small n ts (All-tail (IsTermWithin n) t ts h) in
-    omega (arith, here, rest)
 
 pub sum_small : (n : ℕ) (ts : List Term) → IsSumWithin n ts → size_sum ts ≤ largest_sum
 sum_small n ts h =

@@ -4,8 +4,8 @@
 //! looked at, and what each becomes is looked up, however many constraints there are. A constraint that has neither stays
 //! as it is.
 
-ghost use Rattle.std.specs.Prelude.{◌≡◌, ◌↔◌, ◌⊎◌, ◌+◌, ◌<◌, ◌≤◌, ℕ, Bool, List, [], All, Contains, IfOk, IsErrOf, IsTrue, OnOk, OnErr, length, slice_index_or, unsigned_abs};
-ghost use Rattle.normal_form.specs.Normal.{NormalConstraint, Rises, largest_sum};
+ghost use Rattle.std.specs.Prelude.{◌≡◌, ◌↔◌, ◌+◌, ◌<◌, ◌≤◌, List, [], All, IfOk, IsErrOf, IsTrue, OnOk, OnErr, length, slice_index_or, unsigned_abs};
+ghost use Rattle.normal_form.specs.Normal.{largest_sum};
 ghost use Rattle.normal_form.specs.NormalOf.{size_sum};
 ghost use Rattle.presolve.specs.Forms.{Adds, AreKeysOf, ArePlacesOf, HasExchange, HasExchangeAt, IsIndexed, NotesPlace, NotesTerms, constraint_of, constraints_of, places_at};
 ghost use Rattle.presolve.specs.Standing.{IsFormOf};

@@ -1,6 +1,6 @@
 //! Normal constraints as keys of a set, so that one is found among those of a file without a look at all of them.
 
-ghost use Rattle.std.specs.Prelude.{◌≡◌, IfOk, IsTrue, take};
+ghost use Rattle.std.specs.Prelude.{◌≡◌, IfOk};
 ghost use Rattle.normal_form.specs.Normal.{Rises};
 ghost use Rattle.presolve.specs.Forms.{constraint_of, terms_exchanged};
 ghost use Rattle.presolve.specs.Swapping.{IsExchange, exchanged};

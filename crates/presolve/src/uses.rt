@@ -4,8 +4,7 @@
 //! know it of all literals. An objective is read as the constraint that asks for less of it: what must not be made false
 //! for the sake of the objective stands there.
 
-ghost use Rattle.std.specs.Prelude.{◌≡◌, ◌||◌, ◌+◌, ◌<◌, ◌≤◌, ℕ, Bool, not, pos, ◌≤ℤ◌, IfOk, IsErrOf, OnOk, OnErr, length, unsigned_abs};
-ghost use Rattle.linear.specs.Limits.{IsWithin};
+ghost use Rattle.std.specs.Prelude.{◌≡◌, ◌||◌, ◌+◌, ◌<◌, ◌≤◌, ℕ, Bool, not, pos, ◌≤ℤ◌, IsErrOf, OnOk, OnErr, length, unsigned_abs};
 ghost use Rattle.normal_form.specs.Normal.{largest_sum, only, same_sign};
 ghost use Rattle.normal_form.specs.NormalOf.{size_sum};
 ghost use Rattle.presolve.specs.Fixing.{price};

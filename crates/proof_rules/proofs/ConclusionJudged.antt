@@ -16,7 +16,7 @@ use Rattle.proof_steps.specs.declared.conclusion.Upper.TheVariants as uppers
 use Rattle.proof_rules.specs.declared.fault.StepFault.{StepFault}
 use Rattle.proof_rules.specs.declared.fault.StepFault.TheVariants as faults
 use Rattle.proof_rules.specs.Fault as judging
-use Rattle.proof_rules.specs.Fault.{IsUnsatFault, IsBoundFault, IsLowerFault, IsUpperFault, IsBoundsFault, IsSatFault, IsHintFault, IsConclusionFault}
+use Rattle.proof_rules.specs.Fault.{IsUnsatFault, IsBoundFault, IsLowerFault, IsBoundsFault, IsSatFault, IsHintFault, IsConclusionFault}
 use Rattle.proof_rules.specs.Justified.{IsExhausted, IsLowerBound, EntitlesLower, EntitlesUpper, TakesHint, IsBest, IsJustified}
 use Rattle.proof_rules.specs.Legal.{with_solution, worth_of}
 use Rattle.proof_rules.specs.Shown.{IsShown, absurdity}

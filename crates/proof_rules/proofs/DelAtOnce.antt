@@ -45,7 +45,7 @@ key_itself id gone same = ap (λ k. eq_by_cmp nat_cmp id k) same ∙ ap is_eq (t
 deletable_before : (p : Opb) (s : State) (gone id : ℕ) → IsDeletable p (without gone s) id → IsDeletable p s id × (gone ≢ id)
 deletable_before p s gone id d =
     let found = found_before (eq_by_cmp nat_cmp id gone) (fin.get s.live id) (subst (λ o. IsSome o) (fin.get-remove nat_cmp_total s.live gone id) d.live) in
-    (record { live = found.1; derived = d.derived; unasked = d.unasked }, λ same. false≢true (sym found.0 ∙ key_itself id gone same))
+    (record { live = found.1; derived = d.derived; not_improving = d.not_improving }, λ same. false≢true (sym found.0 ∙ key_itself id gone same))
 
 -- and the other way round
 deletable_after : (p : Opb) (s : State) (gone id : ℕ) → gone ≢ id → IsDeletable p s id → IsDeletable p (without gone s) id
@@ -54,7 +54,7 @@ deletable_after p s gone id apart d =
     record {
       live = subst (λ o. IsSome o) (sym (fin.get-remove nat_cmp_total s.live gone id)) (found_after (eq_by_cmp nat_cmp id gone) (fin.get s.live id) other d.live);
       derived = d.derived;
-      unasked = d.unasked;
+      not_improving = d.not_improving;
     }
 
 pub at_once : (p : Opb) (s t : State) (ids : List ℤ) → LegalDel p s ids t → AreDeletableAtOnce p s ids

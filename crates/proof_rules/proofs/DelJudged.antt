@@ -24,7 +24,7 @@ derived_or_not : (p : Opb) (s : State) (id : ℕ) → (fin.get s.live id ≢ Non
     → (id ≤ problem_ids p.constraints) ⊎ (problem_ids p.constraints < id) → (b : Bool) → set.contains s.improving id ≡ b → IdJudged p s id
 derived_or_not p s id there (inl file) b is = inr (faults.FileConstraint, (there.0, inl file))
 derived_or_not p s id there (inr derived) true asked = inr (faults.FileConstraint, (there.0, inr asked))
-derived_or_not p s id there (inr derived) false unasked = inl (record { live = there.1; derived = derived; unasked = unasked })
+derived_or_not p s id there (inr derived) false not_improving = inl (record { live = there.1; derived = derived; not_improving = not_improving })
 
 file_or_derived : (count id : ℕ) → (id ≤ count) ⊎ (count < id)
 file_or_derived count id = elim (cases_lt count id) as (λ _. (id ≤ count) ⊎ (count < id)) [ inl h ↦ inr h | inr h ↦ inl h ]

@@ -1,33 +1,25 @@
 -- The normal constraints of a file.
-use Rattle.std.proofs.Common.{◌≡◌, ℕ, ◌+◌, ◌*◌, ◌^◌, ◌<◌, ◌≤◌, List, [], ◌∷◌, ◌++◌, length, get_or, take, All, unsigned_abs, refl, sym, ap, subst, ◌∙◌, append_assoc, arith}
+use Rattle.std.proofs.Common.{◌≡◌, ℕ, ◌+◌, ◌*◌, ◌<◌, ◌≤◌, List, [], ◌∷◌, ◌++◌, length, get_or, take, All, unsigned_abs, refl, sym, ap, subst, ◌∙◌, append_assoc, arith}
 use Rattle.std.proofs.lemmas.Int.{ints}
 use Rattle.std.proofs.lemmas.List.{append-nil, take_more, length-append}
 use Rattle.std.proofs.lemmas.List.Elements.{All-nil, All-cons, All-head, All-tail, All-append}
-use Rattle.linear.specs.declared.term.Term.{Term}
 use Rattle.linear.specs.declared.constraint.Relation.{Relation}
 use Rattle.linear.specs.declared.constraint.Relation.TheVariants as relations
 use Rattle.linear.specs.declared.constraint.Signed.{Signed}
 use Rattle.linear.specs.Valuation.{Valuation}
 use Rattle.linear.specs.Sum.{Meets}
 use Rattle.linear.specs.Opb.{Opb}
-use Rattle.linear.specs.Limits.{IsTermWithin, IsConstraintWithin}
+use Rattle.linear.specs.Limits.{IsConstraintWithin}
 use Rattle.normal_form.specs.Normal.{NormalConstraint, Holds, Rises, largest_sum}
 use Rattle.normal_form.specs.NormalOf.{size_sum}
 use Rattle.normal_form.proofs.NormalForm.{form_meaning}
 use Rattle.normal_form.proofs.SignChanges.{both_meaning}
+use Rattle.normal_form.proofs.SmallSizes.{size_sum_small}
 use Rattle.proof_rules.specs.Claim.{IsSolution}
 use Rattle.proof_rules.specs.Forms.{AreFormsAs, AreFormsOf, AreFormsOfAll, AddsForms, ids_as, problem_ids}
 use Rattle.proof_rules.specs.Preserved.{IsPreserved, AreNormal}
 use Rattle.proof_rules.specs.State.{State, IsStart}
 use Rattle.proof_rules.proofs.LiveConstraints.{All-numbered}
-
--- terms within the limits have small sizes
-size_sum_small : (n : ℕ) (ts : List Term) → All (IsTermWithin n) ts → size_sum ts ≤ length ts * 2 ^ 62
-size_sum_small n [] h = omega arith
-size_sum_small n (t ∷ ts) h =
-    let here : unsigned_abs t.coef ≤ 2 ^ 62 = (All-head (IsTermWithin n) t ts h).coefficient in
-    let rest = size_sum_small n ts (All-tail (IsTermWithin n) t ts h) in
-    omega (arith, here, rest)
 
 -- a constraint of a file is small enough for its normal form
 pub constraint_small : (n : ℕ) (c : Signed) → IsConstraintWithin n c → size_sum c.terms + unsigned_abs c.right ≤ largest_sum

@@ -1,15 +1,14 @@
--- Deciding on small states what a listing is completed to, and that it is at fault.
-use Rattle.std.proofs.Common.{◌≡◌, ℕ, zero, suc, ◌<◌, pos, ◌≤ℤ◌, IfSome, IsSome, None, cond, inl, inr, Bool, true, false, List, [], ◌∷◌, map, length, refl, sym, ap, subst, ◌∙◌, arith}
+-- Deciding on small states what a listing is completed to, that it is at fault, and what is shown.
+use Rattle.std.proofs.Common.{◌≡◌, ℕ, zero, suc, ◌<◌, ℤ, pos, ◌<ℤ◌, ◌≤ℤ◌, IfSome, IsSome, Option, Some, None, cond, inl, inr, Bool, true, false, List, [], ◌∷◌, map, refl, sym, ap, subst, ◌∙◌, arith}
 use Rattle.std.specs.Ordering.{nat_cmp, eq_by_cmp}
 use Rattle.std.specs.FinSet as set
 use Rattle.std.specs.FinMap as fin
-use Rattle.std.specs.FinMap.Entries.{put}
 use Rattle.std.proofs.lemmas.Bool.{false≢true}
 use Rattle.std.proofs.lemmas.Cmp.{nat_cmp_total}
 use Rattle.std.proofs.lemmas.Int.{ints}
-use Rattle.std.proofs.lemmas.List.Elements.{All-nil, All-cons}
+use Rattle.std.proofs.lemmas.List.Elements.{All-nil, All-cons, All-head}
 use Rattle.linear.specs.declared.term.Lit.{Lit}
-use Rattle.linear.specs.Opb.{Satisfies}
+use Rattle.linear.specs.Opb.{Opb, Satisfies}
 use Rattle.linear.specs.Sum.{Meets}
 use Rattle.linear.specs.Valuation.{valuation_of}
 use Rattle.normal_form.specs.Cases.{plain, normal}
@@ -20,33 +19,23 @@ use Rattle.propagate.specs.Cases.{x, not_x}
 use Rattle.propagate.specs.Chain.{LeadsToConflict, IsReached}
 use Rattle.propagate.specs.Literals.{opposite, lists, IsConsistent}
 use Rattle.propagate.specs.Passes.{Settled, outcome}
+use Rattle.propagate.proofs.AnyOf.{any_here}
 use Rattle.propagate.proofs.Consistency.{push_consistent}
+use Rattle.propagate.proofs.SmallContent.{Entries, placed, entries_placed}
 use Rattle.propagate.proofs.SearchIsRight.{closure_met, no_conflict_met}
-use Rattle.proof_rules.specs.Cases.{cover, cover_written, cover_file, min_both, second_alone, not_second_alone, derived_state}
-use Rattle.proof_rules.specs.Legal.{IsDeletable, without}
-use Rattle.proof_rules.specs.Justified.{EntitlesLower}
+use Rattle.substitution.specs.Covering.{Covers}
+use Rattle.substitution.proofs.Covered.{covers_itself}
+use Rattle.proof_rules.specs.Cases.{cover, cover_written, cover_file, least_cover, min_both, both, second_alone, cover_state, not_second_alone, derived_state, full_state}
+use Rattle.proof_rules.specs.Legal.{IsDeletable, Logs, without, worth_of}
+use Rattle.proof_rules.specs.Justified.{EntitlesLower, IsBest}
+use Rattle.proof_rules.specs.Shown.{IsShown, absurdity}
 use Rattle.proof_rules.specs.Solution.{literal_for, NamesAll, value_at, Completes, at_least}
-use Rattle.proof_rules.specs.State.{State, constraints, numbered, state_of}
+use Rattle.proof_rules.specs.State.{State, constraints, numbered, state_of, HasRoom}
+use Rattle.proof_rules.specs.Fault.{IsSolFault}
+use Rattle.proof_rules.specs.declared.fault.StepFault.TheVariants.{SolutionFalse}
+use Rattle.proof_rules.proofs.Completing.{one_completion}
 use Rattle.proof_rules.proofs.ShownHolds.{zero_shown}
-
-abbrev pub Entries : Type 0
-Entries = List (ℕ × NormalConstraint)
-
--- entries put one by one, the last one first
-abbrev pub placed : Entries → Entries
-placed [] = []
-placed (e ∷ es) = put nat_cmp e.0 e.1 (placed es)
-
-no_entries : (es : Entries) → length es ≡ 0 → es ≡ []
-no_entries [] h = refl
-no_entries (e ∷ es) h = absurd (omega (arith, h))
-
-nothing_placed : fin.entries (fin.empty {X = NormalConstraint} {R = nat_cmp}) ≡ []
-nothing_placed = no_entries (fin.entries fin.empty) (sym (fin.len-entries fin.empty) ∙ fin.len-empty nat_cmp NormalConstraint)
-
-entries_placed : (es : Entries) → fin.entries (fin.from_entries {R = nat_cmp} es) ≡ placed es
-entries_placed [] = nothing_placed
-entries_placed (e ∷ es) = fin.entries-insert nat_cmp_total (fin.from_entries es) e.0 e.1 ∙ ap (put nat_cmp e.0 e.1) (entries_placed es)
+use Rattle.proof_rules.proofs.SmallCases.{not_shown}
 
 -- the live constraints of a small state, computed
 pub live_of : (ns : List NormalConstraint) → constraints (state_of ns) ≡ map (λ e. e.1) (placed (numbered 1 ns))
@@ -107,6 +96,44 @@ second_completes =
     subst (λ live. Completes live 2 (not_x 0 ∷ []) second_alone) (sym (live_of (cover ∷ [])))
     (both_reached 4 (cover ∷ []) (not_x 0 ∷ []) (not_x 0 ∷ x 1 ∷ []) false true (one_consistent (not_x 0)) (second_unnamed (not_x 0 ∷ []) (λ b. refl)) refl refl refl)
 
+-- the listing `~x0 ~x1` names both variables, and does not satisfy it
+abbrev neither : List Bool
+neither = false ∷ false ∷ []
+
+neither_completes : Completes (constraints (state_of (cover ∷ []))) 2 (not_x 0 ∷ not_x 1 ∷ []) neither
+neither_completes = both_named (constraints (state_of (cover ∷ []))) (not_x 0 ∷ not_x 1 ∷ []) false false (two_consistent (not_x 0) (not_x 1) refl) refl refl
+
+neither_satisfies : Satisfies (valuation_of neither) cover_file → ⊥
+neither_satisfies h = let meets : Meets (valuation_of neither) cover_written = All-head (Meets (valuation_of neither)) cover_written [] h in omega (arith, ints, meets)
+
+pub neither_breaks : IsSolFault cover_file (state_of (cover ∷ [])) (not_x 0 ∷ not_x 1 ∷ []) SolutionFalse
+neither_breaks = (
+  (neither, neither_completes),
+  λ g also satisfies.
+      neither_satisfies (subst (λ h. Satisfies (valuation_of h) cover_file)
+      (one_completion (constraints (state_of (cover ∷ []))) 2 (not_x 0 ∷ not_x 1 ∷ []) g neither also neither_completes) satisfies),
+)
+
+-- the listing `x0 x1` satisfies it too, whatever is live
+pub both_logged : (s : State) → Logs least_cover s (x 0 ∷ x 1 ∷ []) both
+both_logged s = record {
+  completes = both_named (constraints s) (x 0 ∷ x 1 ∷ []) true true (two_consistent (x 0) (x 1) refl) refl refl;
+  satisfies = All-cons (Meets (valuation_of both)) cover_written [] (omega (arith, ints)) (All-nil (Meets (valuation_of both)));
+}
+
+-- a solution that is logged alone is the best
+pub alone_is_best : (p : Opb) (g : List Bool) → IsBest p (g ∷ []) (Some g)
+alone_is_best p g = ([], [], refl, All-nil (λ h. worth_of p g <ℤ worth_of p h), All-nil (λ h. worth_of p g ≤ℤ worth_of p h))
+
+-- that file's constraint shows itself, and not `0 >= 1`
+pub cover_shown : IsShown (constraints (state_of (cover ∷ []))) cover
+cover_shown = subst (λ live. IsShown live cover) (sym (live_of (cover ∷ []))) (inl (any_here (λ e. Covers e cover) cover [] (covers_itself cover)))
+
+pub absurdity_not_shown : IsShown (constraints (state_of (cover ∷ []))) absurdity → ⊥
+absurdity_not_shown =
+    subst (λ live. IsShown live absurdity → ⊥) (sym (live_of (cover ∷ [])))
+    (not_shown 2 (cover ∷ []) absurdity (normal [] 0) [] (record { rises = tt; terms = refl; degree = refl }) refl refl)
+
 -- that the objective `1 x0 1 x1` is at least 0 needs no constraint
 pub zero_is_bound : (s : State) → IfSome s.least (λ least. pos 0 ≤ℤ least) → EntitlesLower s min_both (lowers.At (pos 0))
 zero_is_bound s below = (
@@ -119,6 +146,18 @@ zero_is_bound s below = (
   },
 )
 
+-- that it is at least 1 is that file's constraint
+pub cover_is_bound : (least : Option ℤ) (logged : List (List Bool)) → IfSome least (λ z. pos 1 ≤ℤ z) → EntitlesLower (cover_state least logged) min_both (lowers.At (pos 1))
+cover_is_bound least logged below = (
+  cover,
+  record {
+    below = below;
+    form = is_form (at_least min_both (pos 1)) cover (omega arith, omega arith, (omega arith, omega arith, tt)) (λ set. omega (arith, ints)) refl;
+    fits = record { sum = omega arith; degree = omega arith };
+    shown = cover_shown;
+  },
+)
+
 -- look-ups in a small state, and in one without an id
 pub found_in : (ns : List NormalConstraint) (id : ℕ) → fin.get (state_of ns).live id ≡ fin.find nat_cmp id (numbered 1 ns)
 found_in ns id = fin.get-from_entries nat_cmp_total (numbered 1 ns) id
@@ -126,12 +165,22 @@ found_in ns id = fin.get-from_entries nat_cmp_total (numbered 1 ns) id
 pub found_without : (s : State) (gone id : ℕ) → fin.get (without gone s).live id ≡ cond (eq_by_cmp nat_cmp id gone) None (fin.get s.live id)
 found_without s gone id = fin.get-remove nat_cmp_total s.live gone id
 
+-- what is said of the constraints under ids below 1, of which there are none
+pub none_below_one : (ns : List NormalConstraint) (P : NormalConstraint → Type 0) → fin.find nat_cmp 0 (numbered 1 ns) ≡ None
+    → (k : ℕ) (n : NormalConstraint) → k < 1 → fin.get (state_of ns).live k ≡ Some n → P n
+none_below_one ns P none zero n less is = let same : None ≡ Some n = sym none ∙ (sym (found_in ns 0) ∙ is) in absurd (cc)
+none_below_one ns P none (suc k) n less is = absurd (omega (arith, less))
+
+-- all ids are taken
+pub none_left : (least : Option ℤ) → HasRoom (full_state least) → ⊥
+none_left least room = omega (arith, room)
+
 -- the second constraint of two may be deleted, where the file has one
 pub second_deletable : IsDeletable cover_file derived_state 2
 second_deletable = record {
   live = subst (λ o. IsSome o) (sym (found_in (cover ∷ not_second_alone ∷ []) 2)) refl;
   derived = omega arith;
-  unasked = set.contains-empty nat_cmp 2;
+  not_improving = set.contains-empty nat_cmp 2;
 }
 
 pub derived_gone : fin.get (without 2 derived_state).live 2 ≡ None

@@ -1,4 +1,4 @@
--- The steps of the worked cases of redundance: `red 1 x0 >= 1` and `red 1 ~x0 >= 1`, and what becomes of the live constraint.
+-- The constraints of the worked cases of `rup` and redundance: `1 x0 >= 1`, `1 ~x0 >= 1` and `1 x0 1 x1 >= 1`, and what becomes of the live one.
 use Rattle.std.proofs.Common.{ℕ, List, [], ◌∷◌, All, refl, arith}
 use Rattle.std.proofs.lemmas.Int.{ints}
 use Rattle.std.proofs.lemmas.List.Elements.{All-nil, All-cons}
@@ -12,7 +12,7 @@ use Rattle.substitution.specs.Cases.{single}
 use Rattle.substitution.specs.Images.{Images}
 use Rattle.substitution.specs.Under.{substituted, IsUnder}
 use Rattle.substitution.specs.declared.image.Image.TheVariants.{One}
-use Rattle.proof_rules.specs.Cases.{cover, first_written, not_first_written}
+use Rattle.proof_rules.specs.Cases.{cover, cover_written, first_written, not_first_written}
 use Rattle.proof_rules.specs.Legal.{IsShownUnder}
 use Rattle.proof_rules.specs.Shown.{IsAdmitted}
 use Rattle.proof_rules.proofs.ShownHolds.{zero_shown}
@@ -30,6 +30,14 @@ not_first_admitted = record {
   relation = refl;
   sizes = omega arith;
   form = is_form not_first_written (unit_not 0) (omega arith, omega arith, tt) (λ set. omega (arith, ints)) refl;
+  fits = record { sum = omega arith; degree = omega arith };
+}
+
+pub cover_admitted : IsAdmitted cover_written cover
+cover_admitted = record {
+  relation = refl;
+  sizes = omega arith;
+  form = is_form cover_written cover (omega arith, omega arith, (omega arith, omega arith, tt)) (λ set. omega (arith, ints)) refl;
   fits = record { sum = omega arith; degree = omega arith };
 }
 

@@ -1,5 +1,5 @@
 -- Small problems and substitutions, to compute the definitions on.
-use Rattle.std.specs.Prelude.{ℤ, Bool, true, false, Option, Some, None, pos, ◌^◌, List, [], ◌∷◌}
+use Rattle.std.specs.Prelude.{ℤ, Bool, true, false, Option, Some, None, pos, neg_ℤ, ◌^◌, List, [], ◌∷◌}
 use Rattle.linear.specs.declared.constraint.Relation.TheVariants.{AtLeast}
 use Rattle.linear.specs.declared.constraint.Signed.{Signed}
 use Rattle.linear.specs.declared.term.Term.{Term}
@@ -50,6 +50,10 @@ min_both = signed (pos 1) 0 ∷ signed (pos 1) 1 ∷ []
 
 abbrev pub least_cover : Opb
 least_cover = record cover_file { objective = Some min_both }
+
+-- the same with min: -1 x0 -1 x1
+abbrev pub greatest_cover : Opb
+greatest_cover = record cover_file { objective = Some (signed (neg_ℤ (pos 1)) 0 ∷ signed (neg_ℤ (pos 1)) 1 ∷ []) }
 
 -- values of x0 and x1
 abbrev pub both : List Bool

@@ -104,7 +104,7 @@ LegalSoli p old listing new =
 pub record IsDeletable (p : Opb) (s : State) (id : ℕ) : Type 0 where
   pub live : IsSome (map.get s.live id)
   pub derived : problem_ids p.constraints < id
-  pub unasked : set.contains s.improving id ≡ false
+  pub not_improving : set.contains s.improving id ≡ false
 
 abbrev pub without : ℕ → State → State
 without id s = record s { live = map.remove s.live id }

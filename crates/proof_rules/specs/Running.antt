@@ -1,7 +1,7 @@
 -- Running the items of a `pol` step from left to right over a stack. What a step derives is the value of one expression, and that
 -- speaks of no stack; but which fault a wrong line has is told by the first item that cannot run, and so is what a reader of a long line
 -- wants to know.
-use Rattle.std.specs.Prelude.{◌≡◌, ℤ, pos, ◌<ℤ◌, List, [], ◌∷◌, ◌++◌, Some, unsigned_abs}
+use Rattle.std.specs.Prelude.{◌≡◌, pos, ◌<ℤ◌, List, [], ◌∷◌, ◌++◌, Some, unsigned_abs}
 use Rattle.normal_form.specs.Normal.{NormalConstraint, Fits}
 use Rattle.cut_rules.specs.Rules.{IsSum, IsMultiple, IsQuotient, IsSaturation, IsWeakening, IsAxiom}
 use Rattle.proof_steps.specs.declared.step.Item.{Item}

@@ -5,13 +5,15 @@
 //! proof only where they agree on that order. Where two faults could be meant, the contract names the one that is, and
 //! says that the other one is not.
 
-ghost use Rattle.std.specs.Prelude.{◌≡◌, pos, ◌^◌, [], ◌∷◌, Some, None};
+ghost use Rattle.std.specs.Prelude.{pos, ◌^◌, [], ◌∷◌, Some, None};
 ghost use Rattle.propagate.specs.Cases.{x, not_x};
 ghost use Rattle.proof_rules.specs.Cases.{cover_file, least_cover, both, second_alone, cover_state, contradicting_state};
 ghost use Rattle.proof_rules.specs.Fault.{IsConclusionFault};
 ghost use Rattle.proof_rules.specs.Justified.{IsJustified};
+ghost use Rattle.proof_rules.specs.State.{State};
+ghost use Rattle.proof_rules.specs.declared.fault.StepFault.{StepFault};
 ghost use Rattle.proof_rules.specs.declared.fault.StepFault.TheVariants.{NoObjective, SolutionConflict, SolutionPartial, TooLarge, SolutionLogged, LowerAboveBest, LowerNotShown, UpperNotLogged};
-ghost use Rattle.proof_steps.specs.declared.conclusion.Conclusion.TheVariants.{Sat, Unsat, Bounds};
+ghost use Rattle.proof_steps.specs.declared.conclusion.Conclusion.TheVariants.{Nothing, Sat, Unsat, Bounds};
 ghost use Rattle.proof_steps.specs.declared.conclusion.Lower.TheVariants as lower;
 ghost use Rattle.proof_steps.specs.declared.conclusion.Upper.TheVariants as upper;
 
@@ -71,4 +73,58 @@ pub fn contradiction_is_unsatisfiable()
 pub fn logged_solution_satisfies()
     ensures logged { IsJustified cover_file (cover_state None (both ∷ [])) (Sat None) (Some both) }
     ensures hint_judged { IsConclusionFault cover_file (cover_state None (both ∷ [])) (Sat (Some (x 0 ∷ []))) SolutionPartial }
+{}
+
+/// `BOUNDS INF INF` with the hint `x0 x1` where nothing is logged: the hint is logged for the conclusion, and the lower
+/// bound, which claims that nothing satisfies the problem, is refused for that solution, before it is asked whether the
+/// bound is shown. So it is refused where it is shown too; without the hint it stands there.
+pub fn hint_is_logged_before_infinite_bounds()
+    ensures logged { IsConclusionFault least_cover (cover_state None [])
+        (Bounds lower.Inf upper.Inf (Some (x 0 ∷ x 1 ∷ []))) SolutionLogged }
+    ensures not_shown { IsConclusionFault least_cover (cover_state None [])
+        (Bounds lower.Inf upper.Inf (Some (x 0 ∷ x 1 ∷ []))) LowerNotShown → ⊥ }
+    ensures though_shown { IsConclusionFault least_cover contradicting_state
+        (Bounds lower.Inf upper.Inf (Some (x 0 ∷ x 1 ∷ []))) SolutionLogged }
+    ensures without_hint { IsConclusionFault least_cover contradicting_state
+        (Bounds lower.Inf upper.Inf None) SolutionLogged → ⊥ }
+{}
+
+/// Lower bounds that are within the limits, and not shown: `BOUNDS 2 INF` and `BOUNDS INF INF` on `1 x0 1 x1 >= 1`,
+/// where nothing is logged. The bound 1 is shown there.
+pub fn lower_bound_not_shown()
+    ensures above { IsConclusionFault least_cover (cover_state None [])
+        (Bounds (lower.At (pos 2)) upper.Inf None) LowerNotShown }
+    ensures not_limits { IsConclusionFault least_cover (cover_state None [])
+        (Bounds (lower.At (pos 2)) upper.Inf None) TooLarge → ⊥ }
+    ensures covered { IsConclusionFault least_cover (cover_state None [])
+        (Bounds (lower.At (pos 1)) upper.Inf None) LowerNotShown → ⊥ }
+    ensures infinite { IsConclusionFault least_cover (cover_state None [])
+        (Bounds lower.Inf upper.Inf None) LowerNotShown }
+    ensures not_logged { IsConclusionFault least_cover (cover_state None [])
+        (Bounds lower.Inf upper.Inf None) SolutionLogged → ⊥ }
+{}
+
+/// `NONE` has no fault in any state. The best solution is handed out with it, and there is none where nothing is logged.
+pub fn nothing_concluded()
+    ensures unlogged { IsJustified cover_file (cover_state None []) Nothing None }
+    ensures logged { IsJustified cover_file (cover_state None (both ∷ [])) Nothing (Some both) }
+    ensures not_without_best { IsJustified cover_file (cover_state None (both ∷ [])) Nothing None → ⊥ }
+    ensures contradicting { IsJustified cover_file contradicting_state Nothing None }
+    ensures no_fault { (s : State) → (f : StepFault) → IsConclusionFault cover_file s Nothing f → ⊥ }
+{}
+
+/// `BOUNDS -INF 2` where `x0 x1` is logged: the lower bound -INF needs nothing to be shown, and the upper one a logged
+/// solution that is worth no more. For 1 there is none, and `BOUNDS -INF INF` needs none.
+pub fn no_lower_bound()
+    ensures upper { IsJustified least_cover (cover_state None (both ∷ []))
+        (Bounds lower.MinusInf (upper.At (pos 2)) None) (Some both) }
+    ensures below_best { IsConclusionFault least_cover (cover_state None (both ∷ []))
+        (Bounds lower.MinusInf (upper.At (pos 1)) None) UpperNotLogged }
+    ensures not_lower { IsConclusionFault least_cover (cover_state None (both ∷ []))
+        (Bounds lower.MinusInf (upper.At (pos 1)) None) LowerNotShown → ⊥ }
+    ensures neither { IsJustified least_cover (cover_state None []) (Bounds lower.MinusInf upper.Inf None) None }
+    ensures unlogged { IsConclusionFault least_cover (cover_state None [])
+        (Bounds lower.MinusInf (upper.At (pos 2)) None) UpperNotLogged }
+    ensures no_objective { IsConclusionFault cover_file (cover_state None [])
+        (Bounds lower.MinusInf upper.Inf None) NoObjective }
 {}

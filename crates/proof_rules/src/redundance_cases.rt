@@ -2,16 +2,19 @@
 //! does nothing.
 //!
 //! The goals are judged in order: the live constraints by rising id, the new constraint, the objective. Where two of
-//! them are open, the contract says which one the fault names, and that it names no other.
+//! them are open, the contract says which one the fault names, and that it names no other. The limits and the ids are
+//! judged before them.
 
+ghost use Rattle.std.specs.Prelude.{[], None};
 ghost use Rattle.propagate.specs.Cases.{unit};
 ghost use Rattle.substitution.specs.Cases.{single};
 ghost use Rattle.substitution.specs.declared.image.Image.TheVariants.{Zero, One};
-ghost use Rattle.proof_rules.specs.Cases.{cover_file, least_cover, first_written, not_first_written};
-ghost use Rattle.proof_rules.specs.Cases.{cover_start, derived_state};
+ghost use Rattle.proof_rules.specs.Cases.{cover_file, least_cover, first_written, not_first_written, large_written};
+ghost use Rattle.proof_rules.specs.Cases.{cover_start, derived_state, full_state};
 ghost use Rattle.proof_rules.specs.Fault.{IsRedFault};
 ghost use Rattle.proof_rules.specs.Legal.{LegalRed};
 ghost use Rattle.proof_rules.specs.State.{with_constraint};
+ghost use Rattle.proof_rules.specs.declared.fault.StepFault.TheVariants.{TooLarge, TooManyIds};
 ghost use Rattle.proof_rules.specs.declared.fault.StepFault.TheVariants.{GoalOpen, GoalOpenSelf, GoalOpenObjective};
 
 /// `red 1 ~x0 >= 1 ; x0 -> 0` beside `1 x0 1 x1 >= 1` and `1 x0 1 ~x1 >= 1`: these become `1 x1 >= 1` and
@@ -38,4 +41,22 @@ pub fn objective_alone()
     ensures not_itself { IsRedFault least_cover cover_start first_written (single 0 One) GoalOpenSelf → ⊥ }
     ensures legal { LegalRed cover_file cover_start first_written (single 0 One) (with_constraint (unit 0) cover_start) }
     ensures not_raised { IsRedFault cover_file cover_start first_written (single 0 One) GoalOpenObjective → ⊥ }
+{}
+
+/// `red 1 ~x0 >= 1 ; x0 -> 0` leaves the goal of the live constraint open, and `red 1 x0 >= 1 ; x0 -> 1` none without
+/// an objective. Where all ids are taken, either is refused for that.
+pub fn no_id_left_to_strengthen()
+    ensures open { IsRedFault cover_file cover_start not_first_written (single 0 Zero) (GoalOpen 1) }
+    ensures not_ids { IsRedFault cover_file cover_start not_first_written (single 0 Zero) TooManyIds → ⊥ }
+    ensures full { IsRedFault cover_file (full_state None) not_first_written (single 0 Zero) TooManyIds }
+    ensures not_open { IsRedFault cover_file (full_state None) not_first_written (single 0 Zero) (GoalOpen 1) → ⊥ }
+    ensures shown { IsRedFault cover_file (full_state None) first_written (single 0 One) TooManyIds }
+{}
+
+/// `red 2^121 x0 >= 1` is beyond the limits, which is judged before its goals, and before the ids where all are taken.
+pub fn strengthening_beyond_the_limits()
+    ensures large { IsRedFault cover_file cover_start large_written [] TooLarge }
+    ensures not_itself { IsRedFault cover_file cover_start large_written [] GoalOpenSelf → ⊥ }
+    ensures full { IsRedFault cover_file (full_state None) large_written [] TooLarge }
+    ensures not_ids { IsRedFault cover_file (full_state None) large_written [] TooManyIds → ⊥ }
 {}

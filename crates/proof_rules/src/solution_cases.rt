@@ -4,10 +4,10 @@
 //! of a best solution that is the last one logged, say. So each line drawn by the definitions of `sol`, `soli` and of the
 //! best solution has a case here on either side of it.
 
-ghost use Rattle.std.specs.Prelude.{◌≡◌, pos, [], ◌∷◌, Some, None};
+ghost use Rattle.std.specs.Prelude.{pos, neg_ℤ, [], ◌∷◌, Some, None};
 ghost use Rattle.std.specs.FinSet as set;
 ghost use Rattle.propagate.specs.Cases.{x, not_x};
-ghost use Rattle.proof_rules.specs.Cases.{cover_file, least_cover, both, first_alone, second_alone, cover_state, derived_state, below_one};
+ghost use Rattle.proof_rules.specs.Cases.{cover_file, least_cover, greatest_cover, both, first_alone, second_alone, cover_state, derived_state, below_one};
 ghost use Rattle.proof_rules.specs.Fault.{IsSolFault, IsSoliFault};
 ghost use Rattle.proof_rules.specs.Justified.{IsBest};
 ghost use Rattle.proof_rules.specs.Legal.{LegalSol, LegalSoli};
@@ -55,4 +55,17 @@ pub fn improving_solution()
     ensures equal { IsSoliFault least_cover (cover_state (Some (pos 1)) (second_alone ∷ [])) (not_x 0 ∷ []) NotImproving }
     ensures no_objective { IsSoliFault cover_file (cover_state None []) (x 0 ∷ not_x 0 ∷ []) NoObjective }
     ensures not_conflict { IsSoliFault cover_file (cover_state None []) (x 0 ∷ not_x 0 ∷ []) SolutionConflict → ⊥ }
+{}
+
+/// For `min: -1 x0 -1 x1`, where a solution of value -1 improves: `~x0 ~x1` is worth 0, which is no better, and it
+/// breaks the file, which is judged first. `x0 ~x1` satisfies the file and is no better.
+pub fn false_and_not_improving()
+    ensures breaks { IsSoliFault greatest_cover (cover_state (Some (neg_ℤ (pos 1))) (second_alone ∷ []))
+        (not_x 0 ∷ not_x 1 ∷ []) SolutionFalse }
+    ensures not_worse { IsSoliFault greatest_cover (cover_state (Some (neg_ℤ (pos 1))) (second_alone ∷ []))
+        (not_x 0 ∷ not_x 1 ∷ []) NotImproving → ⊥ }
+    ensures worse { IsSoliFault greatest_cover (cover_state (Some (neg_ℤ (pos 1))) (second_alone ∷ []))
+        (x 0 ∷ not_x 1 ∷ []) NotImproving }
+    ensures not_false { IsSoliFault greatest_cover (cover_state (Some (neg_ℤ (pos 1))) (second_alone ∷ []))
+        (x 0 ∷ not_x 1 ∷ []) SolutionFalse → ⊥ }
 {}

@@ -4,14 +4,14 @@
 //! ids of a deletion are judged one after another, each with the earlier ones gone. Where two faults could be meant, the
 //! contract names the one that is, and says that the other one is not.
 
-ghost use Rattle.std.specs.Prelude.{◌≡◌, pos, neg_ℤ, [], ◌∷◌, Some, None};
+ghost use Rattle.std.specs.Prelude.{pos, neg_ℤ, ◌^◌, [], ◌∷◌, Some, None};
 ghost use Rattle.std.specs.FinSet as set;
 ghost use Rattle.propagate.specs.Cases.{not_x};
-ghost use Rattle.proof_rules.specs.Cases.{cover_file, least_cover, cover_written, first_written, large_written, cover_state, derived_state, full_state};
+ghost use Rattle.proof_rules.specs.Cases.{cover_file, least_cover, cover_written, first_written, large_written, cover_state, cover_start, derived_state, full_state};
 ghost use Rattle.proof_rules.specs.Fault.{IsPolFault, IsRupFault, IsSoliFault, IsDelFault};
 ghost use Rattle.proof_rules.specs.Legal.{LegalDel, without};
 ghost use Rattle.proof_rules.specs.declared.fault.StepFault.TheVariants.{TooLarge, StackShape, BadFactor, TooManyIds, NotShown, NotImproving, DeadId, FileConstraint};
-ghost use Rattle.proof_steps.specs.declared.step.Item.TheVariants.{Id, Add, Divide};
+ghost use Rattle.proof_steps.specs.declared.step.Item.TheVariants.{Id, Add, Multiply, Divide};
 
 /// On a file of one constraint, with a second one derived: `del id 2 2` asks for an id that is gone by then, and
 /// `del id 1 9` for one of the file, which is judged before the 9 that never was. The second one is not deleted either
@@ -59,4 +59,25 @@ pub fn expressions_at_fault()
     ensures not_factor { IsPolFault (cover_state None []) (Divide (pos 0) ∷ []) BadFactor → ⊥ }
     ensures first_item { IsPolFault (cover_state None []) (Id (pos 1) ∷ Add ∷ Id (pos 9) ∷ []) StackShape }
     ensures not_dead { IsPolFault (cover_state None []) (Id (pos 1) ∷ Add ∷ Id (pos 9) ∷ []) DeadId → ⊥ }
+{}
+
+/// Beside `1 x0 1 x1 >= 1`, `rup 1 x0 >= 1` is not shown, and `rup 1 x0 1 x1 >= 1` is. `rup 2^121 x0 >= 1` is beyond
+/// the limits, which is judged before whether it is shown.
+pub fn constraints_at_fault()
+    ensures open { IsRupFault cover_start first_written NotShown }
+    ensures not_ids { IsRupFault cover_start first_written TooManyIds → ⊥ }
+    ensures shown { IsRupFault cover_start cover_written NotShown → ⊥ }
+    ensures large { IsRupFault cover_start large_written TooLarge }
+    ensures not_open { IsRupFault cover_start large_written NotShown → ⊥ }
+{}
+
+/// The coefficients of `pol 1 2^120 *` add up to 2^121, which is beyond the limits, and those of `pol 1 2^119 *` to
+/// 2^120, which is not. `pol 1 2^119 * 1 +` is beyond them by its sum, and `pol 1 2^120 * 9` by its second item, before
+/// the 9 is found to cite nothing.
+pub fn expressions_beyond_the_limits()
+    ensures multiple { IsPolFault cover_start (Id (pos 1) ∷ Multiply (pos (2 ^ 120)) ∷ []) TooLarge }
+    ensures at_the_limit { IsPolFault cover_start (Id (pos 1) ∷ Multiply (pos (2 ^ 119)) ∷ []) TooLarge → ⊥ }
+    ensures sum { IsPolFault cover_start (Id (pos 1) ∷ Multiply (pos (2 ^ 119)) ∷ Id (pos 1) ∷ Add ∷ []) TooLarge }
+    ensures first_item { IsPolFault cover_start (Id (pos 1) ∷ Multiply (pos (2 ^ 120)) ∷ Id (pos 9) ∷ []) TooLarge }
+    ensures not_dead { IsPolFault cover_start (Id (pos 1) ∷ Multiply (pos (2 ^ 120)) ∷ Id (pos 9) ∷ []) DeadId → ⊥ }
 {}

@@ -1,305 +1,305 @@
 //! The lines around the steps, conclusions, and which lines count.
 
-use crate::asking::{fault_at, lit};
+use super::asking::{fault_at, lit};
 use linear::Names;
 use proof_steps::{Conclusion, Lower, Upper};
 use proof_text::{Line, ProofFault, ProofReader, Section, read_line};
 
 /// A line at its section, and the number of its fault, 0 where it has none.
 #[derive(Clone, Copy, Debug)]
-struct Placed {
+struct AtSection {
     section: Section,
     line: &'static [u8],
     fault: u8,
 }
 
-const LINES: [Placed; 58] = [
-    Placed {
+const LINES: [AtSection; 58] = [
+    AtSection {
         section: Section::Header,
         line: b"pseudo-Boolean proof version 2.0",
         fault: 0,
     },
-    Placed {
+    AtSection {
         section: Section::Header,
         line: b"  pseudo-Boolean\tproof version 2.0;\r",
         fault: 0,
     },
-    Placed {
+    AtSection {
         section: Section::Header,
         line: b"pseudo-Boolean proof version 2.1",
         fault: 1,
     },
-    Placed {
+    AtSection {
         section: Section::Header,
         line: b"pseudo-Boolean proof version 2.0 3",
         fault: 1,
     },
-    Placed {
+    AtSection {
         section: Section::Header,
         line: b"pseudo-Boolean proof version 2.0;;",
         fault: 1,
     },
-    Placed {
+    AtSection {
         section: Section::Header,
         line: b"f 1",
         fault: 1,
     },
-    Placed {
+    AtSection {
         section: Section::Count,
         line: b"f 3",
         fault: 0,
     },
-    Placed {
+    AtSection {
         section: Section::Count,
         line: b"f -3 ;",
         fault: 0,
     },
-    Placed {
+    AtSection {
         section: Section::Count,
         line: b"f",
         fault: 2,
     },
-    Placed {
+    AtSection {
         section: Section::Count,
         line: b"f 3 3",
         fault: 2,
     },
-    Placed {
+    AtSection {
         section: Section::Count,
         line: b"f - 3",
         fault: 2,
     },
-    Placed {
+    AtSection {
         section: Section::Count,
         line: b"g 3",
         fault: 2,
     },
-    Placed {
+    AtSection {
         section: Section::Count,
         line: b"f 1329227995784915872903807060280344577",
         fault: 2,
     },
-    Placed {
+    AtSection {
         section: Section::Step,
         line: b"output NONE",
         fault: 0,
     },
-    Placed {
+    AtSection {
         section: Section::Step,
         line: b"output NONE ;",
         fault: 0,
     },
-    Placed {
+    AtSection {
         section: Section::Step,
         line: b"pol 1",
         fault: 0,
     },
-    Placed {
+    AtSection {
         section: Section::Step,
         line: b"output DERIVABLE",
         fault: 4,
     },
-    Placed {
+    AtSection {
         section: Section::Step,
         line: b"output 1",
         fault: 4,
     },
-    Placed {
+    AtSection {
         section: Section::Step,
         line: b"output",
         fault: 5,
     },
-    Placed {
+    AtSection {
         section: Section::Step,
         line: b"output ;",
         fault: 5,
     },
-    Placed {
+    AtSection {
         section: Section::Step,
         line: b"output NONE NONE",
         fault: 5,
     },
-    Placed {
+    AtSection {
         section: Section::Step,
         line: b"f 1",
         fault: 5,
     },
-    Placed {
+    AtSection {
         section: Section::Step,
         line: b"solx x1",
         fault: 4,
     },
-    Placed {
+    AtSection {
         section: Section::Conclusion,
         line: b"conclusion NONE",
         fault: 0,
     },
-    Placed {
+    AtSection {
         section: Section::Conclusion,
         line: b"conclusion SAT",
         fault: 0,
     },
-    Placed {
+    AtSection {
         section: Section::Conclusion,
         line: b"conclusion SAT :",
         fault: 0,
     },
-    Placed {
+    AtSection {
         section: Section::Conclusion,
         line: b"conclusion SAT : x1 ~x2 ;",
         fault: 0,
     },
-    Placed {
+    AtSection {
         section: Section::Conclusion,
         line: b"conclusion UNSAT",
         fault: 0,
     },
-    Placed {
+    AtSection {
         section: Section::Conclusion,
         line: b"conclusion UNSAT : 3",
         fault: 0,
     },
-    Placed {
+    AtSection {
         section: Section::Conclusion,
         line: b"conclusion UNSAT : -1 ;",
         fault: 0,
     },
-    Placed {
+    AtSection {
         section: Section::Conclusion,
         line: b"conclusion BOUNDS 1 2",
         fault: 0,
     },
-    Placed {
+    AtSection {
         section: Section::Conclusion,
         line: b"conclusion BOUNDS 1 : 3 1",
         fault: 0,
     },
-    Placed {
+    AtSection {
         section: Section::Conclusion,
         line: b"conclusion BOUNDS -INF INF",
         fault: 0,
     },
-    Placed {
+    AtSection {
         section: Section::Conclusion,
         line: b"conclusion BOUNDS INF INF ;",
         fault: 0,
     },
-    Placed {
+    AtSection {
         section: Section::Conclusion,
         line: b"conclusion BOUNDS -0 : 1 +002 : x1",
         fault: 0,
     },
-    Placed {
+    AtSection {
         section: Section::Conclusion,
         line: b"conclusion BOUNDS 1 2 :",
         fault: 0,
     },
-    Placed {
+    AtSection {
         section: Section::Conclusion,
         line: b"conclusion",
         fault: 5,
     },
-    Placed {
+    AtSection {
         section: Section::Conclusion,
         line: b"conclusion NONE NONE",
         fault: 5,
     },
-    Placed {
+    AtSection {
         section: Section::Conclusion,
         line: b"conclusion SAT x1",
         fault: 5,
     },
-    Placed {
+    AtSection {
         section: Section::Conclusion,
         line: b"conclusion SAT : 1",
         fault: 5,
     },
-    Placed {
+    AtSection {
         section: Section::Conclusion,
         line: b"conclusion UNSAT :",
         fault: 5,
     },
-    Placed {
+    AtSection {
         section: Section::Conclusion,
         line: b"conclusion UNSAT : x1",
         fault: 5,
     },
-    Placed {
+    AtSection {
         section: Section::Conclusion,
         line: b"conclusion UNSAT : 1 1",
         fault: 5,
     },
-    Placed {
+    AtSection {
         section: Section::Conclusion,
         line: b"conclusion BOUNDS",
         fault: 5,
     },
-    Placed {
+    AtSection {
         section: Section::Conclusion,
         line: b"conclusion BOUNDS 1",
         fault: 5,
     },
-    Placed {
+    AtSection {
         section: Section::Conclusion,
         line: b"conclusion BOUNDS 1 : 3",
         fault: 5,
     },
-    Placed {
+    AtSection {
         section: Section::Conclusion,
         line: b"conclusion BOUNDS 1 : x1 1",
         fault: 5,
     },
-    Placed {
+    AtSection {
         section: Section::Conclusion,
         line: b"conclusion BOUNDS INF -INF",
         fault: 5,
     },
-    Placed {
+    AtSection {
         section: Section::Conclusion,
         line: b"conclusion BOUNDS 1 2 3",
         fault: 5,
     },
-    Placed {
+    AtSection {
         section: Section::Conclusion,
         line: b"conclusion OPTIMAL",
         fault: 5,
     },
-    Placed {
+    AtSection {
         section: Section::Conclusion,
         line: b"pol 1",
         fault: 5,
     },
-    Placed {
+    AtSection {
         section: Section::Conclusion,
         line: b"end pseudo-Boolean proof",
         fault: 5,
     },
-    Placed {
+    AtSection {
         section: Section::Conclusion,
         line: b"conclusion UNSAT : 1329227995784915872903807060280344577",
         fault: 8,
     },
-    Placed {
+    AtSection {
         section: Section::Conclusion,
         line: b"conclusion BOUNDS 1329227995784915872903807060280344577 1",
         fault: 8,
     },
-    Placed {
+    AtSection {
         section: Section::Conclusion,
         line: b"conclusion BOUNDS 1 : 1329227995784915872903807060280344577 1",
         fault: 8,
     },
-    Placed {
+    AtSection {
         section: Section::End,
         line: b"end pseudo-Boolean proof ;",
         fault: 0,
     },
-    Placed {
+    AtSection {
         section: Section::End,
         line: b"end pseudo-Boolean",
         fault: 5,
     },
-    Placed {
+    AtSection {
         section: Section::After,
         line: b"end pseudo-Boolean proof",
         fault: 7,

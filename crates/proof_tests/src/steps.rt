@@ -1,7 +1,7 @@
 //! The lines of steps: what is read, and the faults of lines that only differ in a space, a sign or a symbol. A table of every
 //! place by every kind of word stands in `wrong_words`.
 
-use crate::asking::{Case, fault_of};
+use super::asking::{Case, fault_of};
 use linear::{Lit, Names, Relation, Term, Var};
 use proof_steps::{Item, Step};
 use proof_text::{ProofFault, read_step};

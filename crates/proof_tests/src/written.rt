@@ -1,6 +1,6 @@
 //! What is written: the very bytes, which read back and are written the same again.
 
-use crate::asking::fault_at;
+use super::asking::fault_at;
 use linear::Names;
 use proof_text::{Line, ProofFault, ProofReader, Section, read_line, read_step};
 use proof_write::{write_end, write_step};

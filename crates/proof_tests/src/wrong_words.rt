@@ -6,7 +6,7 @@
 //! hand from the grammar of the VeriPB proof format. 0 stands where the line is complete with the word; 5 also where
 //! the word may stand and the line is cut behind it.
 
-use crate::asking::fault_at;
+use super::asking::fault_at;
 use proof_text::{ProofFault, Section};
 use std::alloc::Global;
 

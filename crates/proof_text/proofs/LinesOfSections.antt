@@ -25,7 +25,7 @@ use Rattle.proof_text.specs.Conclusions.{conclusion_kind_of, is_hint, hint_of, p
 use Rattle.proof_text.specs.ConclusionsRead.{IsConclusionLineRead}
 use Rattle.proof_text.specs.Spells.{line_of, IsProperLine, IsLine}
 use Rattle.proof_text.specs.PartsDenied.{Denies, IsForm, DeniesRule, NoStepBy, SomeStepBy}
-use Rattle.proof_text.specs.Faults.{NoStep, SomeStep, DeniesStep, NoLine, SomeLine, DeniesPlaced}
+use Rattle.proof_text.specs.Faults.{NoStep, SomeStep, DeniesStep, NoLine, SomeLine, DeniesAt}
 use Rattle.proof_text.specs.declared.fault.ProofFault.{ProofFault}
 use Rattle.proof_text.specs.declared.fault.ProofFault.TheVariants as faults
 use Rattle.proof_text.proofs.ByFirstWord.{step_with, counted_with, judged_with}
@@ -168,7 +168,7 @@ conclusion_anyway names others ws c h = by (is_first (codes "conclusion") ws) h
     by false h = cc
 
 pub conclusion_full : (names : List (List ℕ)) (k new : NamesMet) (ws : List (List ℕ)) (c : Conclusion) → k ≡ fresh names → IsConclusionLineRead k ws c new → new.full ≡ true
-    → DeniesPlaced faults.TooManyIds sections.Conclusion names ws
+    → DeniesAt faults.TooManyIds sections.Conclusion names ws
 conclusion_full names k new ws c e r full =
     let q : IsConclusionLineRead (fresh names) ws c new = subst (λ x. IsConclusionLineRead x ws c new) e r in
     let far : most_names < length (names_in names (conclusion_literals ws)) = too_many (fresh names) (conclusion_literals ws) refl (sym (ap (λ (m : NamesMet). m.full) q.known) ∙ full) in
@@ -185,7 +185,7 @@ no_conclusion_line names ws h line e p =
     let a = conclusion_anyway (names_in names (conclusion_literals ws)) [] ws c.0 c.1 in
     cc (sym h ∙ ap is_some a.1)
 
-pub conclusion_denied : (f : ProofFault) (names ws : List (List ℕ)) → Denies f (is_some (conclusion_of [] ws)) (drop 1 (unclosed (drop 1 ws))) → DeniesPlaced f sections.Conclusion names ws
+pub conclusion_denied : (f : ProofFault) (names ws : List (List ℕ)) → Denies f (is_some (conclusion_of [] ws)) (drop 1 (unclosed (drop 1 ws))) → DeniesAt f sections.Conclusion names ws
 conclusion_denied f names ws d =
     part_denied f (is_some (conclusion_of [] ws)) (drop 1 (unclosed (drop 1 ws))) (NoLine sections.Conclusion names ws) (SomeLine sections.Conclusion names ws) (drop 1 (unclosed (drop 1 ws))) (names_in names (conclusion_literals ws))
     (no_conclusion_line names ws) (λ s. s) d
@@ -225,7 +225,7 @@ no_output_line names ws h none line e p =
     cc
 
 pub output_denied : (f : ProofFault) (names ws : List (List ℕ)) → is_first (codes "output") ws ≡ true → are_words output (unclosed ws) ≡ false → IsForm f
-    → DeniesPlaced f sections.Step names ws
+    → DeniesAt f sections.Step names ws
 output_denied f names ws h none form =
     form_denied f (NoLine sections.Step names ws) (SomeLine sections.Step names ws) (counted ws) (names_in names (counted ws)) form (no_output_line names ws h none)
 
@@ -259,7 +259,7 @@ no_step_line names ws h none line e p =
     let s = mapped_step (step_of n ws) line (sym (ap (λ t. if t then Some lines.Output else option_map (λ s. lines.Step s) (step_of n ws)) (not_output ws h)) ∙ e) in
     none s.0 s.1 (subst IsProperLine s.2 p)
 
-pub step_denied_here : (f : ProofFault) (names ws : List (List ℕ)) → is_first (codes "output") ws ≡ false → DeniesStep f names ws → DeniesPlaced f sections.Step names ws
+pub step_denied_here : (f : ProofFault) (names ws : List (List ℕ)) → is_first (codes "output") ws ≡ false → DeniesStep f names ws → DeniesAt f sections.Step names ws
 step_denied_here f names ws h d =
     let n = names_in names (counted ws) in
     let other = ap (λ t. if t then Some lines.Output else option_map (λ s. lines.Step s) (step_of n ws)) (not_output ws h) in

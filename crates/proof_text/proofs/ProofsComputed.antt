@@ -16,7 +16,7 @@ use Rattle.proof_text.specs.Spells.{line_of, measured, IsLine}
 use Rattle.proof_text.specs.ProofSpells.{SpellsProof}
 use Rattle.proof_text.specs.declared.line.Line.{Line}
 use Rattle.proof_text.specs.declared.line.Line.TheVariants as lines
-use Rattle.proof_text.specs.declared.line.Section.TheVariants.{Step as StepPlace, Conclusion as ConclusionPlace, End}
+use Rattle.proof_text.specs.declared.line.Section.TheVariants.{Step as StepSection, Conclusion as ConclusionSection, End}
 use Rattle.proof_text.specs.Cases.{file, variable, plain, negated, line_at, improving_proof, improving_steps, one_and_one, growing_proof, growing_steps, growing_conclusion, IsNoProof}
 use Rattle.proof_text.proofs.Computed.{spells, all_small}
 
@@ -51,19 +51,19 @@ with_fourth = file ++ codes "x3" ∷ codes "x4" ∷ []
 abbrev with_fifth : List (List ℕ)
 with_fifth = file ++ codes "x3" ∷ codes "x4" ∷ codes "x5" ∷ []
 
-third_met : IsLine StepPlace file (words (codes "pol 1 ~x3 +")) (lines.Step (steps.Pol (Id (pos 1) ∷ Axiom (negated 2) ∷ Add ∷ []))) with_third
+third_met : IsLine StepSection file (words (codes "pol 1 ~x3 +")) (lines.Step (steps.Pol (Id (pos 1) ∷ Axiom (negated 2) ∷ Add ∷ []))) with_third
 unfolding words step_of step_words_counted rule_of lexemes lexemes_from kind_of kind_of_word integer_word literal_word is_misspelt is_name integer_size integer_value
 third_met = spells refl refl tt refl (omega arith)
 
-fourth_met : IsLine StepPlace with_third (words (codes "pol x4 x3 w ;")) (lines.Step (steps.Pol (Axiom (plain 3) ∷ Weaken (variable 2) ∷ []))) with_fourth
+fourth_met : IsLine StepSection with_third (words (codes "pol x4 x3 w ;")) (lines.Step (steps.Pol (Axiom (plain 3) ∷ Weaken (variable 2) ∷ []))) with_fourth
 unfolding words step_of step_words_counted rule_of lexemes lexemes_from kind_of kind_of_word integer_word literal_word is_misspelt is_name integer_size integer_value
 fourth_met = spells refl refl tt refl (omega arith)
 
-fifth_met : IsLine ConclusionPlace with_fourth (words (codes "conclusion SAT : x5 ~x3")) (lines.Conclusion (conclusions.Sat (Some (plain 4 ∷ negated 2 ∷ [])))) with_fifth
+fifth_met : IsLine ConclusionSection with_fourth (words (codes "conclusion SAT : x5 ~x3")) (lines.Conclusion (conclusions.Sat (Some (plain 4 ∷ negated 2 ∷ [])))) with_fifth
 unfolding words conclusion_of conclusion_literals conclusion_kind_of lexemes lexemes_from kind_of kind_of_word integer_word literal_word is_misspelt is_name
-fifth_met = record { names = refl; few = omega arith; says = refl; proper = tt; small = all_small (measured ConclusionPlace (words (codes "conclusion SAT : x5 ~x3"))) refl }
+fifth_met = record { names = refl; few = omega arith; says = refl; proper = tt; small = all_small (measured ConclusionSection (words (codes "conclusion SAT : x5 ~x3"))) refl }
 
-output_among : IsLine StepPlace with_fourth (words (codes "output NONE ;")) lines.Output with_fourth
+output_among : IsLine StepSection with_fourth (words (codes "output NONE ;")) lines.Output with_fourth
 unfolding words step_of step_words_counted rule_of lexemes lexemes_from kind_of kind_of_word integer_word literal_word is_misspelt is_name integer_size integer_value
 output_among = spells refl refl tt refl (omega arith)
 
@@ -121,6 +121,6 @@ pub step_behind : IsNoProof (codes "pseudo-Boolean proof version 2.0\nf 1\noutpu
 unfolding counting_from words step_of rule_of lexemes lexemes_from kind_of kind_of_word integer_word literal_word is_misspelt is_name integer_size integer_value
 step_behind names count all c s =
     let same = last_three s.between s.output s.concluded s.ended (line_at 3 (codes "output NONE")) (line_at 4 (codes "pol 1")) (line_at 5 (codes "conclusion NONE")) (line_at 6 (codes "end pseudo-Boolean proof")) (sym (ap (λ ls. drop 2 ls) s.in_order)) in
-    let says : line_of StepPlace s.after (words (codes "pol 1")) ≡ Some lines.Output = subst (λ (l : Numbered). line_of StepPlace s.after (words l.text) ≡ Some lines.Output) same.0 s.output_is.says in
+    let says : line_of StepSection s.after (words (codes "pol 1")) ≡ Some lines.Output = subst (λ (l : Numbered). line_of StepSection s.after (words l.text) ≡ Some lines.Output) same.0 s.output_is.says in
     let both : ◌≡◌ {A = Option Line} (Some (lines.Step (steps.Pol (Id (pos 1) ∷ [])))) (Some lines.Output) = says in
     absurd cc

@@ -1,5 +1,5 @@
 -- What a proof's conclusion says.
-use Rattle.std.specs.Prelude.{ℕ, ◌&&◌, ◌||◌, Bool, true, false, is_some, if◌then◌else◌, Option, Some, None, List, [], ◌∷◌, drop, codes, bytes_eq}
+use Rattle.std.specs.Prelude.{ℕ, ◌&&◌, ◌||◌, Bool, true, is_some, if◌then◌else◌, Option, Some, None, List, [], ◌∷◌, drop, codes, bytes_eq}
 use Rattle.pb_text.specs.Lexeme.{kind_of}
 use Rattle.pb_text.specs.Number.{integer_value}
 use Rattle.linear.specs.declared.term.Lit.{Lit}
@@ -66,11 +66,7 @@ is_upper w = is_integer (kind_of w) || bytes_eq w (codes "INF")
 abbrev pub upper_of : List ℕ → Upper
 upper_of w = if is_integer (kind_of w) then uppers.At (integer_value w) else uppers.Inf
 
--- an upper bound and a hint of literals
-abbrev pub is_upper_part : List (List ℕ) → Bool
-is_upper_part [] = false
-is_upper_part (u ∷ rest) = is_upper u && is_hint rest
-
+-- a lower bound with an upper one and perhaps a hint of literals
 abbrev pub bounds_by : List (List ℕ) → Lower → List (List ℕ) → Option Conclusion
 bounds_by names lower [] = None
 bounds_by names lower (u ∷ rest) = if is_upper u && is_hint rest then Some (conclusions.Bounds lower (upper_of u) (hint_of names rest)) else None

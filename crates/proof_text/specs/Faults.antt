@@ -56,8 +56,8 @@ abbrev pub SomeLine : Section → List (List ℕ) → List (List ℕ) → Type 0
 SomeLine section names ws = (line : Line) × (line_of section (names_in names (naming section ws)) ws ≡ Some line) × IsProperLine line
 
 -- what a fault says of a line among the steps, or of a conclusion or an end
-abbrev pub DeniesPlaced : ProofFault → Section → List (List ℕ) → List (List ℕ) → Type 0
-DeniesPlaced fault section names ws =
+abbrev pub DeniesAt : ProofFault → Section → List (List ℕ) → List (List ℕ) → Type 0
+DeniesAt fault section names ws =
     DeniesBy fault (NoLine section names ws) (SomeLine section names ws) (measured section ws) (names_in names (naming section ws))
 
 -- What a fault says of a line at its section, `names` being the table before it. At the header the one fault is BadHeader:
@@ -67,8 +67,8 @@ unfoldable pub DeniesLine : ProofFault → Section → List (List ℕ) → List 
 DeniesLine fault sections.Header names ws = (fault ≡ faults.BadHeader) × NoLine sections.Header names ws
 DeniesLine fault sections.Count names ws =
     (fault ≡ faults.BadCount) × ((line : Line) → line_of sections.Count names ws ≡ Some line → AreSmall (measured sections.Count ws) → ⊥)
-DeniesLine fault sections.Step names ws = DeniesPlaced fault sections.Step names ws
-DeniesLine fault sections.Conclusion names ws = IsPlain fault × DeniesPlaced fault sections.Conclusion names ws
+DeniesLine fault sections.Step names ws = DeniesAt fault sections.Step names ws
+DeniesLine fault sections.Conclusion names ws = IsPlain fault × DeniesAt fault sections.Conclusion names ws
 DeniesLine fault sections.End names ws = (fault ≡ faults.BadLine) × NoLine sections.End names ws
 DeniesLine fault sections.After names ws = fault ≡ faults.TextAfterEnd
 

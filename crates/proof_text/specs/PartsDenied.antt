@@ -16,7 +16,7 @@ IsForm faults.RuleLeftOut = ⊤
 IsForm faults.BadLine = ⊤
 IsForm _ = ⊥
 
--- A fault of form: the words do not have the form. An integer that is too large: one of them is. Want of memory says
+-- A fault of form: the words do not have the form. An integer that is too large: one of them is. Running out of memory says
 -- nothing, and no other fault comes.
 abbrev pub Denies : ProofFault → Bool → List (List ℕ) → Type 0
 Denies faults.UnknownRule form ws = form ≡ false

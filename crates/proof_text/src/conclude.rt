@@ -12,11 +12,11 @@ ghost use Rattle.proof_text.specs.ConclusionsRead.{begins_right, IsHintRead, IsC
 ghost use Rattle.proof_text.specs.PartsDenied.{Denies};
 ghost use Rattle.proof_text.specs.Faults.{IsPlain};
 
-use crate::fault::{ProofFault, Reading};
-use crate::keyword::{ConclusionKind, conclusion_kind_of};
-use crate::line_names::LineNames;
-use crate::line_words::LineWords;
-use crate::values::{lits, number};
+use super::fault::{ProofFault, Reading};
+use super::keyword::{ConclusionKind, conclusion_kind_of};
+use super::line_names::LineNames;
+use super::line_words::LineWords;
+use super::values::{lits, number};
 use linear::{Lit, Seq};
 use pb_text::{Kind, Lookahead, Symbol, Token};
 use proof_steps::{Conclusion, Lower, Upper};

@@ -10,10 +10,10 @@ ghost use Rattle.proof_text.specs.Forms.{terms_of, behind_terms, closing_of};
 ghost use Rattle.proof_text.specs.PartsRead.{IsConstraintRead, Takes, SoFar};
 ghost use Rattle.proof_text.specs.PartsDenied.{Denies};
 
-use crate::before_semicolon::BeforeSemicolon;
-use crate::fault::{ProofFault, Reading};
-use crate::line_names::LineNames;
-use crate::values::{lit, number};
+use super::before_semicolon::BeforeSemicolon;
+use super::fault::{ProofFault, Reading};
+use super::line_names::LineNames;
+use super::values::{lit, number};
 use linear::{Relation, Seq, Signed, Term};
 use pb_text::{Kind, Lookahead, Symbol, Token};
 use std::alloc::Global;

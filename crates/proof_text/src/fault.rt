@@ -22,7 +22,7 @@ pub enum ProofFault {
     /// A rule, an output or a relation that is left out of this profile.
     #[error("rule left out")]
     RuleLeftOut,
-    /// Any other line that is not in the grammar at its place.
+    /// Any other line that is not in the grammar of its section.
     #[error("bad line")]
     BadLine,
     /// The text ends where a further line is due.

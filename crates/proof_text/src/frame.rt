@@ -8,9 +8,9 @@ ghost use Rattle.proof_text.specs.Words.{are_words, AreSmall};
 ghost use Rattle.proof_text.specs.Frame as frame;
 ghost use Rattle.proof_text.specs.PartsDenied.{IsForm};
 
-use crate::fault::{ProofFault, Reading};
-use crate::line_words::LineWords;
-use crate::values::number;
+use super::fault::{ProofFault, Reading};
+use super::line_words::LineWords;
+use super::values::number;
 use pb_text::Kind;
 
 /// Whether the words are `pseudo-Boolean proof version 2.0`.

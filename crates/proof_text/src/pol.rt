@@ -8,10 +8,10 @@ ghost use Rattle.proof_text.specs.Forms.{are_items, items_of};
 ghost use Rattle.proof_text.specs.PartsRead.{Takes, IsRead};
 ghost use Rattle.proof_text.specs.PartsDenied.{Denies};
 
-use crate::fault::{ProofFault, Reading};
-use crate::line_names::LineNames;
-use crate::line_words::LineWords;
-use crate::values::{lit, number};
+use super::fault::{ProofFault, Reading};
+use super::line_names::LineNames;
+use super::line_words::LineWords;
+use super::values::{lit, number};
 use linear::Seq;
 use pb_text::{Kind, Token};
 use proof_steps::Item;

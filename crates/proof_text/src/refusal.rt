@@ -5,8 +5,8 @@
 
 ghost use Rattle.proof_text.specs.PartsDenied.{IsForm};
 
-use crate::fault::ProofFault;
-use crate::witness::is_among;
+use super::fault::ProofFault;
+use super::witness::is_among;
 use pb_text::{Kind, Token};
 
 /// The rules of the format that this profile leaves out.

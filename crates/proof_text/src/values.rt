@@ -16,9 +16,9 @@ ghost use Rattle.proof_text.specs.PartsRead.{IsRead};
 ghost use Rattle.proof_text.specs.PartsDenied.{Denies};
 ghost use Rattle.proof_text.specs.Faults.{IsPlain};
 
-use crate::fault::{ProofFault, Reading};
-use crate::line_names::LineNames;
-use crate::line_words::LineWords;
+use super::fault::{ProofFault, Reading};
+use super::line_names::LineNames;
+use super::line_words::LineWords;
 use linear::{Lit, Seq};
 use pb_text::{NumFault, Token, as_literal, integer};
 use std::alloc::Global;

@@ -12,10 +12,10 @@ ghost use Rattle.proof_text.specs.Forms as forms;
 ghost use Rattle.proof_text.specs.PartsRead.{Takes, IsRead, IsImageRead};
 ghost use Rattle.proof_text.specs.PartsDenied.{Denies};
 
-use crate::fault::{ProofFault, Reading};
-use crate::line_names::LineNames;
-use crate::line_words::LineWords;
-use crate::values::lit;
+use super::fault::{ProofFault, Reading};
+use super::line_names::LineNames;
+use super::line_words::LineWords;
+use super::values::lit;
 use linear::Var;
 use pb_text::{Kind, Symbol, Token};
 use std::alloc::Global;

@@ -19,6 +19,7 @@ use Rattle.linear.specs.declared.term.Lit.{Lit}
 use Rattle.linear.specs.declared.term.Term.{Term}
 use Rattle.linear.specs.declared.constraint.Signed.{Signed}
 use Rattle.linear.specs.declared.constraint.Relation.TheVariants as relations
+use Rattle.linear.proofs.SameTerm.{same_term}
 use Rattle.proof_steps.specs.declared.step.Item.{Item}
 use Rattle.proof_steps.specs.declared.step.Item.TheVariants as items
 use Rattle.proof_text.specs.Kinds.{is_integer, is_literal, is_semicolon, is_at_least}
@@ -27,7 +28,7 @@ use Rattle.proof_text.specs.Numbering.{names_in, lit_of}
 use Rattle.proof_text.specs.Forms.{are_literals, literals_of, are_integers, integers_of, is_variable, variable_of, is_term, term_of, terms_of, behind_terms, closing_of, is_pair, is_single, single_of, pair_of, are_items, items_of}
 use Rattle.proof_text.specs.Steps.{constraint_of}
 use Rattle.proof_write.specs.Writing
-use Rattle.proof_write.specs.Writing.{spaced, name_at, lit_words, number_words, item_words, term_words, constraint_words, image_word, pair_words, step_words, line_text}
+use Rattle.proof_write.specs.Writing.{name_at, lit_words, number_words, item_words, term_words, constraint_words}
 use Rattle.proof_text.specs.Writable.{IsWritable, IsNamed, IsTermWritable, IsConstraintWritable, IsItemWritable, IsLitWritable}
 use Rattle.proof_write.proofs.WordsCut.{IsToken, plain_token, at_least_token, AreTokens}
 use Rattle.proof_write.proofs.NumeralsBack.{numeral}
@@ -165,13 +166,6 @@ terms_good names [] t h = tt
 terms_good names (x ∷ ts) t h =
     let w = All-head (IsTermWritable (length names)) x ts h in
     (good_number names x.coef w.coef, (good_literal names x.negated x.var t w.named, terms_good names ts t (All-tail (IsTermWritable (length names)) x ts h)))
-
-same_term : (c d : ℤ) (v w : ℕ) (m n : Bool) → c ≡ d → v ≡ w → m ≡ n
-    → ◌≡◌ {A = Term} (record { coef = c; var = record { 0 = v }; negated = m }) (record { coef = d; var = record { 0 = w }; negated = n })
-same_term c d v w m n ec ev en =
-    ap (λ x. let t : Term = record { coef = x; var = record { 0 = v }; negated = m } in t) ec
-    ∙ ap (λ x. let t : Term = record { coef = d; var = record { 0 = x }; negated = m } in t) ev
-    ∙ ap (λ x. let t : Term = record { coef = d; var = record { 0 = w }; negated = x } in t) en
 
 term_back : (names : List (List ℕ)) (x : Term) → IsTable names → IsTermWritable (length names) x
     → (is_term (signed_decimal x.coef) (Writing.literal_word names x.negated x.var) ≡ true) × (term_of names (signed_decimal x.coef) (Writing.literal_word names x.negated x.var) ≡ x)

@@ -1,5 +1,5 @@
 -- A whole written proof reads back: its lines are those that were written, and each says what it was made of.
-use Rattle.std.proofs.Common.{◌≡◌, ℕ, ℤ, pos, ◌+◌, ◌==◌, Bool, true, false, not, ◌&&◌, if◌then◌else◌, Some, None, Option, List, [], ◌∷◌, ◌++◌, drop, length, refl, sym, ap, subst, ◌∙◌, arith, append_assoc, codes}
+use Rattle.std.proofs.Common.{◌≡◌, ℕ, pos, ◌+◌, ◌==◌, Bool, true, false, if◌then◌else◌, Some, None, Option, List, [], ◌∷◌, ◌++◌, drop, length, refl, sym, ap, subst, ◌∙◌, arith, append_assoc, codes}
 use Rattle.std.specs.Prelude.{All, ◌≤◌}
 use Rattle.std.specs.List.{flat_map}
 use Rattle.std.specs.Option.{option_map}
@@ -16,7 +16,7 @@ use Rattle.proof_steps.specs.declared.step.Step.{Step}
 use Rattle.proof_text.specs.Conclusions.{conclusion_of}
 use Rattle.proof_text.specs.Frame.{count_of, header, output, ending}
 use Rattle.proof_text.specs.Kinds.{is_integer, is_semicolon}
-use Rattle.proof_text.specs.Lines.{Numbered, Parted, parted, counts, counting, counting_from, lines_of}
+use Rattle.proof_text.specs.Lines.{Numbered, Parted, parted, counts, counting, counting_from}
 use Rattle.proof_text.specs.ProofSpells.{AreSteps, SpellsProof}
 use Rattle.proof_text.specs.Rules.{rule_of}
 use Rattle.proof_text.specs.Spells.{IsLine, line_of}
@@ -27,7 +27,6 @@ use Rattle.proof_text.specs.declared.line.Line.{Line}
 use Rattle.proof_text.specs.declared.line.Line.TheVariants as lines
 use Rattle.proof_text.specs.declared.line.Section.{Section}
 use Rattle.proof_text.specs.declared.line.Section.TheVariants as sections
-use Rattle.proof_text.proofs.ClosingSemicolon.{stays_open}
 use Rattle.proof_text.proofs.LinesOfSections.{output_placed, step_at, step_placed}
 use Rattle.proof_text.proofs.LinesParted.{nothing_left}
 use Rattle.proof_text.proofs.PolItems.{first_word}

@@ -11,8 +11,8 @@ ghost use Rattle.proof_text.specs.Writable.{IsConclusionWritable, IsStepWritable
 ghost use Rattle.proof_write.specs.Growth.{Extends};
 ghost use Rattle.proof_write.specs.Whole.{first_lines, step_line, whole_text};
 
-use crate::write::{begin, end_lines, step_text};
-use crate::writer::number;
+use super::write::{begin, end_lines, step_text};
+use super::writer::number;
 use linear::Names;
 use proof_steps::{Conclusion, Step};
 use std::alloc::{AllocError, Global};

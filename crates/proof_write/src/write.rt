@@ -11,7 +11,7 @@ ghost use Rattle.proof_write.specs.Writing as writing;
 ghost use Rattle.proof_text.specs.Writable as writable;
 ghost use Rattle.proof_write.specs.Writing.{IsStepWritten, IsEndWritten};
 
-use crate::writer::{items, literals, number, numbers, pairs, terms, word};
+use super::writer::{items, literals, number, numbers, pairs, terms, word};
 use linear::{Lit, Names, Seq, Signed};
 use proof_steps::{Conclusion, Lower, Step, Upper};
 use std::alloc::AllocError;

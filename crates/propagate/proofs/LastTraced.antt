@@ -1,5 +1,5 @@
 -- What a trace leaves out follows from what stands before the last literal, and stays within whatever is settled above that.
-use Rattle.std.proofs.Common.{◌≡◌, ℕ, ◌↔◌, true, List, [], ◌∷◌, ◌++◌, Option, Some, None, sym, ◌∙◌, ap, append-nil, subst, inl, inr, ◌⊎◌}
+use Rattle.std.proofs.Common.{◌≡◌, ℕ, true, List, [], ◌∷◌, ◌++◌, Some, None, sym, ◌∙◌, ap, append-nil, subst, inl, inr}
 use Rattle.std.specs.FinMap as fin
 use Rattle.linear.specs.declared.term.Lit.{Lit}
 use Rattle.normal_form.specs.Normal.{NormalConstraint}

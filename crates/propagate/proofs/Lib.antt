@@ -13,7 +13,6 @@ pub mod ValueTable
 pub mod Occurrences
 pub mod SeenLists
 pub mod ReasonedChains
-pub mod LastVariable
 pub mod WalkEnds
 pub mod SameListings
 pub mod TracesById
@@ -25,3 +24,4 @@ pub mod Members
 pub mod Gathered
 pub mod LastTraced
 pub mod SmallContent
+mod LiteralBounds

@@ -1,5 +1,5 @@
 -- Two constraints under their ids: what is found under an id, and all of them in order.
-use Rattle.std.proofs.Common.{◌≡◌, ℕ, ◌<◌, List, [], ◌∷◌, Option, None, Some, map, length, refl, sym, ap, ◌∙◌, arith}
+use Rattle.std.proofs.Common.{◌≡◌, ℕ, List, [], ◌∷◌, None, map, length, refl, sym, ap, ◌∙◌, arith}
 use Rattle.std.specs.FinMap as fin
 use Rattle.std.specs.FinMap.Entries.{put}
 use Rattle.std.specs.Ordering.{nat_cmp}
@@ -8,7 +8,7 @@ use Rattle.normal_form.specs.Normal.{NormalConstraint}
 use Rattle.propagate.specs.Cases.{one_of_two, two_ids, unit_not}
 use Rattle.propagate.proofs.Entries.{passed_over}
 
-abbrev Entries : Type 0
+abbrev pub Entries : Type 0
 Entries = List (ℕ × NormalConstraint)
 
 abbrev both : Entries
@@ -21,7 +21,7 @@ pub not_found : (k : ℕ) → (k ≡ 2 → ⊥) → (k ≡ 5 → ⊥) → fin.ge
 not_found k other another = found k ∙ passed_over k (2, one_of_two) ((5, unit_not 2) ∷ []) other ∙ passed_over k (5, unit_not 2) [] another
 
 -- entries put one by one, the last one first
-abbrev placed : Entries → Entries
+abbrev pub placed : Entries → Entries
 placed [] = []
 placed (e ∷ es) = put nat_cmp e.0 e.1 (placed es)
 
@@ -32,7 +32,7 @@ no_entries (e ∷ es) h = absurd (omega (arith, h))
 nothing_placed : fin.entries (fin.empty {X = NormalConstraint} {R = nat_cmp}) ≡ []
 nothing_placed = no_entries (fin.entries fin.empty) (sym (fin.len-entries fin.empty) ∙ fin.len-empty nat_cmp NormalConstraint)
 
-entries_placed : (es : Entries) → fin.entries (fin.from_entries {R = nat_cmp} es) ≡ placed es
+pub entries_placed : (es : Entries) → fin.entries (fin.from_entries {R = nat_cmp} es) ≡ placed es
 entries_placed [] = nothing_placed
 entries_placed (e ∷ es) = fin.entries-insert nat_cmp_total (fin.from_entries es) e.0 e.1 ∙ ap (put nat_cmp e.0 e.1) (entries_placed es)
 

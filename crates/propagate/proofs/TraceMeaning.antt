@@ -1,11 +1,11 @@
 -- A trace by ids is a chain of the constraints that have the ids, and its end is theirs.
-use Rattle.std.proofs.Common.{◌≡◌, ℕ, zero, suc, ◌+◌, ◌<◌, Bool, true, false, cond, List, [], ◌∷◌, ◌++◌, Any, map, length, Option, Some, None, MatchOption, refl, sym, ap, subst, ◌∙◌}
+use Rattle.std.proofs.Common.{◌≡◌, ℕ, ◌+◌, Bool, true, false, cond, List, [], ◌∷◌, ◌++◌, Any, Option, Some, None, MatchOption, sym, subst, ◌∙◌}
 use Rattle.std.specs.Ordering.{nat_cmp, eq_by_cmp}
 use Rattle.std.specs.FinMap as fin
 use Rattle.linear.specs.declared.term.Lit.{Lit}
 use Rattle.normal_form.specs.Normal.{NormalConstraint}
 use Rattle.propagate.specs.declared.trace.Trace.{Trace}
-use Rattle.propagate.specs.Chain.{IsConflict, IsChain, LeadsToConflict, IsClosure}
+use Rattle.propagate.specs.Chain.{IsChain, LeadsToConflict}
 use Rattle.propagate.specs.Content.{Content, IsBrokenIn, AreForcedIn, traced, IsEnd, IsTrace}
 use Rattle.propagate.specs.Slack.{IsBroken, IsForced}
 use Rattle.propagate.proofs.AnyOf.{any_here, any_there}

@@ -1,5 +1,5 @@
 -- Listings of literals that are taken as true.
-use Rattle.std.specs.Prelude.{ℕ, ◌≡◌, Bool, true, false, not, ◌||◌, List, [], ◌∷◌}
+use Rattle.std.specs.Prelude.{ℕ, ◌+◌, ◌≡◌, max, Bool, true, false, not, ◌||◌, List, [], ◌∷◌}
 use Rattle.linear.specs.declared.term.Lit.{Lit}
 use Rattle.linear.specs.Valuation.{Valuation, literal_true}
 use Rattle.normal_form.specs.Normal.{Literals, NormalConstraint, only, coefficient}
@@ -11,6 +11,11 @@ opposite l = record l { negated = not l.negated }
 -- N(l): the coefficient of a literal
 abbrev pub coefficient_of : NormalConstraint → Lit → ℕ
 coefficient_of n l = coefficient n (l.var.0) l.negated
+
+-- the least number above all variables of a listing
+abbrev pub literal_bound : List Lit → ℕ
+literal_bound [] = 0
+literal_bound (l ∷ ls) = max (l.var.0 + 1) (literal_bound ls)
 
 -- the literals of a listing, as a set
 abbrev pub among : List Lit → Literals

@@ -1,6 +1,6 @@
 //! The definitions computed on small constraints, each the contract of a function that does nothing.
 
-ghost use Rattle.std.specs.Prelude.{◌≡◌, All, List, [], ◌∷◌, ◌++◌, pos, None, Some};
+ghost use Rattle.std.specs.Prelude.{◌≡◌, All, [], ◌∷◌, ◌++◌, pos, None, Some};
 ghost use Rattle.linear.specs.declared.term.Lit.{Lit};
 ghost use Rattle.normal_form.specs.Cases.{plain, negated, normal};
 ghost use Rattle.propagate.specs.Cases.{x, not_x, unit, unit_not, four_clauses, one_of_two, weighted, pigeons, two_ids, two_of_three, two_of_three_negated, improving_moved};

@@ -18,7 +18,7 @@ mod trail;
 mod walk;
 
 pub use ids::Ids;
-pub use listing::with_last;
+pub use listing::{literal_count, with_last};
 pub use propagator::{Id, Propagator};
 pub use reach::Reach;
 pub use scan_propagator::ScanPropagator;

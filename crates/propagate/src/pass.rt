@@ -17,7 +17,7 @@ use super::trail::Trail;
 use normal_form::Normal;
 use std::alloc::AllocError;
 
-// Whether a literal with this coefficient is forced where the slack is this.
+/// Whether a literal with this coefficient is forced where the slack is this.
 fn is_forced(trail: &Trail, forced: Forced, coef: u128, slack: u128) -> bool
     requires { forced.literal.var.0 < trail.now.1 }
     ensures { IsTrue result ↔ CanForce trail.now.0 slack coef forced.literal }
@@ -25,7 +25,7 @@ fn is_forced(trail: &Trail, forced: Forced, coef: u128, slack: u128) -> bool
     coef > slack && trail.leaves_free(forced.literal)
 }
 
-// Lists a literal with its reason.
+/// Lists a literal with its reason.
 fn list(trail: &mut Trail, steps: &mut Vec<Forced>, forced: Forced) -> Result<(), AllocError>
     requires variable { forced.literal.var.0 < trail.old.1 }
     requires unset { lists trail.old.0 forced.literal ≡ false }
@@ -38,7 +38,7 @@ fn list(trail: &mut Trail, steps: &mut Vec<Forced>, forced: Forced) -> Result<()
     Ok(())
 }
 
-// Lists a literal if it is forced.
+/// Lists a literal if it is forced.
 fn list_if_forced(
     trail: &mut Trail,
     steps: &mut Vec<Forced>,
@@ -59,7 +59,7 @@ fn list_if_forced(
     Ok(())
 }
 
-// Lists all that a constraint, which stands at this place, forces where its slack is this.
+/// Lists all that a constraint, which stands at this place, forces where its slack is this.
 fn list_all(
     constraint: &Normal,
     place: usize,
@@ -84,7 +84,7 @@ fn list_all(
     Ok(())
 }
 
-// Lists all that a constraint, which stands at this place, forces, unless it is broken. Answers whether it is.
+/// Lists all that a constraint, which stands at this place, forces, unless it is broken. Answers whether it is.
 fn visit(
     constraint: &Normal,
     place: usize,

@@ -1,10 +1,11 @@
 //! What a listing of literals extends to by propagation. A solution that a VeriPB proof logs may name some of the
 //! variables only: the others must follow by propagation, and then the listing's extension is the solution.
 
-ghost use Rattle.std.specs.Prelude.{◌≡◌, ◌<◌, ◌≤◌, All, IfOk, map};
+ghost use Rattle.std.specs.Prelude.{◌<◌, ◌≤◌, All, IfOk, map};
 ghost use Rattle.normal_form.specs.Normal.{variable_bound};
 ghost use Rattle.propagate.specs.Literals.{IsConsistent};
 
+use super::listing::literal_count;
 use super::refutation::variable_count;
 use super::trail::Trail;
 use super::walk::{Walk, complete};
@@ -20,21 +21,10 @@ pub enum Reach {
     Closed(Seq<Lit>),
 }
 
-/// The least number above all variables of some literals.
-pub(crate) fn literal_count(literals: &[Lit]) -> usize
-    ensures { All (λ l. l.var.0 < result) literals.now }
-{
-    let mut count: usize = 0;
-    for literal in literals {
-        count = count.max(literal.var.0 as usize + 1);
-    }
-    count
-}
-
 impl Reach {
     ghost use Rattle.propagate.specs.Reach.{IsReach};
 
-    // What a trail extends to.
+    /// What a trail extends to.
     fn from_trail(alloc: Global, constraints: &[&Normal], start: Trail) -> Result<Reach, AllocError>
         requires variables { All (λ n. variable_bound n.now.terms ≤ start.1) constraints.now }
         requires consistent { IsConsistent start.0 }

@@ -1,7 +1,7 @@
 //! Whether constraints are refuted by propagation alone: the test behind a `rup` step of the VeriPB format, with the
 //! negation of the step's constraint among them.
 
-ghost use Rattle.std.specs.Prelude.{◌≡◌, ◌≤◌, ◌↔◌, All, IfOk, IsTrue, map};
+ghost use Rattle.std.specs.Prelude.{◌≤◌, ◌↔◌, All, IfOk, IsTrue, map};
 ghost use Rattle.normal_form.specs.Normal.{variable_bound};
 ghost use Rattle.propagate.specs.Chain.{IsRefuted};
 
@@ -10,24 +10,13 @@ use super::walk::complete;
 use normal_form::Normal;
 use std::alloc::{AllocError, Global};
 
-// The least number above all variables of a constraint: that of the last term is the greatest.
-fn bound(constraint: &Normal) -> usize
-    ensures { result ≡ variable_bound constraint.now.terms }
-{
-    let count = constraint.len();
-    if count == 0 {
-        return 0;
-    }
-    constraint.term(count - 1).var.0 as usize + 1
-}
-
 /// The least number above all variables of some constraints.
 pub(crate) fn variable_count(constraints: &[&Normal]) -> usize
     ensures { All (λ n. variable_bound n.now.terms ≤ result) constraints.now }
 {
     let mut count: usize = 0;
     for constraint in constraints {
-        count = count.max(bound(constraint));
+        count = count.max(constraint.variable_count());
     }
     count
 }

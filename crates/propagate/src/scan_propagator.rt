@@ -4,7 +4,7 @@
 //! faster one answers is compared with it. For a question it lends all constraints into one list, so that extra ones
 //! stand in the list beside them, and no constraint is copied.
 
-ghost use Rattle.std.specs.Prelude.{◌≡◌, ◌<◌, ◌↔◌, ◌++◌, IfOk, IsTrue, OnOk, List, map};
+ghost use Rattle.std.specs.Prelude.{◌≡◌, ◌<◌, ◌↔◌, ◌++◌, IfOk, IsTrue, OnOk, map};
 ghost use Rattle.std.specs.FinMap as fin;
 ghost use Rattle.std.specs.FinSet as set;
 ghost use Rattle.std.specs.List.Sorted.{IsStrictlySortedBy};
@@ -30,7 +30,7 @@ pub struct ScanPropagator {
     alloc: Global,
 }
 
-// The constraints of a map, by rising id.
+/// The constraints of a map, by rising id.
 fn lent(alloc: Global, all: &BTreeMap<Id, Normal>) -> Result<Vec<&Normal>, AllocError>
     ensures constraints { IfOk result (λ v. map (λ n. n.now) v.items ≡ fin.values (fin.from_entries {R = nat_cmp} all.now.entries)) }
     ensures rise { OnOk result (IsStrictlySortedBy nat_cmp (map (λ e. e.0) all.now.entries)) }
@@ -42,7 +42,7 @@ fn lent(alloc: Global, all: &BTreeMap<Id, Normal>) -> Result<Vec<&Normal>, Alloc
     Ok(constraints)
 }
 
-// The ids of a map, as they rise.
+/// The ids of a map, as they rise.
 fn ids(alloc: Global, all: &BTreeMap<Id, Normal>) -> Result<Vec<Id>, AllocError>
     ensures { IfOk result (λ v. v.items ≡ map (λ e. e.0) all.now.entries) }
 {
@@ -53,7 +53,7 @@ fn ids(alloc: Global, all: &BTreeMap<Id, Normal>) -> Result<Vec<Id>, AllocError>
     Ok(ids)
 }
 
-// Whether a constraint has a literal.
+/// Whether a constraint has a literal.
 fn has_literal(constraint: &Normal, literal: Lit) -> bool
     ensures { IsTrue result ↔ 0 < coefficient_of constraint.now literal }
 {
@@ -65,7 +65,7 @@ fn has_literal(constraint: &Normal, literal: Lit) -> bool
     false
 }
 
-// Puts an id into a set if its constraint has a literal.
+/// Puts an id into a set if its constraint has a literal.
 fn add_if_it_has(ids: &mut Ids, id: Id, constraint: &Normal, literal: Lit) -> Result<(), AllocError>
     ensures there { OnOk result (0 < coefficient_of constraint.now literal → ids.new ≡ set.insert ids.old id) }
     ensures absent { OnOk result ((0 < coefficient_of constraint.now literal → ⊥) → ids.new ≡ ids.old) }
@@ -77,7 +77,7 @@ fn add_if_it_has(ids: &mut Ids, id: Id, constraint: &Normal, literal: Lit) -> Re
 }
 
 impl ScanPropagator {
-    // The constraints by rising id, and the extra ones behind them.
+    /// The constraints by rising id, and the extra ones behind them.
     fn beside<'a>(&'a self, extras: &'a [Normal]) -> Result<Vec<&'a Normal>, AllocError>
         ensures { IfOk result (λ v. map (λ n. n.now) v.items ≡ fin.values (fin.from_entries {R = nat_cmp} self.now.all.entries) ++ extras.now) }
     {
@@ -146,7 +146,7 @@ impl Propagator for ScanPropagator {
         Trace::of(self.alloc, constraints.as_slice(), ids.as_slice(), given)
     }
 
-    // It keeps nothing, so nothing is left out.
+    /// It keeps nothing, so nothing is left out.
     fn trace_last(&mut self, before: &[Lit], last: Lit) -> Result<Trace, AllocError> {
         let given = with_last(self.alloc, before, last)?;
         self.trace(given.as_slice())

@@ -12,7 +12,7 @@ use super::trail::Trail;
 use linear::Lit;
 use normal_form::Normal;
 
-// What the term at a place adds to the sum of the literals that are not made false.
+/// What the term at a place adds to the sum of the literals that are not made false.
 fn counted(constraint: &Normal, trail: &Trail, place: usize) -> u128
     requires place { place < length constraint.now.terms }
     requires variables { variable_bound constraint.now.terms ≤ trail.now.1 }
@@ -27,7 +27,7 @@ fn counted(constraint: &Normal, trail: &Trail, place: usize) -> u128
     if trail.has(opposite) { 0 } else { term.coef }
 }
 
-// The sum of the coefficients of the literals that are not made false.
+/// The sum of the coefficients of the literals that are not made false.
 fn open_sum(constraint: &Normal, trail: &Trail) -> u128
     requires { variable_bound constraint.now.terms ≤ trail.now.1 }
     ensures { result ≡ sum_over (not_false trail.now.0) constraint.now.terms }

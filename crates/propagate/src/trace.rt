@@ -6,8 +6,8 @@ ghost use Rattle.propagate.specs.Literals.{IsConsistent};
 ghost use Rattle.propagate.specs.TraceByPlaces.{named};
 
 use super::forced::Forced;
+use super::listing::literal_count;
 use super::propagator::Id;
-use super::reach::literal_count;
 use super::refutation::variable_count;
 use super::trail::Trail;
 use super::walk::{Walk, complete};
@@ -23,7 +23,7 @@ pub struct Trace {
     pub conflict: Option<Id>,
 }
 
-// The steps with ids for the places of their reasons.
+/// The steps with ids for the places of their reasons.
 fn with_ids(alloc: Global, steps: &[Forced], ids: &[Id]) -> Result<Vec<(Lit, Id)>, AllocError>
     requires { All (λ s. s.reason < length ids.now) steps.now }
     ensures { IfOk result (λ v. v.items ≡ map (named ids.now) steps.now) }
@@ -38,7 +38,7 @@ fn with_ids(alloc: Global, steps: &[Forced], ids: &[Id]) -> Result<Vec<(Lit, Id)
 impl Trace {
     ghost use Rattle.propagate.specs.TraceByPlaces.{IsTraceByPlaces, named};
 
-    // What a walk says, with ids for the places of constraints.
+    /// What a walk says, with ids for the places of constraints.
     fn from_walk(alloc: Global, walk: Walk, ids: &[Id]) -> Result<Trace, AllocError>
         requires steps { All (λ s. s.reason < length ids.now) walk.steps.items }
         requires broken { IfSome walk.broken (λ place. place < length ids.now) }

@@ -103,7 +103,7 @@ impl Trail {
         Ok(Some(trail))
     }
 
-    // Lists a literal unless it is listed; false where its opposite is listed.
+    /// Lists a literal unless it is listed; false where its opposite is listed.
     fn admit(&mut self, literal: Lit) -> Result<bool, AllocError>
         requires { literal.var.0 < self.old.1 }
         ensures count { OnOk result (self.new.1 ≡ self.old.1) }

@@ -10,7 +10,7 @@ use normal_form::{
 };
 use std::alloc::{AllocError, Global};
 
-// A written constraint with `>=`, its form, and the negation of that.
+/// A written constraint with `>=`, its form, and the negation of that.
 #[derive(Clone, Copy)]
 struct FormRow {
     terms: &'static [Written],
@@ -110,7 +110,7 @@ fn net_coefficients(rt: HostRuntime) {
     assert!(&rt; is(&made, &[(3, NOT, 1), (5, X, 4)], 2));
 }
 
-// 2 x0 1 ~x1 >= 2
+/// 2 x0 1 ~x1 >= 2
 fn first_or_not_second(alloc: Global) -> Result<Normal, CutFault>
     ensures { IfOk result (λ n. variable_bound n.terms ≡ 2) }
 {
@@ -128,7 +128,7 @@ fn first_or_not_second(alloc: Global) -> Result<Normal, CutFault>
     builder.finish(2)
 }
 
-// Whether a constraint of the first two variables holds where these have the values.
+/// Whether a constraint of the first two variables holds where these have the values.
 fn holds_at(
     alloc: Global,
     constraint: &Normal,

@@ -6,7 +6,7 @@ use normal_form::CutFault;
 use propagate::{Id, Propagator, Reach, ScanPropagator, Trace};
 use std::alloc::Global;
 
-// Puts in a constraint, where none is.
+/// Puts in a constraint, where none is.
 fn put(
     alloc: Global,
     live: &mut ScanPropagator,
@@ -21,8 +21,8 @@ fn put(
     Ok(())
 }
 
-// 1 ~x2 1 x3 >= 1 ; 1 ~x1 1 x2 >= 1 ; 1 x1 >= 1, under 1, 3 and 8: the first two force something only after the third,
-// so one pass over them in order does not do.
+/// 1 ~x2 1 x3 >= 1 ; 1 ~x1 1 x2 >= 1 ; 1 x1 >= 1, under 1, 3 and 8: the first two force something only after the third,
+/// so one pass over them in order does not do.
 fn three_clauses(alloc: Global) -> Result<ScanPropagator, CutFault> {
     let mut live = ScanPropagator::empty(alloc);
     put(alloc, &mut live, 3, &[(1, NOT, 1), (1, X, 2)], 1)?;
@@ -31,7 +31,7 @@ fn three_clauses(alloc: Global) -> Result<ScanPropagator, CutFault> {
     Ok(live)
 }
 
-// Whether the trace is of these steps and this conflict.
+/// Whether the trace is of these steps and this conflict.
 fn is_trace(trace: &Trace, forced: &[(Lit, Id)], conflict: Option<Id>) -> bool {
     trace.forced.as_slice() == forced && trace.conflict == conflict
 }
@@ -70,7 +70,7 @@ fn refutations(rt: HostRuntime) {
     assert!(&rt; !live.refute(extras.as_slice()).expect(&rt, "memory"));
 }
 
-// 3 x1 2 x2 1 x3 >= 4 needs x1, and not x2.
+/// 3 x1 2 x2 1 x3 >= 4 needs x1, and not x2.
 #[test]
 fn weights(rt: HostRuntime) {
     let alloc = rt.alloc();

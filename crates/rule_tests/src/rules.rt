@@ -5,7 +5,7 @@ use cut_rules::{add, axiom, divide, multiply, saturate, weaken};
 use linear::Var;
 use normal_form::CutFault;
 
-// Two constraints and their sum.
+/// Two constraints and their sum.
 #[derive(Clone, Copy)]
 struct SumRow {
     left: &'static [Written],
@@ -83,7 +83,7 @@ fn sums(rt: HostRuntime) {
     assert!(&rt; is_fault(add(alloc, &high, &unit), CutFault::TooLarge));
 }
 
-// Divisors of 5 x1 4 ~x2 >= 3, and the quotients.
+/// Divisors of 5 x1 4 ~x2 >= 3, and the quotients.
 const QUOTIENTS: [(i128, &[Written], u128); 3] = [
     (2, &[(3, X, 1), (2, NOT, 2)], 2),
     (i128::MAX, &[(1, X, 1), (1, NOT, 2)], 1),
@@ -110,7 +110,7 @@ fn factors(rt: HostRuntime) {
     }
 }
 
-// Variables by which 5 x1 2 ~x2 >= 3 is weakened, and what is left. The degree stops at 0.
+/// Variables by which 5 x1 2 ~x2 >= 3 is weakened, and what is left. The degree stops at 0.
 const WEAKENINGS: [(u32, &[Written], u128); 3] = [
     (1, &[(2, NOT, 2)], 0),
     (2, &[(5, X, 1)], 1),

@@ -25,7 +25,7 @@ fn images(alloc: Global, given: &[(Var, Image)]) -> Result<Option<Substitution>,
     Substitution::new(alloc, Vec::from_slice(alloc, given)?)
 }
 
-// x1 -> x2 x2 -> x1
+/// x1 -> x2 x2 -> x1
 fn swapped(alloc: Global) -> Result<Option<Substitution>, AllocError>
     ensures { IfOk result (λ made. IfSome made (λ s. s ≡ swap)) }
 {
@@ -47,7 +47,7 @@ const SECOND: Image = Image::Lit(Lit {
     negated: false,
 });
 
-// Images and their opposites.
+/// Images and their opposites.
 const OPPOSITES: [(Image, Image); 4] = [
     (FIRST, NOT_FIRST),
     (NOT_FIRST, FIRST),
@@ -76,7 +76,7 @@ fn each_variable_once(rt: HostRuntime) {
     }
 }
 
-// 1 x1 1 ~x2 >= 1 under a substitution.
+/// 1 x1 1 ~x2 >= 1 under a substitution.
 #[derive(Clone, Copy)]
 struct ImageRow {
     images: &'static [(Var, Image)],
@@ -144,7 +144,7 @@ fn assignments_after_a_swap(rt: HostRuntime) {
     assert!(&rt; after.as_slice() == [false, false, true].as_slice());
 }
 
-// Two constraints, and whether the first covers the second.
+/// Two constraints, and whether the first covers the second.
 #[derive(Clone, Copy)]
 struct CoverRow {
     first: &'static [Written],
@@ -213,7 +213,7 @@ fn covering(rt: HostRuntime) {
     }
 }
 
-// An objective, the image of its first variable, and what must be shown.
+/// An objective, the image of its first variable, and what must be shown.
 #[derive(Clone, Copy)]
 struct GoalRow {
     problem: &'static [u8],
@@ -222,7 +222,7 @@ struct GoalRow {
     degree: u128,
 }
 
-// What a problem's objective asks for under an image of its first variable.
+/// What a problem's objective asks for under an image of its first variable.
 fn goal_of(alloc: Global, text: &[u8], image: Image) -> Option<Normal> {
     let problem = read(alloc, text).ok()?;
     let substitution = images(alloc, &[(Var(0), image)]).ok()??;

@@ -37,7 +37,7 @@ pub(crate) fn not_x(var: u32) -> Lit {
     }
 }
 
-// The terms of a table's row.
+/// The terms of a table's row.
 fn terms(alloc: Global, written: &[Written]) -> Result<Vec<Term>, AllocError> {
     let mut terms = Vec::new(alloc);
     for (coef, negated, var) in written {
@@ -76,7 +76,7 @@ pub(crate) fn at_least(
     normalize(alloc, &constraint)
 }
 
-// Whether a term of a normal constraint is this written one, whose coefficient is above 0.
+/// Whether a term of a normal constraint is this written one, whose coefficient is above 0.
 fn is_term(term: NormalTerm, written: Written) -> bool {
     let (coef, negated, var) = written;
     term.literal()

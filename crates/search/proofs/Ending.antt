@@ -51,8 +51,8 @@ bound_fits p objective g best within is worth =
 
 lower : (p : Opb) (s : State) (objective : List Term) (best : ℤ) → IsWithin p → p.objective ≡ Some objective → s.least ≡ Some best
     → Any (λ g. worth_of p g ≡ best) s.logged → IsRefuted (constraints s) → IsLowerBound s objective best (form (at_least objective best))
-lower p s objective best within is improve least refuted = record {
-  below = subst (λ o. IfSome o (λ l. best ≤ℤ l)) (sym improve) (omega (arith, ints));
+lower p s objective best within is least_is least refuted = record {
+  below = subst (λ o. IfSome o (λ l. best ≤ℤ l)) (sym least_is) (omega (arith, ints));
   form = form_is (at_least objective best);
   fits = bound_fits p objective least.1 best within is least.4;
   shown = refuted_shows (constraints s) (form (at_least objective best)) (form_is (at_least objective best)).rises refuted;
@@ -63,9 +63,9 @@ upper p s best (i, g, below, is, worth) = (i, g, below, is, omega (arith, ints, 
 
 pub optimum : (p : Opb) (s : State) (objective : List Term) (best : ℤ) → IsWithin p → IsPreserved p s → p.objective ≡ Some objective → s.least ≡ Some best
     → IsRefuted (constraints s) → IsEntitled p s (Bounds (lowers.At best) (uppers.At best) None)
-optimum p s objective best within kept is improve refuted =
-    let least = least_logged p s best kept improve in
+optimum p s objective best within kept is least_is refuted =
+    let least = least_logged p s best kept least_is in
     let found = best_there p s in (
       found.0,
-      (s, refl, (objective, is, (form (at_least objective best), lower p s objective best within is improve least refuted), upper p s best least), found.1),
+      (s, refl, (objective, is, (form (at_least objective best), lower p s objective best within is least_is least refuted), upper p s best least), found.1),
     )

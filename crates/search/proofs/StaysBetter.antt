@@ -56,11 +56,11 @@ other_key s k q yes' no' = by (eq_by_cmp nat_cmp k q) refl
     by true e = absurd (false≢true (sym no' ∙ ap (set.contains s.improving) (sym (key_of k q e)) ∙ yes'))
 
 asks_remove : (objective : List Term) (s : State) (id : ℕ) → set.contains s.improving id ≡ false → AsksBetter objective s → AsksBetter objective (without id s)
-asks_remove objective s id unasked h =
+asks_remove objective s id not_improving h =
     weaker s.least (Asks objective s) (Asks objective (without id s)) (λ z a. record {
       id = a.id;
       asked = a.asked;
-      live = fin.get-remove nat_cmp_total s.live id a.id ∙ ap (λ b. cond b None (fin.get s.live a.id)) (other_key s a.id id a.kept unasked) ∙ a.live;
+      live = fin.get-remove nat_cmp_total s.live id a.id ∙ ap (λ b. cond b None (fin.get s.live a.id)) (other_key s a.id id a.kept not_improving) ∙ a.live;
       form = a.form;
       kept = a.kept;
       given = a.given;
@@ -69,7 +69,7 @@ asks_remove objective s id unasked h =
 asks_deleted : (objective : List Term) (p : Opb) (s t : State) (ids : List ℤ) → AsksBetter objective s → LegalDel p s ids t → AsksBetter objective t
 asks_deleted objective p s t [] h same = subst (AsksBetter objective) (sym same) h
 asks_deleted objective p s t (id ∷ ids) h (deletable, rest) =
-    asks_deleted objective p (without (id_of s.next id) s) t ids (asks_remove objective s (id_of s.next id) deletable.unasked h) rest
+    asks_deleted objective p (without (id_of s.next id) s) t ids (asks_remove objective s (id_of s.next id) deletable.not_improving h) rest
 
 asks_added : (objective : List Term) (s t : State) (m : NormalConstraint) → AsksBetter objective s → Adds m s t → AsksBetter objective t
 asks_added objective s t m h (room, is) = subst (AsksBetter objective) (sym is) (asks_insert objective s m h)

@@ -58,7 +58,7 @@ BearsOut limit l founds.Sat = MatchOption l.problem.objective (IsSolvedByAny l) 
 BearsOut limit l (founds.Unknown reasons.Limit) = IsOpen limit l
 BearsOut limit l (founds.Unknown reasons.Memory) = ⊥
 
--- what a search answers: without a log only that it wanted memory, else what its log of the problem bears out
+-- what a search answers: without a log only that it ran out of memory, else what its log of the problem bears out
 abbrev pub IsSolved : Opb → ℕ → Found → Option Logbook → Type 0
 IsSolved p limit found None = found ≡ founds.Unknown reasons.Memory
 IsSolved p limit found (Some l) = (l.problem ≡ p) × BearsOut limit l found

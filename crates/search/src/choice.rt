@@ -3,7 +3,7 @@
 //! A brancher is not believed: what it answers is looked up in the table of values, and replaced where the table does not have
 //! its variable as a free one. So no decision ever stands beside its opposite, which is all that a search needs to know.
 
-ghost use Rattle.std.specs.Prelude.{◌≡◌, ◌<◌, IfSome, IsTrue, length};
+ghost use Rattle.std.specs.Prelude.{◌<◌, IfSome, IsTrue, length};
 ghost use Rattle.search.specs.Values.{IsFree};
 
 use super::brancher::Value;

@@ -5,7 +5,7 @@
 pub enum Unfinished {
     /// It has met as many conflicts as it may, or has given out all ids.
     Limit,
-    /// It wanted memory.
+    /// It ran out of memory.
     Memory,
 }
 

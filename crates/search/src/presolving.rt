@@ -102,7 +102,7 @@ fn exchange(alloc: Global, swap: Swap) -> Result<Substitution, AllocError>
     Ok(witness)
 }
 
-/// Hands on that memory was wanted; any other fault says only that a step is not legal.
+/// Hands on that memory ran out; any other fault says only that a step is not legal.
 fn unless_refused(fault: StepFault) -> Result<(), StepFault>
     ensures { OnOk result (fault ≢ StepFault.OutOfMemory) }
 {

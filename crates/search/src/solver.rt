@@ -24,7 +24,7 @@ use std::alloc::Global;
 #[derive(Drop)]
 pub struct Solved<'a, P: Propagator> {
     pub found: Found,
-    /// None exactly where memory was wanted.
+    /// None exactly where memory ran out.
     pub log: Option<Log<'a, P>>,
 }
 

@@ -5,7 +5,6 @@ use Rattle.std.proofs.lemmas.Bool.Decides.{nat_tests}
 use Rattle.linear.specs.Valuation.{Valuation, literal_true}
 use Rattle.normal_form.specs.declared.term.NormalTerm.{NormalTerm}
 use Rattle.normal_form.specs.Normal.{Literals, NormalConstraint, Holds, variable_bound, sum_over, only, coefficient, total, Rises}
-use Rattle.normal_form.proofs.OneList.{counted_own}
 use Rattle.normal_form.proofs.SetSums.{Within, sum_within, sum_apart}
 use Rattle.normal_form.proofs.SumsByVariable.{all_zero, add_up, told, pivot}
 use Rattle.substitution.specs.Covering.{excess_at, excess, Covers}

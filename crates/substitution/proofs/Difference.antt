@@ -1,5 +1,5 @@
 -- The objective less what it is with images put in.
-use Rattle.std.proofs.Common.{◌≡◌, ℕ, ◌+◌, ◌*◌, ◌^◌, ◌<◌, ◌≤◌, List, [], ◌∷◌, ◌++◌, All, length, map, get_or, take, refl, ap, sym, ◌∙◌, append_assoc, subst, Option, Some, IfSome, arith}
+use Rattle.std.proofs.Common.{◌≡◌, ℕ, ◌+◌, ◌*◌, ◌<◌, ◌≤◌, List, [], ◌∷◌, ◌++◌, All, length, map, get_or, take, refl, ap, sym, ◌∙◌, append_assoc, subst, Option, Some, IfSome, arith}
 use Rattle.std.specs.Prelude.{ℤ, neg_ℤ, ◌+ℤ◌, unsigned_abs}
 use Rattle.std.proofs.lemmas.Int.{ints}
 use Rattle.std.proofs.lemmas.List.{take_more}
@@ -13,7 +13,8 @@ use Rattle.substitution.specs.declared.image.Image.{Image}
 use Rattle.substitution.specs.declared.image.Image.TheVariants.{Lit, Zero, One}
 use Rattle.substitution.specs.Images.{Images, image_of_literal}
 use Rattle.substitution.specs.Under.{term_at, constant_at, terms_under, constant_under}
-use Rattle.substitution.specs.Objective.{not_raised, largest_objective}
+use Rattle.linear.specs.Largest.{largest_objective}
+use Rattle.substitution.specs.Objective.{not_raised}
 use Rattle.substitution.proofs.PuttingIn.{terms_push, constant_push}
 
 map_append : (xs ys : List Term) → map sign_changed (xs ++ ys) ≡ map sign_changed xs ++ map sign_changed ys

@@ -7,7 +7,7 @@ use Rattle.normal_form.specs.declared.term.NormalTerm.{NormalTerm}
 use Rattle.normal_form.specs.Normal.{NormalConstraint, sum_over, sum_below, only, coefficient, variable_bound, Rises}
 use Rattle.normal_form.proofs.OneList.{absent}
 use Rattle.normal_form.proofs.SumsByVariable.{all_zero, add_up, single, single_sum}
-use Rattle.substitution.specs.Covering.{excess_at, excess}
+use Rattle.substitution.specs.Covering.{excess}
 
 -- what some terms have at their literals more than a constraint has there
 abbrev pub term_excess : List NormalTerm → NormalConstraint → ℕ

@@ -7,4 +7,5 @@ pub mod Pass
 pub mod PuttingIn
 pub mod Values
 pub mod Difference
+pub mod Opposites
 pub mod Untouched

@@ -1,9 +1,8 @@
 -- What a substitution must show of an objective: that it does not raise it.
-use Rattle.std.specs.Prelude.{ℕ, ◌*◌, List, ◌++◌, map}
+use Rattle.std.specs.Prelude.{List, ◌++◌, map}
 use Rattle.linear.specs.declared.term.Term.{Term}
 use Rattle.linear.specs.declared.constraint.Relation.TheVariants.{AtLeast}
 use Rattle.linear.specs.declared.constraint.Signed.{Signed}
-use Rattle.linear.specs.Limits.{most_terms, largest_integer}
 use Rattle.normal_form.specs.Normal.{NormalConstraint}
 use Rattle.normal_form.specs.NormalOf.{IsNormalOf, sign_changed}
 use Rattle.substitution.specs.Images.{Images}
@@ -20,7 +19,3 @@ not_raised objective images = record {
 -- `goal` is the normal form of: objective - (objective under the substitution) >= 0
 abbrev pub IsObjectiveGoal : List Term → Images → NormalConstraint → Type 0
 IsObjectiveGoal objective images goal = IsNormalOf (not_raised objective images) goal
-
--- the sizes of an objective's coefficients add up to no more
-abbrev pub largest_objective : ℕ
-largest_objective = most_terms * largest_integer

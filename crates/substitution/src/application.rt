@@ -45,7 +45,7 @@ impl Partial {
     }
 }
 
-// The terms of a constraint with images put in.
+/// The terms of a constraint with images put in.
 fn with_images(
     alloc: Global,
     constraint: &Normal,
@@ -66,7 +66,7 @@ fn with_images(
     Ok(partial)
 }
 
-// The constraint with images put in, before it is brought into normal form.
+/// The constraint with images put in, before it is brought into normal form.
 fn substituted(
     alloc: Global,
     constraint: &Normal,

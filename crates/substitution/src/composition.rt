@@ -10,7 +10,7 @@ use super::substitution::Substitution;
 use linear::{Assignment, Var};
 use std::alloc::{AllocError, Global};
 
-// Whether an image is worth 1 at an assignment.
+/// Whether an image is worth 1 at an assignment.
 fn is_true(assignment: &Assignment, image: Image) -> bool
     requires { IsImageBelow (length assignment.now) image }
     ensures { result ≡ image_true (valuation_of assignment.now) image }
@@ -22,7 +22,7 @@ fn is_true(assignment: &Assignment, image: Image) -> bool
     }
 }
 
-// The values with those of some images written over them, all read at the same assignment.
+/// The values with those of some images written over them, all read at the same assignment.
 fn with_images(
     alloc: Global,
     assignment: &Assignment,

@@ -2,10 +2,9 @@
 //!
 //! What a proof of the VeriPB format asks to be shown is often there already: a `rup` or a lower bound that repeats or
 //! weakens a live constraint, or a goal of a redundance step, under a substitution that does not touch it. It needs no
-//! propagation: what the one has more than
-//! the other at its literals can be given up by weakening, each coefficient at the price of as much degree. Terms rise
-//! by variable on both sides, so one pass over both is enough, and the excess is at most the coefficient sum, so it
-//! never leaves its type.
+//! propagation: what the one has more than the other at its literals can be given up by weakening, each coefficient at
+//! the price of as much degree. Terms rise by variable on both sides, so one pass over both is enough, and the excess is
+//! at most the coefficient sum, so it never leaves its type.
 
 ghost use Rattle.std.specs.Prelude.{◌≡◌, ◌≤◌, ◌↔◌, ℕ, Bool, IsTrue, length, drop};
 ghost use Rattle.linear.specs.Valuation.{Valuation};
@@ -15,7 +14,7 @@ ghost use Rattle.substitution.specs.Covering.{Covers};
 use linear::Var;
 use normal_form::{Normal, NormalTerm};
 
-// The first place, from one on, whose variable is not below this one.
+/// The first place, from one on, whose variable is not below this one.
 fn first_from(constraint: &Normal, from: usize, variable: Var) -> usize
     requires { from ≤ length constraint.now.terms }
     ensures within { result ≤ length constraint.now.terms }
@@ -30,7 +29,7 @@ fn first_from(constraint: &Normal, from: usize, variable: Var) -> usize
     place
 }
 
-// The coefficient of a term's literal among the terms from a place on, none of which has a lower variable.
+/// The coefficient of a term's literal among the terms from a place on, none of which has a lower variable.
 fn coefficient_from(constraint: &Normal, place: usize, term: NormalTerm) -> u128
     requires { Rises (term.var.0) (drop place constraint.now.terms) }
     ensures { result ≡ sum_over (only (term.var.0) term.negated) (drop place constraint.now.terms) }

@@ -1,6 +1,6 @@
 //! Laws of the definitions, each the contract of a function that does nothing.
 
-ghost use Rattle.std.specs.Prelude.{◌≡◌, ◌+◌, ◌<◌, ◌≤◌, ◌↔◌, ◌≤ℤ◌, List, []};
+ghost use Rattle.std.specs.Prelude.{◌≡◌, ◌<◌, ◌≤◌, ◌↔◌, ◌≤ℤ◌, List, []};
 ghost use Rattle.linear.specs.Sum.{sum_of};
 ghost use Rattle.linear.specs.Valuation.{Valuation};
 ghost use Rattle.linear.specs.declared.term.Term.{Term};

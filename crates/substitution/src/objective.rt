@@ -9,7 +9,8 @@ ghost use Rattle.std.specs.Prelude.{◌≡◌, ◌+◌, ◌≤◌, None, IfOk, I
 ghost use Rattle.std.specs.Option.{IsSomeAnd};
 ghost use Rattle.normal_form.specs.Normal.{IsNormal, largest_sum};
 ghost use Rattle.normal_form.specs.NormalOf.{size_sum};
-ghost use Rattle.substitution.specs.Objective.{IsObjectiveGoal, largest_objective, not_raised};
+ghost use Rattle.linear.specs.Largest.{largest_objective};
+ghost use Rattle.substitution.specs.Objective.{IsObjectiveGoal, not_raised};
 
 use super::application::Partial;
 use super::substitution::Substitution;
@@ -17,7 +18,7 @@ use linear::{Lit, Problem, Relation, Seq, Signed, Term};
 use normal_form::{CutFault, Normal, normalize};
 use std::alloc::{AllocError, Global};
 
-// The terms of the objective, and after them those with images put in, with all signs changed.
+/// The terms of the objective, and after them those with images put in, with all signs changed.
 fn with_images(
     alloc: Global,
     objective: &[Term],
@@ -41,7 +42,7 @@ fn with_images(
     Ok(partial)
 }
 
-// `objective - (objective under the substitution) >= 0`.
+/// `objective - (objective under the substitution) >= 0`.
 fn difference(
     alloc: Global,
     objective: &[Term],

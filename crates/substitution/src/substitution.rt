@@ -34,7 +34,7 @@ impl Model for Substitution {
     ghost invariant = { λ s. NamesOnce s.images.items × ((v : ℕ) → unwrap_or (get nat_eq s.by_variable v) (itself v) ≡ image_of s.images.items v) };
 }
 
-// The images under the numbers of their variables.
+/// The images under the numbers of their variables.
 fn numbered(alloc: Global, images: &[(Var, Image)]) -> Result<HashMap<u32, Image>, AllocError>
     ensures { IfOk result (IsFromIterResult nat_eq (map (λ p. (p.0.0, p.1)) images.now)) }
 {

@@ -1,5 +1,5 @@
 //! Equal answers over each propagator: the plain one, the fast one, and the fast one to which constraints are handed when a
-//! question is asked. Their contract is one, so this could only fail where it says too little, or where memory is wanted.
+//! question is asked. Their contract is one, so this could only fail where it says too little, or where memory runs out.
 
 use deferred::Deferred;
 use kernel::Kernel;
@@ -50,7 +50,7 @@ fn answers<P: Propagator>(
     Ok(answers)
 }
 
-/// How many lines read as steps, where kernels over all three answer alike, and never that memory is wanted.
+/// How many lines read as steps, where kernels over all three answer alike, and never that memory ran out.
 fn agree(alloc: Global, problem: &Problem, lines: &[&str]) -> Result<Option<usize>, StepFault> {
     let plain = answers::<ScanPropagator>(alloc, problem, lines)?;
     let fast = answers::<WatchPropagator>(alloc, problem, lines)?;

@@ -1,5 +1,5 @@
 -- The loop over a constraint's terms, and the loop over the places that wait.
-use Rattle.std.proofs.Common.{◌≡◌, ℕ, zero, suc, ◌+◌, ◌-◌, ◌*◌, ◌<◌, ◌≤◌, ◌⊎◌, inl, inr, Bool, true, false, All, Contains, List, [], ◌∷◌, ◌++◌, length, get_or, refl, ap, sym, subst, ◌∙◌, length-append, arith}
+use Rattle.std.proofs.Common.{◌≡◌, ℕ, zero, suc, ◌+◌, ◌-◌, ◌*◌, ◌<◌, ◌≤◌, ◌⊎◌, inl, inr, All, Contains, List, [], ◌∷◌, ◌++◌, length, refl, ap, sym, subst, ◌∙◌, length-append, arith}
 use Rattle.std.proofs.lemmas.Bool.{cases_eq}
 use Rattle.std.proofs.lemmas.Int.{ints}
 use Rattle.std.proofs.lemmas.List.{get_or_default}
@@ -15,8 +15,8 @@ use Rattle.propagate.specs.Chain.{IsSettled}
 use Rattle.propagate.specs.Walk.{IsQuiet, IsBrokenAt}
 use Rattle.propagate.proofs.Occurrences.{nothing_forced}
 use Rattle.propagate.proofs.ReasonedChains.{settled_from_quiet}
-use Rattle.ledger.specs.Ledgers.{constraint_at, nothing, open_sum}
-use Rattle.watch.specs.Looking.{AreLookedAt, IsContinued, CanForce, HasSlack, term_at}
+use Rattle.ledger.specs.Ledgers.{constraint_at, nothing, open_sum, HasSlack, term_at}
+use Rattle.watch.specs.Looking.{AreLookedAt, IsContinued, CanForce}
 use Rattle.ledger.proofs.Opening.{fewer}
 use Rattle.watch.proofs.Walking.{goes_on_further}
 

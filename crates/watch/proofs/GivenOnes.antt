@@ -19,7 +19,7 @@ use Rattle.propagate.proofs.SearchEnds.{one_end_or_conflict}
 use Rattle.watch.specs.Givens.{HasAll, IsGiven, IsWholeEnd, Overlies}
 use Rattle.ledger.specs.Ledgers.{State, constraint_at, shown}
 use Rattle.watch.specs.Looking.{AreLookedAt, GoesOn, IsContinued}
-use Rattle.watch.proofs.Kept.{all_within, closure_kept, conflict_kept}
+use Rattle.watch.proofs.KeptWalk.{all_within, closure_kept, conflict_kept}
 use Rattle.ledger.proofs.Opening.{still_quiet}
 use Rattle.watch.proofs.Walking.{none_or_some}
 

@@ -1,7 +1,7 @@
 pub mod Walking
 pub mod Forcing
 pub mod Deciding
-pub mod Kept
+pub mod KeptWalk
 pub mod GivenOnes
 pub mod TakenBack
 pub mod ToldTrail

@@ -4,8 +4,7 @@ use Rattle.linear.specs.declared.term.Lit.{Lit}
 use Rattle.normal_form.specs.declared.term.NormalTerm.{NormalTerm}
 use Rattle.normal_form.specs.Normal.{NormalConstraint, only, sum_over}
 use Rattle.normal_form.proofs.SetSums.{only_is}
-use Rattle.ledger.specs.Ledgers.{AreReasons, IsReason, constraint_at}
-use Rattle.watch.specs.Looking.{term_at}
+use Rattle.ledger.specs.Ledgers.{AreReasons, IsReason, constraint_at, term_at}
 
 -- a literal with a coefficient is of a term's variable
 term_or_later : (v : ℕ) (s : Bool) (t d : NormalTerm) (ts : List NormalTerm) (b : Bool) → only v s (t.var.0) t.negated ≡ b → 0 < cond b t.coef 0 + sum_over (only v s) ts → (0 < sum_over (only v s) ts → (j : ℕ) × (j < length ts) × ((get_or ts j d).var.0 ≡ v))

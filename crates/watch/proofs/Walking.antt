@@ -12,8 +12,8 @@ use Rattle.propagate.specs.Literals.{opposite, coefficient_of, lists}
 use Rattle.propagate.specs.Slack.{IsForced}
 use Rattle.propagate.specs.Chain.{IsForcedByOne, IsChain}
 use Rattle.propagate.specs.Walk.{IsQuiet}
-use Rattle.ledger.specs.Ledgers.{State, constraint_at, open_sum, shown}
-use Rattle.watch.specs.Looking.{AreLookedAt, GoesOn, IsContinued, CanForce, HasSlack, term_at}
+use Rattle.ledger.specs.Ledgers.{State, constraint_at, open_sum, shown, HasSlack, term_at}
+use Rattle.watch.specs.Looking.{AreLookedAt, GoesOn, IsContinued, CanForce}
 use Rattle.propagate.specs.Passes.{literal_of}
 use Rattle.propagate.proofs.Occurrences.{forced_at}
 use Rattle.propagate.proofs.Listings.{among_right, among_head}

@@ -1,5 +1,5 @@
 -- Constraints that are still to be looked at, and what a walk adds.
-use Rattle.std.specs.Prelude.{◌≡◌, ℕ, ◌+◌, ◌<◌, ◌⊎◌, Bool, true, false, List, ◌++◌, Some, Contains, length, map, slice_index_or}
+use Rattle.std.specs.Prelude.{◌≡◌, ℕ, ◌+◌, ◌<◌, ◌⊎◌, Bool, true, false, List, ◌++◌, Some, Contains, length, map}
 use Rattle.linear.specs.declared.term.Lit.{Lit}
 use Rattle.normal_form.specs.declared.term.NormalTerm.{NormalTerm}
 use Rattle.normal_form.specs.Normal.{NormalConstraint}
@@ -8,7 +8,7 @@ use Rattle.propagate.specs.Literals.{lists, opposite}
 use Rattle.propagate.specs.Passes.{literal_of}
 use Rattle.propagate.specs.Slack.{IsBroken}
 use Rattle.propagate.specs.Walk.{IsQuiet}
-use Rattle.ledger.specs.Ledgers.{State, constraint_at, open_sum, shown}
+use Rattle.ledger.specs.Ledgers.{State, constraint_at, shown}
 
 -- each constraint that does not wait is not broken and forces nothing
 abbrev pub AreLookedAt : List NormalConstraint → List Lit → List ℕ → Type 0
@@ -29,15 +29,6 @@ pub record GoesOn (old new : State) : Type 0 where
 -- a term that can force its literal where the slack is this
 abbrev pub CanForce : List Lit → ℕ → NormalTerm → Type 0
 CanForce listing slack t = (slack < t.coef) × (lists listing (literal_of t) ≡ false) × (lists listing (opposite (literal_of t)) ≡ false)
-
--- the constraint at a place has this slack
-abbrev pub HasSlack : List NormalConstraint → List Lit → ℕ → ℕ → Type 0
-HasSlack constraints listing place slack =
-    open_sum listing (constraint_at constraints place) ≡ (constraint_at constraints place).degree + slack
-
--- the term at a place of a constraint
-abbrev pub term_at : List NormalConstraint → ℕ → ℕ → NormalTerm
-term_at constraints place index = slice_index_or (constraint_at constraints place).terms index (record { coef = 0; var = record { 0 = 0 }; negated = false })
 
 -- the constraint at a place was looked at: it is broken, or no longer waits
 abbrev pub IsVisited : List NormalConstraint → List Lit → ℕ → List ℕ → Bool → Type 0

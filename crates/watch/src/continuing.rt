@@ -13,12 +13,12 @@ use super::chain::{Chain, Step};
 use super::following::{decide, follow};
 use super::levels::Levels;
 use super::tracing::{broken_place, chain_over};
-use ledger::{Ledger, Queue, literal_count};
+use ledger::{Ledger, Queue};
 use linear::Lit;
-use propagate::with_last;
+use propagate::{literal_count, with_last};
 use std::alloc::{AllocError, Global};
 
-// Tells the trail behind a literal, where each one has a reason.
+/// Tells the trail behind a literal, where each one has a reason.
 fn tell_behind(alloc: Global, ledger: &Ledger, last: usize) -> Result<Vec<Step>, AllocError>
     requires there { last < length ledger.now.listing }
     requires forced { (k : ℕ) → last < k → k < length ledger.now.listing
@@ -41,7 +41,7 @@ fn tell_behind(alloc: Global, ledger: &Ledger, last: usize) -> Result<Vec<Step>,
     Ok(steps)
 }
 
-// The chain from all that is there and a free literal.
+/// The chain from all that is there and a free literal.
 fn chain_on(
     alloc: Global,
     ledger: &mut Ledger,
@@ -66,7 +66,7 @@ fn chain_on(
     })
 }
 
-// The chain from all literals, told whole.
+/// The chain from all literals, told whole.
 fn chain_of_all(
     alloc: Global,
     ledger: &mut Ledger,

@@ -68,7 +68,7 @@ impl Database {
         }
     }
 
-    // Puts in a constraint at the next place.
+    /// Puts in a constraint at the next place.
     fn put(&mut self, id: Id, constraint: Normal) -> Result<(), AllocError>
         requires { map.get self.old id ≡ None }
         ensures ok { OnOk result (self.new ≡ map.insert self.old id constraint) }
@@ -90,7 +90,7 @@ impl Database {
         Ok(())
     }
 
-    // Puts in a copy of the constraint that another database has under an id.
+    /// Puts in a copy of the constraint that another database has under an id.
     fn put_from(&mut self, id: Id, other: &Database) -> Result<(), AllocError>
         requires { map.get self.old id ≡ None }
         ensures own { OnOk result (map.get self.new id ≡ map.get other.now id) }
@@ -103,7 +103,7 @@ impl Database {
         Ok(())
     }
 
-    // Puts in copies of the constraints of another database, where there is none yet.
+    /// Puts in copies of the constraints of another database, where there is none yet.
     fn fill_from(&mut self, other: &Database) -> Result<(), AllocError>
         requires { self.old ≡ map.empty }
         ensures { OnOk result (self.new ≡ other.now) }
@@ -114,7 +114,7 @@ impl Database {
         Ok(())
     }
 
-    // The same constraints at places without gaps.
+    /// The same constraints at places without gaps.
     fn made_anew(&self) -> Result<Database, AllocError>
         ensures { IfOk result (λ d. d ≡ self.now) }
     {
@@ -123,7 +123,7 @@ impl Database {
         Ok(anew)
     }
 
-    // Makes the places anew where more stands empty than not, the lists of literals counted in.
+    /// Makes the places anew where more stands empty than not, the lists of literals counted in.
     fn close_gaps(&mut self) -> Result<(), AllocError>
         ensures { self.new ≡ self.old }
     {

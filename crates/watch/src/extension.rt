@@ -10,9 +10,9 @@ ghost use Rattle.ledger.specs.Ledgers.{shown};
 
 use super::following::follow;
 use super::levels::Levels;
-use ledger::{Ledger, Queue, literal_count};
+use ledger::{Ledger, Queue};
 use linear::{Lit, Seq};
-use propagate::Reach;
+use propagate::{Reach, literal_count};
 use std::alloc::{AllocError, Global};
 
 /// What given literals extend to, followed from where they part from those before.

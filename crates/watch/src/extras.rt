@@ -9,7 +9,7 @@ ghost use Rattle.normal_form.specs.Normal.{NormalConstraint};
 ghost use Rattle.ledger.specs.Ledgers.{shown};
 ghost use Rattle.watch.specs.Looking.{AreLookedAt};
 
-use ledger::{Ledger, Queue, variable_count};
+use ledger::{Ledger, Queue};
 use normal_form::Normal;
 use std::alloc::{AllocError, Global};
 
@@ -29,7 +29,7 @@ pub(crate) fn attach_waiting(
     ensures ok { OnOk result (ledger.new.slots ≡ ledger.old.slots ++ Some constraint ∷ []) }
     ensures err { OnErr result (ledger.new.slots ≡ ledger.old.slots) }
 {
-    ledger.widen(alloc, variable_count(&constraint))?;
+    ledger.widen(alloc, constraint.variable_count())?;
     let place = ledger.count();
     ledger.reveal();
     ledger.attach(constraint)?;

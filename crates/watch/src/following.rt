@@ -37,7 +37,7 @@ pub(crate) fn go_back(ledger: &mut Ledger, queue: &mut Queue, levels: &mut Level
     levels.truncate(level);
 }
 
-// Adds what is forced, up to a constraint that is broken, whatever levels there are.
+/// Adds what is forced, up to a constraint that is broken, whatever levels there are.
 fn settle_kept(ledger: &mut Ledger, queue: &mut Queue) -> Result<Ascent, AllocError>
     requires count { queue.old.1 ≡ length ledger.old.slots }
     requires looked_at { AreLookedAt (shown ledger.old.slots) ledger.old.listing queue.old.0 }
@@ -59,7 +59,7 @@ fn settle_kept(ledger: &mut Ledger, queue: &mut Queue) -> Result<Ascent, AllocEr
     }
 }
 
-// One level more, where the opposite of its literal is not there.
+/// One level more, where the opposite of its literal is not there.
 fn open_level(
     ledger: &mut Ledger,
     queue: &mut Queue,
@@ -88,7 +88,7 @@ fn open_level(
     Ok(())
 }
 
-// Gives one literal more, with what is forced then.
+/// Gives one literal more, with what is forced then.
 fn step_up(
     ledger: &mut Ledger,
     queue: &mut Queue,
@@ -131,7 +131,7 @@ pub(crate) fn decide(
     settle_kept(ledger, queue)
 }
 
-// Gives the literals of a listing that are still to come.
+/// Gives the literals of a listing that are still to come.
 fn climb(
     ledger: &mut Ledger,
     queue: &mut Queue,

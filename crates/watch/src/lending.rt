@@ -35,7 +35,7 @@ impl<'a> Model for Occurrences<'a> {
         × All (λ e. e.place < length o.closure.now) (all_of o.entries) };
 }
 
-// The first entry from an index on whose constraint is there.
+/// The first entry from an index on whose constraint is there.
 fn first_live(entries: Entries<'_>, from: usize, closure: &Closure) -> Option<usize>
     requires from { from ≤ length (all_of entries) }
     requires places { All (λ e. e.place < length closure.now) (all_of entries) }

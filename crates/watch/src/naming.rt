@@ -11,7 +11,7 @@ use linear::{Lit, Seq};
 use propagate::{Id, Trace};
 use std::alloc::{AllocError, Global};
 
-// The steps with ids for the places of their reasons.
+/// The steps with ids for the places of their reasons.
 fn with_ids(alloc: Global, steps: &[Step], ids: &[Id]) -> Result<Vec<(Lit, Id)>, AllocError>
     requires { All (λ s. s.place < length ids.now) steps.now }
     ensures { IfOk result (λ v. v.items ≡ map (step_named ids.now) steps.now) }

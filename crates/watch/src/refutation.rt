@@ -8,8 +8,8 @@ ghost use Rattle.std.specs.Prelude.{◌≡◌, ◌↔◌, ◌≤◌, ◌++◌, I
 ghost use Rattle.normal_form.specs.Normal.{NormalConstraint};
 ghost use Rattle.propagate.specs.Chain.{IsRefuted, IsSettled};
 ghost use Rattle.ledger.specs.Ledgers.{shown};
-ghost use Rattle.watch.specs.Looking.{AreLookedAt, GoesOn};
-ghost use Rattle.watch.specs.Roots.{AllForced, IsRoot};
+ghost use Rattle.watch.specs.Looking.{GoesOn};
+ghost use Rattle.watch.specs.Roots.{IsRoot};
 
 use super::extras::{attach_all, detach_from};
 use super::walk::{settle, undo};
@@ -17,8 +17,8 @@ use ledger::{Ledger, Queue};
 use normal_form::Normal;
 use std::alloc::{AllocError, Global};
 
-// Whether the constraints are refuted. What they force from nothing is then found.
-fn decide(ledger: &mut Ledger, queue: &mut Queue) -> Result<bool, AllocError>
+/// Whether the constraints are refuted. What they force from nothing is then found.
+fn settle_root(ledger: &mut Ledger, queue: &mut Queue) -> Result<bool, AllocError>
     requires { IsRoot ledger.old queue.old.0 queue.old.1 }
     ensures value { IfOk result (λ yes. IsTrue yes ↔ IsRefuted (shown ledger.old.slots)) }
     ensures goes_on { GoesOn ledger.old ledger.new }
@@ -30,7 +30,7 @@ fn decide(ledger: &mut Ledger, queue: &mut Queue) -> Result<bool, AllocError>
     Ok(settle(ledger, queue)?.is_some())
 }
 
-// Attaches constraints, and decides whether all are refuted. What stood before comes first.
+/// Attaches constraints, and decides whether all are refuted. What stood before comes first.
 fn decide_beside(
     alloc: Global,
     ledger: &mut Ledger,
@@ -47,10 +47,10 @@ fn decide_beside(
 {
     ledger.reveal();
     attach_all(alloc, ledger, queue, extras)?;
-    decide(ledger, queue)
+    settle_root(ledger, queue)
 }
 
-// Whether settled constraints are refuted beside others. What stood before stands again.
+/// Whether settled constraints are refuted beside others. What stood before stands again.
 fn refute_beside(
     alloc: Global,
     ledger: &mut Ledger,
@@ -84,7 +84,7 @@ pub(crate) fn refute_anew(
     ensures root { IsRoot ledger.new queue.new.0 queue.new.1 }
     ensures value { IfOk result (λ yes. IsTrue yes ↔ IsRefuted (shown ledger.old.slots ++ extras.now)) }
 {
-    if decide(ledger, queue)? {
+    if settle_root(ledger, queue)? {
         return Ok(true);
     }
     refute_beside(alloc, ledger, queue, extras)

@@ -8,13 +8,13 @@
 
 ghost use Rattle.std.specs.Prelude.{◌≡◌, ◌-◌, ◌<◌, ◌≤◌, ℕ, Some, None, length, slice_index_or, take};
 ghost use Rattle.linear.specs.declared.term.Lit.{Lit};
-ghost use Rattle.ledger.specs.Ledgers.{constraint_at, shown};
-ghost use Rattle.watch.specs.Looking.{AreLookedAt, term_at};
+ghost use Rattle.ledger.specs.Ledgers.{constraint_at, shown, term_at};
+ghost use Rattle.watch.specs.Looking.{AreLookedAt};
 ghost use Rattle.watch.specs.Roots.{IsRoot};
 
 use ledger::{Ledger, Queue};
 
-// Takes the last literal back, if there is one, and queues the constraints that may force it.
+/// Takes the last literal back, if there is one, and queues the constraints that may force it.
 fn take_back_one(ledger: &mut Ledger, queue: &mut Queue)
     requires count { queue.old.1 ≡ length ledger.old.slots }
     requires looked_at { AreLookedAt (shown ledger.old.slots) ledger.old.listing queue.old.0 }
@@ -49,8 +49,8 @@ pub(crate) fn take_back_to(ledger: &mut Ledger, queue: &mut Queue, count: usize)
     }
 }
 
-// Where the literal of a term's variable stands that the constraint of a place forced, if that is before a count, and
-// else the count.
+/// Where the literal of a term's variable stands that the constraint of a place forced, if that is before a count, and
+/// else the count.
 fn forced_before(ledger: &Ledger, place: usize, index: usize, count: usize) -> usize
     requires place { place < length ledger.now.slots }
     requires index { index < length (constraint_at (shown ledger.now.slots) place).terms }
@@ -68,7 +68,7 @@ fn forced_before(ledger: &Ledger, place: usize, index: usize, count: usize) -> u
     }
 }
 
-// How many literals stand before the first whose reason is the constraint of a place: one of its own.
+/// How many literals stand before the first whose reason is the constraint of a place: one of its own.
 fn count_before(ledger: &Ledger, place: usize) -> usize
     requires { place < length ledger.now.slots }
     ensures few { result ≤ length ledger.now.listing }

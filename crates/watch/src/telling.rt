@@ -4,7 +4,7 @@
 //! There each literal is forced still, by the same constraint; or it is given itself, and is left out; or its
 //! opposite is given, and then its constraint is broken, and the chain ends.
 
-ghost use Rattle.std.specs.Prelude.{◌≡◌, ◌+◌, ◌<◌, ◌≤◌, ◌++◌, ◌∷◌, [], All, IfOk, MatchOption, OnOk, length, take};
+ghost use Rattle.std.specs.Prelude.{◌≡◌, ◌+◌, ◌<◌, ◌≤◌, ◌++◌, ◌∷◌, [], All, IfOk, MatchOption, length, take};
 ghost use Rattle.propagate.specs.Literals.{IsConsistent, SameLiterals};
 ghost use Rattle.ledger.specs.Ledgers.{shown};
 ghost use Rattle.watch.specs.Steps.{AreGiven, IsTold, IsToldTo, LeadsTo};
@@ -14,7 +14,7 @@ use ledger::{Ledger, Trail, opposite_of};
 use linear::Lit;
 use std::alloc::{AllocError, Global};
 
-// Lists a literal unless it is listed.
+/// Lists a literal unless it is listed.
 fn mark(marks: &mut Trail, literal: Lit)
     requires variable { literal.var.0 < marks.old.1 }
     requires consistent { IsConsistent (marks.old.0 ++ literal ∷ []) }
@@ -41,7 +41,7 @@ pub(crate) fn marks_of(alloc: Global, count: usize, given: &[Lit]) -> Result<Tra
     Ok(marks)
 }
 
-// Tells one literal of the trail more; the place of its constraint where that is broken.
+/// Tells one literal of the trail more; the place of its constraint where that is broken.
 fn tell(
     ledger: &Ledger,
     given: &Trail,

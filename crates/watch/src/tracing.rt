@@ -1,6 +1,6 @@
 //! Chains from given literals, with reasons, beside what is kept.
 
-ghost use Rattle.std.specs.Prelude.{◌≡◌, IfOk, MatchOption, Some, length};
+ghost use Rattle.std.specs.Prelude.{◌≡◌, IfOk, MatchOption, Some};
 ghost use Rattle.propagate.specs.Literals.{IsConsistent};
 ghost use Rattle.watch.specs.Keeping.{IsKept, broken_place};
 ghost use Rattle.ledger.specs.Ledgers.{shown};
@@ -11,11 +11,12 @@ use super::chain::Chain;
 use super::following::follow;
 use super::levels::Levels;
 use super::telling::{marks_of, tell_all};
-use ledger::{Ledger, Queue, literal_count};
+use ledger::{Ledger, Queue};
 use linear::Lit;
+use propagate::literal_count;
 use std::alloc::{AllocError, Global};
 
-// The chain that is told, and where it is not broken, what is broken behind it.
+/// The chain that is told, and where it is not broken, what is broken behind it.
 fn with_end(told: Chain, broken: Option<usize>) -> Chain
     ensures steps { result.steps.items ≡ told.steps.items }
     ensures broken { MatchOption told.broken (result.broken ≡ broken) (λ place. result.broken ≡ Some place) }

@@ -7,13 +7,13 @@
 ghost use Rattle.std.specs.Prelude.{◌≡◌, ◌<◌, ◌≤◌, ◌∷◌, ◌⊎◌, [], IfOk, MatchOption, OnOk, length, take};
 ghost use Rattle.propagate.specs.Chain.{IsSettled};
 ghost use Rattle.propagate.specs.Walk.{IsBrokenAt};
-ghost use Rattle.ledger.specs.Ledgers.{constraint_at, shown};
-ghost use Rattle.watch.specs.Looking.{AreLookedAt, GoesOn, CanForce, HasSlack, IsVisited, term_at};
+ghost use Rattle.ledger.specs.Ledgers.{constraint_at, shown, HasSlack, term_at};
+ghost use Rattle.watch.specs.Looking.{AreLookedAt, GoesOn, CanForce, IsVisited};
 
 use ledger::{Hint, Ledger, Queue, opposite_of};
 use std::alloc::AllocError;
 
-// Forces the literal of a term, where its coefficient is above the slack and it is free.
+/// Forces the literal of a term, where its coefficient is above the slack and it is free.
 fn force_term(
     ledger: &mut Ledger,
     queue: &mut Queue,
@@ -43,10 +43,10 @@ fn force_term(
     Ok(())
 }
 
-// Constraints with more terms are not gone through once more to choose where to begin.
+/// Constraints with more terms are not gone through once more to choose where to begin.
 const FEW_TERMS: usize = 64;
 
-// Which term of a constraint has the literal whose opposite stands in most clauses; behind the last one where none is chosen.
+/// Which term of a constraint has the literal whose opposite stands in most clauses; behind the last one where none is chosen.
 fn widest(ledger: &Ledger, place: usize) -> usize
     requires { place < length ledger.now.slots }
 {
@@ -66,8 +66,8 @@ fn widest(ledger: &Ledger, place: usize) -> usize
     chosen
 }
 
-// Forces a first literal of a constraint: one whose opposite stands in many clauses is best made true before the others, since these
-// clauses would else be watched by that opposite, each in place of another literal that falls, only to be looked at once more.
+/// Forces a first literal of a constraint: one whose opposite stands in many clauses is best made true before the others, since these
+/// clauses would else be watched by that opposite, each in place of another literal that falls, only to be looked at once more.
 fn force_widest(
     ledger: &mut Ledger,
     queue: &mut Queue,
@@ -92,7 +92,7 @@ fn force_widest(
     force_term(ledger, queue, place, index, slack)
 }
 
-// Forces all that the constraint at a place forces, term by term.
+/// Forces all that the constraint at a place forces, term by term.
 fn force_each(
     ledger: &mut Ledger,
     queue: &mut Queue,
@@ -117,7 +117,7 @@ fn force_each(
     Ok(())
 }
 
-// Forces all that the constraint at a place forces, where its slack is this; it waits no more, but where memory ends.
+/// Forces all that the constraint at a place forces, where its slack is this; it waits no more, but where memory ends.
 fn force(
     ledger: &mut Ledger,
     queue: &mut Queue,
@@ -140,7 +140,7 @@ fn force(
     Ok(())
 }
 
-// Looks at the constraint of a place by its terms: whether it is broken, and else all that it forces is there.
+/// Looks at the constraint of a place by its terms: whether it is broken, and else all that it forces is there.
 fn look_through(ledger: &mut Ledger, queue: &mut Queue, place: usize) -> Result<bool, AllocError>
     requires place { place < length ledger.old.slots }
     requires count { queue.old.1 ≡ length ledger.old.slots }
@@ -161,8 +161,8 @@ fn look_through(ledger: &mut Ledger, queue: &mut Queue, place: usize) -> Result<
     }
 }
 
-// Looks at the constraint of a place, by the two literals that watch it where they tell: whether it is broken, and else
-// all that it forces is there.
+/// Looks at the constraint of a place, by the two literals that watch it where they tell: whether it is broken, and else
+/// all that it forces is there.
 fn visit(ledger: &mut Ledger, queue: &mut Queue, place: usize) -> Result<bool, AllocError>
     requires place { place < length ledger.old.slots }
     requires count { queue.old.1 ≡ length ledger.old.slots }

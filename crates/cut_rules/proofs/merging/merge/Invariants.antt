@@ -1,6 +1,7 @@
 -- What is merged and what is left give each set of variables what both constraints do.
-use Rattle.std.proofs.Common.{◌≡◌, ℕ, Bool, ◌+◌, ◌-◌, ◌^◌, ◌≤◌, drop}
+use Rattle.std.proofs.Common.{◌≡◌, ℕ, Bool, ◌+◌, ◌-◌, ◌≤◌, drop}
 use Rattle.std.specs.Prelude.{min, ◌+ℤ◌}
+use Rattle.linear.specs.Largest.{most_names}
 use Rattle.normal_form.specs.Normal.{total, variable_bound, Rises}
 use Rattle.normal_form.specs.Balance.{rises_of}
 use Rattle.cut_rules.specs.Steps.{IsHead}
@@ -21,4 +22,4 @@ invariant-loop-variable l = record {
 }
 
 abbrev pub decreases-loop-variable : goal.decreases-loop-variable
-decreases-loop-variable l = 2 ^ 32 - l.variable
+decreases-loop-variable l = most_names - l.variable

@@ -4,7 +4,7 @@ use Rattle.std.proofs.lemmas.Int.{ints}
 use mir.Syntax.{w128}
 use Rattle.normal_form.specs.NormalOf.{IsNormalOf, sign_changed, size_sum}
 use Rattle.normal_form.proofs.SignChanges.{sign_changed_sizes}
-use Rattle.substitution.specs.Objective.{largest_objective}
+use Rattle.linear.specs.Largest.{largest_objective}
 use Rattle.substitution.proofs.PuttingIn.{same_signed}
 use Rattle.kernel.proofs.Improving.{number_kept}
 use Rattle.kernel.proofs.objective.below.Goals as goal

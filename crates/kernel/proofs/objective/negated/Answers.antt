@@ -1,13 +1,12 @@
 -- Each coefficient is small enough to change its sign.
-use Rattle.std.proofs.Common.{◌≡◌, ◌+◌, ◌≤◌, false, List, [], ◌∷◌, ◌++◌, get_or, map, take, to_z, of_z, sym, ap, ◌∙◌, arith}
-use Rattle.std.specs.Prelude.{ℤ, pos, neg_ℤ, ◌-ℤ◌, unsigned_abs}
+use Rattle.std.proofs.Common.{◌≡◌, ◌+◌, false, List, [], ◌∷◌, ◌++◌, get_or, map, take, sym, ap, ◌∙◌, arith}
+use Rattle.std.specs.Prelude.{ℤ, pos, neg_ℤ}
 use Rattle.std.proofs.lemmas.Int.{ints}
 use Rattle.std.proofs.lemmas.List.{map_more}
-use mir.Syntax.{w128}
 use Rattle.linear.specs.declared.term.Term.{Term}
 use Rattle.normal_form.proofs.Runs.{size_at}
 use Rattle.normal_form.specs.NormalOf.{sign_changed}
-use Rattle.substitution.specs.Objective.{largest_objective}
+use Rattle.substitution.proofs.Opposites.{opposite_kept}
 use Rattle.kernel.proofs.objective.negated.Goals as goal
 
 abbrev first : Term
@@ -15,11 +14,6 @@ first = record { coef = pos 0; var = record { 0 = 0 }; negated = false }
 
 pub overflow_sub-term : goal.overflow_sub-term
 overflow_sub-term c = omega (arith, ints, size_at c.args.terms.now c.loop-term.term-index first (omega arith), c.requires)
-
-opposite_kept : (z : ℤ) → unsigned_abs z ≤ largest_objective → to_z w128 (of_z w128 (pos 0 -ℤ to_z w128 (of_z w128 z))) ≡ neg_ℤ z
-opposite_kept z h =
-    let inner : to_z w128 (of_z w128 z) ≡ z = omega (arith, ints, h) in
-    rw inner (omega (arith, ints, h))
 
 next_changed : (new old before after : List Term) (z : ℤ) (t : Term) → new ≡ old ++ record { coef = z; var = t.var; negated = t.negated } ∷ [] → old ≡ before
     → z ≡ neg_ℤ t.coef → after ≡ before ++ sign_changed t ∷ [] → new ≡ after

@@ -1,4 +1,4 @@
-use Rattle.std.proofs.Common.{◌≡◌, pos, ℤ, [], ◌∷◌, List, None, Some, Option, refl, ap, arith}
+use Rattle.std.proofs.Common.{pos, ℤ, None, Some, Option, ap, arith}
 use Rattle.std.proofs.lemmas.Int.{ints}
 use Rattle.pb_main.proofs.cases.improved_to_the_worth.Goals as goal
 

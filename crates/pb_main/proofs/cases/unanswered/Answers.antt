@@ -1,5 +1,4 @@
-use Rattle.std.proofs.Common.{◌≡◌, [], inr, refl, sym, subst}
-use Rattle.opb_read.specs.declared.fault.OpbCode.TheVariants.{NoSemicolon, UnsupportedForm}
+use Rattle.std.proofs.Common.{inr, refl, sym, subst}
 use Rattle.pb_main.specs.Outcome.{IsBeyond}
 use Rattle.pb_main.proofs.cases.unanswered.Goals as goal
 

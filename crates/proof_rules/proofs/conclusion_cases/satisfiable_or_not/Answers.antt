@@ -1,13 +1,10 @@
 use Rattle.std.proofs.Common.{◌≡◌, inl, inr, [], ◌∷◌, None, refl, sym, subst}
 use Rattle.proof_steps.specs.declared.conclusion.Lower.TheVariants as lower
 use Rattle.proof_steps.specs.declared.conclusion.Upper.TheVariants as upper
-use Rattle.normal_form.specs.Cases.{normal}
 use Rattle.proof_rules.specs.declared.fault.StepFault.TheVariants.{SolutionLogged, UpperNotLogged}
-use Rattle.proof_rules.specs.Cases.{cover, least_cover, min_both, both, cover_state}
+use Rattle.proof_rules.specs.Cases.{min_both, least_cover, both, cover_state}
 use Rattle.proof_rules.specs.Fault.{IsBoundsFault, IsSatFault}
-use Rattle.proof_rules.specs.Shown.{IsShown, absurdity}
-use Rattle.proof_rules.proofs.SmallCases.{not_shown}
-use Rattle.proof_rules.proofs.SmallStates.{live_of}
+use Rattle.proof_rules.proofs.SmallStates.{absurdity_not_shown}
 use Rattle.proof_rules.proofs.conclusion_cases.satisfiable_or_not.Goals as goal
 
 logged : both ∷ [] ≡ [] → ⊥
@@ -33,8 +30,4 @@ pub returns-clause-satisfiable : goal.returns-clause-satisfiable
 returns-clause-satisfiable c = inr ((cover_state None [], refl), λ t is. subst (λ u. IsSatFault u UpperNotLogged) (sym is) refl)
 
 pub returns-clause-nothing_shown : goal.returns-clause-nothing_shown
-returns-clause-nothing_shown c = (
-  refl,
-  subst (λ live. IsShown live absurdity → ⊥) (sym (live_of (cover ∷ [])))
-      (not_shown 2 (cover ∷ []) absurdity (normal [] 0) [] (record { rises = tt; terms = refl; degree = refl }) refl refl),
-)
+returns-clause-nothing_shown c = (refl, absurdity_not_shown)

@@ -1,5 +1,4 @@
-use Rattle.std.proofs.Common.{◌≡◌, ℕ, zero, suc, ◌<◌, List, [], ◌∷◌, ◌++◌, Some, None, inr, refl, sym, subst, ◌∙◌, arith}
-use Rattle.std.specs.FinMap as fin
+use Rattle.std.proofs.Common.{◌≡◌, ℕ, List, [], ◌∷◌, ◌++◌, inr, refl, sym, subst, arith}
 use Rattle.normal_form.specs.Normal.{NormalConstraint}
 use Rattle.normal_form.proofs.NormalForm.{is_form}
 use Rattle.propagate.specs.Cases.{x, not_x, unit, unit_not}
@@ -13,7 +12,7 @@ use Rattle.proof_rules.specs.Legal.{IsShownUnder}
 use Rattle.proof_rules.specs.declared.fault.StepFault.TheVariants.{GoalOpen, GoalOpenSelf}
 use Rattle.proof_rules.proofs.OneStepFault.{one_step_fault}
 use Rattle.proof_rules.proofs.SmallCases.{not_shown_under}
-use Rattle.proof_rules.proofs.SmallStates.{found_in, live_of}
+use Rattle.proof_rules.proofs.SmallStates.{found_in, live_of, none_below_one}
 use Rattle.proof_rules.proofs.SmallSteps.{not_first_admitted, not_first_negated}
 use Rattle.proof_rules.proofs.redundance_cases.least_id_of_the_open.Goals as goal
 
@@ -26,10 +25,6 @@ open_first =
     (is_form (substituted cover (single 0 Zero)) (unit 1) (omega arith, omega arith, tt) (λ set. refl) refl)
     (record { rises = (omega arith, omega arith, tt); terms = refl; degree = refl }) refl refl
 
-none_before : (k : ℕ) (d : NormalConstraint) → k < 1 → fin.get derived_state.live k ≡ Some d → IsShownUnder (live ++ unit 0 ∷ []) (single 0 Zero) d
-none_before zero d less is = let none : None ≡ Some d = sym (found_in live 0) ∙ is in absurd (cc)
-none_before (suc k) d less is = absurd (omega (arith, less))
-
 fault : IsRedFault cover_file derived_state not_first_written (single 0 Zero) (GoalOpen 1)
 fault = inr (
   unit_not 0,
@@ -38,7 +33,7 @@ fault = inr (
   omega arith,
   not_first_negated,
   subst (λ ns. IsGoalFault cover_file derived_state (ns ++ unit 0 ∷ []) (single 0 Zero) (unit_not 0) (GoalOpen 1)) (sym (live_of live))
-      (cover, found_in live 1, open_first, none_before),
+      (cover, found_in live 1, open_first, none_below_one live (IsShownUnder (live ++ unit 0 ∷ []) (single 0 Zero)) refl),
 )
 
 pub returns-clause-first : goal.returns-clause-first

@@ -6,7 +6,7 @@ use Rattle.proof_rules.specs.Cases.{least_cover, min_both, second_alone, full_st
 use Rattle.proof_rules.specs.Fault.{IsSoliFault, IsNotBetter}
 use Rattle.proof_rules.specs.Legal.{Logs}
 use Rattle.proof_rules.proofs.OneStepFault.{one_soli_fault}
-use Rattle.proof_rules.proofs.SmallStates.{second_satisfies, second_completes}
+use Rattle.proof_rules.proofs.SmallStates.{second_satisfies, second_completes, none_left}
 use Rattle.proof_rules.proofs.SolJudged.{one_log}
 use Rattle.proof_rules.proofs.step_fault_cases.no_id_left_to_improve.Goals as goal
 
@@ -17,7 +17,7 @@ pub returns-clause-improving : goal.returns-clause-improving
 returns-clause-improving c = (
   minimises,
   (second_alone, record { completes = second_completes; satisfies = second_satisfies }, omega (arith, ints)),
-  λ room. omega (arith, room),
+  none_left (Some (pos 2)),
 )
 
 logs : Logs least_cover (full_state (Some (pos 1))) (not_x 0 ∷ []) second_alone

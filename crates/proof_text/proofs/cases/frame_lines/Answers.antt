@@ -7,7 +7,7 @@ use Rattle.proof_text.specs.Words.{words}
 use Rattle.proof_text.specs.Rules.{rule_of}
 use Rattle.proof_text.specs.Steps.{step_of, counted}
 use Rattle.proof_text.specs.Spells.{measured}
-use Rattle.proof_text.specs.declared.line.Section.TheVariants.{Header, Count, Step as StepPlace, End}
+use Rattle.proof_text.specs.declared.line.Section.TheVariants.{Header, Count, Step as StepSection, End}
 use Rattle.proof_text.proofs.Computed.{all_small, nothing}
 use Rattle.proof_text.proofs.cases.frame_lines.Goals as goal
 
@@ -29,7 +29,7 @@ returns-clause-header_cut c = nothing Header (codes "pseudo-Boolean proof versio
 
 pub returns-clause-header_late : goal.returns-clause-header_late
 unfolding words step_of counted rule_of lexemes lexemes_from kind_of kind_of_word integer_word literal_word is_misspelt is_name integer_size integer_value
-returns-clause-header_late c = nothing StepPlace (codes "pseudo-Boolean proof version 2.0") (λ names. refl)
+returns-clause-header_late c = nothing StepSection (codes "pseudo-Boolean proof version 2.0") (λ names. refl)
 
 pub returns-clause-count : goal.returns-clause-count
 unfolding words lexemes lexemes_from kind_of kind_of_word integer_word literal_word is_misspelt is_name integer_size integer_value
@@ -49,23 +49,23 @@ returns-clause-count_of_name c = nothing Count (codes "f x1") (λ names. refl)
 
 pub returns-clause-second_count : goal.returns-clause-second_count
 unfolding words step_of counted rule_of lexemes lexemes_from kind_of kind_of_word integer_word literal_word is_misspelt is_name integer_size integer_value
-returns-clause-second_count c = nothing StepPlace (codes "f 5") (λ names. refl)
+returns-clause-second_count c = nothing StepSection (codes "f 5") (λ names. refl)
 
 pub returns-clause-output : goal.returns-clause-output
 unfolding words step_of counted rule_of lexemes lexemes_from kind_of kind_of_word integer_word literal_word is_misspelt is_name integer_size integer_value
-returns-clause-output c = record { names = refl; few = omega arith; says = refl; proper = tt; small = all_small (measured StepPlace (words (codes "output NONE"))) refl }
+returns-clause-output c = record { names = refl; few = omega arith; says = refl; proper = tt; small = all_small (measured StepSection (words (codes "output NONE"))) refl }
 
 pub returns-clause-output_closed : goal.returns-clause-output_closed
 unfolding words step_of counted rule_of lexemes lexemes_from kind_of kind_of_word integer_word literal_word is_misspelt is_name integer_size integer_value
-returns-clause-output_closed c = record { names = refl; few = omega arith; says = refl; proper = tt; small = all_small (measured StepPlace (words (codes "output NONE ;"))) refl }
+returns-clause-output_closed c = record { names = refl; few = omega arith; says = refl; proper = tt; small = all_small (measured StepSection (words (codes "output NONE ;"))) refl }
 
 pub returns-clause-other_output : goal.returns-clause-other_output
 unfolding words step_of counted rule_of lexemes lexemes_from kind_of kind_of_word integer_word literal_word is_misspelt is_name integer_size integer_value
-returns-clause-other_output c = nothing StepPlace (codes "output DERIVABLE") (λ names. refl)
+returns-clause-other_output c = nothing StepSection (codes "output DERIVABLE") (λ names. refl)
 
 pub returns-clause-no_output : goal.returns-clause-no_output
 unfolding words step_of counted rule_of lexemes lexemes_from kind_of kind_of_word integer_word literal_word is_misspelt is_name integer_size integer_value
-returns-clause-no_output c = nothing StepPlace (codes "output") (λ names. refl)
+returns-clause-no_output c = nothing StepSection (codes "output") (λ names. refl)
 
 pub returns-clause-ending : goal.returns-clause-ending
 unfolding words lexemes lexemes_from kind_of kind_of_word integer_word literal_word is_misspelt is_name

@@ -7,22 +7,22 @@ use Rattle.proof_text.specs.Words.{words}
 use Rattle.proof_text.specs.Rules.{rule_of}
 use Rattle.proof_text.specs.Steps.{step_of, counted}
 use Rattle.proof_text.specs.Spells.{measured}
-use Rattle.proof_text.specs.declared.line.Section.TheVariants.{Step as StepPlace}
+use Rattle.proof_text.specs.declared.line.Section.TheVariants.{Step as StepSection}
 use Rattle.proof_text.proofs.Computed.{all_small, nothing}
 use Rattle.proof_text.proofs.cases.solutions.Goals as goal
 
 pub returns-clause-improving : goal.returns-clause-improving
 unfolding words step_of counted rule_of lexemes lexemes_from kind_of kind_of_word integer_word literal_word is_misspelt is_name integer_size integer_value
-returns-clause-improving c = record { names = refl; few = omega arith; says = refl; proper = tt; small = all_small (measured StepPlace (words (codes "soli x1 ~x2"))) refl }
+returns-clause-improving c = record { names = refl; few = omega arith; says = refl; proper = tt; small = all_small (measured StepSection (words (codes "soli x1 ~x2"))) refl }
 
 pub returns-clause-solution : goal.returns-clause-solution
 unfolding words step_of counted rule_of lexemes lexemes_from kind_of kind_of_word integer_word literal_word is_misspelt is_name integer_size integer_value
-returns-clause-solution c = record { names = refl; few = omega arith; says = refl; proper = tt; small = all_small (measured StepPlace (words (codes "sol ~x3 x1 ;"))) refl }
+returns-clause-solution c = record { names = refl; few = omega arith; says = refl; proper = tt; small = all_small (measured StepSection (words (codes "sol ~x3 x1 ;"))) refl }
 
 pub returns-clause-empty_solution : goal.returns-clause-empty_solution
 unfolding words step_of counted rule_of lexemes lexemes_from kind_of kind_of_word integer_word literal_word is_misspelt is_name integer_size integer_value
-returns-clause-empty_solution c = record { names = refl; few = omega arith; says = refl; proper = tt; small = all_small (measured StepPlace (words (codes "sol"))) refl }
+returns-clause-empty_solution c = record { names = refl; few = omega arith; says = refl; proper = tt; small = all_small (measured StepSection (words (codes "sol"))) refl }
 
 pub returns-clause-solution_of_integers : goal.returns-clause-solution_of_integers
 unfolding words step_of counted rule_of lexemes lexemes_from kind_of kind_of_word integer_word literal_word is_misspelt is_name integer_size integer_value
-returns-clause-solution_of_integers c = nothing StepPlace (codes "sol 1") (λ names. refl)
+returns-clause-solution_of_integers c = nothing StepSection (codes "sol 1") (λ names. refl)

@@ -1,5 +1,5 @@
 -- By what is found under each id.
-use Rattle.std.proofs.Common.{◌≡◌, ℕ, ◌<◌, None, Some, refl, sym, ◌∙◌, arith}
+use Rattle.std.proofs.Common.{◌≡◌, None, Some, sym, ◌∙◌, arith}
 use Rattle.propagate.specs.Cases.{one_of_two, unit_not}
 use Rattle.propagate.proofs.SmallContent.{found, not_found}
 use Rattle.propagate.proofs.cases.least_above.Goals as goal

@@ -1,12 +1,10 @@
 -- By what is found under each id, and by the slow search over both constraints.
-use Rattle.std.proofs.Common.{◌≡◌, ℕ, ◌<◌, true, false, List, [], ◌∷◌, Option, None, Some, refl, sym, ap, subst, ◌∙◌, arith}
+use Rattle.std.proofs.Common.{◌≡◌, ℕ, true, false, List, [], ◌∷◌, Some, refl, sym, ap, subst, ◌∙◌, arith}
 use Rattle.std.proofs.lemmas.Bool.{false≢true}
-use Rattle.linear.specs.declared.term.Lit.{Lit}
 use Rattle.normal_form.specs.Normal.{NormalConstraint}
 use Rattle.propagate.specs.Cases.{x, not_x, one_of_two, two_ids, unit_not}
 use Rattle.propagate.specs.Chain.{LeadsToConflict, IsClosure}
-use Rattle.propagate.specs.Content.{IsEnd}
-use Rattle.propagate.specs.Literals.{coefficient_of, lists}
+use Rattle.propagate.specs.Literals.{coefficient_of}
 use Rattle.propagate.specs.Passes.{is_broken}
 use Rattle.propagate.proofs.ChainEnds.{broken_test, broken_tested}
 use Rattle.propagate.proofs.Consistency.{one_closure}

@@ -1,5 +1,5 @@
 -- Under the decisions before the last one the clause forces the opposite of that one, unless it follows already.
-use Rattle.std.proofs.Common.{◌≡◌, ◌-◌, ◌<◌, List, length, get_or, take, true, false, refl, sym, ap, subst, ◌∙◌, inl, inr, arith}
+use Rattle.std.proofs.Common.{◌≡◌, ◌-◌, ◌<◌, List, length, take, true, false, sym, ap, subst, ◌∙◌, inl, inr, arith}
 use Rattle.std.proofs.lemmas.List.{get_or_default}
 use Rattle.linear.specs.declared.term.Lit.{Lit}
 use Rattle.propagate.specs.Chain.{IsReached, LeadsToConflict}
@@ -11,7 +11,6 @@ use Rattle.proof_steps.specs.declared.step.Step.TheVariants as kinds
 use Rattle.search.specs.Clause.{negated_clause}
 use Rattle.search.specs.Log.{Logbook, StepBites}
 use Rattle.search.specs.Undoing.{IsOvertaken}
-use Rattle.search.specs.declared.clause.Lesson.{Lesson}
 use Rattle.search.specs.declared.clause.Lesson.TheVariants as lessons
 use Rattle.search.proofs.BitingClauses.{learned_bites, take_consistent}
 use Rattle.search.proofs.clause.learn_clause.Goals as goal

@@ -1,5 +1,5 @@
 -- What is chosen is free in the table of what stands, so it is one more, and its opposite does not follow.
-use Rattle.std.proofs.Common.{◌∷◌, ◌++◌, [], ◌<◌, List, MatchOption, length, sym, subst, ◌∙◌}
+use Rattle.std.proofs.Common.{◌<◌, List, MatchOption, length, sym, subst, ◌∙◌}
 use Rattle.linear.specs.declared.term.Lit.{Lit}
 use Rattle.propagate.specs.Chain.{LeadsToConflict}
 use Rattle.propagate.specs.Content.{IsEnd}

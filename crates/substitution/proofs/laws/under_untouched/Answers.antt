@@ -1,5 +1,5 @@
 -- It is a form under the substitution, and there is one.
-use Rattle.std.proofs.Common.{subst, sym}
+use Rattle.std.proofs.Common.{subst}
 use Rattle.normal_form.proofs.NormalForm.{one_form}
 use Rattle.substitution.specs.Covering.{Covers}
 use Rattle.substitution.specs.Under.{substituted}

@@ -1,11 +1,12 @@
 -- The sizes of the terms and of what is constant are within the limit.
-use Rattle.std.proofs.Common.{◌≡◌, ◌≤◌, ◌^◌, ap, ◌∙◌, to_z, of_z, arith}
+use Rattle.std.proofs.Common.{◌≡◌, ◌≤◌, ap, ◌∙◌, to_z, of_z, arith}
 use Rattle.std.specs.Prelude.{ℤ, pos, neg_ℤ, ◌-ℤ◌, unsigned_abs}
 use Rattle.std.proofs.lemmas.Int.{ints}
 use mir.Syntax.{w128}
 use Rattle.normal_form.specs.NormalOf.{size_sum}
 use Rattle.substitution.specs.Under.{constant_under}
-use Rattle.substitution.specs.Objective.{largest_objective, not_raised}
+use Rattle.linear.specs.Largest.{largest_objective}
+use Rattle.substitution.specs.Objective.{not_raised}
 use Rattle.substitution.proofs.PuttingIn.{same_signed}
 use Rattle.substitution.proofs.Difference.{constant_size, difference_small}
 use Rattle.substitution.proofs.objective.difference.Goals as goal

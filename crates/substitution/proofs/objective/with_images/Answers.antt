@@ -1,12 +1,11 @@
 -- Each term is put in at its image with its sign changed; the sizes leave room.
-use Rattle.std.proofs.Common.{◌≡◌, ◌≤◌, ◌+◌, ◌^◌, false, get_or, to_z, of_z, arith}
-use Rattle.std.specs.Prelude.{ℤ, pos, neg_ℤ, ◌-ℤ◌, unsigned_abs}
+use Rattle.std.proofs.Common.{◌+◌, false, get_or, arith}
+use Rattle.std.specs.Prelude.{pos, neg_ℤ}
 use Rattle.std.proofs.lemmas.Int.{ints}
-use mir.Syntax.{w128}
 use Rattle.linear.specs.declared.term.Term.{Term}
 use Rattle.normal_form.proofs.Runs.{size_at}
 use Rattle.substitution.specs.Images.{image_of_literal}
-use Rattle.substitution.specs.Objective.{largest_objective}
+use Rattle.substitution.proofs.Opposites.{opposite_kept}
 use Rattle.substitution.proofs.PuttingIn.{terms_step, constant_step}
 use Rattle.substitution.proofs.Difference.{difference_before, taken_before, difference_more, taken_more, taken_room}
 use Rattle.substitution.proofs.objective.with_images.Goals as goal
@@ -17,12 +16,6 @@ first = record { coef = pos 0; var = record { 0 = 0 }; negated = false }
 pub overflow_sub-term : goal.overflow_sub-term
 overflow_sub-term c =
     omega (arith, ints, size_at c.args.objective.now c.loop-term.term-index first (omega arith), c.requires)
-
--- a small number is what is kept of it
-opposite_kept : (z : ℤ) → unsigned_abs z ≤ largest_objective → to_z w128 (of_z w128 (pos 0 -ℤ to_z w128 (of_z w128 z))) ≡ neg_ℤ z
-opposite_kept z h =
-    let inner : to_z w128 (of_z w128 z) ≡ z = omega (arith, ints, h) in
-    rw inner (omega (arith, ints, h))
 
 pub put-requires : goal.put-requires
 put-requires c =

@@ -1,8 +1,7 @@
 -- None before has the reason and a variable of the terms so far.
 use Rattle.std.proofs.Common.{◌≡◌, ◌<◌, ◌≤◌, ℕ, Some, None, get_or, length}
 use Rattle.linear.specs.declared.term.Lit.{Lit}
-use Rattle.ledger.specs.Ledgers.{shown}
-use Rattle.watch.specs.Looking.{term_at}
+use Rattle.ledger.specs.Ledgers.{shown, term_at}
 use Rattle.watch.proofs.release.count_before.Given as goal
 
 abbrev pub invariant-loop-index : goal.invariant-loop-index

@@ -1,7 +1,7 @@
 -- The terms so far can force nothing more.
 use Rattle.std.proofs.Common.{◌≡◌, ℕ, ◌<◌, ◌⊎◌, ◌∷◌, length}
-use Rattle.ledger.specs.Ledgers.{shown}
-use Rattle.watch.specs.Looking.{AreLookedAt, GoesOn, CanForce, HasSlack, term_at}
+use Rattle.ledger.specs.Ledgers.{shown, HasSlack, term_at}
+use Rattle.watch.specs.Looking.{AreLookedAt, GoesOn, CanForce}
 use Rattle.watch.proofs.walk.force_each.Given as goal
 
 abbrev pub invariant-loop-index : goal.invariant-loop-index

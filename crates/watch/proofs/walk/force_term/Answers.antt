@@ -4,8 +4,8 @@ use Rattle.std.proofs.lemmas.List.{length-map}
 use Rattle.linear.specs.declared.term.Lit.{Lit}
 use Rattle.normal_form.specs.Normal.{NormalConstraint}
 use Rattle.propagate.specs.Passes.{literal_of}
-use Rattle.ledger.specs.Ledgers.{State, constraint_in, shown}
-use Rattle.watch.specs.Looking.{AreLookedAt, GoesOn, HasSlack}
+use Rattle.ledger.specs.Ledgers.{State, constraint_in, shown, HasSlack}
+use Rattle.watch.specs.Looking.{AreLookedAt, GoesOn}
 use Rattle.watch.proofs.Walking.{IsStep, step, forced_by_term, goes_by_one, goes_nowhere, looked_later, waits_more}
 use Rattle.watch.proofs.walk.force_term.Goals as goal
 

@@ -24,8 +24,8 @@ pub returns-clause-stop : goal.returns-clause-stop
 returns-clause-stop g c =
     let p : Opb = c.args.self.now.kernel.problem in
     let same = ap (λ (k : Held). k.problem) c.in_ok-number.ensures.kernel in
-    IfErr-weaker c.accept.result (StopsBy (RefusesAt c.in_ok-number.field-0.number c.read.new.self.kernel.problem c.read.new.self.kernel.state c.in_ok-number.field-0.line))
+    IfErr-weaker c.accept.result (StopsBy (RefusesAt c.in_ok-number.field-0.number c.read.new.self.kernel c.in_ok-number.field-0.line))
     (StopsBy (Stops p (position_of c.args.self.now) c.args.self.now.reader.last))
     (λ stop why. stops_refused p (position_of c.args.self.now) (position_of c.read.new.self) c.in_ok-number.field-0.number c.in_ok-number.field-0.line c.args.self.now.reader.last stop c.in_ok-number.ensures.reads
-    (subst (λ q. StopsBy (RefusesAt c.in_ok-number.field-0.number q c.read.new.self.kernel.state c.in_ok-number.field-0.line) stop) same why))
+    (subst (λ q. StopsBy (RefusesAt c.in_ok-number.field-0.number (record { problem = q; state = c.read.new.self.kernel.state }) c.in_ok-number.field-0.line) stop) same why))
     c.accept.ensures.stop

@@ -1,6 +1,8 @@
 use Rattle.std.proofs.Common.{ap, ◌∙◌}
+use Rattle.linear.specs.Opb.{Opb}
 use Rattle.proof_text.specs.Lines.{Pending}
-use Rattle.checker.proofs.Walking.{begins, counts_file}
+use Rattle.proof_rules.specs.Forms.{problem_ids}
+use Rattle.checker.proofs.Walking.{begins}
 use Rattle.checker.proofs.walk.Walk.begin.Goals as goal
 
 pub returns-clause-begins : goal.returns-clause-begins
@@ -9,4 +11,4 @@ returns-clause-begins g c =
     (ap (λ (x : Pending). x.lines) c.new-2.ensures) c.in-Ok.ensures.start
 
 pub returns-clause-count : goal.returns-clause-count
-returns-clause-count g c = counts_file c.args.problem.now c.in-Ok.kernel.state c.last_id.result c.in-Ok.ensures.start c.last_id.ensures.last
+returns-clause-count g c = c.problem_ids.ensures ∙ ap (λ (p : Opb). problem_ids p.constraints) c.in-Ok.ensures.problem

@@ -14,7 +14,7 @@ returns-clause-justified g c =
 pub returns-clause-claim : goal.returns-clause-claim
 returns-clause-claim g c =
     let k : Held = c.args.self.now in
-    let kept : IsKept k = subst IsKept c.self.view_is c.self.invariant.kept in
+    let kept : IsKept k = c.reveal.ensures in
     let claim : Claim k.problem c.args.conclusion.now c.in_ok-best.best =
     justified_claim k.problem k.state c.args.conclusion.now c.in_ok-best.best kept.preserved kept.normal c.in_ok-best.ensures.justified in
     subst (λ (a : Judgement). Claim k.problem a.conclusion a.best) (sym c.new.ensures)

@@ -5,7 +5,7 @@ use Rattle.linear.specs.Opb.{Opb}
 use Rattle.proof_steps.specs.declared.step.Step.TheVariants as steps
 use Rattle.proof_rules.specs.Fault.{IsNotBetter}
 use Rattle.proof_rules.specs.Legal.{with_improvement, worth_of}
-use Rattle.substitution.specs.Objective.{largest_objective}
+use Rattle.linear.specs.Largest.{largest_objective}
 use Rattle.substitution.proofs.Difference.{objective_read}
 use Rattle.proof_rules.proofs.SolJudged.{one_log}
 use Rattle.kernel.specs.Held.{Held, IsKept, state_with}

@@ -2,7 +2,7 @@
 use Rattle.std.proofs.Common.{List, ℕ, subst}
 use Rattle.linear.specs.declared.term.Lit.{Lit}
 use Rattle.propagate.specs.Literals.{IsConsistent, IsOnce}
-use Rattle.ledger.proofs.Apart.{apart}
+use Rattle.ledger.proofs.TrailLiterals.{apart}
 use Rattle.ledger.proofs.trail.Trail.listing.Goals as goal
 
 pub returns-clause-once : goal.returns-clause-once

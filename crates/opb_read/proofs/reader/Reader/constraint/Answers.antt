@@ -9,7 +9,7 @@ use Rattle.linear.specs.declared.term.Term.{Term}
 use Rattle.opb_read.specs.Ahead.{begins_integer, next_relation, starts_constraint}
 use Rattle.opb_read.specs.Forms.{names_in, closing_of, terms_of, behind_terms}
 use Rattle.opb_read.specs.Progress.{HoldsLimits, at_start, behind_sum, IsBehindSum, PassesTerms}
-use Rattle.opb_read.specs.declared.place.Place.TheVariants.{Coefficient, Literal}
+use Rattle.opb_read.specs.declared.spot.Spot.TheVariants.{Coefficient, Literal}
 use Rattle.opb_read.specs.Denial.{DeniesClosing, FollowsConstraint}
 use Rattle.opb_read.proofs.Statements.{same_sum, sum_denied, closing_denied, constraint_read}
 use Rattle.opb_read.proofs.TokensPassed.{reaches_then, stops_then}

@@ -6,8 +6,8 @@ use Rattle.opb_read.specs.Ahead.{begins_semicolon}
 use Rattle.opb_read.specs.Forms.{names_in, behind_terms}
 use Rattle.opb_read.proofs.Objectives.{objective_sum_denied, objective_open, objective_read}
 use Rattle.opb_read.specs.Progress.{Reaches, StopsAt, at_mark, at_start}
-use Rattle.opb_read.specs.declared.place.Place.{Place}
-use Rattle.opb_read.specs.declared.place.Place.TheVariants.{ObjectiveMark, ObjectiveLiteral}
+use Rattle.opb_read.specs.declared.spot.Spot.{Spot}
+use Rattle.opb_read.specs.declared.spot.Spot.TheVariants.{ObjectiveMark, ObjectiveLiteral}
 use Rattle.opb_read.specs.FaultCodes.{code_at}
 use Rattle.opb_read.proofs.StatementSteps.{in_objective_sum, stops_at_mark, mark_passed}
 use Rattle.opb_read.proofs.reader.Reader.objective_sum.Goals as goal
@@ -63,7 +63,7 @@ returns-in_err-semicolon-clause-stops c =
     left
     c.sum.new.self.left
     c.in_err-semicolon.ensures.form
-    (c.in_err-semicolon.ensures.code ∙ ap (λ (p : Place). code_at p c.sum.new.self.left) (c.behind_terms-behind.ensures ∙ ap (λ (ts : List Term). if length ts == 0 then ObjectiveMark else ObjectiveLiteral) terms))
+    (c.in_err-semicolon.ensures.code ∙ ap (λ (p : Spot). code_at p c.sum.new.self.left) (c.behind_terms-behind.ensures ∙ ap (λ (ts : List Term). if length ts == 0 then ObjectiveMark else ObjectiveLiteral) terms))
     (c.in_ok-terms.ensures.passes (at_mark vars) ObjectiveLiteral (in_objective_sum vars h))
     c.in_ok-terms.ensures.end
     c.in_err-semicolon.ensures.none))

@@ -1,6 +1,6 @@
 use Rattle.std.proofs.Common.{◌≡◌, true, false, drop, sym, ap, subst, ◌∙◌, arith, rules}
 use Rattle.opb_read.specs.FaultCodes.{code_at}
-use Rattle.opb_read.specs.declared.place.Place.TheVariants.{Start}
+use Rattle.opb_read.specs.declared.spot.Spot.TheVariants.{Start}
 use Rattle.pb_text.specs.Token.{lexeme_of}
 use Rattle.linear.specs.Limits.{most_constraints}
 use Rattle.opb_read.specs.Ahead.{begins_constraint}

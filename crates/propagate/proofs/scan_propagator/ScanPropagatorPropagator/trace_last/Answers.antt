@@ -1,5 +1,5 @@
 -- A whole trace leaves nothing out.
-use Rattle.std.proofs.Common.{◌∙◌, List}
+use Rattle.std.proofs.Common.{◌∙◌}
 use Rattle.std.proofs.lemmas.Result.{IfOk-weaker}
 use Rattle.propagate.specs.Content.{IsTrace, IsTraceOfLast}
 use Rattle.propagate.proofs.Entries.{content_of}

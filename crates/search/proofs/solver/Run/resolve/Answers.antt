@@ -7,7 +7,6 @@ use Rattle.propagate.specs.Chain.{IsImpossible}
 use Rattle.proof_rules.specs.State.{constraints}
 use Rattle.search.specs.Log.{Logbook}
 use Rattle.search.specs.Undoing.{IsOvertaken}
-use Rattle.search.specs.declared.clause.Lesson.{Lesson}
 use Rattle.search.specs.declared.clause.Lesson.TheVariants as lessons
 use Rattle.search.proofs.UpToDate.{overtaken_first}
 use Rattle.search.proofs.solver.Run.resolve.Goals as goal

@@ -1,10 +1,9 @@
 -- A decision that is undone for nothing learned is one that stood before the turn.
-use Rattle.std.proofs.Common.{◌≡◌, List, Some, inr, length, sym, ap, subst, ◌∙◌}
+use Rattle.std.proofs.Common.{List, Some, inr, length, sym, ap, subst, ◌∙◌}
 use Rattle.linear.specs.declared.term.Lit.{Lit}
 use Rattle.proof_rules.specs.State.{constraints}
 use Rattle.search.specs.Log.{Logbook}
 use Rattle.search.specs.Undoing.{AreUpToDate}
-use Rattle.search.specs.declared.clause.Lesson.{Lesson}
 use Rattle.search.specs.declared.clause.Lesson.TheVariants as lessons
 use Rattle.search.proofs.solver.Run.turn.Goals as goal
 
