@@ -8,10 +8,10 @@ use Rattle.normal_form.proofs.Runs.{rises_of_push}
 use Rattle.normal_form.proofs.Sums.{sum_over_more, bound_at}
 use Rattle.normal_form.specs.declared.term.NormalTerm.{NormalTerm}
 use Rattle.normal_form.specs.Normal.{total, Rises, variable_bound}
-use Rattle.normal_form.specs.Balance.{rise_of, rises_of}
+use Rattle.normal_form.specs.Balance.{rise_of, rises_of, net_term}
 use Rattle.accumulate.specs.declared.cells.Change.{Change}
 use Rattle.accumulate.specs.declared.cells.Change.TheVariants as changes
-use Rattle.accumulate.specs.Nets.{net_term, terms_from, nets_of, sizes, turned}
+use Rattle.accumulate.specs.Nets.{terms_from, nets_of, sizes, turned}
 
 zero_either : (b : Bool) → cond b (pos 0) (pos 0) ≡ pos 0
 zero_either true = refl

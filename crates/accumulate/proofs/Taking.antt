@@ -6,8 +6,9 @@ use Rattle.std.proofs.lemmas.List.{take_more, length-take}
 use Rattle.std.proofs.lemmas.List.Sorted.{All-permutation, Contains-permutation}
 use Rattle.normal_form.specs.declared.term.NormalTerm.{NormalTerm}
 use Rattle.normal_form.specs.Normal.{NormalConstraint, Fits, variable_bound, total}
+use Rattle.normal_form.specs.Balance.{net_term}
 use Rattle.normal_form.proofs.OneList.{same_constraint}
-use Rattle.accumulate.specs.Nets.{net_term, terms_from, sizes, IsMarked, IsKept, constraint_of}
+use Rattle.accumulate.specs.Nets.{terms_from, sizes, IsMarked, IsKept, constraint_of}
 use Rattle.accumulate.proofs.NetTerms.{terms_total}
 
 -- cells of 0 alone give nothing

@@ -1,15 +1,10 @@
 -- A constraint as an array: at each place the net coefficient of the variable of that number.
-use Rattle.std.specs.Prelude.{ℕ, zero, suc, ◌+◌, ◌<◌, ◌≤◌, ◌≡◌, All, Contains, length, slice_index_or, ℤ, pos, negsuc, neg_ℤ, ◌+ℤ◌, unsigned_abs, Bool, true, false, List, [], ◌∷◌, ◌++◌, if◌then◌else◌}
+use Rattle.std.specs.Prelude.{ℕ, ◌+◌, ◌<◌, ◌≤◌, ◌≡◌, All, Contains, length, slice_index_or, ℤ, pos, neg_ℤ, ◌+ℤ◌, unsigned_abs, Bool, List, [], ◌∷◌, ◌++◌, if◌then◌else◌}
 use Rattle.normal_form.specs.Normal.{NormalConstraint, largest_sum}
+use Rattle.normal_form.specs.Balance.{net_term}
 use Rattle.normal_form.specs.declared.term.NormalTerm.{NormalTerm}
 use Rattle.accumulate.specs.declared.cells.Change.{Change}
 use Rattle.accumulate.specs.declared.cells.Change.TheVariants as changes
-
--- the term of a net coefficient, or none where that is 0
-abbrev pub net_term : ℕ → ℤ → List NormalTerm
-net_term v (pos zero) = []
-net_term v (pos (suc n)) = (record { coef = suc n; var = record { 0 = v }; negated = false }) ∷ []
-net_term v (negsuc n) = (record { coef = suc n; var = record { 0 = v }; negated = true }) ∷ []
 
 -- the terms of the variables from v on
 abbrev pub terms_from : ℕ → List ℤ → List NormalTerm

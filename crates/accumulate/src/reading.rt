@@ -3,29 +3,14 @@
 //! The marks stand in order then. Between two of them all cells are 0, so the terms that are read rise and none is
 //! missed, and a mark that stands twice is passed over.
 
-ghost use Rattle.std.specs.Prelude.{◌≡◌, ℕ, ◌<◌, ◌≤◌, ◌++◌, pos, unsigned_abs, OnOk, OnErr, IsErrOf, IfOk, [], take, length, slice_index_or};
-ghost use Rattle.normal_form.specs.Normal.{variable_bound, largest_sum, Fits};
+ghost use Rattle.std.specs.Prelude.{◌≡◌, ℕ, ◌<◌, ◌≤◌, pos, unsigned_abs, OnErr, IsErrOf, IfOk, [], take, length, slice_index_or};
+ghost use Rattle.normal_form.specs.Normal.{largest_sum, Fits};
 ghost use Rattle.std.specs.List.Sorted.{IsNonDecreasingBy};
-ghost use Rattle.accumulate.specs.Nets.{terms_from, sizes, IsMarked, net_term};
+ghost use Rattle.accumulate.specs.Nets.{terms_from, sizes, IsMarked};
 
 use linear::Var;
-use normal_form::{CutFault, Normal, NormalBuilder, NormalTerm};
+use normal_form::{CutFault, Normal, NormalBuilder};
 use std::alloc::{AllocError, Global};
-
-/// Puts the term of a net coefficient at the end, unless it is 0.
-fn push_net(terms: &mut NormalBuilder, var: Var, net: i128) -> Result<(), AllocError>
-    requires { variable_bound terms.old ≤ var.0 }
-    ensures { OnOk result (terms.new ≡ terms.old ++ net_term (var.0) net) }
-{
-    if net == 0 {
-        return Ok(());
-    }
-    terms.push(NormalTerm {
-        coef: net.unsigned_abs(),
-        var,
-        negated: net < 0,
-    })
-}
 
 /// Puts the term of a marked variable at the end, unless the variable was there before.
 fn push_cell(
@@ -48,7 +33,7 @@ fn push_cell(
     if place < next {
         return Ok(next);
     }
-    push_net(terms, Var(var), nets[place])?;
+    terms.push_net(Var(var), nets[place])?;
     Ok(place + 1)
 }
 

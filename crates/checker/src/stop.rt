@@ -1,5 +1,5 @@
-//! Why judging stops before the end. Running out of memory is no refusal: it is parted from the faults here, once, where
-//! a fault becomes a stop, so that nobody has to turn it back later.
+//! Why judging stops before the end. Running out of memory is no refusal: it is parted from the faults here, once,
+//! where a fault becomes a stop, so that nobody has to turn it back later.
 
 ghost use Rattle.std.specs.Prelude.{◌≡◌};
 ghost use Rattle.checker.specs.StopsBy.{reading_stop, judging_stop};

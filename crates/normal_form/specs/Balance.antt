@@ -1,6 +1,7 @@
 -- Merging signed terms: of each set of variables, what the merged terms' plain literals add up to less what the
--- negated ones do is the net coefficient of the set. The private functions that merge speak of this.
-use Rattle.std.specs.Prelude.{◌≡◌, ℕ, Bool, not, ℤ, pos, ◌+ℤ◌, neg_ℤ, List, [], ◌∷◌, map, if◌then◌else◌}
+-- negated ones do is the net coefficient of the set. What merges, and what puts terms of net coefficients together,
+-- speaks of this.
+use Rattle.std.specs.Prelude.{◌≡◌, ℕ, zero, suc, Bool, true, false, not, ℤ, pos, negsuc, ◌+ℤ◌, neg_ℤ, List, [], ◌∷◌, map, if◌then◌else◌}
 use Rattle.linear.specs.declared.term.Term.{Term}
 use Rattle.normal_form.specs.declared.term.NormalTerm.{NormalTerm}
 use Rattle.normal_form.specs.NormalOf.{slope}
@@ -9,6 +10,12 @@ use Rattle.normal_form.specs.NormalOf.{slope}
 abbrev pub slopes : (ℕ → Bool) → List Term → ℤ
 slopes set [] = pos 0
 slopes set (t ∷ ts) = (if set (t.var.0) then slope t else pos 0) +ℤ slopes set ts
+
+-- the term of a net coefficient, or none where that is 0
+abbrev pub net_term : ℕ → ℤ → List NormalTerm
+net_term v (pos zero) = []
+net_term v (pos (suc n)) = (record { coef = suc n; var = record { 0 = v }; negated = false }) ∷ []
+net_term v (negsuc n) = (record { coef = suc n; var = record { 0 = v }; negated = true }) ∷ []
 
 -- what a merged term gives its variable
 abbrev pub rise_of : NormalTerm → ℤ

@@ -6,7 +6,7 @@
 
 ghost use Rattle.std.specs.Prelude.{◌≡◌, ℕ, Bool, ◌+◌, ◌<◌, ◌≤◌, ◌↔◌, ◌++◌, ◌∷◌, [], pos, ◌+ℤ◌, unsigned_abs, IfOk, OnOk, OnErr, IsErrOf, if◌then◌else◌};
 ghost use Rattle.normal_form.specs.Normal.{variable_bound, total, IsNormal, Rises, Fits};
-ghost use Rattle.normal_form.specs.Balance.{rises_of};
+ghost use Rattle.normal_form.specs.Balance.{rises_of, net_term};
 
 use super::fault::CutFault;
 use super::normal::Normal;
@@ -74,6 +74,7 @@ impl NormalBuilder {
     /// variable where it is above 0, and the negation where it is below. The variable is above all so far.
     pub fn push_net(&mut self, var: Var, net: i128) -> Result<(), AllocError>
         requires { variable_bound self.old ≤ var.0 }
+        ensures ok { OnOk result (self.new ≡ self.old ++ net_term (var.0) net) }
         ensures gives { OnOk result ((set : ℕ → Bool) → rises_of set self.new ≡ rises_of set self.old +ℤ (if set (var.0) then net else pos 0)) }
         ensures total { OnOk result (total self.new ≡ total self.old + unsigned_abs net) }
         ensures bound { OnOk result (variable_bound self.new ≤ var.0 + 1) }

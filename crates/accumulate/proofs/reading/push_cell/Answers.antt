@@ -5,7 +5,8 @@ use Rattle.std.proofs.lemmas.Int.{ints}
 use Rattle.std.specs.Prelude.{unsigned_abs}
 use Rattle.normal_form.specs.Normal.{largest_sum}
 use Rattle.normal_form.specs.declared.term.NormalTerm.{NormalTerm}
-use Rattle.accumulate.specs.Nets.{net_term, terms_from, sizes}
+use Rattle.normal_form.specs.Balance.{net_term}
+use Rattle.accumulate.specs.Nets.{terms_from, sizes}
 use Rattle.accumulate.proofs.NetTerms.{size_below}
 use Rattle.accumulate.proofs.Taking.{next_cell, bound_take}
 use Rattle.accumulate.proofs.reading.push_cell.Goals as goal
