@@ -1,4 +1,8 @@
-//! The analysis of a conflict.
+//! The analysis of a conflict, from the broken constraint back over the reasons of what was forced.
+//!
+//! A learned constraint is worth keeping only where it would have forced something at an earlier decision level (it bites
+//! there). So reasons are added up, last forced first, until the sum does; the sum is a `pol` line, so whatever is
+//! learned can be checked step by step (cutting planes: Cook, Coullard and Turán, 1987).
 
 ghost use Rattle.std.specs.Prelude.{◌<◌, IfOk, IfSome};
 ghost use Rattle.proof_rules.specs.Expression.{IsPostfixOf};

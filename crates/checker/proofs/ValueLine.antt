@@ -4,7 +4,7 @@ use native.Mathlib.Numerals.{unary_clauses}
 use Rattle.linear.specs.Opb.{Opb}
 use Rattle.opb_read.specs.Spells.{Spells}
 use Rattle.opb_read.proofs.Spelled.{one_problem}
-use Rattle.checker.specs.Printed.{with_value, with_values, Names}
+use Rattle.checker.specs.Printed.{with_value, with_values, NamesValues}
 
 pub value_next : (before : List ℕ) (names : List (List ℕ)) (values : List Bool) (i : ℕ) → i < length names → length names ≡ length values
     → with_values (with_value before (slice_index_or names i []) (slice_index_or values i false)) (drop (i + 1) names) (drop (i + 1) values)
@@ -17,5 +17,5 @@ value_next before (name ∷ names) (value ∷ values) (suc i) h e =
     simp unary_clauses (simp unary_clauses at rest)
 
 -- where the one problem of a text has another number of variables, no problem names the values
-pub none_named : (opb : List ℕ) (values : List Bool) (p : Opb) → Spells opb p → (length p.names ≡ length values → ⊥) → (q : Opb) → Names opb values q → ⊥
+pub none_named : (opb : List ℕ) (values : List Bool) (p : Opb) → Spells opb p → (length p.names ≡ length values → ⊥) → (q : Opb) → NamesValues opb values q → ⊥
 none_named opb values p spells other q names = other (ap (λ (r : Opb). length r.names) (one_problem opb p q spells names.spelled) ∙ names.as_many)

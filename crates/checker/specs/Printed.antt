@@ -78,7 +78,7 @@ abbrev pub with_assignment : List ℕ → List (List ℕ) → List Bool → List
 with_assignment before names values = with_values (before ++ codes "v") names values ++ codes "\n"
 
 -- the text spells a problem of these names, one for each value
-pub record Names (opb : List ℕ) (values : List Bool) (p : Opb) : Type 0 where
+pub record NamesValues (opb : List ℕ) (values : List Bool) (p : Opb) : Type 0 where
   pub spelled : Spells opb p
   pub within : IsWithin p
   pub as_many : length p.names ≡ length values
@@ -87,8 +87,8 @@ pub record Names (opb : List ℕ) (values : List Bool) (p : Opb) : Type 0 where
 -- variables, nothing
 abbrev pub IsWithBest : List ℕ → List ℕ → List Bool → List ℕ → Type 0
 IsWithBest opb before values text =
-    ((p : Opb) × Names opb values p × (text ≡ with_assignment before p.names values))
-    ⊎ (((p : Opb) → Names opb values p → ⊥) × (text ≡ before))
+    ((p : Opb) × NamesValues opb values p × (text ≡ with_assignment before p.names values))
+    ⊎ (((p : Opb) → NamesValues opb values p → ⊥) × (text ≡ before))
 
 -- the first line, and the `v` line of the best assignment where there is one
 abbrev pub IsAcceptedText : List ℕ → Judgement → List ℕ → Type 0

@@ -4,7 +4,7 @@ use Rattle.linear.specs.Opb.{Opb}
 use Rattle.linear.specs.Limits.{IsWithin}
 use Rattle.opb_read.specs.Spells.{Spells}
 use Rattle.opb_read.specs.Faults.{Denies}
-use Rattle.opb_read.specs.FaultSpot.{IsFaultAt}
+use Rattle.opb_read.specs.FaultLine.{IsFaultAt}
 use Rattle.opb_read.specs.declared.fault.OpbFault.{OpbFault}
 use Rattle.opb_read.specs.declared.fault.OpbCode.TheVariants as problems
 use Rattle.kernel.specs.Accepted.{Judgement}

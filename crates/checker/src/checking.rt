@@ -1,8 +1,11 @@
 //! The checker: the problem is read first, then the proof is judged line by line.
+//!
+//! The problem comes first since every line of a proof speaks of it: its names give literals their variables, and its
+//! constraints have the first ids. So a proof of a file that is no problem is never looked at.
 
 ghost use Rattle.std.specs.Prelude.{ℕ, List};
 ghost use Rattle.opb_read.specs.Faults.{Denies};
-ghost use Rattle.opb_read.specs.FaultSpot.{IsFaultAt};
+ghost use Rattle.opb_read.specs.FaultLine.{IsFaultAt};
 ghost use Rattle.checker.specs.Verdicts.{IsVerdictOf};
 
 use super::judge::judge;
@@ -16,7 +19,7 @@ use watch::WatchPropagator;
 
 /// What keeps the live constraints: a new one waits, by its id alone, until a question is asked; then it is entered
 /// into the lists of its literals. A proof that asks nothing enters nothing.
-type Judging = Deferred<ScanPropagator, WatchPropagator>;
+type LiveConstraints = Deferred<ScanPropagator, WatchPropagator>;
 
 /// Judges a proof (VeriPB 2.0, this product's profile) of a problem (the linear OPB format).
 ///
@@ -29,7 +32,7 @@ pub fn check(alloc: Global, opb: &[u8], proof: &[u8]) -> Verdict
     ensures sound { IsVerdictOf opb.now proof.now result }
 {
     match read(alloc, opb) {
-        Ok(problem) => match judge::<Judging>(alloc, &problem, proof) {
+        Ok(problem) => match judge::<LiveConstraints>(alloc, &problem, proof) {
             Ok(accepted) => Verdict::Accepted(accepted),
             Err(Stop::At(line, code)) => Verdict::Refused { line, code },
             Err(Stop::NoMemory) => Verdict::NoMemory,

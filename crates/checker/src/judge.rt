@@ -1,4 +1,7 @@
 //! Judging a proof: the walk from its first line to behind its end.
+//!
+//! A walk that stops shows that no legal proof is spelled, and one that comes to the end is the proof; so both sides of
+//! the verdict rest on the one relation that leads from a position to the next, and no line is read twice.
 
 ghost use Rattle.std.specs.Prelude.{IfOk, IfErr};
 ghost use Rattle.checker.specs.Verdicts.{IsProved};

@@ -48,13 +48,13 @@ pub fn write_value_line(
 }
 
 /// The variables' names, each by its value.
-fn write_values(out: &mut Vec<u8>, names: &Names, best: &Assignment) -> Result<(), AllocError>
-    requires { length names.now ≡ length best.now }
-    ensures { OnOk result (out.new.items ≡ with_values out.old.items names.now best.now) }
+fn write_values(out: &mut Vec<u8>, names: &Names, values: &Assignment) -> Result<(), AllocError>
+    requires { length names.now ≡ length values.now }
+    ensures { OnOk result (out.new.items ≡ with_values out.old.items names.now values.now) }
 {
     // That the numbers of a table's names fit into 32 bits is known by its type; this makes it known here.
     names.reveal();
-    for (number, value) in best.as_slice().iter().enumerate() {
+    for (number, value) in values.as_slice().iter().enumerate() {
         write_value(out, names, Var(number as u32), *value)?;
     }
     Ok(())

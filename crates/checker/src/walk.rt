@@ -25,8 +25,8 @@ struct Read {
     line: Line,
 }
 
-/// A position in a proof: the section that is due, the names so far, the lines that are left, the state of the kernel,
-/// and what was concluded.
+/// A walk over a proof, at a position (`specs/Walk`): the section that is due, the names so far, the lines that are left,
+/// the state of the kernel, and what was concluded.
 #[derive(Drop)]
 pub(crate) struct Walk<'a, P: Propagator> {
     allocator: Global,
@@ -128,7 +128,8 @@ impl<'a, P: Propagator> Walk<'a, P> {
         Ok(())
     }
 
-    /// The count is that of the file's constraints, an equality counted twice.
+    /// The count is that of the file's constraints, an equality counted twice. Another one is a fault of the line, as the
+    /// same words would be that are no number: the kernel has no part in it.
     fn take_count(&mut self, count: i128, number: u64) -> Result<(), Stop>
         requires count { self.old.count ≡ problem_ids self.old.kernel.problem.constraints }
         ensures count { self.new.count ≡ self.old.count }

@@ -1,5 +1,5 @@
 //! Merging the terms of two constraints: the terms of each variable become one with their net coefficient, or
-//! none where that is 0 (addition of cutting planes: Cook, Coullard and Turan, 1987).
+//! none where that is 0 (addition of cutting planes: Cook, Coullard and Turán, 1987).
 //!
 //! Both lists rise by variable, so one pass takes the least variable on either side each time, reads it where it
 //! stands, and puts the result at the end: the merged terms rise again. A literal and its opposite are one variable with

@@ -1,4 +1,4 @@
-//! A propagator over another one, to which a constraint is handed only when a question is asked.
+//! A propagator over two others: a constraint waits in the first, and is handed to the second only when a question is asked.
 #![tactic(auto)]
 
 mod deferred;

@@ -21,7 +21,7 @@ use Rattle.proof_rules.specs.declared.fault.StepFault.{StepFault}
 use Rattle.proof_rules.specs.declared.fault.StepFault.TheVariants as faults
 use Rattle.kernel.specs.Database.{Constraints}
 use Rattle.proof_rules.proofs.LiveConstraints.{All-from_get, Any-from_get}
-use Rattle.kernel.specs.Redundancy.{IsOpenLive}
+use Rattle.kernel.specs.Redundance.{IsOpenLive}
 use Rattle.kernel.proofs.Showing.{any_left}
 
 -- what a constraint becomes is shown or not

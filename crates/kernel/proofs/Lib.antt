@@ -10,4 +10,4 @@ pub mod Showing
 pub mod Tables
 pub mod TakenBack
 pub mod Touched
-pub mod Judging
+pub mod TouchedJudged

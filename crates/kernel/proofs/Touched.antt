@@ -21,7 +21,7 @@ use Rattle.substitution.proofs.Covered.{covers_itself}
 use Rattle.substitution.proofs.Untouched.{under_untouched}
 use Rattle.proof_rules.specs.Legal.{IsShownUnder}
 use Rattle.proof_rules.specs.State.{Live}
-use Rattle.kernel.specs.Redundancy.{HasVariable, IsTouched, AddsVariable}
+use Rattle.kernel.specs.Redundance.{HasVariable, IsTouched, AddsVariable}
 use Rattle.kernel.proofs.GoalsShown.{covered_under}
 
 literal : Var → Bool → Lit

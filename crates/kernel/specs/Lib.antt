@@ -4,5 +4,5 @@ pub mod Deletion
 pub mod File
 pub mod Held
 pub mod Logged
-pub mod Redundancy
+pub mod Redundance
 pub mod Table

@@ -36,7 +36,7 @@ impl<P: Propagator> Model for Database<P> {
 }
 
 impl<P: Propagator> Database<P> {
-    ghost use Rattle.kernel.specs.Redundancy.{AddsVariable, BecomesBeyond, IsTouched};
+    ghost use Rattle.kernel.specs.Redundance.{AddsVariable, BecomesBeyond, IsTouched};
     ghost use Rattle.std.specs.Prelude.{◌≡◌, ◌↔◌, ◌<◌, [], ◌∷◌, ◌++◌, ℕ, IfOk, IsSome, IsSomeAnd, MatchOption, None, IsTrue, OnErr, OnOk};
     ghost use Rattle.normal_form.specs.Normal.{NormalConstraint};
     ghost use Rattle.propagate.specs.Chain.{IsRefuted};

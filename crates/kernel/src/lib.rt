@@ -14,7 +14,7 @@ mod log;
 mod objective;
 mod pol;
 mod propagation;
-mod redundancy;
+mod redundance;
 mod rup;
 mod shown;
 mod solution;

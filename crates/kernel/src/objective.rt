@@ -1,4 +1,7 @@
 //! Bounds of the objective, as normal constraints.
+//!
+//! A better solution is one whose objective is at most some number; written as `>=`, the same terms with their signs changed.
+//! What an improving solution adds and what a lower bound has to show are both such a constraint, so they are made here.
 
 ghost use Rattle.std.specs.Prelude.{◌≡◌, ◌+◌, ◌-ℤ◌, ◌≤◌, IfErr, IfOk, IsErrOf, OnErr, map, pos, unsigned_abs};
 ghost use Rattle.normal_form.specs.Normal.{Fits, IsNormal, largest_sum};

@@ -1,6 +1,6 @@
 pub mod Counters
-pub mod Places
-pub mod Marks
+pub mod QueueChanges
+pub mod TrailChanges
 pub mod Positions
 pub mod Opening
 pub mod QueuedRows

@@ -2,13 +2,17 @@
 
 use super::pair::Pair;
 
-/// It is not watched by that literal, one of the two that watch it is true, all its other literals are false, or all but
-/// the one that watches it beside, or another open literal watches it from now on beside the one that stays.
+/// What became of the clause.
 #[derive(Clone, Copy, Debug)]
 pub(crate) enum Finding {
+    /// It is not watched by the literal that fell.
     Elsewhere,
+    /// One of the two literals that watch it is true.
     Satisfied,
+    /// All its other literals are false.
     Broken,
+    /// All its other literals are false but the second one that watches it, which is forced.
     Last,
+    /// Another literal that is open watches it from now on, beside the one that stays.
     Moved(Pair),
 }

@@ -13,7 +13,7 @@ ghost use Rattle.linear.specs.Table.{has_name, place_of, IsTable};
 use std::alloc::Global;
 use std::marker::Model;
 
-/// Numbers from here on get no further digit: with it they have at most five or six, and the array some megabytes.
+/// Numbers from here on get no further digit: with it they have at most six, and the array some megabytes.
 const MANY: usize = 161_051;
 
 /// The number of a name that is `x` and a few digits.
@@ -26,7 +26,7 @@ fn short_number(name: &[u8]) -> Option<usize>
     }
 }
 
-/// The number of a few digits, the digits of `x` and these.
+/// The number of the name that is `x` and these digits.
 fn number_of_digits(digits: &[u8]) -> Option<usize>
     ensures { IfSome result (λ number. IsShort (120 ∷ digits.now) number) }
 {

@@ -9,7 +9,7 @@ use Rattle.pb_text.specs.Word.{name_of}
 use Rattle.opb_read.specs.Kinds.{is_literal, is_semicolon, begins_objective}
 use Rattle.opb_read.specs.Pieces.{Pieces, pieces}
 use Rattle.opb_read.specs.Forms.{names_in}
-use Rattle.opb_read.specs.FaultSpot.{is_begun, AreCountsWithin}
+use Rattle.opb_read.specs.FaultLine.{is_begun, AreCountsWithin}
 use Rattle.linear.proofs.NumbersOfNames.{with_name-atmost}
 use Rattle.opb_read.proofs.NumbersOfNames.{names_in-more}
 use Rattle.opb_read.proofs.Statements.{within_piece, end_of_piece}

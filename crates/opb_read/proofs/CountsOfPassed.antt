@@ -12,7 +12,7 @@ use Rattle.opb_read.specs.Pieces.{Pieces, pieces}
 use Rattle.opb_read.specs.Forms.{names_in}
 use Rattle.opb_read.specs.Spots.{next_spot, begun}
 use Rattle.opb_read.specs.Progress.{Progress, moved, KeepsCounts, Passes, HoldsLimits}
-use Rattle.opb_read.specs.FaultSpot.{is_begun}
+use Rattle.opb_read.specs.FaultLine.{is_begun}
 use Rattle.opb_read.specs.declared.spot.Spot.{Spot}
 use Rattle.opb_read.specs.declared.spot.Spot.TheVariants.{Start, ObjectiveMark, ObjectiveCoefficient, ObjectiveLiteral, Coefficient, Literal, Relation, RightSide}
 use Rattle.opb_read.proofs.Statements.{within_piece, end_of_piece}

@@ -18,7 +18,7 @@ use Rattle.opb_read.specs.Forms.{is_term, term_of, terms_of, behind_terms, names
 use Rattle.opb_read.specs.Spells.{problem_of, decision_problem, optimisation_problem}
 use Rattle.opb_read.specs.Spots.{next_spot, begun}
 use Rattle.opb_read.specs.Progress.{Progress, moved, KeepsCounts, Passes, IsOver, IsLarge, start_of}
-use Rattle.opb_read.specs.FaultSpot.{next_token}
+use Rattle.opb_read.specs.FaultLine.{next_token}
 use Rattle.opb_read.specs.declared.spot.Spot.{Spot}
 use Rattle.opb_read.specs.declared.spot.Spot.TheVariants.{Start, ObjectiveMark, ObjectiveCoefficient, ObjectiveLiteral, Coefficient, Literal, Relation, RightSide}
 use Rattle.opb_read.proofs.NumbersOfNames.{names_in-more}

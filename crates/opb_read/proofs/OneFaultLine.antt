@@ -15,7 +15,7 @@ use Rattle.linear.specs.Opb.{Opb}
 use Rattle.opb_read.specs.Kinds.{is_integer, is_colon, begins_objective, statements_of, IsLargeInteger}
 use Rattle.opb_read.specs.Spells.{problem_of}
 use Rattle.opb_read.specs.Denial.{Tells}
-use Rattle.opb_read.specs.FaultSpot.{CanGoOn, AreCountsWithin, IsWithinSoFar, next_token, IsNoForm, IsTooLarge, IsTooMany, line_of_next, IsFaultAt}
+use Rattle.opb_read.specs.FaultLine.{CanGoOn, AreCountsWithin, IsWithinSoFar, next_token, IsNoForm, IsTooLarge, IsTooMany, line_of_next, IsFaultAt}
 use Rattle.opb_read.specs.declared.fault.OpbCode.{OpbCode}
 use Rattle.opb_read.specs.declared.fault.OpbCode.TheVariants.{BadToken, NoRelation, NoSemicolon, BadName, ObjectiveLate, UnsupportedForm, IntegerTooLarge, TooMany, OutOfMemory}
 use Rattle.opb_read.proofs.CountsOfBeginnings.{beginning_counts}
@@ -148,9 +148,9 @@ clash text TooMany a r b q known split x k w h = clash_many a r b q x w h
 clash text OutOfMemory a r b q known split x k w h = known refl
 
 -- two faults of one text stand on one line
-pub one_spot : (text : List ℕ) (c d : OpbCode) (k l : ℕ) → (c ≡ OutOfMemory → ⊥) → (d ≡ OutOfMemory → ⊥) → IsFaultAt text c k → IsFaultAt text d l → k ≡ l
+pub one_fault_line : (text : List ℕ) (c d : OpbCode) (k l : ℕ) → (c ≡ OutOfMemory → ⊥) → (d ≡ OutOfMemory → ⊥) → IsFaultAt text c k → IsFaultAt text d l → k ≡ l
 unfolding Compared
-one_spot text c d k l fc fd f g = by (compared f.before f.rest g.before g.rest (sym f.split ∙ g.split))
+one_fault_line text c d k l fc fd f g = by (compared f.before f.rest g.before g.rest (sym f.split ∙ g.split))
   where
     by : Compared f.before f.rest g.before g.rest → k ≡ l
     by (inl e) = f.stands ∙ ap (line_of_next text) e ∙ sym g.stands

@@ -9,7 +9,7 @@ use Rattle.opb_read.specs.Kinds.{begins_objective}
 use Rattle.opb_read.specs.Spells.{problem_of}
 use Rattle.opb_read.specs.Spots.{next_spot, may_stand}
 use Rattle.opb_read.specs.Progress.{Progress, Passes}
-use Rattle.opb_read.specs.FaultSpot.{CanGoOn, next_token, IsNoForm}
+use Rattle.opb_read.specs.FaultLine.{CanGoOn, next_token, IsNoForm}
 use Rattle.opb_read.specs.declared.spot.Spot.{Spot}
 use Rattle.opb_read.specs.declared.spot.Spot.TheVariants.{Start, ObjectiveMark, ObjectiveCoefficient, ObjectiveLiteral, Coefficient, Literal, Relation, RightSide}
 use Rattle.opb_read.proofs.FormByTokens.{accepts, accepts_next, accepts_none, problem_form}

@@ -11,7 +11,7 @@ use Rattle.opb_read.specs.Forms.{names_in}
 use Rattle.opb_read.specs.Spells.{problem_of}
 use Rattle.opb_read.specs.Denial.{Tells, IsForm}
 use Rattle.opb_read.specs.Progress.{Progress, Passes, Refuses, HoldsLimits, StopsAt, start_of}
-use Rattle.opb_read.specs.FaultSpot.{CanGoOn, is_begun, pieces_of, constraint_pieces, AreCountsWithin, IsWithinSoFar, next_token, IsNoForm, IsTooLarge, IsTooMany, line_of_next, spot_behind, IsCodeThere, IsFaultAt}
+use Rattle.opb_read.specs.FaultLine.{CanGoOn, is_begun, pieces_of, constraint_pieces, AreCountsWithin, IsWithinSoFar, next_token, IsNoForm, IsTooLarge, IsTooMany, line_of_next, spot_behind, IsCodeThere, IsFaultAt}
 use Rattle.opb_read.specs.declared.fault.OpbCode.{OpbCode}
 use Rattle.opb_read.specs.declared.spot.Spot.TheVariants.{Start, ObjectiveMark}
 use Rattle.opb_read.proofs.CasesOfCodes.{tells_more, form_told}

@@ -9,5 +9,5 @@ pub mod Denial
 pub mod Spots
 pub mod FaultCodes
 pub mod Progress
-pub mod FaultSpot
+pub mod FaultLine
 pub mod Cases

@@ -1,5 +1,5 @@
 -- How far the statements of a text were read, and where reading them stops. These are the words of the reader's own
--- functions; what a fault's spot is stands in FaultSpot.
+-- functions; where a fault stands is said in FaultLine.
 use Rattle.std.specs.Prelude.{◌≡◌, ℕ, ◌+◌, ◌≤◌, ◌<◌, false, if◌then◌else◌, is_some, Some, None, List, [], ◌∷◌, ◌++◌, length, drop, ◌==◌}
 use Rattle.pb_text.specs.Lexeme.{Lexeme}
 use Rattle.pb_text.specs.declared.kind.Kind.TheVariants as kinds

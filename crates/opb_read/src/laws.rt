@@ -9,7 +9,7 @@ ghost use Rattle.linear.specs.Opb.{Opb};
 ghost use Rattle.opb_read.specs.Forms.{constraint_of, objective_of};
 ghost use Rattle.opb_read.specs.Spells.{Spells};
 ghost use Rattle.opb_read.specs.Written.{WritesConstraint, WritesSum};
-ghost use Rattle.opb_read.specs.FaultSpot.{IsFaultAt};
+ghost use Rattle.opb_read.specs.FaultLine.{IsFaultAt};
 
 use super::fault::OpbCode;
 
@@ -33,7 +33,7 @@ pub fn objectives_as_written()
 {}
 
 /// Two faults of one text stand on one line, whatever their codes, out of memory aside: what the contract of `read` says of
-/// a fault's spot fixes its line.
-pub fn one_spot()
+/// where a fault stands fixes its line.
+pub fn one_fault_line()
     ensures { (text : List ℕ) (c d : OpbCode) (k l : ℕ) → c ≢ OpbCode.OutOfMemory → d ≢ OpbCode.OutOfMemory → IsFaultAt text c k → IsFaultAt text d l → k ≡ l }
 {}

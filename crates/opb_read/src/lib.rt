@@ -15,5 +15,5 @@ mod spot;
 mod variables;
 
 pub use fault::{OpbCode, OpbFault};
-pub use laws::{constraints_as_written, objectives_as_written, one_problem, one_spot};
+pub use laws::{constraints_as_written, objectives_as_written, one_fault_line, one_problem};
 pub use reading::read;

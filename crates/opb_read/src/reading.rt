@@ -7,7 +7,7 @@ ghost use Rattle.opb_read.specs.Faults.{Denies};
 ghost use Rattle.opb_read.specs.Denial.{DeniesProblem};
 ghost use Rattle.opb_read.specs.Kinds.{statements_of};
 ghost use Rattle.opb_read.specs.Progress.{StopsAt, start_of};
-ghost use Rattle.opb_read.specs.FaultSpot.{IsFaultAt};
+ghost use Rattle.opb_read.specs.FaultLine.{IsFaultAt};
 
 use super::fault::{OpbCode, OpbFault};
 use super::reader::Reader;
@@ -53,7 +53,7 @@ pub fn read(alloc: Global, text: &[u8]) -> Result<Problem, OpbFault>
     ensures spells { IfOk result (λ p. Spells text.now p) }
     ensures within { IfOk result (λ p. IsWithin p) }
     ensures denies { IfErr result (λ f. Denies f.code text.now) }
-    ensures spot { IfErr result (λ f. IsFaultAt text.now f.code f.line) }
+    ensures line { IfErr result (λ f. IsFaultAt text.now f.code f.line) }
 {
     let mut reader = Reader::new(alloc, text);
     match statements(&mut reader, alloc) {

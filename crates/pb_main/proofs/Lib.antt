@@ -1,4 +1,4 @@
 pub mod Accepting
 pub mod BestSolutions
-pub mod Conclusions
+pub mod ConclusionsWritable
 pub mod Outcomes

@@ -7,7 +7,7 @@
 
 ghost use Rattle.std.specs.Prelude.{◌≡◌, ◌≤◌, ℕ, [], List};
 ghost use Rattle.linear.specs.Limits.{IsWithin};
-ghost use Rattle.opb_read.specs.FaultSpot.{IsFaultAt};
+ghost use Rattle.opb_read.specs.FaultLine.{IsFaultAt};
 ghost use Rattle.opb_read.specs.Faults.{Denies};
 ghost use Rattle.opb_read.specs.Spells.{Spells};
 ghost use Rattle.search.specs.Log.{IsProof};
@@ -32,8 +32,8 @@ pub struct Decided {
     pub proof: Vec<u8>,
 }
 
-/// Solves a problem: reads it, searches with at most `limit` conflicts, writes the proof, has it checked, and says what
-/// came of it. `limit` is at least 1; the brancher may be any.
+/// Solves a problem: reads it, searches, learning from `limit - 1` conflicts at most, writes the proof, has it checked,
+/// and says what came of it. `limit` is at least 1; the brancher may be any.
 pub fn decide(alloc: Global, opb: &[u8], limit: u64, brancher: Box<dyn Brancher>) -> Decided
     requires { 1 ≤ limit }
     ensures { IsOutcomeOf opb.now result.proof.items limit result.outcome }

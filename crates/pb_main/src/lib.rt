@@ -1,4 +1,6 @@
-//! What the two programs do between the command line and the devices.
+//! The solver's whole way from the bytes of a problem to the answer and the bytes of its proof: it reads, searches, has the
+//! checker judge the proof that it wrote, and says what came of it. Only the command line and the devices are left to the
+//! program.
 #![tactic(auto)]
 
 mod answer;

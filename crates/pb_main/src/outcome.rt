@@ -7,7 +7,7 @@ use opb_read::OpbFault;
 /// Why there is no answer.
 #[derive(Clone, Copy, Debug, PartialEq, Eq)]
 pub enum Unanswered {
-    /// The search has met as many conflicts as it may, or has given out all ids.
+    /// The search has learned from as many conflicts as it may and met another, or has given out all ids.
     Limit,
     /// A growth was refused.
     Memory,

@@ -1,4 +1,7 @@
 //! The proof as bytes, and what the checker says of just these bytes.
+//!
+//! The log is a legal proof by its type; yet what is handed out is text, so it is this text that is put to the checker, with
+//! the problem as it was given. What is said then rests on the checker alone, and not on the search or on the writer.
 
 ghost use Rattle.std.specs.Prelude.{IfErr, IfOk, IfSome};
 ghost use Rattle.linear.specs.Limits.{IsWithin};

@@ -5,12 +5,12 @@ pub mod Deciding
 pub mod DelAtOnce
 pub mod DelJudged
 pub mod Determined
-pub mod Faults
+pub mod PolFaults
 pub mod FileForms
 pub mod LiveConstraints
 pub mod NotLegal
 pub mod OneConclusionFault
-pub mod OneItemFault
+pub mod OnePolFault
 pub mod OneStart
 pub mod OneState
 pub mod OneStepFault
@@ -22,9 +22,9 @@ pub mod ResultsExist
 pub mod RupJudged
 pub mod ShownHolds
 pub mod ShownOrNot
-pub mod SmallCases
+pub mod ShownBySearch
 pub mod SmallStates
-pub mod SmallSteps
+pub mod SmallConstraints
 pub mod SolJudged
 pub mod StepJudged
 pub mod Values

@@ -14,7 +14,7 @@ use Rattle.proof_rules.specs.Fault as judging
 use Rattle.proof_rules.specs.Fault.{IsUnsatFault, IsBoundFault, IsLowerFault, IsUpperFault, IsBoundsFault, IsSatFault, IsHintFault, IsConclusionFault}
 use Rattle.proof_rules.specs.State.{State}
 use Rattle.proof_rules.proofs.NotLegal.{less_never, hint_never, lower_never, one_objective, none_some}
-use Rattle.proof_rules.proofs.OneItemFault.{Case, one_of_two, one_of_three}
+use Rattle.proof_rules.proofs.OnePolFault.{Case, one_of_two, one_of_three}
 use Rattle.proof_rules.proofs.OneStepFault.{one_sol_fault}
 
 unsat_is : (s : State) (f : StepFault) → IsUnsatFault s f → Case f faults.SolutionLogged (s.logged ≢ []) ⊎ Case f faults.LowerNotShown (s.logged ≡ [])

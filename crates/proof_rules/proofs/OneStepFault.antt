@@ -21,7 +21,7 @@ use Rattle.proof_rules.specs.State.{State, constraints, id_of, HasRoom}
 use Rattle.proof_rules.proofs.Completing.{gap_never}
 use Rattle.proof_rules.proofs.LiveConstraints.{All-get}
 use Rattle.proof_rules.proofs.NotLegal.{admitted_never, one_admitted, sol_never, less_never, undeletable_never}
-use Rattle.proof_rules.proofs.OneItemFault.{Case, one_of_two, one_of_three, one_pol_fault}
+use Rattle.proof_rules.proofs.OnePolFault.{Case, one_of_two, one_of_three, one_pol_fault}
 
 -- a written constraint
 

@@ -16,7 +16,7 @@ use Rattle.proof_rules.specs.Legal.{LegalPol}
 use Rattle.proof_rules.specs.Preserved.{AreNormal}
 use Rattle.proof_rules.specs.State.{State, constraint_of, id_of, HasRoom, with_constraint}
 use Rattle.proof_rules.proofs.Deciding.{Decided, Judged, less_or_not}
-use Rattle.proof_rules.proofs.Faults.{stops_writing, leaves_writing, writing_pol}
+use Rattle.proof_rules.proofs.PolFaults.{stops_writing, leaves_writing, writing_pol}
 use Rattle.proof_rules.proofs.LiveConstraints.{All-get}
 use Rattle.proof_rules.proofs.Postfix.{LeavesStack-push, IsPostfixOf-from_LeavesStack}
 use Rattle.proof_rules.proofs.ResultsExist.{sum_exists, multiple_exists, quotient_exists, saturation_exists, weakening_exists, axiom_exists}

@@ -35,7 +35,7 @@ use Rattle.proof_rules.specs.Fault.{IsSolFault}
 use Rattle.proof_rules.specs.declared.fault.StepFault.TheVariants.{SolutionFalse}
 use Rattle.proof_rules.proofs.Completing.{one_completion}
 use Rattle.proof_rules.proofs.ShownHolds.{zero_shown}
-use Rattle.proof_rules.proofs.SmallCases.{not_shown}
+use Rattle.proof_rules.proofs.ShownBySearch.{not_shown}
 
 -- the live constraints of a small state, computed
 pub live_of : (ns : List NormalConstraint) → constraints (state_of ns) ≡ map (λ e. e.1) (placed (numbered 1 ns))

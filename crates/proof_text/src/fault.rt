@@ -46,7 +46,7 @@ pub enum ProofFault {
 pub(crate) type Reading<T> = Result<T, ProofFault>;
 
 impl ProofFault {
-    /// The number that stands for the fault in printed kinds.
+    /// The number that stands for the fault in printed verdicts.
     pub fn number(self) -> u8
         ensures { result ≡ number_of self }
     {

@@ -1,4 +1,4 @@
--- Written lines read back as what was written.
+-- Written numbers, literals, terms and items read back as what was written.
 use Rattle.std.proofs.Common.{◌≡◌, ℕ, ℤ, Bool, true, false, not, ◌&&◌, ◌||◌, if◌then◌else◌, Option, Some, None, List, [], ◌∷◌, ◌++◌, length, refl, sym, ap, ◌∙◌, arith, append_assoc, codes}
 use Rattle.std.specs.Prelude.{All, ⊤}
 use Rattle.std.specs.List.{flat_map}

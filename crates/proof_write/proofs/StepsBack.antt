@@ -1,4 +1,4 @@
--- Written steps and conclusions, whole lines.
+-- A written step reads back, as a whole line.
 use Rattle.std.proofs.Common.{◌≡◌, ℕ, true, false, ◌&&◌, ◌||◌, if◌then◌else◌, Some, None, List, [], ◌∷◌, ◌++◌, length, refl, sym, ap, subst, ◌∙◌, arith, codes}
 use Rattle.std.specs.Prelude.{All}
 use Rattle.std.specs.List.{flat_map}

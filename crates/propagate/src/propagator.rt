@@ -3,7 +3,7 @@
 //! A propagator is a finite map from ids to constraints that can be asked what follows by unit propagation. Its meaning is
 //! that map alone (`content`), so that a kernel that is proved over any propagator stays proved when a faster one takes
 //! the place of a plain one: counters, queues and trails that an implementation keeps between calls never show. That is
-//! also why the four questions take `&mut self`: they may change what is kept, and leave the content as it is.
+//! also why the questions take `&mut self`: they may change what is kept, and leave the content as it is.
 //!
 //! The constraints count as a list by rising id, since the definitions of chains and of refutation are about lists; laws
 //! say that order and copies in the list do not matter.

@@ -102,7 +102,8 @@ pub(crate) fn least_conflict<'a, P: Propagator>(
     Ok(high)
 }
 
-/// Logs that some literals do not all hold, where they lead to a conflict, and tells the brancher. Memory alone may be wanting.
+/// Logs that some literals do not all hold, where they lead to a conflict, and tells the brancher. It fails only where memory
+/// runs out.
 fn log_clause<'a, P: Propagator>(
     alloc: Global,
     log: &mut Log<'a, P>,
@@ -137,7 +138,7 @@ pub(crate) enum Lesson {
 
 /// Undoes the last one of the first `count` decisions, and all after it, where it takes just these for a conflict. That they do
 /// not all hold is learned, unless it would say nothing new: what was learned since may force the opposite of the last one
-/// already. Memory alone may be wanting.
+/// already. It fails only where memory runs out.
 pub(crate) fn learn_clause<'a, P: Propagator>(
     alloc: Global,
     log: &mut Log<'a, P>,

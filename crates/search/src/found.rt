@@ -3,7 +3,7 @@
 /// Why a search did not come to an end.
 #[derive(Clone, Copy, Debug, PartialEq, Eq)]
 pub enum Unfinished {
-    /// It has met as many conflicts as it may, or has given out all ids.
+    /// It has learned from as many conflicts as it may and met another, or has given out all ids.
     Limit,
     /// It ran out of memory.
     Memory,

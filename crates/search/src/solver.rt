@@ -1,4 +1,8 @@
-//! The search.
+//! The search: decisions, propagation, and what conflicts teach, turn by turn, until something is found.
+//!
+//! All that is known stands in one log, which is a legal proof by its type, so that nothing here can make a false answer: a
+//! turn may choose badly, and costs time alone. Each turn takes an id of the log or leaves fewer decisions open with all
+//! else as it was, and ids are numbered below a limit; so a search ends, whatever a brancher advises.
 
 ghost use Rattle.std.specs.Prelude.{◌≡◌, ◌≤◌, IfOk, IfSome, IsNone};
 ghost use Rattle.search.specs.Solving.{BearsOut, IsSolved, TakesId};
@@ -210,8 +214,9 @@ fn search<'a, P: Propagator>(
 pub struct Solver;
 
 impl Solver {
-    /// Searches a problem for a best solution, or for any where there is no objective. It stops at the conflict of number
-    /// `limit`, unless no decision is open there, and where no id is left.
+    /// Searches a problem for a best solution, or for any where there is no objective. It learns from
+    /// `limit - 1` conflicts at most: at the next one it stops, unless no decision is open there. It stops, too, where no id
+    /// is left.
     pub fn solve<'a, P: Propagator>(
         alloc: Global,
         problem: &'a Problem,

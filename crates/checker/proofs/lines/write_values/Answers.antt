@@ -6,7 +6,7 @@ use Rattle.checker.proofs.lines.write_values.Goals as goal
 pub loop-number-preserved : goal.loop-number-preserved
 loop-number-preserved c =
     let names = c.args.names.now in
-    let values = c.args.best.now in
+    let values = c.args.values.now in
     let i = c.loop-number.number in
     let inside : i < length values = subst (λ vs. i < length vs) c.as_slice-value-items.ensures c.loop-number-test.true in
     ap (λ items. with_values items (drop (i + 1) names) (drop (i + 1) values)) c.in_ok-write_value.ensures

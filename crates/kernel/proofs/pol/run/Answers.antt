@@ -5,7 +5,7 @@ use Rattle.proof_rules.specs.declared.fault.StepFault.TheVariants as faults
 use Rattle.proof_steps.specs.declared.step.Item.TheVariants as items
 use Rattle.proof_rules.specs.Fault.{OrMemory, IsItemFault, IsWritingFault}
 use Rattle.proof_rules.specs.Running.{Runs}
-use Rattle.proof_rules.proofs.Faults.{Runs-take, or_memory, stops_here, leaves_writing}
+use Rattle.proof_rules.proofs.PolFaults.{Runs-take, or_memory, stops_here, leaves_writing}
 use Rattle.proof_rules.proofs.Postfix.{LeavesStack-take}
 use Rattle.kernel.specs.Database.{found}
 use Rattle.kernel.proofs.pol.run.Goals as goal

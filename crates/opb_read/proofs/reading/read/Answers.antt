@@ -18,8 +18,8 @@ pub returns-in-Err-clause-denies : goal.returns-in-Err-clause-denies
 returns-in-Err-clause-denies c =
     denied_text c.in-Err.code c.args.text.now (subst (DeniesProblem c.in-Err.code) c.new-reader.ensures.left c.in-Err.ensures.denies)
 
-pub returns-in-Err-clause-spot : goal.returns-in-Err-clause-spot
-returns-in-Err-clause-spot c =
+pub returns-in-Err-clause-line : goal.returns-in-Err-clause-line
+returns-in-Err-clause-line c =
     let code = c.in-Err.code in
     let left = c.statements.new.reader.left in
     fault_at

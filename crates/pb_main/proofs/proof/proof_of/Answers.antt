@@ -1,6 +1,6 @@
 use Rattle.std.proofs.Common.{length, subst, sym}
 use Rattle.proof_text.specs.Writable.{IsConclusionWritable}
-use Rattle.pb_main.proofs.Conclusions.{conclusion_writable}
+use Rattle.pb_main.proofs.ConclusionsWritable.{conclusion_writable}
 use Rattle.pb_main.proofs.proof.proof_of.Goals as goal
 
 pub write_proof-requires-clause-conclusion : goal.write_proof-requires-clause-conclusion

@@ -2,7 +2,7 @@
 use Rattle.std.proofs.Common.{rules, ◌≡◌, [], true, false}
 use Rattle.std.proofs.lemmas.Result.{IfErr-weaker, on_ok_weaker}
 use Rattle.proof_rules.specs.Fault.{OrMemory, IsAddFault}
-use Rattle.proof_rules.proofs.Faults.{or_memory}
+use Rattle.proof_rules.proofs.PolFaults.{or_memory}
 use Rattle.pol_stack.specs.declared.stack.Held.TheVariants as held
 use Rattle.pol_stack.specs.Stack.{operand_value, stacked, IsSumFault}
 use Rattle.pol_stack.proofs.RunningSums.{both_ok, added_above, fault_above, nothing_above, below_on_top}

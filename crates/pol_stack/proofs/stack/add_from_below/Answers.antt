@@ -2,7 +2,7 @@
 use Rattle.std.proofs.Common.{◌∷◌}
 use Rattle.std.proofs.lemmas.Result.{IfErr-weaker}
 use Rattle.proof_rules.specs.Fault.{OrMemory, IsAddFault}
-use Rattle.proof_rules.proofs.Faults.{or_memory}
+use Rattle.proof_rules.proofs.PolFaults.{or_memory}
 use Rattle.pol_stack.specs.Stack.{operand_value, stack_of, IsSumFault}
 use Rattle.pol_stack.proofs.RunningSums.{both_ok, added_below, fault_below}
 use Rattle.pol_stack.proofs.stack.add_from_below.Goals as goal

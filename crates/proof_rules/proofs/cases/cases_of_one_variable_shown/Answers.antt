@@ -2,7 +2,7 @@ use Rattle.std.proofs.Common.{[], ◌∷◌, refl, arith}
 use Rattle.normal_form.specs.Cases.{plain, negated, normal}
 use Rattle.propagate.specs.Cases.{unit, unit_not}
 use Rattle.proof_rules.specs.Cases.{first_or_second}
-use Rattle.proof_rules.proofs.SmallCases.{shown_by_search}
+use Rattle.proof_rules.proofs.ShownBySearch.{shown_by_search}
 use Rattle.proof_rules.proofs.cases.cases_of_one_variable_shown.Goals as goal
 
 pub returns : goal.returns

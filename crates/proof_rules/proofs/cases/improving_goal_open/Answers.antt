@@ -7,7 +7,7 @@ use Rattle.propagate.specs.Cases.{not_x, unit_not}
 use Rattle.substitution.specs.Cases.{single, to_plain, three_of_four_false}
 use Rattle.substitution.specs.Under.{substituted, IsUnder}
 use Rattle.proof_rules.specs.Shown.{IsShown}
-use Rattle.proof_rules.proofs.SmallCases.{not_shown}
+use Rattle.proof_rules.proofs.ShownBySearch.{not_shown}
 use Rattle.proof_rules.proofs.cases.improving_goal_open.Goals as goal
 
 abbrev moved : NormalConstraint

@@ -6,7 +6,7 @@ use Rattle.substitution.specs.Under.{substituted, IsUnder}
 use Rattle.substitution.specs.declared.image.Image.TheVariants.{Zero}
 use Rattle.proof_rules.specs.Cases.{first_or_second}
 use Rattle.proof_rules.specs.Shown.{IsShown}
-use Rattle.proof_rules.proofs.SmallCases.{not_shown}
+use Rattle.proof_rules.proofs.ShownBySearch.{not_shown}
 use Rattle.proof_rules.proofs.cases.live_goal_open.Goals as goal
 
 under : IsUnder first_or_second (single 1 Zero) (unit 2)

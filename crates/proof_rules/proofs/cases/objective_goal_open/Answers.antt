@@ -5,7 +5,7 @@ use Rattle.substitution.specs.Cases.{single, min_first}
 use Rattle.substitution.specs.Objective.{not_raised, IsObjectiveGoal}
 use Rattle.substitution.specs.declared.image.Image.TheVariants.{One}
 use Rattle.proof_rules.specs.Shown.{IsShown}
-use Rattle.proof_rules.proofs.SmallCases.{not_shown}
+use Rattle.proof_rules.proofs.ShownBySearch.{not_shown}
 use Rattle.proof_rules.proofs.cases.objective_goal_open.Goals as goal
 
 target : IsObjectiveGoal min_first (single 1 One) (unit 1)

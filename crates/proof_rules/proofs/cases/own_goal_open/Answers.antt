@@ -8,7 +8,7 @@ use Rattle.substitution.specs.Under.{substituted, IsUnder}
 use Rattle.proof_rules.specs.Cases.{first_or_second}
 use Rattle.proof_rules.specs.Shown.{IsShown}
 use Rattle.proof_rules.proofs.ShownHolds.{zero_shown}
-use Rattle.proof_rules.proofs.SmallCases.{not_shown}
+use Rattle.proof_rules.proofs.ShownBySearch.{not_shown}
 use Rattle.proof_rules.proofs.cases.own_goal_open.Goals as goal
 
 -- `1 ~x2 1 x2` adds nothing to a set of variables, whether x2 is in it or not

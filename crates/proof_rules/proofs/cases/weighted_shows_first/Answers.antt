@@ -1,6 +1,6 @@
 use Rattle.std.proofs.Common.{[], ◌∷◌, refl, arith}
 use Rattle.propagate.specs.Cases.{x, not_x, unit, unit_not, weighted}
-use Rattle.proof_rules.proofs.SmallCases.{shown_by_search, not_shown}
+use Rattle.proof_rules.proofs.ShownBySearch.{shown_by_search, not_shown}
 use Rattle.proof_rules.proofs.cases.weighted_shows_first.Goals as goal
 
 pub returns-clause-first : goal.returns-clause-first

@@ -4,7 +4,7 @@ use Rattle.propagate.specs.Cases.{unit, unit_not}
 use Rattle.proof_rules.specs.Cases.{min_both, contradicting_state}
 use Rattle.proof_rules.specs.Justified.{IsExhausted}
 use Rattle.proof_rules.specs.Shown.{IsShown, absurdity}
-use Rattle.proof_rules.proofs.SmallCases.{shown_by_search}
+use Rattle.proof_rules.proofs.ShownBySearch.{shown_by_search}
 use Rattle.proof_rules.proofs.SmallStates.{live_of}
 use Rattle.proof_rules.proofs.conclusion_cases.contradiction_is_unsatisfiable.Goals as goal
 

@@ -15,7 +15,7 @@ use Rattle.proof_rules.specs.Solution.{at_least}
 use Rattle.proof_rules.specs.State.{constraints}
 use Rattle.proof_rules.proofs.NotLegal.{conclusion_never}
 use Rattle.proof_rules.proofs.OneConclusionFault.{one_conclusion_fault}
-use Rattle.proof_rules.proofs.SmallCases.{not_shown}
+use Rattle.proof_rules.proofs.ShownBySearch.{not_shown}
 use Rattle.proof_rules.proofs.SmallStates.{live_of, cover_is_bound, absurdity_not_shown}
 use Rattle.proof_rules.proofs.conclusion_cases.lower_bound_not_shown.Goals as goal
 

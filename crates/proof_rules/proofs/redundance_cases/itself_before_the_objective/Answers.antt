@@ -12,9 +12,9 @@ use Rattle.proof_rules.specs.Fault.{IsRedFault}
 use Rattle.proof_rules.specs.Legal.{IsShownUnder}
 use Rattle.proof_rules.specs.declared.fault.StepFault.TheVariants.{GoalOpen, GoalOpenSelf, GoalOpenObjective}
 use Rattle.proof_rules.proofs.OneStepFault.{one_step_fault}
-use Rattle.proof_rules.proofs.SmallCases.{not_shown_under}
+use Rattle.proof_rules.proofs.ShownBySearch.{not_shown_under}
 use Rattle.proof_rules.proofs.SmallStates.{live_of}
-use Rattle.proof_rules.proofs.SmallSteps.{not_first_admitted, not_first_negated, second_is_one}
+use Rattle.proof_rules.proofs.SmallConstraints.{not_first_admitted, not_first_negated, second_is_one}
 use Rattle.proof_rules.proofs.redundance_cases.itself_before_the_objective.Goals as goal
 
 abbrev OwnOpen : List NormalConstraint → Type 0

@@ -11,9 +11,9 @@ use Rattle.proof_rules.specs.Fault.{IsGoalFault, IsRedFault}
 use Rattle.proof_rules.specs.Legal.{IsShownUnder}
 use Rattle.proof_rules.specs.declared.fault.StepFault.TheVariants.{GoalOpen, GoalOpenSelf}
 use Rattle.proof_rules.proofs.OneStepFault.{one_step_fault}
-use Rattle.proof_rules.proofs.SmallCases.{not_shown_under}
+use Rattle.proof_rules.proofs.ShownBySearch.{not_shown_under}
 use Rattle.proof_rules.proofs.SmallStates.{found_in, live_of, none_below_one}
-use Rattle.proof_rules.proofs.SmallSteps.{not_first_admitted, not_first_negated}
+use Rattle.proof_rules.proofs.SmallConstraints.{not_first_admitted, not_first_negated}
 use Rattle.proof_rules.proofs.redundance_cases.least_id_of_the_open.Goals as goal
 
 abbrev live : List NormalConstraint

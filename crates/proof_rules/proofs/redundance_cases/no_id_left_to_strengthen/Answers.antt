@@ -9,9 +9,9 @@ use Rattle.proof_rules.specs.Cases.{cover_file, cover, cover_start}
 use Rattle.proof_rules.specs.Fault.{IsGoalFault}
 use Rattle.proof_rules.specs.Legal.{IsShownUnder}
 use Rattle.proof_rules.specs.declared.fault.StepFault.TheVariants.{GoalOpen}
-use Rattle.proof_rules.proofs.SmallCases.{not_shown_under}
+use Rattle.proof_rules.proofs.ShownBySearch.{not_shown_under}
 use Rattle.proof_rules.proofs.SmallStates.{found_in, live_of, none_below_one, none_left}
-use Rattle.proof_rules.proofs.SmallSteps.{first_admitted, not_first_admitted, not_first_negated}
+use Rattle.proof_rules.proofs.SmallConstraints.{first_admitted, not_first_admitted, not_first_negated}
 use Rattle.proof_rules.proofs.redundance_cases.no_id_left_to_strengthen.Goals as goal
 
 abbrev from : List NormalConstraint

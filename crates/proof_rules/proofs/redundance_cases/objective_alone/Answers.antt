@@ -17,9 +17,9 @@ use Rattle.proof_rules.specs.declared.fault.StepFault.TheVariants.{GoalOpenSelf,
 use Rattle.proof_rules.proofs.NotLegal.{step_never}
 use Rattle.proof_rules.proofs.OneStepFault.{one_step_fault}
 use Rattle.proof_rules.proofs.ShownHolds.{zero_shown}
-use Rattle.proof_rules.proofs.SmallCases.{not_shown_kept}
+use Rattle.proof_rules.proofs.ShownBySearch.{not_shown_kept}
 use Rattle.proof_rules.proofs.SmallStates.{live_of}
-use Rattle.proof_rules.proofs.SmallSteps.{first_admitted, first_negated, first_is_one}
+use Rattle.proof_rules.proofs.SmallConstraints.{first_admitted, first_negated, first_is_one}
 use Rattle.proof_rules.proofs.redundance_cases.objective_alone.Goals as goal
 
 -- the new constraint comes to `>= 0`

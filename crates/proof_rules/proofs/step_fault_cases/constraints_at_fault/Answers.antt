@@ -4,9 +4,9 @@ use Rattle.proof_rules.specs.Cases.{cover, cover_written, cover_start}
 use Rattle.proof_rules.specs.Shown.{IsShown}
 use Rattle.proof_rules.specs.State.{constraints}
 use Rattle.proof_rules.proofs.NotLegal.{one_admitted}
-use Rattle.proof_rules.proofs.SmallCases.{not_shown}
+use Rattle.proof_rules.proofs.ShownBySearch.{not_shown}
 use Rattle.proof_rules.proofs.SmallStates.{live_of, cover_shown}
-use Rattle.proof_rules.proofs.SmallSteps.{first_admitted, cover_admitted}
+use Rattle.proof_rules.proofs.SmallConstraints.{first_admitted, cover_admitted}
 use Rattle.proof_rules.proofs.step_fault_cases.constraints_at_fault.Goals as goal
 
 pub returns-clause-open : goal.returns-clause-open

@@ -5,7 +5,7 @@ use Rattle.proof_rules.specs.declared.fault.StepFault.TheVariants.{StackShape, B
 use Rattle.proof_rules.specs.Cases.{cover, cover_state}
 use Rattle.proof_rules.specs.Fault.{IsPolFault}
 use Rattle.proof_rules.specs.State.{State}
-use Rattle.proof_rules.proofs.OneItemFault.{one_pol_fault}
+use Rattle.proof_rules.proofs.OnePolFault.{one_pol_fault}
 use Rattle.proof_rules.proofs.SmallStates.{found_in}
 use Rattle.proof_rules.proofs.step_fault_cases.expressions_at_fault.Goals as goal
 

@@ -16,7 +16,7 @@ use Rattle.proof_rules.specs.Legal.{LegalPol}
 use Rattle.proof_rules.specs.Running.{Runs}
 use Rattle.proof_rules.specs.State.{constraint_of, with_constraint}
 use Rattle.proof_rules.proofs.NotLegal.{step_never}
-use Rattle.proof_rules.proofs.OneItemFault.{one_pol_fault}
+use Rattle.proof_rules.proofs.OnePolFault.{one_pol_fault}
 use Rattle.proof_rules.proofs.SmallStates.{found_in}
 use Rattle.proof_rules.proofs.step_fault_cases.expressions_beyond_the_limits.Goals as goal
 

@@ -3,7 +3,7 @@ use Rattle.propagate.specs.Cases.{unit}
 use Rattle.proof_rules.specs.Cases.{cover}
 use Rattle.proof_rules.specs.Expression.{cited}
 use Rattle.proof_rules.proofs.SmallStates.{found_in, none_left}
-use Rattle.proof_rules.proofs.SmallSteps.{first_admitted, cover_admitted}
+use Rattle.proof_rules.proofs.SmallConstraints.{first_admitted, cover_admitted}
 use Rattle.proof_rules.proofs.step_fault_cases.no_id_left.Goals as goal
 
 pub returns-clause-shown : goal.returns-clause-shown

@@ -3,7 +3,7 @@ use Rattle.std.proofs.Common.{true, ap, subst}
 use Rattle.proof_rules.specs.State.{Live}
 use Rattle.propagate.specs.Content.{AddsOccurrences}
 use Rattle.kernel.specs.Database.{Constraints}
-use Rattle.kernel.specs.Redundancy.{AddsVariable}
+use Rattle.kernel.specs.Redundance.{AddsVariable}
 use Rattle.kernel.proofs.Touched.{both_literals}
 use Rattle.kernel.proofs.database.Database.add_variable.Goals as goal
 

@@ -6,7 +6,7 @@ use Rattle.substitution.specs.declared.image.Image.{Image}
 use Rattle.substitution.specs.declared.image.Image.TheVariants.{Lit}
 use Rattle.substitution.specs.Images.{Images}
 use Rattle.kernel.specs.Database.{Constraints}
-use Rattle.kernel.specs.Redundancy.{AddsVariable}
+use Rattle.kernel.specs.Redundance.{AddsVariable}
 use Rattle.kernel.proofs.Touched.{IsGatheringTouched, gathering_none, gathering_next, gathered_all}
 use Rattle.kernel.proofs.database.Database.touched.Goals as goal
 

@@ -11,7 +11,7 @@ use Rattle.proof_rules.specs.Fault.{OrMemory, IsBoundsFault, IsConclusionFault, 
 use Rattle.proof_rules.specs.Justified.{EntitlesLower, EntitlesUpper, IsBest}
 use Rattle.proof_rules.specs.State.{State}
 use Rattle.proof_rules.proofs.ConclusionJudged.{bounds_fault}
-use Rattle.proof_rules.proofs.Faults.{or_memory}
+use Rattle.proof_rules.proofs.PolFaults.{or_memory}
 use Rattle.kernel.specs.Held.{Held, with_extra}
 use Rattle.kernel.proofs.Concluded.{behind, upper_claimed, upper_entitled}
 use Rattle.kernel.proofs.kernel.Kernel.judge_bounds.Goals as goal

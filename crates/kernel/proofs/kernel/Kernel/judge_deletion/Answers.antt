@@ -7,7 +7,7 @@ use Rattle.std.specs.FinSet as set
 use Rattle.proof_rules.specs.Fault.{IsDelFault, IsUndeletable}
 use Rattle.proof_rules.specs.Legal.{LegalDel, without}
 use Rattle.proof_rules.specs.State.{State, id_of}
-use Rattle.proof_rules.proofs.Faults.{or_memory}
+use Rattle.proof_rules.proofs.PolFaults.{or_memory}
 use Rattle.kernel.specs.Deletion.{IsWithout}
 use Rattle.kernel.specs.Held.{Held}
 use Rattle.kernel.proofs.Deleting.{none_gone, one_gone, del_take, del_stops}

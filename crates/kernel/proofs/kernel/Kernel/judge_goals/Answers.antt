@@ -10,9 +10,9 @@ use Rattle.substitution.specs.Objective.{not_raised}
 use Rattle.proof_rules.specs.Legal.{IsShownUnder, IsShownNotRaised}
 use Rattle.proof_rules.specs.Shown.{IsShown}
 use Rattle.proof_rules.specs.State.{constraints}
-use Rattle.proof_rules.proofs.Faults.{or_memory}
+use Rattle.proof_rules.proofs.PolFaults.{or_memory}
 use Rattle.kernel.specs.Held.{Held}
-use Rattle.kernel.specs.Redundancy.{IsGoalOpen, IsOpenLive}
+use Rattle.kernel.specs.Redundance.{IsGoalOpen, IsOpenLive}
 use Rattle.kernel.proofs.GoalsShown.{zero_redundant, open_live, beside_negation, same_from, no_objective_goal, objective_judged}
 use Rattle.kernel.proofs.kernel.Kernel.judge_goals.Goals as goal
 

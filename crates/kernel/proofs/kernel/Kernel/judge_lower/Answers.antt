@@ -5,7 +5,7 @@ use mir.Syntax.{w128}
 use Rattle.proof_steps.specs.declared.conclusion.Lower.TheVariants as lowers
 use Rattle.proof_rules.specs.Fault.{OrMemory, IsBoundFault, IsLowerFault}
 use Rattle.proof_rules.specs.State.{State}
-use Rattle.proof_rules.proofs.Faults.{or_memory}
+use Rattle.proof_rules.proofs.PolFaults.{or_memory}
 use Rattle.kernel.specs.Held.{with_extra}
 use Rattle.kernel.proofs.Concluded.{bound_beside}
 use Rattle.kernel.proofs.kernel.Kernel.judge_lower.Goals as goal

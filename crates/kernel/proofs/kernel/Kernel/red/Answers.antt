@@ -3,9 +3,9 @@ use Rattle.std.proofs.lemmas.Result.{err_from_is_err_and}
 use Rattle.proof_steps.specs.declared.step.Step.TheVariants as steps
 use Rattle.proof_rules.specs.Fault.{IsRedFault}
 use Rattle.proof_rules.specs.State.{HasRoom, with_constraint}
-use Rattle.proof_rules.proofs.Faults.{or_memory}
+use Rattle.proof_rules.proofs.PolFaults.{or_memory}
 use Rattle.kernel.specs.Held.{Held, IsKept}
-use Rattle.kernel.specs.Redundancy.{AreGoalsShown, IsGoalOpen}
+use Rattle.kernel.specs.Redundance.{AreGoalsShown, IsGoalOpen}
 use Rattle.kernel.proofs.Keeping.{kept_step}
 use Rattle.kernel.proofs.kernel.Kernel.red.Goals as goal
 

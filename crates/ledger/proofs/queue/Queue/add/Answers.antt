@@ -2,7 +2,7 @@
 use Rattle.std.proofs.Common.{◌≡◌, ◌++◌, ◌∷◌, [], Contains, subst, sym, ◌∙◌, false, arith, length, ◌<◌, get_or, true, ap, List, ℕ, set}
 use Rattle.std.proofs.lemmas.List.{get_or_default, length-set}
 use Rattle.std.proofs.lemmas.List.Elements.{Contains-append_left, Contains-push}
-use Rattle.ledger.proofs.Places.{first_below, more_behind, pushed, room, waits_behind}
+use Rattle.ledger.proofs.QueueChanges.{first_below, more_behind, pushed, room, waits_behind}
 use Rattle.ledger.proofs.queue.Queue.add.Goals as goal
 
 pub push_back_reserved-requires : goal.push_back_reserved-requires

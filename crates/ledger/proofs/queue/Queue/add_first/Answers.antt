@@ -1,7 +1,7 @@
 -- What waits behind it still waits.
 use Rattle.std.proofs.Common.{Contains, ℕ, List, Option, Some, ap, subst, sym, ◌∙◌}
 use Rattle.ledger.specs.Waiting.{with_first}
-use Rattle.ledger.proofs.Places.{waits_behind}
+use Rattle.ledger.proofs.QueueChanges.{waits_behind}
 use Rattle.ledger.proofs.queue.Queue.add_first.Goals as goal
 
 pub returns-in-None-clause-kept : goal.returns-in-None-clause-kept

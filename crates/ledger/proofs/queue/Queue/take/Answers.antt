@@ -1,7 +1,7 @@
 -- The first place waits no more.
 use Rattle.std.proofs.Common.{false, arith, length, set}
 use Rattle.std.proofs.lemmas.List.{length-set}
-use Rattle.ledger.proofs.Places.{first_below, taken}
+use Rattle.ledger.proofs.QueueChanges.{first_below, taken}
 use Rattle.ledger.proofs.queue.Queue.take.Goals as goal
 
 pub invariant_of-self-in-None : goal.invariant_of-self-in-None

@@ -3,7 +3,7 @@ use Rattle.std.proofs.Common.{ℕ, List, None, ap, arith, subst}
 use Rattle.std.proofs.lemmas.List.{length-set}
 use Rattle.linear.specs.declared.term.Lit.{Lit}
 use Rattle.ledger.specs.Trails.{ArePositions, IsTrail}
-use Rattle.ledger.proofs.Marks.{last_below, popped}
+use Rattle.ledger.proofs.TrailChanges.{last_below, popped}
 use Rattle.ledger.proofs.Positions.{positions_popped}
 use Rattle.ledger.proofs.trail.Trail.pop.Goals as goal
 

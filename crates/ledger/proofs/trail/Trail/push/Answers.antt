@@ -3,7 +3,7 @@ use Rattle.std.proofs.Common.{◌≡◌, ℕ, ◌<◌, List, length, ap, arith, 
 use Rattle.std.proofs.lemmas.List.{length-set}
 use Rattle.linear.specs.declared.term.Lit.{Lit}
 use Rattle.ledger.specs.Trails.{IsFree}
-use Rattle.ledger.proofs.Marks.{room, pushed}
+use Rattle.ledger.proofs.TrailChanges.{room, pushed}
 use Rattle.ledger.proofs.Positions.{positions_pushed}
 use Rattle.ledger.proofs.trail.Trail.push.Goals as goal
 

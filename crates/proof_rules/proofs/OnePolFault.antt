@@ -11,7 +11,7 @@ use Rattle.proof_rules.specs.Running.{AppliesItem, Runs}
 use Rattle.proof_rules.specs.Fault.{IsFactorFault, IsShapeFault, IsIdFault, IsAddFault, IsMultiplyFault, IsItemFault, StopsAtItem, LeavesOther, IsPolFault}
 use Rattle.proof_rules.specs.State.{State, constraint_of}
 use Rattle.proof_rules.proofs.Determined.{one_step, one_run, parts, stuck, empty_top, writing_never}
-use Rattle.proof_rules.proofs.Faults.{stops_writing, leaves_writing}
+use Rattle.proof_rules.proofs.PolFaults.{stops_writing, leaves_writing}
 
 -- a fault by its name, where a condition is so
 abbrev pub Case : StepFault → StepFault → Type 0 → Type 0

@@ -1,4 +1,4 @@
--- Deciding by the slow search whether a constraint is shown.
+-- In the worked cases: the slow search decides whether a constraint is shown.
 use Rattle.std.proofs.Common.{◌≡◌, ℕ, ◌+◌, ◌-◌, inl, inr, Bool, true, false, List, [], ◌∷◌, ◌++◌, nat_le, subst, arith}
 use Rattle.std.specs.List.{list_any}
 use Rattle.std.proofs.lemmas.Bool.Decides.{nat_tests}

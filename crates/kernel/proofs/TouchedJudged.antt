@@ -14,7 +14,7 @@ use Rattle.proof_rules.specs.State.{Live}
 use Rattle.proof_rules.specs.declared.fault.StepFault.TheVariants.{GoalOpen}
 use Rattle.proof_rules.proofs.LiveConstraints.{All-from_get, All-get}
 use Rattle.kernel.specs.Database.{Constraints}
-use Rattle.kernel.specs.Redundancy.{IsOpenLive, IsTouched}
+use Rattle.kernel.specs.Redundance.{IsOpenLive, IsTouched}
 use Rattle.kernel.proofs.Touched.{touched_live, untouched_shown}
 
 -- the ids still to be judged are live, and what the constraints of all others become is shown

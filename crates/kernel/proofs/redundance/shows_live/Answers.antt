@@ -4,9 +4,9 @@ use Rattle.std.specs.FinMap as map
 use Rattle.normal_form.specs.Normal.{NormalConstraint}
 use Rattle.proof_rules.specs.Legal.{IsShownUnder}
 use Rattle.proof_rules.specs.Shown.{IsShown}
-use Rattle.kernel.specs.Redundancy.{BecomesBeyond}
+use Rattle.kernel.specs.Redundance.{BecomesBeyond}
 use Rattle.kernel.proofs.GoalsShown.{shown_under, covered_under}
-use Rattle.kernel.proofs.redundancy.shows_live.Goals as goal
+use Rattle.kernel.proofs.redundance.shows_live.Goals as goal
 
 pub returns-in_default-clause-shown : goal.returns-in_default-clause-shown
 returns-in_default-clause-shown g c =

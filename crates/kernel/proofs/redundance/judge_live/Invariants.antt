@@ -2,8 +2,8 @@
 use Rattle.std.proofs.Common.{◌≡◌, ◌++◌}
 use Rattle.std.specs.FinMap as map
 use Rattle.std.specs.FinSet as set
-use Rattle.kernel.proofs.Judging.{IsJudging}
-use Rattle.kernel.proofs.redundancy.judge_live.Given as goal
+use Rattle.kernel.proofs.TouchedJudged.{IsJudging}
+use Rattle.kernel.proofs.redundance.judge_live.Given as goal
 
 abbrev pub decreases-loop-id : goal.decreases-loop-id
 decreases-loop-id g l = set.len l.touched

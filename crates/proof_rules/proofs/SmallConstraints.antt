@@ -1,4 +1,4 @@
--- The constraints of the worked cases of `rup` and redundance: `1 x0 >= 1`, `1 ~x0 >= 1` and `1 x0 1 x1 >= 1`, and what becomes of the live one.
+-- The small constraints of the worked cases of `rup` and redundance: `1 x0 >= 1`, `1 ~x0 >= 1` and `1 x0 1 x1 >= 1`, and what becomes of the live one.
 use Rattle.std.proofs.Common.{ℕ, List, [], ◌∷◌, All, refl, arith}
 use Rattle.std.proofs.lemmas.Int.{ints}
 use Rattle.std.proofs.lemmas.List.Elements.{All-nil, All-cons}

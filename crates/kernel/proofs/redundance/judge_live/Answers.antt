@@ -3,8 +3,8 @@ use Rattle.std.proofs.lemmas.Bool.{false≢true}
 use Rattle.std.specs.FinMap as map
 use Rattle.normal_form.specs.Normal.{NormalConstraint}
 use Rattle.kernel.specs.Database.{Constraints}
-use Rattle.kernel.proofs.Judging.{judging_first, judging_more, judging_open, judging_end, judged, fewer}
-use Rattle.kernel.proofs.redundancy.judge_live.Goals as goal
+use Rattle.kernel.proofs.TouchedJudged.{judging_first, judging_more, judging_open, judging_end, judged, fewer}
+use Rattle.kernel.proofs.redundance.judge_live.Goals as goal
 
 pub loop-id-init : goal.loop-id-init
 loop-id-init g c = (

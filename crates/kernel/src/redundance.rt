@@ -10,7 +10,7 @@ ghost use Rattle.linear.specs.declared.constraint.Relation.TheVariants.{AtLeast}
 ghost use Rattle.normal_form.specs.Normal.{NormalConstraint, Rises};
 ghost use Rattle.proof_rules.specs.Fault.{OrMemory, IsRedFault};
 ghost use Rattle.proof_rules.specs.Legal.{IsShownUnder, LegalRed};
-ghost use Rattle.kernel.specs.Redundancy.{AreGoalsShown, IsGoalOpen, IsOpenLive};
+ghost use Rattle.kernel.specs.Redundance.{AreGoalsShown, IsGoalOpen, IsOpenLive};
 
 use super::admission::admitted;
 use super::database::Database;
