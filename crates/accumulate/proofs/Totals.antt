@@ -1,14 +1,12 @@
 -- The sum that an array stands for after the terms of a constraint were added.
-use Rattle.std.proofs.Common.{◌≡◌, ℕ, ◌+◌, ◌-◌, ◌/◌, ◌<◌, ◌≤◌, Bool, true, false, List, [], ◌∷◌, length, take, ◌++◌, get_or, refl, ap, sym, subst, ◌∙◌, arith, inl, inr, ◌⊎◌, ◌==◌}
+use Rattle.std.proofs.Common.{◌≡◌, ℕ, ◌+◌, ◌-◌, ◌/◌, ◌≤◌, Bool, true, false, List, [], refl, ap, subst, ◌∙◌, arith, inl, inr, ◌⊎◌, ◌==◌}
 use Rattle.std.specs.Prelude.{ℤ, pos, ◌+ℤ◌}
 use Rattle.std.proofs.lemmas.Int.{ints}
 use Rattle.normal_form.specs.declared.term.NormalTerm.{NormalTerm}
-use Rattle.normal_form.specs.Normal.{NormalConstraint, sum_over, only, total, variable_bound, Rises, IsNormal, largest_sum}
+use Rattle.normal_form.specs.Normal.{NormalConstraint, sum_over, only, total, Rises, IsNormal, largest_sum}
 use Rattle.normal_form.specs.Balance.{rises_of}
-use Rattle.normal_form.proofs.Sums.{bound_take, bound_push}
 use Rattle.normal_form.proofs.FromBalance.{split_at, one_side}
 use Rattle.normal_form.proofs.OneList.{one_list, same_constraint}
-use Rattle.std.proofs.lemmas.List.{take_more, take_all}
 use Rattle.cut_rules.specs.Rules.{cancelled, IsSum, IsTooLarge}
 use Rattle.cut_rules.specs.Steps.{SumBalances}
 use Rattle.cut_rules.proofs.Sum.{sum_at, sum_total, sum_from}
@@ -61,13 +59,6 @@ one_balance ts us r q b = one_list 0 0 ts us r q (λ v s.
 -- what was added and taken back is as it was
 pub taken_back : (ns new old : List ℤ) (ts : List NormalTerm) → Added changes.Add ns ts new → Added changes.TakeBack new ts old → terms_from 0 old ≡ terms_from 0 ns
 taken_back ns new old ts a b = one_balance (terms_from 0 old) (terms_from 0 ns) (terms_rise 0 old) (terms_rise 0 ns) (λ set. omega (arith, ints, a set, b set, terms_give set 0 old, terms_give set 0 ns))
-
--- the last variable bounds all
-pub last_bound : (ts : List NormalTerm) (n : ℕ) (t : NormalTerm) → Rises 0 ts → length ts ≡ n + 1 → t ≡ get_or ts n t → variable_bound ts ≤ t.var.0 + 1
-last_bound ts n t r l e =
-    let here : n < length ts = omega (arith, l) in
-    let all : variable_bound ts ≡ variable_bound (take n ts ++ get_or ts n t ∷ []) = ap variable_bound (sym (take_all (n + 1) ts (omega (arith, l))) ∙ take_more ts n t here) in
-    omega (arith, all, bound_push (take n ts) (get_or ts n t), bound_take 0 ts n t r here, ap (λ (x : NormalTerm). x.var.0) e)
 
 -- arrays of the same terms are the same constraint, of the same sizes
 pub same_of : (ns ms : List ℤ) (degree : ℕ) → terms_from 0 ms ≡ terms_from 0 ns → constraint_of ms degree ≡ constraint_of ns degree

@@ -9,7 +9,7 @@
 //!
 //! A constraint is added first, and taken back where the result is too large: so one pass is enough where it is not.
 
-ghost use Rattle.std.specs.Prelude.{◌≡◌, [], IfOk, OnOk, OnErr, IsErrOf};
+ghost use Rattle.std.specs.Prelude.{◌≡◌, IfOk, OnOk, OnErr, IsErrOf};
 ghost use Rattle.linear.specs.Valuation.{Valuation};
 ghost use Rattle.normal_form.specs.Normal.{NormalConstraint, IsNormal, Fits, Holds};
 ghost use Rattle.cut_rules.specs.Rules.{IsSum, IsTooLarge, IsWeakening};

@@ -5,14 +5,14 @@
 //! `2^120`, and a constraint adds at most as much, so no sum leaves its type, and whether a result is too large is
 //! asked once, behind.
 
-ghost use Rattle.std.specs.Prelude.{◌≡◌, ℕ, List, Bool, ◌+◌, ◌<◌, ◌≤◌, ◌^◌, ◌-◌, ◌/◌, ◌↔◌, IsTrue, pos, ◌+ℤ◌, unsigned_abs, Contains, OnOk, [], length, if◌then◌else◌};
+ghost use Rattle.std.specs.Prelude.{◌≡◌, ℕ, List, Bool, ◌+◌, ◌<◌, ◌≤◌, ◌^◌, ◌-◌, ◌/◌, ◌↔◌, IsTrue, pos, ◌+ℤ◌, unsigned_abs, Contains, OnOk, length, if◌then◌else◌};
 ghost use Rattle.normal_form.specs.Normal.{total, variable_bound, largest_sum, IsNormal};
 ghost use Rattle.normal_form.specs.Balance.{rise_of, rises_of};
 ghost use Rattle.accumulate.specs.Nets.{terms_from, nets_of, sizes, turned, IsMarked, NamesAll};
 
 use linear::Var;
-use normal_form::{CutFault, LARGEST_SUM, Normal, NormalBuilder, NormalTerm};
-use std::alloc::{AllocError, Global};
+use normal_form::{LARGEST_SUM, Normal, NormalTerm};
+use std::alloc::AllocError;
 
 /// Whether terms are added, or what they added is taken back.
 #[derive(Clone, Copy, Debug)]
@@ -129,17 +129,6 @@ pub(crate) fn mark(
     Ok(())
 }
 
-/// How many cells the variables of a constraint want.
-fn room_for(other: &Normal) -> usize
-    ensures { variable_bound other.now.terms ≤ result }
-{
-    let count = other.len();
-    if count == 0 {
-        return 0;
-    }
-    other.term(count - 1).var.0 as usize + 1
-}
-
 /// Makes room for the variables of a constraint, and marks them. No net coefficient changes.
 pub(crate) fn prepare(
     nets: &mut Vec<i128>,
@@ -152,7 +141,7 @@ pub(crate) fn prepare(
     ensures room { OnOk result (variable_bound other.now.terms ≤ length nets.new.items) }
     ensures names { OnOk result (NamesAll touched.new.items other.now.terms) }
 {
-    lengthen(nets, room_for(other))?;
+    lengthen(nets, other.variable_count())?;
     mark(nets, touched, other)
 }
 

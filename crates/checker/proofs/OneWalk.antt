@@ -73,8 +73,8 @@ one_advance p old a b x y =
     same_position a b both.0 (x.names ∙ same.2 ∙ sym y.names) (x.left ∙ same.3 ∙ sym y.left) both.1 both.2
 
 -- what a fault denies is no line
-placed_never : (f : ProofFault) (section : Section) (old ws : List (List ℕ)) (line : Line) (new : List (List ℕ)) → DeniesAt f section old ws → f ≢ readings.OutOfMemory → IsLine section old ws line new → ⊥
-placed_never f section old ws line new denies sure is = by f denies sure
+one_denied_never : (f : ProofFault) (section : Section) (old ws : List (List ℕ)) (line : Line) (new : List (List ℕ)) → DeniesAt f section old ws → f ≢ readings.OutOfMemory → IsLine section old ws line new → ⊥
+one_denied_never f section old ws line new denies sure is = by f denies sure
   where
     says : line_of section (names_in old (naming section ws)) ws ≡ Some line
     says = ap (λ t. line_of section t ws) (sym is.names) ∙ is.says
@@ -95,8 +95,8 @@ denied_never : (f : ProofFault) (section : Section) (old ws : List (List ℕ)) (
 unfolding DeniesLine
 denied_never f sections.Header old ws line new d sure is = d.1 line (ap (λ t. line_of sections.Header t ws) (sym is.names) ∙ is.says) is.proper
 denied_never f sections.Count old ws line new d sure is = d.1 line (ap (λ t. line_of sections.Count t ws) (sym is.names) ∙ is.says) is.small
-denied_never f sections.Step old ws line new d sure is = placed_never f sections.Step old ws line new d sure is
-denied_never f sections.Conclusion old ws line new d sure is = placed_never f sections.Conclusion old ws line new d.1 sure is
+denied_never f sections.Step old ws line new d sure is = one_denied_never f sections.Step old ws line new d sure is
+denied_never f sections.Conclusion old ws line new d sure is = one_denied_never f sections.Conclusion old ws line new d.1 sure is
 denied_never f sections.End old ws line new d sure is = d.1 line (ap (λ t. line_of sections.End t ws) (sym is.names) ∙ is.says) is.proper
 denied_never f sections.After old ws line new d sure is = let none : ◌≡◌ {A = Option Line} None (Some line) = is.says in cc
 
@@ -185,18 +185,18 @@ many_alone readings.Truncated section old ws x y sure = absurd y
 many_alone readings.TextAfterEnd section old ws x y sure = absurd y
 
 -- among the faults of a step, a conclusion or an end, those of a line that says nothing are left open
-placed_alone : (f g : ProofFault) (section : Section) (old ws : List (List ℕ)) → (IsLeftOpen (Reading f) → ⊥) → DeniesAt f section old ws
+one_denied_alone : (f g : ProofFault) (section : Section) (old ws : List (List ℕ)) → (IsLeftOpen (Reading f) → ⊥) → DeniesAt f section old ws
     → f ≢ readings.OutOfMemory → DeniesAt g section old ws → g ≢ readings.OutOfMemory → g ≡ f
-placed_alone readings.UnknownRule g section old ws closed x sure y certain = absurd (closed tt)
-placed_alone readings.RuleLeftOut g section old ws closed x sure y certain = absurd (closed tt)
-placed_alone readings.BadLine g section old ws closed x sure y certain = absurd (closed tt)
-placed_alone readings.IntegerTooLarge g section old ws closed x sure y certain = absurd (closed tt)
-placed_alone readings.TooManyIds g section old ws closed x sure y certain = many_alone g section old ws x y certain
-placed_alone readings.OutOfMemory g section old ws closed x sure y certain = absurd (sure refl)
-placed_alone readings.BadHeader g section old ws closed x sure y certain = absurd x
-placed_alone readings.BadCount g section old ws closed x sure y certain = absurd x
-placed_alone readings.Truncated g section old ws closed x sure y certain = absurd x
-placed_alone readings.TextAfterEnd g section old ws closed x sure y certain = absurd x
+one_denied_alone readings.UnknownRule g section old ws closed x sure y certain = absurd (closed tt)
+one_denied_alone readings.RuleLeftOut g section old ws closed x sure y certain = absurd (closed tt)
+one_denied_alone readings.BadLine g section old ws closed x sure y certain = absurd (closed tt)
+one_denied_alone readings.IntegerTooLarge g section old ws closed x sure y certain = absurd (closed tt)
+one_denied_alone readings.TooManyIds g section old ws closed x sure y certain = many_alone g section old ws x y certain
+one_denied_alone readings.OutOfMemory g section old ws closed x sure y certain = absurd (sure refl)
+one_denied_alone readings.BadHeader g section old ws closed x sure y certain = absurd x
+one_denied_alone readings.BadCount g section old ws closed x sure y certain = absurd x
+one_denied_alone readings.Truncated g section old ws closed x sure y certain = absurd x
+one_denied_alone readings.TextAfterEnd g section old ws closed x sure y certain = absurd x
 
 -- so each line has one fault of reading, but for those
 denied_alone : (f g : ProofFault) (section : Section) (old ws : List (List ℕ)) → (IsLeftOpen (Reading f) → ⊥) → DeniesLine f section old ws
@@ -204,8 +204,8 @@ denied_alone : (f g : ProofFault) (section : Section) (old ws : List (List ℕ))
 unfolding DeniesLine
 denied_alone f g sections.Header old ws closed x sure y certain = y.0 ∙ sym x.0
 denied_alone f g sections.Count old ws closed x sure y certain = y.0 ∙ sym x.0
-denied_alone f g sections.Step old ws closed x sure y certain = placed_alone f g sections.Step old ws closed x sure y certain
-denied_alone f g sections.Conclusion old ws closed x sure y certain = placed_alone f g sections.Conclusion old ws closed x.1 sure y.1 certain
+denied_alone f g sections.Step old ws closed x sure y certain = one_denied_alone f g sections.Step old ws closed x sure y certain
+denied_alone f g sections.Conclusion old ws closed x sure y certain = one_denied_alone f g sections.Conclusion old ws closed x.1 sure y.1 certain
 denied_alone f g sections.End old ws closed x sure y certain = y.0 ∙ sym x.0
 denied_alone f g sections.After old ws closed x sure y certain = y ∙ sym x
 

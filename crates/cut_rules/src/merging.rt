@@ -7,18 +7,18 @@
 //! The sum of the result is added up on the way: what cancelled is half of what the sums of the two had more, and by it
 //! the degree falls.
 
-ghost use Rattle.std.specs.Prelude.{◌≡◌, ℕ, Bool, ◌+◌, ◌<◌, ◌≤◌, pos, ◌+ℤ◌, unsigned_abs, IfOk, drop, [], if◌then◌else◌};
+ghost use Rattle.std.specs.Prelude.{◌≡◌, ℕ, Bool, ◌+◌, ◌<◌, ◌≤◌, pos, ◌+ℤ◌, unsigned_abs, IfOk, drop, if◌then◌else◌};
 ghost use Rattle.linear.specs.Largest.{most_names};
 ghost use Rattle.normal_form.specs.Normal.{largest_sum, total, Rises};
 ghost use Rattle.normal_form.specs.Balance.{rise_of, rises_of};
 ghost use Rattle.cut_rules.specs.Steps.{IsHead, SumBalances};
 
-use linear::Var;
+use linear::{MOST_NAMES, Var};
 use normal_form::{Normal, NormalBuilder, NormalTerm};
 use std::alloc::{AllocError, Global};
 
 /// Above all variables.
-const END: u64 = 1 << 32;
+const END: u64 = MOST_NAMES as u64;
 
 /// What a term gives its variable.
 fn rise(term: NormalTerm) -> i128

@@ -2,7 +2,6 @@
 //! state has an answer for the problem is a fact of the type: each rule's file shows that what it does keeps it, by the laws
 //! of `proof_rules`, and nobody has to believe in the order of the code.
 
-use super::accepted::Accepted;
 use super::database::Database;
 use super::file::constraints_of_file;
 use super::log::Log;

@@ -16,7 +16,7 @@ use super::admission::admitted;
 use super::database::Database;
 use super::kernel::{Applied, Kernel};
 use super::shown::is_shown;
-use linear::{Problem, Signed};
+use linear::Signed;
 use normal_form::{Normal, negate};
 use proof_rules::StepFault;
 use propagate::{Id, Propagator};

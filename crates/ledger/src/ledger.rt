@@ -22,7 +22,7 @@ ghost use Rattle.propagate.specs.Slack.{IsBroken};
 ghost use Rattle.propagate.specs.Walk.{IsQuiet};
 ghost use Rattle.ledger.specs.Hints.{IsHint, IsHintWithin};
 ghost use Rattle.ledger.specs.Entered.{AreEntriesOf, all_of};
-ghost use Rattle.ledger.specs.Ledgers.{AreReasons, IsReason, constraint_at, open_sum, shown};
+ghost use Rattle.ledger.specs.Ledgers.{AreReasons, HasSlack, IsReason, constraint_at, open_sum, shown};
 ghost use Rattle.ledger.specs.Watched.{IsOpen, IsPairOf};
 
 use super::choosing::open_pair;
@@ -219,8 +219,7 @@ impl Ledger {
     pub fn slack(&self, place: usize) -> Option<u128>
         requires { place < length self.now.slots }
         ensures { MatchOption result (IsBroken self.now.listing (constraint_at (shown self.now.slots) place))
-            (λ slack. open_sum self.now.listing (constraint_at (shown self.now.slots) place)
-            ≡ (constraint_at (shown self.now.slots) place).degree + slack) }
+            (HasSlack (shown self.now.slots) self.now.listing place) }
     {
         match &self.slots[place] {
             None => Some(0),

@@ -13,7 +13,6 @@ use super::names::Names;
 use super::seq::Seq;
 use super::sums::{meets, sum};
 use super::term::Term;
-use std::alloc::{AllocError, Global};
 use std::marker::Model;
 
 /// A linear 0-1 problem: names, an objective to be minimised or none, and constraints. Its sizes

@@ -93,7 +93,7 @@ impl<'a> Lookahead<'a> {
     }
 
     /// Passes the next token.
-    /// The one place where reading cuts tokens: what it cuts is written where it stays, and copied once.
+    // The one place where reading cuts tokens: what it cuts is written where it stays, and copied once.
     #[inline(never)]
     pub fn advance(&mut self)
         ensures { self.new ≡ drop 1 self.old }

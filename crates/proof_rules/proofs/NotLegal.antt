@@ -96,7 +96,7 @@ is_some_never o h k = subst (λ x. IsSome x → ⊥) (sym h) (λ n. false≢true
 pub undeletable_never : (p : Opb) (s : State) (id : ℕ) (f : StepFault) → IsUndeletable p s id f → IsDeletable p s id → ⊥
 undeletable_never p s id faults.DeadId none d = is_some_never (fin.get s.live id) none d.live
 undeletable_never p s id faults.FileConstraint (some, inl file) d = omega (arith, file, d.derived)
-undeletable_never p s id faults.FileConstraint (some, inr asked) d = false≢true (sym d.not_improving ∙ asked)
+undeletable_never p s id faults.FileConstraint (some, inr improving) d = false≢true (sym d.not_improving ∙ improving)
 undeletable_never p s id _ h d = h
 
 pub one_deletion : (p : Opb) (s t u : State) (ids : List ℤ) → LegalDel p s ids t → LegalDel p s ids u → t ≡ u

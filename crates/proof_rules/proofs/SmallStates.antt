@@ -114,7 +114,7 @@ neither_breaks = (
       (one_completion (constraints (state_of (cover ∷ []))) 2 (not_x 0 ∷ not_x 1 ∷ []) g neither also neither_completes) satisfies),
 )
 
--- the listing `x0 x1` satisfies it too, whatever is live
+-- the listing `x0 x1` logs the solution of both, whatever is live
 pub both_logged : (s : State) → Logs least_cover s (x 0 ∷ x 1 ∷ []) both
 both_logged s = record {
   completes = both_named (constraints s) (x 0 ∷ x 1 ∷ []) true true (two_consistent (x 0) (x 1) refl) refl refl;

@@ -1,7 +1,6 @@
 pub mod Cases
 pub mod Claim
 pub mod Codes
-pub mod Contradiction
 pub mod Deletion
 pub mod Expression
 pub mod Fault

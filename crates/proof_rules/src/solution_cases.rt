@@ -62,9 +62,9 @@ pub fn improving_solution()
 pub fn false_and_not_improving()
     ensures breaks { IsSoliFault greatest_cover (cover_state (Some (neg_ℤ (pos 1))) (second_alone ∷ []))
         (not_x 0 ∷ not_x 1 ∷ []) SolutionFalse }
-    ensures not_worse { IsSoliFault greatest_cover (cover_state (Some (neg_ℤ (pos 1))) (second_alone ∷ []))
+    ensures breaks_alone { IsSoliFault greatest_cover (cover_state (Some (neg_ℤ (pos 1))) (second_alone ∷ []))
         (not_x 0 ∷ not_x 1 ∷ []) NotImproving → ⊥ }
-    ensures worse { IsSoliFault greatest_cover (cover_state (Some (neg_ℤ (pos 1))) (second_alone ∷ []))
+    ensures equal { IsSoliFault greatest_cover (cover_state (Some (neg_ℤ (pos 1))) (second_alone ∷ []))
         (x 0 ∷ not_x 1 ∷ []) NotImproving }
     ensures not_false { IsSoliFault greatest_cover (cover_state (Some (neg_ℤ (pos 1))) (second_alone ∷ []))
         (x 0 ∷ not_x 1 ∷ []) SolutionFalse → ⊥ }

@@ -10,7 +10,7 @@ use super::walk::complete;
 use normal_form::Normal;
 use std::alloc::{AllocError, Global};
 
-/// The least number above all variables of some constraints.
+/// A number above all variables of some constraints.
 pub(crate) fn variable_count(constraints: &[&Normal]) -> usize
     ensures { All (λ n. variable_bound n.now.terms ≤ result) constraints.now }
 {

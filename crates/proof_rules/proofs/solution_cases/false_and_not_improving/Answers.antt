@@ -26,8 +26,8 @@ breaks = (maximises, neither_breaks)
 pub returns-clause-breaks : goal.returns-clause-breaks
 returns-clause-breaks c = breaks
 
-pub returns-clause-not_worse : goal.returns-clause-not_worse
-returns-clause-not_worse c h =
+pub returns-clause-breaks_alone : goal.returns-clause-breaks_alone
+returns-clause-breaks_alone c h =
     let same : SolutionFalse ≡ NotImproving = one_soli_fault greatest_cover solved (not_x 0 ∷ not_x 1 ∷ []) SolutionFalse NotImproving breaks h in
     absurd (cc)
 
@@ -37,8 +37,8 @@ logs = record {
   satisfies = All-cons (Meets (valuation_of first_alone)) cover_written [] (omega (arith, ints)) (All-nil (Meets (valuation_of first_alone)));
 }
 
-worse : IsSoliFault greatest_cover solved (x 0 ∷ not_x 1 ∷ []) NotImproving
-worse = (
+equal_value : IsSoliFault greatest_cover solved (x 0 ∷ not_x 1 ∷ []) NotImproving
+equal_value = (
   maximises,
   (first_alone, logs),
   λ g also.
@@ -46,10 +46,10 @@ worse = (
       (neg_ℤ (pos 1), refl, omega (arith, ints)),
 )
 
-pub returns-clause-worse : goal.returns-clause-worse
-returns-clause-worse c = worse
+pub returns-clause-equal : goal.returns-clause-equal
+returns-clause-equal c = equal_value
 
 pub returns-clause-not_false : goal.returns-clause-not_false
 returns-clause-not_false c h =
-    let same : NotImproving ≡ SolutionFalse = one_soli_fault greatest_cover solved (x 0 ∷ not_x 1 ∷ []) NotImproving SolutionFalse worse h in
+    let same : NotImproving ≡ SolutionFalse = one_soli_fault greatest_cover solved (x 0 ∷ not_x 1 ∷ []) NotImproving SolutionFalse equal_value h in
     absurd (cc)

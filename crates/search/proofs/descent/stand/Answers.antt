@@ -1,5 +1,5 @@
 -- What stands is all that the trace tells, with the decisions, unless it ends in a conflict.
-use Rattle.std.proofs.Common.{◌≡◌, List, [], ◌++◌, None, map, ap, ◌∙◌}
+use Rattle.std.proofs.Common.{◌≡◌, List, ◌++◌, None, map, ap, ◌∙◌}
 use Rattle.linear.specs.declared.term.Lit.{Lit}
 use Rattle.propagate.specs.Content.{traced}
 use Rattle.search.proofs.Descending.{all_noted, named}

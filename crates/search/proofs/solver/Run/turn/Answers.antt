@@ -4,7 +4,6 @@ use Rattle.linear.specs.declared.term.Lit.{Lit}
 use Rattle.proof_rules.specs.State.{constraints}
 use Rattle.search.specs.Log.{Logbook}
 use Rattle.search.specs.Undoing.{AreUpToDate}
-use Rattle.search.specs.declared.clause.Lesson.TheVariants as lessons
 use Rattle.search.proofs.solver.Run.turn.Goals as goal
 
 pub returns-then-is_empty-clause-found : goal.returns-then-is_empty-clause-found
