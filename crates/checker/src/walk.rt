@@ -2,7 +2,6 @@
 //! the next position. The first line that leads nowhere decides where judging stops, so nothing is read ahead.
 
 ghost use Rattle.std.specs.Prelude.{◌≡◌, ◌≢◌, ◌↔◌, [], IfOk, IfErr, IsTrue, OnOk, length};
-ghost use Rattle.proof_rules.specs.Forms.{problem_ids};
 ghost use Rattle.proof_text.specs.Lines.{lines_of};
 ghost use Rattle.proof_text.specs.Writable.{IsLineWritable};
 ghost use Rattle.checker.specs.Stopped.{IsStopped};
@@ -34,8 +33,6 @@ pub(crate) struct Walk<'a, P: Propagator> {
     names: Names,
     reader: ProofReader<'a>,
     kernel: Kernel<'a, P>,
-    /// The number of the file's constraints, an equality counted twice.
-    count: u64,
     pub(crate) concluded: Option<Accepted>,
 }
 
@@ -44,7 +41,6 @@ impl<'a, P: Propagator> Walk<'a, P> {
     pub(crate) fn begin(alloc: Global, problem: &'a Problem, proof: &'a [u8]) -> Result<Self, Stop>
         ensures problem { IfOk result (λ walk. walk.kernel.problem ≡ problem.now) }
         ensures begins { IfOk result (λ walk. Reaches problem.now proof.now (position_of walk)) }
-        ensures count { IfOk result (λ walk. walk.count ≡ problem_ids problem.now.constraints) }
         ensures last { IfOk result (λ walk. walk.reader.last ≡ (lines_of proof.now).last) }
         ensures stop { IfErr result (StopsBy (IsStopped problem.now proof.now)) }
     {
@@ -57,7 +53,6 @@ impl<'a, P: Propagator> Walk<'a, P> {
             section: Section::Header,
             names: problem.names().copy(alloc)?,
             reader: ProofReader::new(proof),
-            count: kernel.problem_ids(),
             kernel,
             concluded: None,
         })
@@ -73,8 +68,6 @@ impl<'a, P: Propagator> Walk<'a, P> {
     /// Reads the next line and judges what it says.
     pub(crate) fn advance(&mut self) -> Result<(), Stop>
         requires due { self.old.section ≢ Section.After }
-        requires count { self.old.count ≡ problem_ids self.old.kernel.problem.constraints }
-        ensures count { self.new.count ≡ self.old.count }
         ensures problem { self.new.kernel.problem ≡ self.old.kernel.problem }
         ensures last { self.new.reader.last ≡ self.old.reader.last }
         ensures advances { OnOk result (AdvancesOn self.old self.new) }
@@ -87,7 +80,6 @@ impl<'a, P: Propagator> Walk<'a, P> {
     /// The next line, as what it says at the section that is due.
     fn read(&mut self) -> Result<Read, Stop>
         requires due { self.old.section ≢ Section.After }
-        ensures count { self.new.count ≡ self.old.count }
         ensures kernel { self.new.kernel ≡ self.old.kernel }
         ensures last { self.new.reader.last ≡ self.old.reader.last }
         ensures reads { IfOk result (λ r. Reads (position_of self.old) (position_of self.new) r.number r.line) }
@@ -109,8 +101,6 @@ impl<'a, P: Propagator> Walk<'a, P> {
     /// Judges what the line of this number says.
     fn accept(&mut self, line: &Line, number: u64) -> Result<(), Stop>
         requires writable { IsLineWritable (length self.old.names) line.now }
-        requires count { self.old.count ≡ problem_ids self.old.kernel.problem.constraints }
-        ensures count { self.new.count ≡ self.old.count }
         ensures problem { self.new.kernel.problem ≡ self.old.kernel.problem }
         ensures reader { self.new.reader ≡ self.old.reader }
         ensures names { self.new.names ≡ self.old.names }
@@ -131,15 +121,13 @@ impl<'a, P: Propagator> Walk<'a, P> {
     /// The count is that of the file's constraints, an equality counted twice. Another one is a fault of the line, as the
     /// same words would be that are no number: the kernel has no part in it.
     fn take_count(&mut self, count: i128, number: u64) -> Result<(), Stop>
-        requires count { self.old.count ≡ problem_ids self.old.kernel.problem.constraints }
-        ensures count { self.new.count ≡ self.old.count }
         ensures kernel { self.new.kernel ≡ self.old.kernel }
         ensures reader { self.new.reader ≡ self.old.reader }
         ensures names { self.new.names ≡ self.old.names }
         ensures accepts { OnOk result (AcceptsOn self.old (Line.Count count) self.new) }
         ensures stop { IfErr result (IsRefusal number self.old (Line.Count count)) }
     {
-        if count != i128::from(self.count) {
+        if count != i128::from(self.kernel.problem_ids()) {
             return Err(reading(number, ProofFault::BadCount));
         }
         self.section = Section::Step;
@@ -149,7 +137,6 @@ impl<'a, P: Propagator> Walk<'a, P> {
     /// Judges a step.
     fn step(&mut self, step: &Step, number: u64) -> Result<(), Stop>
         requires writable { IsLineWritable (length self.old.names) (Line.Step step.now) }
-        ensures count { self.new.count ≡ self.old.count }
         ensures problem { self.new.kernel.problem ≡ self.old.kernel.problem }
         ensures reader { self.new.reader ≡ self.old.reader }
         ensures names { self.new.names ≡ self.old.names }
@@ -164,7 +151,6 @@ impl<'a, P: Propagator> Walk<'a, P> {
 
     /// Judges the conclusion, and keeps what was accepted.
     fn conclude(&mut self, conclusion: &Conclusion, number: u64) -> Result<(), Stop>
-        ensures count { self.new.count ≡ self.old.count }
         ensures kernel { self.new.kernel ≡ self.old.kernel }
         ensures reader { self.new.reader ≡ self.old.reader }
         ensures names { self.new.names ≡ self.old.names }

@@ -24,4 +24,4 @@ pub returns-clause-made : goal.returns-clause-made
 returns-clause-made c =
     let same : to_z w128 (of_z w128 c.index.result.now) ≡ c.index.result.now = wrapped c.index.result.now c.args.nets.now.items c.args.var c.requires.room c.index.ensures c.requires.small in
     let start : c.args.terms.now ++ net_term c.args.var c.index.result.now ≡ terms_from 0 (take c.args.next c.args.nets.now.items) ++ net_term c.args.var c.index.result.now = ap (λ (ts : List NormalTerm). ts ++ net_term c.args.var c.index.result.now) c.requires.made in
-    c.in_ok-push_net.ensures ∙ ap (λ (z : ℤ). c.args.terms.now ++ net_term c.args.var z) same ∙ start ∙ next_cell c.args.nets.now.items c.args.next c.args.var c.index.result.now (omega (arith, c.if-place-next.false)) c.requires.room c.requires.gap c.index.ensures
+    c.in_ok-push_net.ensures.ok ∙ ap (λ (z : ℤ). c.args.terms.now ++ net_term c.args.var z) same ∙ start ∙ next_cell c.args.nets.now.items c.args.next c.args.var c.index.result.now (omega (arith, c.if-place-next.false)) c.requires.room c.requires.gap c.index.ensures

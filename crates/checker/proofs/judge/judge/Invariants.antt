@@ -1,5 +1,4 @@
 use Rattle.std.proofs.Common.{◌≡◌, length}
-use Rattle.proof_rules.specs.Forms.{problem_ids}
 use Rattle.proof_text.specs.Lines.{lines_of}
 use Rattle.checker.specs.Walk.{Reaches}
 use Rattle.checker.specs.WalkOf.{position_of}
@@ -9,7 +8,6 @@ use Rattle.checker.proofs.judge.judge.Given as goal
 abbrev pub invariant-loop-walk : goal.invariant-loop-walk
 invariant-loop-walk g l =
     (l.walk.kernel.problem ≡ l.fn.problem)
-    × (l.walk.count ≡ problem_ids l.fn.problem.constraints)
     × (l.walk.reader.last ≡ (lines_of l.fn.proof).last)
     × Reaches l.fn.problem l.fn.proof (position_of l.walk)
 
