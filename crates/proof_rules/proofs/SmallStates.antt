@@ -1,5 +1,6 @@
 -- Deciding on small states what a listing is completed to, that it is at fault, and what is shown.
-use Rattle.std.proofs.Common.{◌≡◌, ℕ, zero, suc, ◌<◌, ℤ, pos, ◌<ℤ◌, ◌≤ℤ◌, IfSome, IsSome, Option, Some, None, cond, inl, inr, Bool, true, false, List, [], ◌∷◌, map, refl, sym, ap, subst, ◌∙◌, arith}
+use Rattle.std.proofs.Common.{◌≡◌, ℕ, zero, suc, ◌-◌, ◌<◌, ◌≤◌, ℤ, pos, ◌<ℤ◌, ◌≤ℤ◌, IfSome, IsSome, Option, Some, None, cond, inl, inr, Bool, true, false, List, [], ◌∷◌, map, refl, sym, ap, subst, ◌∙◌, arith}
+use Rattle.std.specs.List.{list_any}
 use Rattle.std.specs.Ordering.{nat_cmp, eq_by_cmp}
 use Rattle.std.specs.FinSet as set
 use Rattle.std.specs.FinMap as fin
@@ -11,31 +12,33 @@ use Rattle.linear.specs.declared.term.Lit.{Lit}
 use Rattle.linear.specs.Opb.{Opb, Satisfies}
 use Rattle.linear.specs.Sum.{Meets}
 use Rattle.linear.specs.Valuation.{valuation_of}
-use Rattle.normal_form.specs.Cases.{plain, normal}
-use Rattle.normal_form.specs.Normal.{NormalConstraint}
+use Rattle.normal_form.specs.Cases.{plain, negated, normal}
+use Rattle.normal_form.specs.Normal.{NormalConstraint, largest_sum}
+use Rattle.normal_form.specs.NormalOf.{at_least_zero}
+use Rattle.normal_form.proofs.FromBalance.{raised}
 use Rattle.normal_form.proofs.NormalForm.{is_form}
 use Rattle.proof_steps.specs.declared.conclusion.Lower.TheVariants as lowers
-use Rattle.propagate.specs.Cases.{x, not_x}
+use Rattle.propagate.specs.Cases.{x, not_x, unit, unit_not}
 use Rattle.propagate.specs.Chain.{LeadsToConflict, IsReached}
 use Rattle.propagate.specs.Literals.{opposite, lists, IsConsistent}
 use Rattle.propagate.specs.Passes.{Settled, outcome}
 use Rattle.propagate.proofs.AnyOf.{any_here}
 use Rattle.propagate.proofs.Consistency.{push_consistent}
 use Rattle.propagate.proofs.SmallContent.{Entries, placed, entries_placed}
-use Rattle.propagate.proofs.SearchIsRight.{closure_met, no_conflict_met}
+use Rattle.propagate.proofs.SearchIsRight.{closure_met, conflict_met, no_conflict_met}
 use Rattle.substitution.specs.Covering.{Covers}
 use Rattle.substitution.proofs.Covered.{covers_itself}
-use Rattle.proof_rules.specs.Cases.{cover, cover_written, cover_file, least_cover, min_both, both, second_alone, cover_state, not_second_alone, derived_state, full_state}
+use Rattle.proof_rules.specs.Cases.{cover, cover_written, cover_file, least_cover, min_both, both, second_alone, cover_state, not_second_alone, derived_state, contradicting_state, full_state}
 use Rattle.proof_rules.specs.Legal.{IsDeletable, Logs, without, worth_of}
-use Rattle.proof_rules.specs.Justified.{EntitlesLower, IsBest}
+use Rattle.proof_rules.specs.Justified.{EntitlesLower, IsBest, IsExhausted}
 use Rattle.proof_rules.specs.Shown.{IsShown, absurdity}
 use Rattle.proof_rules.specs.Solution.{literal_for, NamesAll, value_at, Completes, at_least}
 use Rattle.proof_rules.specs.State.{State, constraints, numbered, state_of, HasRoom}
-use Rattle.proof_rules.specs.Fault.{IsSolFault}
-use Rattle.proof_rules.specs.declared.fault.StepFault.TheVariants.{SolutionFalse}
+use Rattle.proof_rules.specs.Fault.{IsSolFault, IsBoundFault}
+use Rattle.proof_rules.specs.declared.fault.StepFault.TheVariants.{SolutionFalse, LowerNotShown}
 use Rattle.proof_rules.proofs.Completing.{one_completion}
 use Rattle.proof_rules.proofs.ShownHolds.{zero_shown}
-use Rattle.proof_rules.proofs.ShownBySearch.{not_shown}
+use Rattle.proof_rules.proofs.ShownBySearch.{covering, shown_by_search, not_shown}
 
 -- the live constraints of a small state, computed
 pub live_of : (ns : List NormalConstraint) → constraints (state_of ns) ≡ map (λ e. e.1) (placed (numbered 1 ns))
@@ -83,9 +86,12 @@ both_reached steps live listing closed b d consistent unnamed settled first seco
       );
     }
 
--- a listing that does not name x1
+-- a listing that does not name a variable, and of two variables one that does not name x1
+pub unnamed : (count v : ℕ) (listing : List Lit) → v < count → ((b : Bool) → lists listing (literal_for v b) ≡ false) → NamesAll count listing → ⊥
+unnamed count v listing below none all = let h = all v below in false≢true (sym (none h.0) ∙ h.1)
+
 pub second_unnamed : (listing : List Lit) → ((b : Bool) → lists listing (literal_for 1 b) ≡ false) → NamesAll 2 listing → ⊥
-second_unnamed listing none all = let h = all 1 (omega arith) in false≢true (sym (none h.0) ∙ h.1)
+second_unnamed listing none = unnamed 2 1 listing (omega arith) none
 
 -- on the file `1 x0 1 x1 >= 1` the listing `~x0` is completed by x1, and satisfies it
 pub second_satisfies : Satisfies (valuation_of second_alone) cover_file
@@ -114,11 +120,14 @@ neither_breaks = (
       (one_completion (constraints (state_of (cover ∷ []))) 2 (not_x 0 ∷ not_x 1 ∷ []) g neither also neither_completes) satisfies),
 )
 
--- the listing `x0 x1` logs the solution of both, whatever is live
+-- the solution of both satisfies that file, and the listing `x0 x1` logs it, whatever is live
+pub both_satisfies : Satisfies (valuation_of both) cover_file
+both_satisfies = All-cons (Meets (valuation_of both)) cover_written [] (omega (arith, ints)) (All-nil (Meets (valuation_of both)))
+
 pub both_logged : (s : State) → Logs least_cover s (x 0 ∷ x 1 ∷ []) both
 both_logged s = record {
   completes = both_named (constraints s) (x 0 ∷ x 1 ∷ []) true true (two_consistent (x 0) (x 1) refl) refl refl;
-  satisfies = All-cons (Meets (valuation_of both)) cover_written [] (omega (arith, ints)) (All-nil (Meets (valuation_of both)));
+  satisfies = both_satisfies;
 }
 
 -- a solution that is logged alone is the best
@@ -158,6 +167,36 @@ cover_is_bound least logged below = (
   },
 )
 
+-- that it is at least k is not shown, where that constraint does not cover it and the slow search finds no conflict beside the negation
+abbrev pub at_least_both : ℕ → NormalConstraint
+at_least_both k = normal (plain 1 0 ∷ plain 1 1 ∷ []) k
+
+abbrev pub at_least_neither : ℕ → NormalConstraint
+at_least_neither k = normal (negated 1 0 ∷ negated 1 1 ∷ []) k
+
+pub bound_open : (k j : ℕ) (least : Option ℤ) (logged : List (List Bool)) → IfSome least (λ z. pos k ≤ℤ z) → k ≡ at_least_zero (raised (pos k) min_both (at_least_both k).terms)
+    → k ≤ largest_sum → j ≡ 3 - k → outcome 2 (cover ∷ at_least_neither j ∷ []) [] ≡ Settled [] → list_any (covering (at_least_both k)) (cover ∷ []) ≡ false
+    → IsBoundFault (cover_state least logged) min_both (pos k) LowerNotShown
+bound_open k j least logged below degree fits turned settled uncovered = (
+  below,
+  (
+    at_least_both k,
+    is_form (at_least min_both (pos k)) (at_least_both k) (omega arith, omega arith, (omega arith, omega arith, tt)) (λ set. omega (arith, ints)) degree,
+    record { sum = omega arith; degree = fits },
+    subst (λ live. IsShown live (at_least_both k) → ⊥) (sym (live_of (cover ∷ [])))
+        (not_shown 2 (cover ∷ []) (at_least_both k) (at_least_neither j) []
+        (record { rises = (omega arith, omega arith, (omega arith, omega arith, tt)); terms = refl; degree = turned }) settled uncovered),
+  ),
+)
+
+-- that `1 x0 >= 1` and `1 ~x0 >= 1` show `0 >= 1`, where nothing is logged
+pub exhausted : IsExhausted contradicting_state
+exhausted = record {
+  unlogged = refl;
+  shown = subst (λ live. IsShown live absurdity) (sym (live_of (unit 0 ∷ unit_not 0 ∷ [])))
+      (shown_by_search 4 (unit 0 ∷ unit_not 0 ∷ []) absurdity (normal [] 0) (record { rises = tt; terms = refl; degree = refl }) refl);
+}
+
 -- look-ups in a small state, and in one without an id
 pub found_in : (ns : List NormalConstraint) (id : ℕ) → fin.get (state_of ns).live id ≡ fin.find nat_cmp id (numbered 1 ns)
 found_in ns id = fin.get-from_entries nat_cmp_total (numbered 1 ns) id
@@ -186,15 +225,27 @@ second_deletable = record {
 pub derived_gone : fin.get (without 2 derived_state).live 2 ≡ None
 derived_gone = found_without derived_state 2 2
 
+-- a listing whose chains the slow search finds to end without a variable
+abbrev pub LeavesOpen : ℕ → List NormalConstraint → List Lit → Type 0
+LeavesOpen count live listing =
+    IsConsistent listing × (LeadsToConflict live listing → ⊥) × ((v : ℕ) × (v < count) × ((value : Bool) → IsReached live listing (literal_for v value) → ⊥))
+
+pub leaves_open : (steps : ℕ) (live ns : List NormalConstraint) (listing closed : List Lit) (count v : ℕ) → live ≡ ns → IsConsistent listing → outcome steps ns listing ≡ Settled closed
+    → v < count → ((b : Bool) → lists closed (literal_for v b) ≡ false) → LeavesOpen count live listing
+leaves_open steps live ns listing closed count v is consistent settled below none =
+    subst (λ l. LeavesOpen count l listing) (sym is) (
+      consistent,
+      no_conflict_met steps ns listing closed settled,
+      (v, below, λ b reached. false≢true (sym (none b) ∙ (closure_met steps ns listing closed settled (literal_for v b)).1 reached)),
+    )
+
 -- on that file the listing `x0` leaves x1 open, whatever is logged
-open_second : (value : Bool) → IsReached (cover ∷ []) (x 0 ∷ []) (literal_for 1 value) → ⊥
-open_second value reached = false≢true ((closure_met 4 (cover ∷ []) (x 0 ∷ []) (x 0 ∷ []) refl (literal_for 1 value)).1 reached)
-
-abbrev pub LeavesOpen : List NormalConstraint → List Lit → Type 0
-LeavesOpen live listing =
-    IsConsistent listing × (LeadsToConflict live listing → ⊥) × ((v : ℕ) × (v < 2) × ((value : Bool) → IsReached live listing (literal_for v value) → ⊥))
-
-pub first_leaves_open : LeavesOpen (constraints (state_of (cover ∷ []))) (x 0 ∷ [])
+pub first_leaves_open : LeavesOpen 2 (constraints (state_of (cover ∷ []))) (x 0 ∷ [])
 first_leaves_open =
-    subst (λ live. LeavesOpen live (x 0 ∷ [])) (sym (live_of (cover ∷ [])))
-    (one_consistent (x 0), no_conflict_met 4 (cover ∷ []) (x 0 ∷ []) (x 0 ∷ []) refl, (1, omega arith, open_second))
+    leaves_open 4 (constraints (state_of (cover ∷ []))) (cover ∷ []) (x 0 ∷ []) (x 0 ∷ []) 2 1 (live_of (cover ∷ [])) (one_consistent (x 0)) refl (omega arith) (λ b. refl)
+
+-- beside `1 x0 1 ~x1 >= 1` the listing `~x0` leads to a conflict
+pub derived_conflict : LeadsToConflict (constraints derived_state) (not_x 0 ∷ [])
+derived_conflict =
+    subst (λ live. LeadsToConflict live (not_x 0 ∷ [])) (sym (live_of (cover ∷ not_second_alone ∷ [])))
+    (conflict_met 4 (cover ∷ not_second_alone ∷ []) (not_x 0 ∷ []) refl)

@@ -1,5 +1,5 @@
 -- Small problems and substitutions, to compute the definitions on.
-use Rattle.std.specs.Prelude.{ℤ, Bool, true, false, Option, Some, None, pos, neg_ℤ, ◌^◌, List, [], ◌∷◌}
+use Rattle.std.specs.Prelude.{ℕ, ◌-◌, ℤ, Bool, true, false, Option, Some, None, pos, neg_ℤ, ◌^◌, List, [], ◌∷◌}
 use Rattle.linear.specs.declared.constraint.Relation.TheVariants.{AtLeast}
 use Rattle.linear.specs.declared.constraint.Signed.{Signed}
 use Rattle.linear.specs.declared.term.Term.{Term}
@@ -55,6 +55,13 @@ least_cover = record cover_file { objective = Some min_both }
 abbrev pub greatest_cover : Opb
 greatest_cover = record cover_file { objective = Some (signed (neg_ℤ (pos 1)) 0 ∷ signed (neg_ℤ (pos 1)) 1 ∷ []) }
 
+-- the same with min: 1 x0 1 x1 1 x2, and so with the name x2
+abbrev pub least_of_three : Opb
+least_of_three = record cover_file {
+  names = (120 ∷ 48 ∷ []) ∷ (120 ∷ 49 ∷ []) ∷ (120 ∷ 50 ∷ []) ∷ [];
+  objective = Some (signed (pos 1) 0 ∷ signed (pos 1) 1 ∷ signed (pos 1) 2 ∷ []);
+}
+
 -- values of x0 and x1
 abbrev pub both : List Bool
 both = true ∷ true ∷ []
@@ -84,6 +91,14 @@ derived_state = state_of (cover ∷ not_second_alone ∷ [])
 abbrev pub below_one : NormalConstraint
 below_one = normal (negated 1 0 ∷ negated 1 1 ∷ []) 2
 
+-- 1 ~x0 1 ~x1 >= 1: what a solution of value 2 asks for
+abbrev pub below_two : NormalConstraint
+below_two = normal (negated 1 0 ∷ negated 1 1 ∷ []) 1
+
+-- a state in which one id is left
+abbrev pub last_state : State
+last_state = record cover_start { next = id_limit - 1 }
+
 -- a state in which all ids are taken
 abbrev pub full_state : Option ℤ → State
 full_state least = record (cover_state least []) { next = id_limit }
@@ -99,6 +114,14 @@ not_first_written = record { terms = signed_not (pos 1) 0 ∷ []; relation = AtL
 -- 2^121 x0 >= 1: its coefficient is beyond the limits
 abbrev pub large_written : Signed
 large_written = record { terms = signed (pos (2 ^ 121)) 0 ∷ []; relation = AtLeast; right = pos 1 }
+
+-- k x0 1 ~x0 >= 0, whose normal form is (k - 1) x0 >= 0
+abbrev pub written_twice : ℕ → Signed
+written_twice k = record { terms = signed (pos k) 0 ∷ signed_not (pos 1) 0 ∷ []; relation = AtLeast; right = pos 0 }
+
+-- -2^120 x0 >= k, whose normal form is 2^120 ~x0 >= 2^120 + k
+abbrev pub written_below_zero : ℕ → Signed
+written_below_zero k = record { terms = signed (neg_ℤ (pos (2 ^ 120))) 0 ∷ []; relation = AtLeast; right = pos k }
 
 -- a state with 1 x0 >= 1 and 1 ~x0 >= 1
 abbrev pub contradicting_state : State

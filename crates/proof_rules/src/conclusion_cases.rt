@@ -128,3 +128,45 @@ pub fn no_lower_bound()
     ensures no_objective { IsConclusionFault cover_file (cover_state None [])
         (Bounds lower.MinusInf upper.Inf None) NoObjective }
 {}
+
+/// `BOUNDS 3 1` where nothing is logged: the lower bound is not shown, and the upper one is not logged, which is judged
+/// behind it. In `BOUNDS INF 1` where a solution of value 2 is logged the lower bound is refused for that solution first.
+pub fn lower_bound_before_the_upper()
+    ensures not_shown { IsConclusionFault least_cover (cover_state None [])
+        (Bounds (lower.At (pos 3)) (upper.At (pos 1)) None) LowerNotShown }
+    ensures not_upper { IsConclusionFault least_cover (cover_state None [])
+        (Bounds (lower.At (pos 3)) (upper.At (pos 1)) None) UpperNotLogged → ⊥ }
+    ensures infinite { IsConclusionFault least_cover (cover_state None (both ∷ []))
+        (Bounds lower.Inf (upper.At (pos 1)) None) SolutionLogged }
+    ensures infinite_not_upper { IsConclusionFault least_cover (cover_state None (both ∷ []))
+        (Bounds lower.Inf (upper.At (pos 1)) None) UpperNotLogged → ⊥ }
+{}
+
+/// `BOUNDS 2^121 INF` where a solution of value 1 improves: the bound is beyond the limits, and above the best value,
+/// which is judged first.
+pub fn best_value_before_the_limits()
+    ensures above { IsConclusionFault least_cover (cover_state (Some (pos 1)) (second_alone ∷ []))
+        (Bounds (lower.At (pos (2 ^ 121))) upper.Inf None) LowerAboveBest }
+    ensures not_limits { IsConclusionFault least_cover (cover_state (Some (pos 1)) (second_alone ∷ []))
+        (Bounds (lower.At (pos (2 ^ 121))) upper.Inf None) TooLarge → ⊥ }
+{}
+
+/// `BOUNDS 2 INF` where `sol` alone logged a solution of value 1: it is no improving one, so the bound is above no best
+/// value. It is not shown.
+pub fn bound_above_a_logged_value()
+    ensures not_shown { IsConclusionFault least_cover (cover_state None (second_alone ∷ []))
+        (Bounds (lower.At (pos 2)) upper.Inf None) LowerNotShown }
+    ensures not_above { IsConclusionFault least_cover (cover_state None (second_alone ∷ []))
+        (Bounds (lower.At (pos 2)) upper.Inf None) LowerAboveBest → ⊥ }
+{}
+
+/// `SAT` and `UNSAT` may be concluded of a file with an objective too, and are at fault there as without one. With `SAT` the
+/// best of the logged solutions is handed out.
+pub fn satisfiable_or_not_with_objective()
+    ensures satisfiable { IsJustified least_cover (cover_state None (both ∷ second_alone ∷ [])) (Sat None) (Some second_alone) }
+    ensures not_the_first { IsJustified least_cover (cover_state None (both ∷ second_alone ∷ [])) (Sat None) (Some both) → ⊥ }
+    ensures unsatisfiable { IsJustified least_cover contradicting_state Unsat None }
+    ensures logged { IsConclusionFault least_cover (cover_state None (both ∷ [])) Unsat SolutionLogged }
+    ensures nothing_shown { IsConclusionFault least_cover (cover_state None []) Unsat LowerNotShown }
+    ensures unlogged { IsConclusionFault least_cover (cover_state None []) (Sat None) UpperNotLogged }
+{}

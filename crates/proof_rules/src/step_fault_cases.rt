@@ -4,12 +4,15 @@
 //! ids of a deletion are judged one after another, each with the earlier ones gone. Where two faults could be meant, the
 //! contract names the one that is, and says that the other one is not.
 
-ghost use Rattle.std.specs.Prelude.{pos, neg_ℤ, ◌^◌, [], ◌∷◌, Some, None};
+ghost use Rattle.std.specs.Prelude.{pos, neg_ℤ, ◌≤◌, ◌-◌, ◌^◌, [], ◌∷◌, Some, None};
 ghost use Rattle.std.specs.FinSet as set;
+ghost use Rattle.normal_form.specs.Normal.{NormalConstraint, Fits, largest_sum};
+ghost use Rattle.normal_form.specs.NormalOf.{IsNormalOf, size_sum};
 ghost use Rattle.propagate.specs.Cases.{not_x};
-ghost use Rattle.proof_rules.specs.Cases.{cover_file, least_cover, cover_written, first_written, large_written, cover_state, cover_start, derived_state, full_state};
+ghost use Rattle.proof_rules.specs.Cases.{cover_file, least_cover, cover, cover_written, first_written, large_written, written_twice, written_below_zero, cover_state, cover_start, derived_state, last_state, full_state};
 ghost use Rattle.proof_rules.specs.Fault.{IsPolFault, IsRupFault, IsSoliFault, IsDelFault};
-ghost use Rattle.proof_rules.specs.Legal.{LegalDel, without};
+ghost use Rattle.proof_rules.specs.Legal.{LegalPol, LegalDel, without};
+ghost use Rattle.proof_rules.specs.State.{with_constraint};
 ghost use Rattle.proof_rules.specs.declared.fault.StepFault.TheVariants.{TooLarge, StackShape, BadFactor, TooManyIds, NotShown, NotImproving, DeadId, FileConstraint};
 ghost use Rattle.proof_steps.specs.declared.step.Item.TheVariants.{Id, Add, Multiply, Divide};
 
@@ -80,4 +83,33 @@ pub fn expressions_beyond_the_limits()
     ensures sum { IsPolFault cover_start (Id (pos 1) ∷ Multiply (pos (2 ^ 119)) ∷ Id (pos 1) ∷ Add ∷ []) TooLarge }
     ensures first_item { IsPolFault cover_start (Id (pos 1) ∷ Multiply (pos (2 ^ 120)) ∷ Id (pos 9) ∷ []) TooLarge }
     ensures not_dead { IsPolFault cover_start (Id (pos 1) ∷ Multiply (pos (2 ^ 120)) ∷ Id (pos 9) ∷ []) DeadId → ⊥ }
+{}
+
+/// Each limit of a written constraint by itself. The sizes in `rup 2^120 x0 1 ~x0 >= 0` add up to 2^120 + 1, which is beyond
+/// the limits, though the normal form `2^120-1 x0 >= 0` is not; with the coefficient 2^120 - 1 neither is. The normal form
+/// of `rup -2^120 x0 >= 1` has the degree 2^120 + 1, which is beyond them, though the sizes are not; with the right side 0
+/// the degree is 2^120.
+pub fn limits_of_a_written_constraint()
+    ensures sizes { IsRupFault cover_start (written_twice (2 ^ 120)) TooLarge }
+    ensures form_fits { (n : NormalConstraint) × IsNormalOf (written_twice (2 ^ 120)) n × Fits n }
+    ensures sizes_at_the_limit { IsRupFault cover_start (written_twice (2 ^ 120 - 1)) TooLarge → ⊥ }
+    ensures degree { IsRupFault cover_start (written_below_zero 1) TooLarge }
+    ensures sizes_fit { size_sum (written_below_zero 1).terms ≤ largest_sum }
+    ensures degree_at_the_limit { IsRupFault cover_start (written_below_zero 0) TooLarge → ⊥ }
+{}
+
+/// Where the next id is 2^32 - 1, the last one, `pol 1` takes it, and `rup 1 x0 1 x1 >= 1` finds it left. Then none is.
+pub fn last_id()
+    ensures legal { LegalPol last_state (Id (pos 1) ∷ []) (with_constraint cover last_state) }
+    ensures not_full { IsPolFault last_state (Id (pos 1) ∷ []) TooManyIds → ⊥ }
+    ensures left { IsRupFault last_state cover_written TooManyIds → ⊥ }
+    ensures none_left { IsRupFault (with_constraint cover last_state) cover_written TooManyIds }
+{}
+
+/// Where all ids are taken, `pol 1 1` does not leave one constraint, and `pol 9` cites none: items are judged before ids.
+pub fn items_before_ids()
+    ensures two { IsPolFault (full_state None) (Id (pos 1) ∷ Id (pos 1) ∷ []) StackShape }
+    ensures two_not_ids { IsPolFault (full_state None) (Id (pos 1) ∷ Id (pos 1) ∷ []) TooManyIds → ⊥ }
+    ensures dead { IsPolFault (full_state None) (Id (pos 9) ∷ []) DeadId }
+    ensures dead_not_ids { IsPolFault (full_state None) (Id (pos 9) ∷ []) TooManyIds → ⊥ }
 {}

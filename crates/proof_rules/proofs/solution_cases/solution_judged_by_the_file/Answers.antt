@@ -1,10 +1,8 @@
-use Rattle.std.proofs.Common.{inr, true, false, [], ◌∷◌, refl, sym, subst}
+use Rattle.std.proofs.Common.{inr, true, false, [], ◌∷◌, refl}
 use Rattle.propagate.specs.Cases.{x, not_x}
-use Rattle.propagate.specs.Chain.{LeadsToConflict}
-use Rattle.propagate.proofs.SearchIsRight.{conflict_met}
-use Rattle.proof_rules.specs.Cases.{cover, not_second_alone, second_alone, derived_state}
+use Rattle.proof_rules.specs.Cases.{second_alone, derived_state}
 use Rattle.proof_rules.specs.State.{constraints}
-use Rattle.proof_rules.proofs.SmallStates.{live_of, one_consistent, two_consistent, both_named, second_unnamed, second_satisfies}
+use Rattle.proof_rules.proofs.SmallStates.{one_consistent, two_consistent, both_named, second_unnamed, second_satisfies, derived_conflict}
 use Rattle.proof_rules.proofs.solution_cases.solution_judged_by_the_file.Goals as goal
 
 pub returns-clause-named : goal.returns-clause-named
@@ -18,9 +16,4 @@ returns-clause-named c = (
 )
 
 pub returns-clause-completed : goal.returns-clause-completed
-returns-clause-completed c = inr (
-  one_consistent (not_x 0),
-  second_unnamed (not_x 0 ∷ []) (λ b. refl),
-  subst (λ live. LeadsToConflict live (not_x 0 ∷ [])) (sym (live_of (cover ∷ not_second_alone ∷ [])))
-      (conflict_met 4 (cover ∷ not_second_alone ∷ []) (not_x 0 ∷ []) refl),
-)
+returns-clause-completed c = inr (one_consistent (not_x 0), second_unnamed (not_x 0 ∷ []) (λ b. refl), derived_conflict)
