@@ -10,6 +10,9 @@ PREFIX ?= /usr/local
 SHELL := bash
 .SHELLFLAGS := -o pipefail -c
 
+# Names each crate as soon as it is proved. (An awk may wait for more to read before it looks at a line; the shell's `read` does not.)
+NAMED := while read -r word name rest; do case $$word in crate) crate=$${name%:};; logic=proved) echo "make: $$crate is proved";; esac; done
+
 # How many crates are proved side by side.
 JOBS ?= $(shell nproc)
 
@@ -20,8 +23,7 @@ all: bin/pbcheck bin/pbopt
 # Crates are proved side by side, each as soon as those that it stands on are; what an earlier run kept in out/ is not proved again.
 bin/pbcheck: $(SOURCES)
 	@echo "make: proving the crates, $(JOBS) side by side; from nothing this takes half an hour, and each crate is named as soon as it is proved"
-	@rt all check --jobs $(JOBS) 2>&1 | tee make.log | awk '/^crate / { sub(":", "", $$2); name = $$2 } /^logic=proved/ { print "make: " name " is proved"; fflush() }' \
-		|| (tail -n 40 make.log; exit 1)
+	@rt all check --jobs $(JOBS) 2>&1 | tee make.log | $(NAMED) || (tail -n 40 make.log; exit 1)
 	@echo "make: building pbcheck"
 	cd crates/pbcheck && rt run -- data/pigeons.opb data/pigeons.pbp > /dev/null
 	mkdir -p bin
