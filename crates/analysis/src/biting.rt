@@ -7,7 +7,7 @@ ghost use Rattle.propagate.specs.Slack.{IsForced, not_false};
 ghost use Rattle.propagate.specs.Walk.{CanForce};
 ghost use Rattle.analysis.specs.Biting.{BitesAt, literals_up_to};
 
-use super::slack::{opposite, slack};
+use super::slack::slack;
 use super::standing::Standing;
 use linear::Lit;
 use normal_form::Normal;
@@ -18,7 +18,7 @@ fn is_forced(standing: &Standing<'_>, level: u32, literal: Lit, coef: u128, slac
 {
     coef > slack
         && !standing.is_true_at(literal, level)
-        && !standing.is_true_at(opposite(literal), level)
+        && !standing.is_true_at(literal.opposite(), level)
 }
 
 /// Whether a constraint forces a literal where its slack is this.

@@ -3,24 +3,13 @@
 //! The code has numbers from 0 on, so it compares the sum of the literals that are not made false with the degree first, and has
 //! a slack only where it is not negative.
 
-ghost use Rattle.std.specs.Prelude.{◌≡◌, ◌+◌, ◌<◌, not, MatchOption, length, take};
+ghost use Rattle.std.specs.Prelude.{◌≡◌, ◌+◌, ◌<◌, MatchOption, length, take};
 ghost use Rattle.normal_form.specs.Normal.{sum_over};
 ghost use Rattle.propagate.specs.Slack.{IsBroken, not_false};
 ghost use Rattle.analysis.specs.Biting.{literals_up_to};
 
 use super::standing::Standing;
-use linear::Lit;
 use normal_form::Normal;
-
-/// The opposite literal.
-pub(crate) fn opposite(literal: Lit) -> Lit
-    ensures { result ≡ record { var = literal.var; negated = not literal.negated } }
-{
-    Lit {
-        var: literal.var,
-        negated: !literal.negated,
-    }
-}
 
 /// What the term at a place adds to the sum of the literals that are not made false.
 fn counted(constraint: &Normal, standing: &Standing<'_>, level: u32, place: usize) -> u128
@@ -29,7 +18,7 @@ fn counted(constraint: &Normal, standing: &Standing<'_>, level: u32, place: usiz
         ≡ sum_over (not_false (literals_up_to level standing.now)) (take place constraint.now.terms) + result }
 {
     let term = constraint.term(place);
-    if standing.is_true_at(opposite(term.literal()), level) {
+    if standing.is_true_at(term.literal().opposite(), level) {
         0
     } else {
         term.coef

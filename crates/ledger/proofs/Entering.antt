@@ -14,7 +14,8 @@ use Rattle.normal_form.proofs.Sums.{counted, sum_over_more, bound_at, bound_take
 use Rattle.normal_form.proofs.SumsByVariable.{absent_above}
 use Rattle.propagate.specs.Passes.{literal_of}
 use Rattle.ledger.specs.declared.occurrence.Occurrence.{Occurrence}
-use Rattle.ledger.specs.Occurrences.{code, entries_of, entry_with, HasMore}
+use Rattle.linear.specs.Literal.{code}
+use Rattle.ledger.specs.Occurrences.{entries_of, entry_with, HasMore}
 
 -- two literals with one number are the same
 same_bits : (v w : ℕ) (s t : Bool) → 2 * v + cond s 1 0 ≡ 2 * w + cond t 1 0 → (v ≡ w) × (s ≡ t)

@@ -7,7 +7,8 @@ use Rattle.ledger.specs.declared.occurrence.Occurrence.{Occurrence}
 use Rattle.ledger.specs.declared.pair.Pair.{Pair}
 use Rattle.ledger.specs.Entered.{AreEntriesOf}
 use Rattle.ledger.specs.Ledgers.{IsIndex, IsLedger}
-use Rattle.ledger.specs.Occurrences.{code, occurrences_of}
+use Rattle.linear.specs.Literal.{code}
+use Rattle.ledger.specs.Occurrences.{occurrences_of}
 use Rattle.ledger.proofs.EntrySums.{places_from, shares_from}
 use Rattle.ledger.proofs.Standing.{AreEntries}
 

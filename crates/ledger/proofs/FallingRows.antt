@@ -6,11 +6,12 @@ use Rattle.std.specs.List.{swap_remove}
 use Rattle.linear.specs.declared.term.Lit.{Lit}
 use Rattle.normal_form.specs.Normal.{NormalConstraint, variable_bound}
 use Rattle.normal_form.proofs.SumsByVariable.{absent_above}
-use Rattle.propagate.specs.Literals.{coefficient_of, lists, opposite}
+use Rattle.linear.specs.Literal.{opposite}
+use Rattle.propagate.specs.Literals.{coefficient_of, lists}
 use Rattle.propagate.proofs.Occurrences.{same_literal}
 use Rattle.ledger.specs.declared.pair.Pair.{Pair}
 use Rattle.ledger.specs.Falls.{IsAhead, IsAt, IsFalling, IsHandled, IsMoved, IsOneOf}
-use Rattle.ledger.specs.Occurrences.{code}
+use Rattle.linear.specs.Literal.{code}
 use Rattle.ledger.specs.Watched.{AreSameKinds, AreWatched, IsOpen, IsPairWithin, IsWatched, StandsIn, Watching}
 use Rattle.ledger.proofs.Entering.{code_below, same_code}
 use Rattle.ledger.proofs.Opening.{fewer}

@@ -7,7 +7,8 @@ use Rattle.linear.specs.declared.term.Lit.{Lit}
 use Rattle.normal_form.specs.declared.term.NormalTerm.{NormalTerm}
 use Rattle.normal_form.specs.Normal.{Literals, NormalConstraint, Rises, only, sum_over}
 use Rattle.normal_form.proofs.SetSums.{only_itself}
-use Rattle.propagate.specs.Literals.{IsConsistent, coefficient_of, lists, opposite}
+use Rattle.linear.specs.Literal.{opposite}
+use Rattle.propagate.specs.Literals.{IsConsistent, coefficient_of, lists}
 use Rattle.propagate.specs.Passes.{literal_of}
 use Rattle.propagate.specs.Slack.{IsForced, not_false}
 use Rattle.propagate.specs.Walk.{IsQuiet}

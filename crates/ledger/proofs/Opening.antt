@@ -6,7 +6,8 @@ use Rattle.linear.specs.declared.term.Lit.{Lit}
 use Rattle.normal_form.specs.declared.term.NormalTerm.{NormalTerm}
 use Rattle.normal_form.specs.Normal.{Literals, NormalConstraint, sum_over, only, same_sign}
 use Rattle.normal_form.proofs.SetSums.{only_is}
-use Rattle.propagate.specs.Literals.{opposite, coefficient_of, among, lists}
+use Rattle.linear.specs.Literal.{opposite}
+use Rattle.propagate.specs.Literals.{coefficient_of, among, lists}
 use Rattle.propagate.specs.Slack.{not_false}
 use Rattle.propagate.specs.Walk.{IsQuiet}
 use Rattle.propagate.proofs.Listings.{among_append, among_left}

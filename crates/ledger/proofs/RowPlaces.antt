@@ -6,7 +6,7 @@ use Rattle.std.specs.List.{swap_remove}
 use Rattle.linear.specs.declared.term.Lit.{Lit}
 use Rattle.ledger.specs.declared.pair.Pair.{Pair}
 use Rattle.ledger.specs.Falls.{IsAhead}
-use Rattle.ledger.specs.Occurrences.{code}
+use Rattle.linear.specs.Literal.{code}
 use Rattle.ledger.specs.Watched.{StandsIn}
 
 abbrev Rows : Type 0

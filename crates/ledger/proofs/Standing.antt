@@ -7,11 +7,13 @@ use Rattle.std.proofs.lemmas.List.Elements.{All-get_or, All-nil}
 use Rattle.linear.specs.declared.term.Lit.{Lit}
 use Rattle.normal_form.specs.Normal.{NormalConstraint, IsNormal, largest_sum, total, variable_bound}
 use Rattle.normal_form.proofs.Sums.{sum_over_below}
-use Rattle.propagate.specs.Literals.{opposite, coefficient_of, lists}
+use Rattle.linear.specs.Literal.{opposite}
+use Rattle.propagate.specs.Literals.{coefficient_of, lists}
 use Rattle.propagate.specs.Slack.{not_false, IsBroken}
 use Rattle.propagate.specs.Walk.{IsQuiet}
 use Rattle.ledger.specs.declared.occurrence.Occurrence.{Occurrence}
-use Rattle.ledger.specs.Occurrences.{share_of, code, occurrences_of}
+use Rattle.linear.specs.Literal.{code}
+use Rattle.ledger.specs.Occurrences.{share_of, occurrences_of}
 use Rattle.ledger.specs.Ledgers.{constraint_at, constraint_in, shown, nothing, open_sum, IsLedger, IsIndex, AreCounters, AreKnown, AreParted, AreLimits, AreReasons}
 use Rattle.ledger.specs.declared.pair.Pair.{Pair}
 use Rattle.ledger.specs.Falls.{IsAt}

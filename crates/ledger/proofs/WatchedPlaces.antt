@@ -5,7 +5,7 @@ use Rattle.std.proofs.lemmas.List.{get_or_append_left, get_or_past, get_or_push,
 use Rattle.linear.specs.declared.term.Lit.{Lit}
 use Rattle.normal_form.specs.Normal.{NormalConstraint}
 use Rattle.ledger.specs.declared.pair.Pair.{Pair}
-use Rattle.ledger.specs.Occurrences.{code}
+use Rattle.linear.specs.Literal.{code}
 use Rattle.ledger.specs.Watched.{AreWatched, IsOpen, IsPairOf, IsPairWithin, IsWatched, StandsIn, Watching}
 use Rattle.ledger.proofs.Attaching.{place_cases}
 use Rattle.ledger.proofs.FallingRows.{open_earlier, some_there}

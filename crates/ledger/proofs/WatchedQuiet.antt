@@ -8,7 +8,8 @@ use Rattle.std.proofs.Math.Seq.{take-length}
 use Rattle.linear.specs.declared.term.Lit.{Lit}
 use Rattle.normal_form.specs.Normal.{NormalConstraint, only}
 use Rattle.normal_form.proofs.SetSums.{Within, only_is, sum_apart, sum_within}
-use Rattle.propagate.specs.Literals.{IsConsistent, coefficient_of, lists, opposite}
+use Rattle.linear.specs.Literal.{opposite}
+use Rattle.propagate.specs.Literals.{IsConsistent, coefficient_of, lists}
 use Rattle.propagate.specs.Slack.{IsForced, not_false}
 use Rattle.propagate.specs.Walk.{IsQuiet}
 use Rattle.propagate.proofs.Consistency.{only_here}
@@ -17,7 +18,7 @@ use Rattle.propagate.proofs.Occurrences.{same_literal}
 use Rattle.ledger.specs.declared.pair.Pair.{Pair}
 use Rattle.ledger.specs.Falls.{AreHandled, IsAt, IsBeside, IsHandled, IsOneOf, IsOneTrue}
 use Rattle.ledger.specs.Ledgers.{open_sum}
-use Rattle.ledger.specs.Occurrences.{code}
+use Rattle.linear.specs.Literal.{code}
 use Rattle.ledger.proofs.Entering.{same_code}
 use Rattle.ledger.specs.Watched.{AreOthersFalse, AreWatched, IsOpen, IsPairOf, IsWatched, StandsIn, Tell, Watching}
 

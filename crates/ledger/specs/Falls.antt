@@ -2,11 +2,12 @@
 use Rattle.std.specs.Prelude.{◌≡◌, ◌⊎◌, ℕ, ◌<◌, ◌≤◌, true, List, [], Option, Some, None, Contains, length, slice_index_or}
 use Rattle.linear.specs.declared.term.Lit.{Lit}
 use Rattle.normal_form.specs.Normal.{NormalConstraint}
-use Rattle.propagate.specs.Literals.{lists, opposite}
+use Rattle.linear.specs.Literal.{opposite}
+use Rattle.propagate.specs.Literals.{lists}
 use Rattle.ledger.specs.declared.finding.Finding.{Finding}
 use Rattle.ledger.specs.declared.finding.Finding.TheVariants as findings
 use Rattle.ledger.specs.declared.pair.Pair.{Pair}
-use Rattle.ledger.specs.Occurrences.{code}
+use Rattle.linear.specs.Literal.{code}
 use Rattle.ledger.specs.Watched.{AreOthersFalse, AreWatched, IsOpen, IsPairOf, Watching}
 
 abbrev pub IsOneTrue : List Lit → Pair → Type 0

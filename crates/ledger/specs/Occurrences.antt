@@ -1,7 +1,8 @@
 -- Where literals stand: lists of places of constraints with coefficients.
-use Rattle.std.specs.Prelude.{ℕ, [], ◌∷◌, ◌++◌, ◌+◌, ◌*◌, ◌≡◌, List, ◌==◌, slice_index_or, if◌then◌else◌}
+use Rattle.std.specs.Prelude.{ℕ, [], ◌∷◌, ◌++◌, ◌+◌, ◌≡◌, List, ◌==◌, slice_index_or, if◌then◌else◌}
 use Rattle.std.specs.List.{sum_by}
 use Rattle.linear.specs.declared.term.Lit.{Lit}
+use Rattle.linear.specs.Literal.{code}
 use Rattle.normal_form.specs.declared.term.NormalTerm.{NormalTerm}
 use Rattle.normal_form.specs.Normal.{NormalConstraint, only, sum_over}
 use Rattle.ledger.specs.declared.occurrence.Occurrence.{Occurrence}
@@ -13,10 +14,6 @@ share place o = if o.place == place then o.coef else 0
 -- what entries add up to at a place
 abbrev pub share_of : ℕ → List Occurrence → ℕ
 share_of place os = sum_by (share place) os
-
--- the number of a literal in tables by literal
-abbrev pub code : Lit → ℕ
-code l = 2 * l.var.0 + (if l.negated then 1 else 0)
 
 -- the entries of a literal
 abbrev pub entries_of : List (List Occurrence) → Lit → List Occurrence

@@ -6,7 +6,6 @@ ghost use Rattle.normal_form.specs.Normal.{Rises, variable_bound};
 ghost use Rattle.propagate.specs.Passes.{literal_of};
 ghost use Rattle.ledger.specs.Watched.{AreOthersFalse, IsClause, IsFalseBeside, IsOpen, IsOpenBeside, IsPairOf};
 
-use super::occurrence::opposite_of;
 use super::pair::Pair;
 use super::trail::Trail;
 use linear::Lit;
@@ -40,7 +39,7 @@ fn open_at(constraint: &Normal, trail: &Trail, index: usize, others: Pair) -> Op
     if literal == others.second {
         return None;
     }
-    if trail.has(opposite_of(literal)) {
+    if trail.has(literal.opposite()) {
         return None;
     }
     Some(literal)
@@ -68,7 +67,7 @@ fn open_term(constraint: &Normal, trail: &Trail, from: usize) -> Option<usize>
         → IsOpen trail.now.0 (literal_of (slice_index_or constraint.now.terms k d)))) }
 {
     for index in from..constraint.len() {
-        if !trail.has(opposite_of(constraint.term(index).literal())) {
+        if !trail.has(constraint.term(index).literal().opposite()) {
             return Some(index);
         }
     }

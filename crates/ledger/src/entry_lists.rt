@@ -9,10 +9,11 @@ ghost use Rattle.std.specs.Prelude.{◌≡◌, ◌*◌, ◌<◌, ◌≤◌, ◌+
 ghost use Rattle.linear.specs.declared.term.Lit.{Lit};
 ghost use Rattle.normal_form.specs.Normal.{IsNormal, variable_bound};
 ghost use Rattle.ledger.specs.declared.occurrence.Occurrence.{Occurrence};
-ghost use Rattle.ledger.specs.Occurrences.{HasMore, code, entries_of};
+ghost use Rattle.linear.specs.Literal.{code};
+ghost use Rattle.ledger.specs.Occurrences.{HasMore, entries_of};
 ghost use Rattle.ledger.specs.Watched.{StandsIn};
 
-use super::occurrence::{Occurrence, code_of};
+use super::occurrence::Occurrence;
 use super::pair::Pair;
 use super::table::Table;
 use super::watchers::Watchers;
@@ -33,7 +34,7 @@ fn enter_some(table: &mut Table<Occurrence>, place: usize, constraint: &Normal) 
             place,
             coef: term.coef,
         };
-        match table.push(code_of(term.literal()), entry) {
+        match table.push(term.literal().code(), entry) {
             Err(_) => return index,
             Ok(()) => {}
         }
@@ -67,7 +68,7 @@ pub(crate) fn leave(table: &mut Table<Occurrence>, constraint: &Normal, count: u
         → HasMore before table.new place [] }
 {
     for index in 0..count {
-        table.pop(code_of(constraint.term(index).literal()));
+        table.pop(constraint.term(index).literal().code());
     }
 }
 

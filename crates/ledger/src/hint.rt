@@ -3,7 +3,6 @@
 ghost use Rattle.std.specs.Prelude.{◌<◌};
 ghost use Rattle.ledger.specs.Hints.{IsHintOf, IsHintWithin};
 
-use super::occurrence::opposite_of;
 use super::pair::Pair;
 use super::trail::Trail;
 use linear::Lit;
@@ -26,8 +25,8 @@ pub(crate) fn hint_of(trail: &Trail, pair: Pair) -> Hint
     if trail.has(pair.first) || trail.has(pair.second) {
         return Hint::Quiet;
     }
-    let first_fell = trail.has(opposite_of(pair.first));
-    let second_fell = trail.has(opposite_of(pair.second));
+    let first_fell = trail.has(pair.first.opposite());
+    let second_fell = trail.has(pair.second.opposite());
     if first_fell && second_fell {
         Hint::Unknown
     } else if first_fell {

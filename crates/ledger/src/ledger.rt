@@ -17,7 +17,8 @@ ghost use Rattle.std.specs.Option.{option_copied};
 ghost use Rattle.linear.specs.declared.term.Lit.{Lit};
 ghost use Rattle.linear.specs.Largest.{most_names};
 ghost use Rattle.normal_form.specs.Normal.{Rises, variable_bound};
-ghost use Rattle.propagate.specs.Literals.{IsConsistent, IsOnce, lists, opposite, coefficient_of};
+ghost use Rattle.linear.specs.Literal.{opposite};
+ghost use Rattle.propagate.specs.Literals.{IsConsistent, IsOnce, lists, coefficient_of};
 ghost use Rattle.propagate.specs.Slack.{IsBroken};
 ghost use Rattle.propagate.specs.Walk.{IsQuiet};
 ghost use Rattle.ledger.specs.Hints.{IsHint, IsHintWithin};
@@ -30,7 +31,7 @@ use super::entry_lists::{enter_counted, enter_watched, leave};
 use super::hint::{Hint, hint_of};
 use super::lowering::{lower, queue_below, raise};
 use super::measures::{largest, open_sum};
-use super::occurrence::{Entries, Occurrence, code_of, opposite_of};
+use super::occurrence::{Entries, Occurrence};
 use super::pair::Pair;
 use super::queue::Queue;
 use super::table::Table;
@@ -127,7 +128,7 @@ impl Ledger {
             → 0 < coefficient_of (constraint_at (shown self.old.slots) k) (opposite literal)
             → IsQuiet self.new.listing (constraint_at (shown self.old.slots) k) ⊎ Contains queue.new.0 k) }
     {
-        let fallen = opposite_of(literal);
+        let fallen = literal.opposite();
         self.watchers
             .fall(self.slots.as_slice(), &self.trail, fallen, queue)?;
         self.trail.push(literal);
@@ -138,7 +139,7 @@ impl Ledger {
             &mut self.counters,
             self.limits.as_slice(),
             queue,
-            self.table.row(code_of(fallen)),
+            self.table.row(fallen.code()),
         );
         Ok(())
     }
@@ -160,7 +161,7 @@ impl Ledger {
                 self.reasons.pop();
                 raise(
                     &mut self.counters,
-                    self.table.row(code_of(opposite_of(literal))),
+                    self.table.row(literal.opposite().code()),
                 );
                 Some(literal)
             }
@@ -181,7 +182,7 @@ impl Ledger {
             self.counters.as_slice(),
             self.limits.as_slice(),
             queue,
-            self.table.row(code_of(literal)),
+            self.table.row(literal.code()),
         );
         self.trail.reveal();
         self.watchers.queue_last(&self.trail, literal, queue);
@@ -328,7 +329,7 @@ impl Ledger {
         ensures value { AreEntriesOf self.now.slots literal (all_of result) }
         ensures places { All (λ e. e.place < length self.now.slots) (all_of result) }
     {
-        let number = code_of(literal);
+        let number = literal.code();
         Entries {
             counted: self.table.row_or_none(number),
             watched: self.clauses.row_or_none(number),
@@ -337,7 +338,7 @@ impl Ledger {
 
     /// How many places of clauses that are watched have a literal, empty ones among them. Only speed depends on it.
     pub fn clause_count(&self, literal: Lit) -> usize {
-        self.clauses.row_or_none(code_of(literal)).len()
+        self.clauses.row_or_none(literal.code()).len()
     }
 
     /// Takes the constraint of a place out, if there is one, where it is no literal's reason. The place stays.

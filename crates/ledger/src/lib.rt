@@ -25,6 +25,6 @@ mod watchers;
 
 pub use hint::Hint;
 pub use ledger::Ledger;
-pub use occurrence::{Entries, opposite_of};
+pub use occurrence::Entries;
 pub use queue::Queue;
 pub use trail::Trail;

@@ -7,7 +7,6 @@ ghost use Rattle.propagate.specs.Literals.{coefficient_of};
 ghost use Rattle.propagate.specs.Slack.{not_false};
 ghost use Rattle.ledger.specs.Ledgers.{open_sum};
 
-use super::occurrence::opposite_of;
 use super::trail::Trail;
 use normal_form::Normal;
 
@@ -19,7 +18,7 @@ fn counted(constraint: &Normal, trail: &Trail, place: usize) -> u128
         ≡ sum_over (not_false trail.now.0) (take place constraint.now.terms) + result }
 {
     let term = constraint.term(place);
-    if trail.has(opposite_of(term.literal())) {
+    if trail.has(term.literal().opposite()) {
         0
     } else {
         term.coef

@@ -5,12 +5,8 @@
 //! rest, and without a look at the constraint. Of clauses that are watched the list tells only which ones have a literal.
 
 ghost use Rattle.std.specs.Prelude.{◌≡◌, ◌<◌, length, slice_index_or};
-ghost use Rattle.propagate.specs.Literals.{opposite};
 ghost use Rattle.ledger.specs.declared.occurrence.Occurrence.{Occurrence};
 ghost use Rattle.ledger.specs.Entered.{all_of};
-ghost use Rattle.ledger.specs.Occurrences.{code};
-
-use linear::Lit;
 
 /// A place of a constraint, and the coefficient that a literal has there.
 #[derive(Clone, Copy, Debug, PartialEq, Eq)]
@@ -45,22 +41,5 @@ impl<'a> Entries<'a> {
         } else {
             self.watched[index - counted].place
         }
-    }
-}
-
-/// The number of a literal in tables by literal.
-pub(crate) fn code_of(literal: Lit) -> usize
-    ensures { result ≡ code literal }
-{
-    literal.var.0 as usize * 2 + literal.negated as usize
-}
-
-/// The opposite literal.
-pub fn opposite_of(literal: Lit) -> Lit
-    ensures { result ≡ opposite literal }
-{
-    Lit {
-        var: literal.var,
-        negated: !literal.negated,
     }
 }

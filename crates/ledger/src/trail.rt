@@ -7,7 +7,8 @@ ghost use Rattle.std.specs.Prelude.{◌≡◌, ◌+◌, ◌<◌, ◌≤◌, ◌+
 ghost use Rattle.std.specs.Prelude.{ℕ, false, true, OnOk, OnErr, IsTrue, ◌↔◌, None};
 ghost use Rattle.std.specs.Prelude.{length, slice_index_or, MatchOption, IfSome};
 ghost use Rattle.linear.specs.declared.term.Lit.{Lit};
-ghost use Rattle.propagate.specs.Literals.{IsConsistent, IsOnce, lists, opposite};
+ghost use Rattle.linear.specs.Literal.{opposite};
+ghost use Rattle.propagate.specs.Literals.{IsConsistent, IsOnce, lists};
 
 use linear::Lit;
 use std::alloc::{AllocError, Global};

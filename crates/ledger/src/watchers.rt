@@ -13,12 +13,11 @@ ghost use Rattle.normal_form.specs.Normal.{NormalConstraint, variable_bound};
 ghost use Rattle.propagate.specs.Literals.{lists};
 ghost use Rattle.ledger.specs.declared.pair.Pair.{Pair};
 ghost use Rattle.ledger.specs.Falls.{AreHandled, IsBeside, IsFalling, IsFound, IsOneOf};
-ghost use Rattle.ledger.specs.Occurrences.{code};
+ghost use Rattle.linear.specs.Literal.{code};
 ghost use Rattle.ledger.specs.Watched.{AreSameKinds, AreWatched, IsOpen, IsPairWithin, StandsIn};
 
 use super::choosing::open_beside;
 use super::finding::Finding;
-use super::occurrence::{code_of, opposite_of};
 use super::pair::Pair;
 use super::queue::Queue;
 use super::table::Table;
@@ -89,7 +88,7 @@ impl Watchers {
             (slice_index_or self.old.rows (code literal) [] ++ place ∷ [])) }
         ensures err { OnErr result (self.new.rows ≡ self.old.rows) }
     {
-        self.rows.push(code_of(literal), place)
+        self.rows.push(literal.code(), place)
     }
 
     /// Has the clause of the next place watched by two literals.
@@ -158,7 +157,7 @@ impl Watchers {
         if trail.has(other) {
             return Finding::Satisfied;
         }
-        if trail.has(opposite_of(other)) {
+        if trail.has(other.opposite()) {
             return Finding::Broken;
         }
         match open_beside(
@@ -186,7 +185,7 @@ impl Watchers {
             (slice_index_or self.old.rows (code literal) []) index
             (slice_index_or (slice_index_or self.old.rows (code literal) []) index 0)) }
     {
-        self.rows.swap_remove(code_of(literal), index);
+        self.rows.swap_remove(literal.code(), index);
     }
 
     /// Looks at the clause of an entry of a literal that falls; the index of the next entry.
@@ -214,7 +213,7 @@ impl Watchers {
         ensures count { queue.new.1 ≡ queue.old.1 }
         ensures kept { (k : ℕ) → Contains queue.old.0 k → Contains queue.new.0 k }
     {
-        let place = self.rows.row(code_of(fallen))[index];
+        let place = self.rows.row(fallen.code())[index];
         match self.look(slots, trail, fallen, place) {
             Finding::Satisfied => Ok(index + 1),
             Finding::Broken => {
@@ -260,7 +259,7 @@ impl Watchers {
         ensures kept { (k : ℕ) → Contains queue.old.0 k → Contains queue.new.0 k }
     {
         let mut index = 0;
-        while index < self.rows.row(code_of(fallen)).len() {
+        while index < self.rows.row(fallen.code()).len() {
             index = self.pass(slots, trail, fallen, index, queue)?;
         }
         Ok(())
@@ -276,7 +275,7 @@ impl Watchers {
         ensures count { queue.new.1 ≡ queue.old.1 }
         ensures kept { (k : ℕ) → Contains queue.old.0 k → Contains queue.new.0 k }
     {
-        for place in self.rows.row(code_of(literal)) {
+        for place in self.rows.row(literal.code()) {
             self.queue_at(trail, literal, *place, queue);
         }
     }
@@ -293,7 +292,7 @@ impl Watchers {
         let Some(partner) = self.beside(place, literal) else {
             return;
         };
-        if trail.has(opposite_of(partner)) {
+        if trail.has(partner.opposite()) {
             queue.add(place);
         }
     }

@@ -1,3 +1,4 @@
+pub mod Literal
 pub mod Valuation
 pub mod Sum
 pub mod Largest

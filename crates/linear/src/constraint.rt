@@ -1,7 +1,7 @@
 //! Constraints on signed sums.
 
 use super::seq::Seq;
-use super::term::Term;
+use super::term::{Integer, Term};
 
 /// How a sum stands to its right side.
 #[derive(Clone, Copy, Debug, PartialEq, Eq)]
@@ -15,5 +15,5 @@ pub enum Relation {
 pub struct Signed {
     pub terms: Seq<Term>,
     pub relation: Relation,
-    pub right: i128,
+    pub right: Integer,
 }

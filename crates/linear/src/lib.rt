@@ -18,4 +18,4 @@ pub use limits::{LARGEST_INTEGER, MOST_CONSTRAINTS, MOST_NAMES, MOST_TERMS, MOST
 pub use names::Names;
 pub use problem::Problem;
 pub use seq::Seq;
-pub use term::{Lit, Term, Var};
+pub use term::{Integer, Lit, Term, Var};

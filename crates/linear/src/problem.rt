@@ -12,7 +12,7 @@ use super::constraint::Signed;
 use super::names::Names;
 use super::seq::Seq;
 use super::sums::{meets, sum};
-use super::term::Term;
+use super::term::{Integer, Term};
 use std::marker::Model;
 
 /// A linear 0-1 problem: names, an objective to be minimised or none, and constraints. Its sizes
@@ -96,7 +96,7 @@ impl Problem {
     }
 
     /// What the objective is worth under an assignment, one value for each name; 0 where there is no objective.
-    pub fn value(&self, assignment: &Assignment) -> i128
+    pub fn value(&self, assignment: &Assignment) -> Integer
         requires { length assignment.now ≡ length self.now.names }
         ensures { result ≡ value_of (valuation_of assignment.now) self.now }
     {

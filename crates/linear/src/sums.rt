@@ -8,18 +8,14 @@ ghost use Rattle.linear.specs.Valuation.{valuation_of};
 
 use super::assignment::Assignment;
 use super::constraint::{Relation, Signed};
-use super::term::{Lit, Term};
+use super::term::{Integer, Term};
 
 /// What a term adds to a sum: its coefficient where its literal is true.
-fn worth(assignment: &Assignment, term: Term) -> i128
+fn worth(assignment: &Assignment, term: Term) -> Integer
     requires { term.var.0 < length assignment.now }
     ensures { result ≡ worth (valuation_of assignment.now) term }
 {
-    let lit = Lit {
-        var: term.var,
-        negated: term.negated,
-    };
-    if assignment.is_true(lit) {
+    if assignment.is_true(term.literal()) {
         term.coef
     } else {
         0
@@ -27,7 +23,7 @@ fn worth(assignment: &Assignment, term: Term) -> i128
 }
 
 /// The sum of the terms whose literals are true.
-pub(crate) fn sum(assignment: &Assignment, terms: &[Term]) -> i128
+pub(crate) fn sum(assignment: &Assignment, terms: &[Term]) -> Integer
     requires { IsSumWithin (length assignment.now) terms.now }
     ensures { result ≡ sum_of (valuation_of assignment.now) terms.now }
 {

@@ -7,7 +7,8 @@ use Rattle.linear.specs.declared.term.Lit.{Lit}
 use Rattle.linear.specs.Opb.{Opb}
 use Rattle.normal_form.specs.Normal.{NormalConstraint, only}
 use Rattle.propagate.specs.Chain.{IsChain, LeadsToConflict, IsReached, IsClosure}
-use Rattle.propagate.specs.Literals.{opposite, among, lists, IsConsistent}
+use Rattle.linear.specs.Literal.{opposite}
+use Rattle.propagate.specs.Literals.{among, lists, IsConsistent}
 use Rattle.propagate.proofs.Consistency.{push_consistent, chain_consistent}
 use Rattle.propagate.proofs.SearchEnds.{Ends, one_outcome}
 use Rattle.propagate.proofs.ChainEnds.{given_within}

@@ -20,7 +20,8 @@ use Rattle.normal_form.proofs.NormalForm.{is_form}
 use Rattle.proof_steps.specs.declared.conclusion.Lower.TheVariants as lowers
 use Rattle.propagate.specs.Cases.{x, not_x, unit, unit_not}
 use Rattle.propagate.specs.Chain.{LeadsToConflict, IsReached}
-use Rattle.propagate.specs.Literals.{opposite, lists, IsConsistent}
+use Rattle.linear.specs.Literal.{opposite}
+use Rattle.propagate.specs.Literals.{lists, IsConsistent}
 use Rattle.propagate.specs.Passes.{Settled, outcome}
 use Rattle.propagate.proofs.AnyOf.{any_here}
 use Rattle.propagate.proofs.Consistency.{push_consistent}

@@ -6,7 +6,8 @@ use Rattle.std.proofs.lemmas.List.Elements.{All-contains, All-nil, All-cons}
 use Rattle.linear.specs.declared.term.Lit.{Lit}
 use Rattle.linear.specs.Valuation.{Valuation, literal_true}
 use Rattle.normal_form.specs.Normal.{NormalConstraint, Holds}
-use Rattle.propagate.specs.Literals.{opposite, among, lists, MakesTrue}
+use Rattle.linear.specs.Literal.{opposite}
+use Rattle.propagate.specs.Literals.{among, lists, MakesTrue}
 use Rattle.propagate.specs.Slack.{not_false, IsBroken, IsForced}
 use Rattle.propagate.specs.Chain.{IsChain, LeadsToConflict, IsSettled}
 use Rattle.normal_form.proofs.SetSums.{Within, sum_within, sum_apart}

@@ -7,7 +7,8 @@ use Rattle.linear.specs.declared.term.Lit.{Lit}
 use Rattle.normal_form.specs.declared.term.NormalTerm.{NormalTerm}
 use Rattle.normal_form.specs.Normal.{NormalConstraint, sum_over, only, same_sign, Rises}
 use Rattle.normal_form.proofs.OneList.{absent, counted_own}
-use Rattle.propagate.specs.Literals.{opposite, coefficient_of, lists}
+use Rattle.linear.specs.Literal.{opposite}
+use Rattle.propagate.specs.Literals.{coefficient_of, lists}
 use Rattle.propagate.specs.Walk.{CanForce}
 use Rattle.propagate.specs.Slack.{not_false, IsForced}
 use Rattle.propagate.specs.Passes.{literal_of}

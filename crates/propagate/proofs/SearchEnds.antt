@@ -6,7 +6,8 @@ use Rattle.std.proofs.lemmas.Bool.Decides.{nat_tests}
 use Rattle.linear.specs.declared.term.Lit.{Lit}
 use Rattle.normal_form.specs.declared.term.NormalTerm.{NormalTerm}
 use Rattle.normal_form.specs.Normal.{NormalConstraint, sum_over, only, variable_bound}
-use Rattle.propagate.specs.Literals.{opposite, among, lists}
+use Rattle.linear.specs.Literal.{opposite}
+use Rattle.propagate.specs.Literals.{among, lists}
 use Rattle.propagate.specs.Slack.{IsForced}
 use Rattle.propagate.specs.Chain.{IsForcedByOne, LeadsToConflict, IsSettled, IsClosure}
 use Rattle.propagate.specs.Passes.{is_broken, next_forced, Outcome, Conflict, Settled, Unfinished, onward, outcome}

@@ -8,7 +8,8 @@ use Rattle.std.proofs.lemmas.List.{append-nil}
 use Rattle.linear.specs.declared.term.Lit.{Lit}
 use Rattle.normal_form.specs.declared.term.NormalTerm.{NormalTerm}
 use Rattle.normal_form.specs.Normal.{NormalConstraint, sum_over, only}
-use Rattle.propagate.specs.Literals.{opposite, coefficient_of, among, lists}
+use Rattle.linear.specs.Literal.{opposite}
+use Rattle.propagate.specs.Literals.{coefficient_of, among, lists}
 use Rattle.propagate.specs.Slack.{not_false, IsForced}
 use Rattle.propagate.specs.Chain.{IsForcedByOne, IsConflict, IsChain, LeadsToConflict, IsSettled, IsClosure}
 use Rattle.propagate.specs.Passes.{is_broken, is_forced, literal_of, first_forced, or_else, next_forced, Conflict, Settled, onward, outcome}

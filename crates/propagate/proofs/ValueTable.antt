@@ -5,7 +5,8 @@ use Rattle.std.proofs.lemmas.Bool.Decides.{nat_tests}
 use Rattle.std.proofs.lemmas.List.{length-set, get_or-set_same, get_or-set_other}
 use Rattle.linear.specs.declared.term.Lit.{Lit}
 use Rattle.normal_form.specs.Normal.{only}
-use Rattle.propagate.specs.Literals.{opposite, among, lists}
+use Rattle.linear.specs.Literal.{opposite}
+use Rattle.propagate.specs.Literals.{among, lists}
 use Rattle.propagate.specs.Values.{is_value, Agrees}
 use Rattle.normal_form.proofs.SetSums.{only_is}
 use Rattle.propagate.proofs.Listings.{among_append, among_cases, or_cases}

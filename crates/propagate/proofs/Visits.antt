@@ -7,7 +7,8 @@ use Rattle.normal_form.specs.Normal.{Literals, NormalConstraint, sum_over, only,
 use Rattle.normal_form.proofs.FromBalance.{one_side}
 use Rattle.normal_form.proofs.SetSums.{sum_within, only_itself}
 use Rattle.propagate.specs.declared.forced.Forced.{Forced}
-use Rattle.propagate.specs.Literals.{opposite, coefficient_of, among, lists}
+use Rattle.linear.specs.Literal.{opposite}
+use Rattle.propagate.specs.Literals.{coefficient_of, among, lists}
 use Rattle.propagate.specs.Passes.{literal_of}
 use Rattle.propagate.specs.Slack.{not_false, IsForced}
 use Rattle.propagate.specs.Walk.{literals_of, CanForce, AreForcedBy, GoesOnBy}

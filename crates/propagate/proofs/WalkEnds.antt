@@ -11,7 +11,8 @@ use Rattle.propagate.specs.declared.trace.Trace.{Trace}
 use Rattle.propagate.specs.TraceByPlaces.{named, IsTraceByPlaces}
 use Rattle.propagate.specs.Reach.{IsReach}
 use Rattle.propagate.specs.declared.forced.Forced.{Forced}
-use Rattle.propagate.specs.Literals.{opposite, among, lists, Contradicts, IsConsistent, IsOnce, SameLiterals}
+use Rattle.linear.specs.Literal.{opposite}
+use Rattle.propagate.specs.Literals.{among, lists, Contradicts, IsConsistent, IsOnce, SameLiterals}
 use Rattle.propagate.specs.Chain.{IsConflict, LeadsToConflict, IsSettled, IsReached, IsClosure, IsImpossible}
 use Rattle.propagate.specs.Walk.{IsBrokenAt, IsReasonedChain, literals_of}
 use Rattle.normal_form.proofs.SetSums.{Within}

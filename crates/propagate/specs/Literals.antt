@@ -1,12 +1,9 @@
 -- Listings of literals that are taken as true.
-use Rattle.std.specs.Prelude.{ℕ, ◌+◌, ◌≡◌, max, Bool, true, false, not, ◌||◌, List, [], ◌∷◌}
+use Rattle.std.specs.Prelude.{ℕ, ◌+◌, ◌≡◌, max, Bool, true, false, ◌||◌, List, [], ◌∷◌}
 use Rattle.linear.specs.declared.term.Lit.{Lit}
+use Rattle.linear.specs.Literal.{opposite}
 use Rattle.linear.specs.Valuation.{Valuation, literal_true}
 use Rattle.normal_form.specs.Normal.{Literals, NormalConstraint, only, coefficient}
-
--- the opposite literal
-abbrev pub opposite : Lit → Lit
-opposite l = record l { negated = not l.negated }
 
 -- N(l): the coefficient of a literal
 abbrev pub coefficient_of : NormalConstraint → Lit → ℕ

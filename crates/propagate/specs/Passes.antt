@@ -5,7 +5,8 @@ use Rattle.std.specs.List.{list_any}
 use Rattle.linear.specs.declared.term.Lit.{Lit}
 use Rattle.normal_form.specs.declared.term.NormalTerm.{NormalTerm}
 use Rattle.normal_form.specs.Normal.{NormalConstraint, sum_over}
-use Rattle.propagate.specs.Literals.{opposite, coefficient_of, lists}
+use Rattle.linear.specs.Literal.{opposite}
+use Rattle.propagate.specs.Literals.{coefficient_of, lists}
 use Rattle.propagate.specs.Slack.{not_false}
 
 -- whether the slack is negative

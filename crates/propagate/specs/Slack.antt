@@ -2,7 +2,8 @@
 use Rattle.std.specs.Prelude.{◌≡◌, ◌<◌, false, not, ℤ, pos, ◌-ℤ◌, ◌<ℤ◌, List}
 use Rattle.linear.specs.declared.term.Lit.{Lit}
 use Rattle.normal_form.specs.Normal.{Literals, NormalConstraint, sum_over}
-use Rattle.propagate.specs.Literals.{opposite, coefficient_of, among, lists}
+use Rattle.linear.specs.Literal.{opposite}
+use Rattle.propagate.specs.Literals.{coefficient_of, among, lists}
 
 -- the literals that a listing does not make false: those whose opposite is not in it
 abbrev pub not_false : List Lit → Literals

@@ -3,7 +3,8 @@ use Rattle.std.specs.Prelude.{◌≡◌, ℕ, ◌<◌, false, List, [], ◌∷�
 use Rattle.linear.specs.declared.term.Lit.{Lit}
 use Rattle.normal_form.specs.Normal.{NormalConstraint}
 use Rattle.propagate.specs.declared.forced.Forced.{Forced}
-use Rattle.propagate.specs.Literals.{lists, opposite}
+use Rattle.linear.specs.Literal.{opposite}
+use Rattle.propagate.specs.Literals.{lists}
 use Rattle.propagate.specs.Slack.{IsBroken, IsForced}
 
 -- the constraint at a place is this one

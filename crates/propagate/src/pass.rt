@@ -7,7 +7,8 @@
 ghost use Rattle.std.specs.Prelude.{◌≡◌, ◌+◌, ◌<◌, ◌≤◌, ◌↔◌, ◌++◌, ◌∷◌, [], false, true, All, IfOk, IsTrue, MatchOption, OnOk, length, map};
 ghost use Rattle.normal_form.specs.Normal.{sum_over, variable_bound};
 ghost use Rattle.propagate.specs.Chain.{IsSettled};
-ghost use Rattle.propagate.specs.Literals.{lists, opposite};
+ghost use Rattle.linear.specs.Literal.{opposite};
+ghost use Rattle.propagate.specs.Literals.{lists};
 ghost use Rattle.propagate.specs.Slack.{IsBroken, not_false};
 ghost use Rattle.propagate.specs.Walk.{GoesOn, GoesOnBy, IsBrokenAt, IsQuiet, CanForce};
 

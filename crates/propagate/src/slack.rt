@@ -9,7 +9,6 @@ ghost use Rattle.normal_form.specs.Normal.{sum_over, variable_bound};
 ghost use Rattle.propagate.specs.Slack.{IsBroken, not_false};
 
 use super::trail::Trail;
-use linear::Lit;
 use normal_form::Normal;
 
 /// What the term at a place adds to the sum of the literals that are not made false.
@@ -20,11 +19,11 @@ fn counted(constraint: &Normal, trail: &Trail, place: usize) -> u128
         ≡ sum_over (not_false trail.now.0) (take place constraint.now.terms) + result }
 {
     let term = constraint.term(place);
-    let opposite = Lit {
-        var: term.var,
-        negated: !term.negated,
-    };
-    if trail.has(opposite) { 0 } else { term.coef }
+    if trail.has(term.literal().opposite()) {
+        0
+    } else {
+        term.coef
+    }
 }
 
 /// The sum of the coefficients of the literals that are not made false.

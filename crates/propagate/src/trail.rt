@@ -5,7 +5,8 @@
 //! facts of the type.
 
 ghost use Rattle.std.specs.Prelude.{◌≡◌, ◌<◌, ◌++◌, ◌∷◌, [], false, IfOk, IsTrue, OnOk, OnErr, ◌↔◌, None, All, IfSome, length, true};
-ghost use Rattle.propagate.specs.Literals.{Contradicts, IsConsistent, IsOnce, SameLiterals, lists, opposite};
+ghost use Rattle.linear.specs.Literal.{opposite};
+ghost use Rattle.propagate.specs.Literals.{Contradicts, IsConsistent, IsOnce, SameLiterals, lists};
 
 use linear::{Lit, Seq};
 use std::alloc::{AllocError, Global};

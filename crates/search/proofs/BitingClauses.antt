@@ -12,7 +12,8 @@ use Rattle.normal_form.proofs.NormalForm.{form, form_is}
 use Rattle.normal_form.proofs.SetSums.{only_itself}
 use Rattle.propagate.specs.Biting.{Bites}
 use Rattle.propagate.specs.Chain.{IsClosure, IsImpossible}
-use Rattle.propagate.specs.Literals.{among, lists, opposite, IsConsistent}
+use Rattle.linear.specs.Literal.{opposite}
+use Rattle.propagate.specs.Literals.{among, lists, IsConsistent}
 use Rattle.propagate.specs.Reach.{IsReach}
 use Rattle.propagate.specs.declared.reach.Reach.TheVariants as reaches
 use Rattle.propagate.specs.Slack.{IsBroken, IsForced, not_false}

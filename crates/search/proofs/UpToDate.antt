@@ -8,7 +8,8 @@ use Rattle.linear.specs.declared.term.Lit.{Lit}
 use Rattle.normal_form.specs.Normal.{NormalConstraint}
 use Rattle.propagate.specs.Chain.{IsReached}
 use Rattle.propagate.specs.Content.{Content, IsEnd}
-use Rattle.propagate.specs.Literals.{IsConsistent, among, opposite}
+use Rattle.linear.specs.Literal.{opposite}
+use Rattle.propagate.specs.Literals.{IsConsistent, among}
 use Rattle.propagate.proofs.Consistency.{push_consistent}
 use Rattle.search.specs.Undoing.{AreUpToDate, IsOvertaken}
 use Rattle.search.specs.Values.{AreValuesUnder, IsFree, unlisted_below}

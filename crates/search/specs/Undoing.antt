@@ -4,7 +4,7 @@ use Rattle.linear.specs.declared.term.Lit.{Lit}
 use Rattle.normal_form.specs.Normal.{NormalConstraint}
 use Rattle.analysis.specs.declared.entry.Entry.{Entry}
 use Rattle.propagate.specs.Chain.{IsReached}
-use Rattle.propagate.specs.Literals.{opposite}
+use Rattle.linear.specs.Literal.{opposite}
 use Rattle.search.specs.Log.{Logbook}
 use Rattle.search.specs.Solving.{TakesId}
 

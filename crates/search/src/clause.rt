@@ -24,23 +24,13 @@ use proof_steps::Step;
 use propagate::{Propagator, Reach};
 use std::alloc::{AllocError, Global};
 
-fn opposite_of(literal: Lit) -> Term
-    ensures { result ≡ opposite_term literal }
-{
-    Term {
-        coef: 1,
-        var: literal.var,
-        negated: !literal.negated,
-    }
-}
-
 /// The clause that one of some literals is false.
 fn clause_of(alloc: Global, literals: &[Lit]) -> Result<Signed, AllocError>
     ensures { IfOk result (λ c. c ≡ negated_clause literals.now) }
 {
     let mut terms = Vec::with_capacity(alloc, literals.len())?;
     for literal in literals {
-        terms.push(opposite_of(*literal))?;
+        terms.push(Term::new(1, literal.opposite()))?;
     }
     Ok(Signed {
         terms: Seq::from_vec(terms),
@@ -166,11 +156,7 @@ pub(crate) fn learn_clause<'a, P: Propagator>(
     let Reach::Closed(closed) = log.extend(&decisions.as_slice()[..kept])? else {
         unreachable!()
     };
-    let opposite = Lit {
-        var: last.var,
-        negated: !last.negated,
-    };
-    let lesson = if is_listed(closed.as_slice(), opposite) {
+    let lesson = if is_listed(closed.as_slice(), last.opposite()) {
         Lesson::Undone
     } else {
         log_clause(alloc, log, &decisions.as_slice()[..count], brancher)?;

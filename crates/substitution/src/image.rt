@@ -20,10 +20,7 @@ impl Image {
         ensures { result ≡ opposite_image self }
     {
         match self {
-            Image::Lit(lit) => Image::Lit(Lit {
-                var: lit.var,
-                negated: !lit.negated,
-            }),
+            Image::Lit(lit) => Image::Lit(lit.opposite()),
             Image::Zero => Image::One,
             Image::One => Image::Zero,
         }

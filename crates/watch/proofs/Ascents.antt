@@ -7,7 +7,8 @@ use Rattle.linear.specs.declared.term.Lit.{Lit}
 use Rattle.normal_form.specs.Normal.{NormalConstraint}
 use Rattle.normal_form.proofs.SetSums.{Within}
 use Rattle.propagate.specs.Chain.{IsClosure, IsImpossible, IsSettled, LeadsToConflict}
-use Rattle.propagate.specs.Literals.{among, lists, opposite}
+use Rattle.linear.specs.Literal.{opposite}
+use Rattle.propagate.specs.Literals.{among, lists}
 use Rattle.propagate.specs.Slack.{IsBroken}
 use Rattle.propagate.specs.Walk.{IsBrokenAt}
 use Rattle.propagate.proofs.ChainEnds.{by_set, settled_stays}

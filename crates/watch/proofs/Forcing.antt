@@ -8,7 +8,8 @@ use Rattle.std.proofs.Math.Nat.{mul-le-mul_right}
 use Rattle.linear.specs.declared.term.Lit.{Lit}
 use Rattle.normal_form.specs.declared.term.NormalTerm.{NormalTerm}
 use Rattle.normal_form.specs.Normal.{NormalConstraint, Rises}
-use Rattle.propagate.specs.Literals.{opposite, lists}
+use Rattle.linear.specs.Literal.{opposite}
+use Rattle.propagate.specs.Literals.{lists}
 use Rattle.propagate.specs.Passes.{literal_of}
 use Rattle.propagate.specs.Slack.{IsBroken}
 use Rattle.propagate.specs.Chain.{IsSettled}

@@ -7,7 +7,8 @@ use Rattle.linear.specs.declared.term.Lit.{Lit}
 use Rattle.normal_form.specs.Normal.{NormalConstraint}
 use Rattle.normal_form.proofs.SetSums.{Within}
 use Rattle.propagate.specs.Chain.{IsChain, IsClosure, IsImpossible, IsRefuted, IsSettled}
-use Rattle.propagate.specs.Literals.{among, coefficient_of, lists, opposite, IsConsistent, IsOnce}
+use Rattle.linear.specs.Literal.{opposite}
+use Rattle.propagate.specs.Literals.{among, coefficient_of, lists, IsConsistent, IsOnce}
 use Rattle.propagate.specs.Walk.{IsBrokenAt, IsQuiet}
 use Rattle.propagate.proofs.ChainEnds.{by_set}
 use Rattle.propagate.proofs.Chains.{no_conflict_from}

@@ -5,7 +5,8 @@ use Rattle.std.proofs.lemmas.Int.{ints}
 use Rattle.std.proofs.lemmas.List.{get_or-set_same, get_or-set_other, length-map, length-set}
 use Rattle.linear.specs.declared.term.Lit.{Lit}
 use Rattle.normal_form.specs.Normal.{NormalConstraint}
-use Rattle.propagate.specs.Literals.{coefficient_of, lists, opposite}
+use Rattle.linear.specs.Literal.{opposite}
+use Rattle.propagate.specs.Literals.{coefficient_of, lists}
 use Rattle.propagate.specs.Slack.{IsForced}
 use Rattle.propagate.specs.Walk.{IsQuiet}
 use Rattle.propagate.proofs.Consistency.{only_here}

@@ -5,7 +5,8 @@ use Rattle.std.proofs.lemmas.List.{get_or_default, take_more}
 use Rattle.std.proofs.Math.Seq.{get_or-append_right, take-length}
 use Rattle.linear.specs.declared.term.Lit.{Lit}
 use Rattle.normal_form.specs.Normal.{NormalConstraint}
-use Rattle.propagate.specs.Literals.{among, lists, opposite, IsConsistent, SameLiterals}
+use Rattle.linear.specs.Literal.{opposite}
+use Rattle.propagate.specs.Literals.{among, lists, IsConsistent, SameLiterals}
 use Rattle.propagate.proofs.Closure.{same_settled}
 use Rattle.propagate.proofs.ChainEnds.{by_set}
 use Rattle.propagate.proofs.Listings.{among_cases}

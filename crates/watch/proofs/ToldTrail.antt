@@ -7,7 +7,8 @@ use Rattle.linear.specs.declared.term.Lit.{Lit}
 use Rattle.normal_form.specs.Normal.{NormalConstraint}
 use Rattle.normal_form.proofs.SetSums.{Within, sum_apart, sum_within}
 use Rattle.propagate.specs.Chain.{IsSettled}
-use Rattle.propagate.specs.Literals.{among, lists, opposite, IsConsistent, SameLiterals}
+use Rattle.linear.specs.Literal.{opposite}
+use Rattle.propagate.specs.Literals.{among, lists, IsConsistent, SameLiterals}
 use Rattle.propagate.specs.Slack.{IsBroken, IsForced, not_false}
 use Rattle.propagate.specs.Walk.{IsBrokenAt}
 use Rattle.propagate.proofs.ChainEnds.{by_set}

@@ -8,7 +8,8 @@ use Rattle.normal_form.specs.declared.term.NormalTerm.{NormalTerm}
 use Rattle.normal_form.specs.Normal.{NormalConstraint, sum_over, only, Rises}
 use Rattle.normal_form.proofs.OneList.{absent}
 use Rattle.normal_form.proofs.SetSums.{only_is}
-use Rattle.propagate.specs.Literals.{opposite, coefficient_of, lists}
+use Rattle.linear.specs.Literal.{opposite}
+use Rattle.propagate.specs.Literals.{coefficient_of, lists}
 use Rattle.propagate.specs.Slack.{IsForced}
 use Rattle.propagate.specs.Chain.{IsForcedByOne, IsChain}
 use Rattle.propagate.specs.Walk.{IsQuiet}

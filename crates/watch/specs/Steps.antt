@@ -5,7 +5,8 @@ use Rattle.linear.specs.declared.term.Lit.{Lit}
 use Rattle.normal_form.specs.Normal.{NormalConstraint}
 use Rattle.propagate.specs.declared.trace.Trace.{Trace}
 use Rattle.propagate.specs.Chain.{IsSettled}
-use Rattle.propagate.specs.Literals.{lists, opposite}
+use Rattle.linear.specs.Literal.{opposite}
+use Rattle.propagate.specs.Literals.{lists}
 use Rattle.propagate.specs.Walk.{IsBrokenAt}
 use Rattle.watch.specs.declared.chain.Step.{Step}
 use Rattle.watch.specs.declared.chain.Chain.{Chain}

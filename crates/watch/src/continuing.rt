@@ -4,7 +4,8 @@
 //! told as it came; so what is told is the end of the trail alone, as it stands there.
 
 ghost use Rattle.std.specs.Prelude.{◌≡◌, ◌+◌, ◌<◌, ◌++◌, ◌∷◌, [], ℕ, false, IfOk, None, length, slice_index_or, take};
-ghost use Rattle.propagate.specs.Literals.{IsConsistent, lists, opposite};
+ghost use Rattle.linear.specs.Literal.{opposite};
+ghost use Rattle.propagate.specs.Literals.{IsConsistent, lists};
 ghost use Rattle.watch.specs.Keeping.{IsKept};
 ghost use Rattle.ledger.specs.Ledgers.{shown};
 ghost use Rattle.watch.specs.Steps.{AreSteps, IsFound, IsFoundOfLast, literals_of};

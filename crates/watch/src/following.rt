@@ -6,7 +6,8 @@
 
 ghost use Rattle.std.specs.Prelude.{◌≡◌, ◌<◌, ◌≤◌, ◌⊎◌, ◌++◌, ◌∷◌, [], ℕ, List, false, All, IfOk, OnErr, OnOk, length, take};
 ghost use Rattle.linear.specs.declared.term.Lit.{Lit};
-ghost use Rattle.propagate.specs.Literals.{lists, opposite};
+ghost use Rattle.linear.specs.Literal.{opposite};
+ghost use Rattle.propagate.specs.Literals.{lists};
 ghost use Rattle.watch.specs.Givens.{IsDecided, IsPushed};
 ghost use Rattle.watch.specs.Looking.{AreLookedAt, GoesOn};
 ghost use Rattle.watch.specs.Keeping.{IsAscent, IsKept, IsSettledOrBroken, broken_place};
@@ -19,7 +20,7 @@ use super::giving::give;
 use super::levels::Levels;
 use super::release::take_back_to;
 use super::walk::settle;
-use ledger::{Ledger, Queue, opposite_of};
+use ledger::{Ledger, Queue};
 use linear::Lit;
 use std::alloc::AllocError;
 
@@ -104,7 +105,7 @@ fn step_up(
     ensures end { IfOk result (IsAscent (shown ledger.old.slots) (levels.old.0 ++ literal ∷ []) ledger.new.listing) }
     ensures whole { IfOk result (λ a. a ≡ Ascent.Whole → levels.new.0 ≡ levels.old.0 ++ literal ∷ []) }
 {
-    if ledger.has(opposite_of(literal)) {
+    if ledger.has(literal.opposite()) {
         return Ok(Ascent::Clash);
     }
     open_level(ledger, queue, levels, literal)?;

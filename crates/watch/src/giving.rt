@@ -4,7 +4,8 @@
 //! ends, nothing is given.
 
 ghost use Rattle.std.specs.Prelude.{◌≡◌, ◌<◌, ◌∷◌, [], false, true, OnErr, OnOk, length};
-ghost use Rattle.propagate.specs.Literals.{lists, opposite};
+ghost use Rattle.linear.specs.Literal.{opposite};
+ghost use Rattle.propagate.specs.Literals.{lists};
 ghost use Rattle.watch.specs.Givens.{IsGiven, IsPushed};
 ghost use Rattle.ledger.specs.Ledgers.{shown};
 ghost use Rattle.watch.specs.Looking.{AreLookedAt};

@@ -10,7 +10,7 @@ ghost use Rattle.ledger.specs.Ledgers.{shown};
 ghost use Rattle.watch.specs.Steps.{AreGiven, IsTold, IsToldTo, LeadsTo};
 
 use super::chain::{Chain, Step};
-use ledger::{Ledger, Trail, opposite_of};
+use ledger::{Ledger, Trail};
 use linear::Lit;
 use std::alloc::{AllocError, Global};
 
@@ -65,7 +65,7 @@ fn tell(
     let Some(place) = ledger.reason(index) else {
         unreachable!()
     };
-    if given.has(opposite_of(literal)) {
+    if given.has(literal.opposite()) {
         return Ok(Some(place));
     }
     steps.push(Step { literal, place })?;

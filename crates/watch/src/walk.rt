@@ -10,7 +10,7 @@ ghost use Rattle.propagate.specs.Walk.{IsBrokenAt};
 ghost use Rattle.ledger.specs.Ledgers.{constraint_at, shown, HasSlack, term_at};
 ghost use Rattle.watch.specs.Looking.{AreLookedAt, GoesOn, CanForce, IsVisited};
 
-use ledger::{Hint, Ledger, Queue, opposite_of};
+use ledger::{Hint, Ledger, Queue};
 use std::alloc::AllocError;
 
 /// Forces the literal of a term, where its coefficient is above the slack and it is free.
@@ -57,7 +57,7 @@ fn widest(ledger: &Ledger, place: usize) -> usize
     let mut chosen = end;
     let mut most = 0;
     for index in 0..end {
-        let count = ledger.clause_count(opposite_of(ledger.term(place, index).literal()));
+        let count = ledger.clause_count(ledger.term(place, index).literal().opposite());
         if count > most {
             chosen = index;
             most = count;

@@ -8,7 +8,7 @@ use Rattle.ledger.proofs.ChosenLiterals.{apart, occurs_at}
 use Rattle.ledger.proofs.choosing.open_at.Goals as goal
 
 pub has-requires : goal.has-requires
-has-requires c = grind (arith, bound_at c.args.constraint.now.terms c.args.index c.term.result c.requires.index, c.term.ensures.value, c.requires.variables, c.opposite_of.ensures, c.literal-literal.ensures)
+has-requires c = grind (arith, bound_at c.args.constraint.now.terms c.args.index c.term.result c.requires.index, c.term.ensures.value, c.requires.variables, c.opposite.ensures, c.literal-literal.ensures)
 
 pub returns : goal.returns
 returns c =
@@ -16,7 +16,7 @@ returns c =
     let is : c.literal-literal.result ≡ literal_of c.term.result = c.literal-literal.ensures in
     record {
       occurs = subst (λ (l : Lit). 0 < coefficient_of c.args.constraint.now l) (sym is) some;
-      unset = ap (lists c.args.trail.now.0) (sym c.opposite_of.ensures) ∙ sym c.has.ensures ∙ c.if-has.false;
+      unset = ap (lists c.args.trail.now.0) (sym c.opposite.ensures) ∙ sym c.has.ensures ∙ c.if-has.false;
       not_first = apart c.literal-literal.result c.args.others.first (sym c.if-eq.ensures);
       not_second = apart c.literal-literal.result c.args.others.second (sym c.if-eq-2.ensures);
     }

@@ -3,22 +3,23 @@ use Rattle.std.proofs.Common.{◌≡◌, ℕ, List, [], length, take, drop, ap, 
 use Rattle.std.proofs.lemmas.List.{length-set}
 use Rattle.ledger.specs.declared.occurrence.Occurrence.{Occurrence}
 use Rattle.normal_form.specs.declared.term.NormalTerm.{NormalTerm}
-use Rattle.ledger.specs.Occurrences.{code, HasMore}
+use Rattle.linear.specs.Literal.{code}
+use Rattle.ledger.specs.Occurrences.{HasMore}
 use Rattle.ledger.proofs.Entering.{code_of_term, left_next, none_left}
 use Rattle.ledger.proofs.entry_lists.leave.Goals as goal
 
 pub pop-requires : goal.pop-requires
 pop-requires c =
     let ts : List NormalTerm = c.args.constraint.now.terms in
-    code_of_term ts c.loop-index.index c.code_of.result (length c.loop-index.table) c.term.result (omega (arith, c.loop-index-test.true, c.requires.count)) c.term.ensures.value
-    (omega (arith, c.requires.table, c.loop-index.invariant.same_length)) (c.code_of.ensures ∙ ap code c.literal.ensures)
+    code_of_term ts c.loop-index.index c.code.result (length c.loop-index.table) c.term.result (omega (arith, c.loop-index-test.true, c.requires.count)) c.term.ensures.value
+    (omega (arith, c.requires.table, c.loop-index.invariant.same_length)) (c.code.ensures ∙ ap code c.literal.ensures)
 
 pub loop-index-preserved : goal.loop-index-preserved
 loop-index-preserved c = record {
-  same_length = ap (length {A = List Occurrence}) c.pop.ensures ∙ length-set c.loop-index.table c.code_of.result _ ∙ c.loop-index.invariant.same_length;
+  same_length = ap (length {A = List Occurrence}) c.pop.ensures ∙ length-set c.loop-index.table c.code.result _ ∙ c.loop-index.invariant.same_length;
   fewer = λ before place h.
-      left_next before c.loop-index.table c.pop.new.self place c.args.count c.loop-index.index c.code_of.result c.term.result c.args.constraint.now.terms c.requires.normal.rises
-      c.loop-index-test.true c.requires.count c.term.ensures.value (omega (arith, c.requires.table, c.loop-index.invariant.same_length)) (c.code_of.ensures ∙ ap code c.literal.ensures)
+      left_next before c.loop-index.table c.pop.new.self place c.args.count c.loop-index.index c.code.result c.term.result c.args.constraint.now.terms c.requires.normal.rises
+      c.loop-index-test.true c.requires.count c.term.ensures.value (omega (arith, c.requires.table, c.loop-index.invariant.same_length)) (c.code.ensures ∙ ap code c.literal.ensures)
       (c.loop-index.invariant.fewer before place h) c.pop.ensures;
 }
 

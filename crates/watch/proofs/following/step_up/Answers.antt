@@ -10,5 +10,5 @@ returns-then-has-clause-end c =
     let l = c.args.literal in (
       l,
       among_right c.args.levels.now.0 (l ∷ []) (l.var.0) l.negated (among_head l []),
-      ap (λ (m : Lit). lists c.args.ledger.now.listing m) (sym c.opposite_of.ensures) ∙ sym c.has.ensures ∙ c.if-has.true,
+      ap (λ (m : Lit). lists c.args.ledger.now.listing m) (sym c.opposite.ensures) ∙ sym c.has.ensures ∙ c.if-has.true,
     )

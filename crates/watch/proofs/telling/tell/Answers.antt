@@ -31,7 +31,7 @@ has-requires-2 c =
     let trail = c.args.ledger.now.listing in
     let l : Lit = get_or c.literals.result.now c.args.index none in
     let listed : lists trail l ≡ true = ap (λ (xs : List Lit). lists trail (get_or xs c.args.index none)) c.literals.ensures.listing ∙ listed_at trail c.args.index none c.requires.index in
-    omega (arith, c.literals.ensures.variables l listed, c.requires.wide, ap (λ (m : Lit). m.var.0) c.opposite_of.ensures)
+    omega (arith, c.literals.ensures.variables l listed, c.requires.wide, ap (λ (m : Lit). m.var.0) c.opposite.ensures)
 
 pub returns-then-has-2 : goal.returns-then-has-2
 returns-then-has-2 c =
@@ -42,7 +42,7 @@ returns-then-has-2 c =
     let base : IsReason ns (take c.args.index trail) l (get_or reasons c.args.index None) =
     subst (λ (xs : List Lit). IsReason ns (take c.args.index trail) (get_or xs c.args.index none) (get_or reasons c.args.index None)) (sym c.literals.ensures.listing) (c.reveal.ensures.reasons.forced c.args.index none c.requires.index) in
     let r : IsReason ns (take c.args.index trail) l (Some c.in-Some.place) = reason_is ns (take c.args.index trail) l (get_or reasons c.args.index None) (Some c.in-Some.place) base (sym c.reason.ensures ∙ c.in-Some.is) in
-    told_broken ns c.args.given.now.0 trail c.args.steps.now.items c.args.index c.in-Some.place l c.requires.told r (ap (λ (m : Lit). lists c.args.given.now.0 m) (sym c.opposite_of.ensures) ∙ sym c.has-2.ensures ∙ c.if-has-2.true)
+    told_broken ns c.args.given.now.0 trail c.args.steps.now.items c.args.index c.in-Some.place l c.requires.told r (ap (λ (m : Lit). lists c.args.given.now.0 m) (sym c.opposite.ensures) ∙ sym c.has-2.ensures ∙ c.if-has-2.true)
 
 pub returns : goal.returns
 returns c =
@@ -55,4 +55,4 @@ returns c =
     subst (λ (xs : List Lit). IsReason ns (take c.args.index trail) (get_or xs c.args.index none) (get_or reasons c.args.index None)) (sym c.literals.ensures.listing) (c.reveal.ensures.reasons.forced c.args.index none c.requires.index) in
     let r : IsReason ns (take c.args.index trail) l (Some c.in-Some.place) = reason_is ns (take c.args.index trail) l (get_or reasons c.args.index None) (Some c.in-Some.place) base (sym c.reason.ensures ∙ c.in-Some.is) in
     rw c.in_ok-push.ensures.items (told_one ns c.args.given.now.0 trail c.args.steps.now.items c.args.index c.in-Some.place l c.requires.index is c.requires.told r
-    (sym c.has.ensures ∙ c.if-has.false) (ap (λ (m : Lit). lists c.args.given.now.0 m) (sym c.opposite_of.ensures) ∙ sym c.has-2.ensures ∙ c.if-has-2.false))
+    (sym c.has.ensures ∙ c.if-has.false) (ap (λ (m : Lit). lists c.args.given.now.0 m) (sym c.opposite.ensures) ∙ sym c.has-2.ensures ∙ c.if-has-2.false))

@@ -11,6 +11,6 @@ returns-clause-places c =
     let e = c.self.inside in
     let l = c.args.literal in
     let os : List Occurrence = c.row_or_none.result.now ++ c.row_or_none-2.result.now in
-    let are = entries_are e.slots.items e.trail.0 e.trail.1 e.table e.clauses e.counters.items e.limits.items e.watchers.pairs l c.code_of-number.result c.row_or_none.result.now c.row_or_none-2.result.now c.self.invariant.0 c.code_of-number.ensures c.row_or_none.ensures c.row_or_none-2.ensures in
+    let are = entries_are e.slots.items e.trail.0 e.trail.1 e.table e.clauses e.counters.items e.limits.items e.watchers.pairs l c.code-number.result c.row_or_none.result.now c.row_or_none-2.result.now c.self.invariant.0 c.code-number.ensures c.row_or_none.ensures c.row_or_none-2.ensures in
     subst (λ (slots : List (Option NormalConstraint)). All (λ e. e.place < length slots) os) (ap (λ (s : State). s.slots) c.self.view_is)
     (entries_below e.slots.items l os are)

@@ -14,14 +14,14 @@ pub queue_below-requires-clause-places : goal.queue_below-requires-clause-places
 queue_below-requires-clause-places c =
     let e = c.self.inside in
     let i = c.self.invariant.0 in
-    let es = entries_at i.counted e.trail.1 e.table c.args.literal c.code_of.result c.row.result.now i.index c.code_of.ensures c.row.ensures in
+    let es = entries_at i.counted e.trail.1 e.table c.args.literal c.code.result c.row.result.now i.index c.code.ensures c.row.ensures in
     λ k d h. omega (arith, es.0 k d h, i.counters_are.counted, ap length c.as_slice.ensures.value)
 
 pub returns-clause-queued : goal.returns-clause-queued
 returns-clause-queued c =
     let e = c.self.inside in
     let i = c.self.invariant.0 in
-    let es = entries_at i.counted e.trail.1 e.table c.args.literal c.code_of.result c.row.result.now i.index c.code_of.ensures c.row.ensures in
+    let es = entries_at i.counted e.trail.1 e.table c.args.literal c.code.result c.row.result.now i.index c.code.ensures c.row.ensures in
     let below = rw (c.as_slice.ensures.value, c.as_slice-2.ensures.value) at c.queue_below.ensures.queued in
     let kept = c.queue_last.ensures.kept in
     let unfallen : IsOpen e.trail.0 c.args.literal = subst (λ (s : State). IsOpen s.listing c.args.literal) (sym c.self.view_is) c.requires.unfallen in

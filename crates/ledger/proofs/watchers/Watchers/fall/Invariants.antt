@@ -1,7 +1,7 @@
 -- The entries so far are handled.
 use Rattle.std.proofs.Common.{◌≡◌, ℕ, ◌-◌, [], Contains, length, get_or}
 use Rattle.ledger.specs.Falls.{IsFalling}
-use Rattle.ledger.specs.Occurrences.{code}
+use Rattle.linear.specs.Literal.{code}
 use Rattle.ledger.specs.Watched.{AreSameKinds}
 use Rattle.ledger.proofs.watchers.Watchers.fall.Given as goal
 

@@ -27,5 +27,5 @@ returns-then-has-2 c =
     let found = beside_some (get_or c.args.self.now.pairs c.args.place None) c.args.fallen c.in-Some.other c.in-Some.ensures.none in
     let watched = c.requires.watched.each c.args.place n found.0 slot found.1 in
     let tell : Tell listing n found.0 = subst (λ (xs : List Lit). Tell xs n found.0) (take-length listing) (watched.tell (length listing)) in
-    let out = broken_beside listing n found.0 c.args.fallen c.in-Some.other watched.of_it tell found.2 c.requires.unset (sym c.has.ensures ∙ c.if-has.false) (ap (lists listing) (sym c.opposite_of.ensures) ∙ sym c.has-2.ensures ∙ c.if-has-2.true) in
+    let out = broken_beside listing n found.0 c.args.fallen c.in-Some.other watched.of_it tell found.2 c.requires.unset (sym c.has.ensures ∙ c.if-has.false) (ap (lists listing) (sym c.opposite.ensures) ∙ sym c.has-2.ensures ∙ c.if-has-2.true) in
     (n, found.0, (slot, found.1), out.0, out.1)

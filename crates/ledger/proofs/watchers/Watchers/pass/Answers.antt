@@ -1,7 +1,7 @@
 -- One entry more is handled, or taken off.
 use Rattle.std.proofs.Common.{◌≡◌, ◌<◌, ℕ, inl, inr, Option, Some, List, [], ◌∷◌, ◌++◌, length, get_or, set, ap, ◌∙◌}
 use Rattle.ledger.specs.declared.pair.Pair.{Pair}
-use Rattle.ledger.specs.Occurrences.{code}
+use Rattle.linear.specs.Literal.{code}
 use Rattle.ledger.specs.Watched.{Watching}
 use Rattle.ledger.proofs.FallingRows.{dropped, dropped_by, entry_is, moved_on, number_inside, place_is, stays, variable_below}
 use Rattle.ledger.proofs.watchers.Watchers.pass.Goals as goal
@@ -10,14 +10,14 @@ pub returns-in-Satisfied-clause-falling : goal.returns-in-Satisfied-clause-falli
 returns-in-Satisfied-clause-falling c =
     let found = c.in-Satisfied.ensures in
     let place : ℕ = get_or c.row.result.now c.args.index 0 in
-    let is = place_is c.args.self.now.rows c.self.inside.rows c.row.result.now c.args.fallen c.code_of.result c.args.index c.row.ensures c.code_of.ensures (ap (λ (w : Watching). w.rows) c.self.view_is) c.requires.index in
+    let is = place_is c.args.self.now.rows c.self.inside.rows c.row.result.now c.args.fallen c.code.result c.args.index c.row.ensures c.code.ensures (ap (λ (w : Watching). w.rows) c.self.view_is) c.requires.index in
     stays c.args.slots.now c.args.trail.now.0 c.args.trail.now.1 c.args.fallen c.args.self.now c.args.queue.now.0 c.args.queue.now.0 c.args.index place found.0 found.1 c.requires.falling c.requires.index is (λ k h. h) found.2 (inl found.3)
 
 pub returns-in-Broken-clause-falling : goal.returns-in-Broken-clause-falling
 returns-in-Broken-clause-falling c =
     let found = c.in-Broken.ensures in
     let place : ℕ = get_or c.row.result.now c.args.index 0 in
-    let is = place_is c.args.self.now.rows c.self.inside.rows c.row.result.now c.args.fallen c.code_of.result c.args.index c.row.ensures c.code_of.ensures (ap (λ (w : Watching). w.rows) c.self.view_is) c.requires.index in
+    let is = place_is c.args.self.now.rows c.self.inside.rows c.row.result.now c.args.fallen c.code.result c.args.index c.row.ensures c.code.ensures (ap (λ (w : Watching). w.rows) c.self.view_is) c.requires.index in
     stays c.args.slots.now c.args.trail.now.0 c.args.trail.now.1 c.args.fallen c.args.self.now c.args.queue.now.0 c.add_first.new.self.0 c.args.index place found.0 found.1 c.requires.falling c.requires.index is c.add_first.ensures.kept found.2
     (inr (found.3, c.add_first.ensures.there))
 
@@ -25,18 +25,18 @@ pub returns-in-Last-clause-falling : goal.returns-in-Last-clause-falling
 returns-in-Last-clause-falling c =
     let found = c.in-Last.ensures in
     let place : ℕ = get_or c.row.result.now c.args.index 0 in
-    let is = place_is c.args.self.now.rows c.self.inside.rows c.row.result.now c.args.fallen c.code_of.result c.args.index c.row.ensures c.code_of.ensures (ap (λ (w : Watching). w.rows) c.self.view_is) c.requires.index in
+    let is = place_is c.args.self.now.rows c.self.inside.rows c.row.result.now c.args.fallen c.code.result c.args.index c.row.ensures c.code.ensures (ap (λ (w : Watching). w.rows) c.self.view_is) c.requires.index in
     stays c.args.slots.now c.args.trail.now.0 c.args.trail.now.1 c.args.fallen c.args.self.now c.args.queue.now.0 c.add.new.self.0 c.args.index place found.0 found.1 c.requires.falling c.requires.index is c.add.ensures.kept found.2
     (inr (found.3, c.add.ensures.there))
 
 pub returns-in-Elsewhere-clause-falling : goal.returns-in-Elsewhere-clause-falling
 returns-in-Elsewhere-clause-falling c =
     let place : ℕ = get_or c.row.result.now c.args.index 0 in
-    let is = place_is c.args.self.now.rows c.self.inside.rows c.row.result.now c.args.fallen c.code_of.result c.args.index c.row.ensures c.code_of.ensures (ap (λ (w : Watching). w.rows) c.self.view_is) c.requires.index in
+    let is = place_is c.args.self.now.rows c.self.inside.rows c.row.result.now c.args.fallen c.code.result c.args.index c.row.ensures c.code.ensures (ap (λ (w : Watching). w.rows) c.self.view_is) c.requires.index in
     let number : code c.args.fallen < length c.args.self.now.rows = number_inside c.args.fallen c.args.trail.now.1 c.args.self.now.rows c.requires.variable c.requires.falling.watched.size in
     dropped c.args.slots.now c.args.trail.now.0 c.args.trail.now.1 c.args.fallen c.args.self.now c.drop_entry.new.self c.args.queue.now.0 c.args.index place c.requires.falling number c.requires.index is c.in-Elsewhere.ensures
     (dropped_by c.args.self.now c.drop_entry.new.self c.args.fallen c.args.index place c.drop_entry.ensures.rows c.drop_entry.ensures.pairs
-    (entry_is c.args.self.now.rows c.self.inside.rows c.row.result.now c.args.fallen c.code_of.result c.args.index c.row.ensures c.code_of.ensures (ap (λ (w : Watching). w.rows) c.self.view_is)))
+    (entry_is c.args.self.now.rows c.self.inside.rows c.row.result.now c.args.fallen c.code.result c.args.index c.row.ensures c.code.ensures (ap (λ (w : Watching). w.rows) c.self.view_is)))
 
 pub put-requires : goal.put-requires
 put-requires c =
@@ -50,7 +50,7 @@ returns-in_ok-put-in-Moved-clause-falling c =
     let q : Pair = c.in-Moved.pair in
     let place : ℕ = get_or c.row.result.now c.args.index 0 in
     let within = c.requires.within place found.0 found.2.0 in
-    let is = place_is c.args.self.now.rows c.self.inside.rows c.row.result.now c.args.fallen c.code_of.result c.args.index c.row.ensures c.code_of.ensures (ap (λ (w : Watching). w.rows) c.self.view_is) c.requires.index in
+    let is = place_is c.args.self.now.rows c.self.inside.rows c.row.result.now c.args.fallen c.code.result c.args.index c.row.ensures c.code.ensures (ap (λ (w : Watching). w.rows) c.self.view_is) c.requires.index in
     let number : code c.args.fallen < length c.args.self.now.rows = number_inside c.args.fallen c.args.trail.now.1 c.args.self.now.rows c.requires.variable c.requires.falling.watched.size in
     let mid : Watching = record { rows = c.self-in-Moved.inside.rows; pairs = set c.self-in-Moved.inside.pairs.items place (Some q) } in
     let put : mid.rows ≡ set c.args.self.now.rows (code q.first) (get_or c.args.self.now.rows (code q.first) [] ++ place ∷ []) = ap (λ (w : Watching). w.rows) c.self-in-Moved.view_is ∙ c.in_ok-put-in-Moved.ensures.ok in
