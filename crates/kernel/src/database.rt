@@ -40,7 +40,7 @@ impl<P: Propagator> Database<P> {
     ghost use Rattle.std.specs.Prelude.{◌≡◌, ◌↔◌, ◌<◌, [], ◌∷◌, ◌++◌, ℕ, IfOk, IsSome, IsSomeAnd, MatchOption, None, IsTrue, OnErr, OnOk};
     ghost use Rattle.normal_form.specs.Normal.{NormalConstraint};
     ghost use Rattle.propagate.specs.Chain.{IsRefuted};
-    ghost use Rattle.propagate.specs.Content.{IsLeastAbove, IsTrace, IsTraceOfLast};
+    ghost use Rattle.propagate.specs.Content.{HasLiteral, IsTrace, IsTraceOfLast};
     ghost use Rattle.propagate.specs.Ids.{HasId};
     ghost use Rattle.propagate.specs.Literals.{IsConsistent};
     ghost use Rattle.propagate.specs.Reach.{IsReach};
@@ -108,14 +108,6 @@ impl<P: Propagator> Database<P> {
         }
     }
 
-    /// The least live id above this one.
-    pub(crate) fn after(&self, id: Id) -> Option<Id>
-        ensures least { IsLeastAbove self.now.live id result }
-        ensures numbered { AreNumbered self.now.live self.now.next }
-    {
-        self.constraints.after(id)
-    }
-
     /// Whether the constraint of an id, if there is one, covers another.
     pub(crate) fn is_covering(&self, id: Id, constraint: &Normal) -> bool
         ensures { IsTrue result ↔ IsSomeAnd (map.get self.now.live id) (λ e. Covers e constraint.now) }
@@ -124,6 +116,16 @@ impl<P: Propagator> Database<P> {
             Some(live) => covers(live, constraint),
             None => false,
         }
+    }
+
+    /// The ids of the live constraints that have a literal.
+    pub(crate) fn having(&mut self, alloc: Global, literal: Lit) -> Result<Ids, AllocError>
+        ensures same { self.new ≡ self.old }
+        ensures having { IfOk result (λ ids. (id : ℕ) → HasId ids id ↔ HasLiteral self.old.live literal id) }
+    {
+        let mut ids = Ids::empty(alloc);
+        self.constraints.add_occurrences(literal, &mut ids)?;
+        Ok(ids)
     }
 
     /// Adds the ids of the live constraints that have a variable to a set.
@@ -136,11 +138,7 @@ impl<P: Propagator> Database<P> {
             negated: false,
         };
         self.constraints.add_occurrences(literal, ids)?;
-        let opposite = Lit {
-            var: variable,
-            negated: true,
-        };
-        self.constraints.add_occurrences(opposite, ids)?;
+        self.constraints.add_occurrences(literal.opposite(), ids)?;
         Ok(())
     }
 
