@@ -1,6 +1,7 @@
 pub mod Best
 pub mod Completed
 pub mod Concluded
+pub mod Consistent
 pub mod CoveredAt
 pub mod CoveringShares
 pub mod Deleting

@@ -1,8 +1,7 @@
-use Rattle.std.proofs.Common.{◌≡◌, ◌↔◌, ◌<◌, ◌-◌, IsTrue, length, take, get_or, refl, sym, ap, subst, ◌∙◌, arith}
+use Rattle.std.proofs.Common.{◌<◌, refl, sym, ap, subst, ◌∙◌, arith}
 use Rattle.std.proofs.lemmas.Bool.{false≢true}
 use Rattle.std.specs.FinMap as map
-use Rattle.normal_form.specs.Normal.{NormalConstraint, total}
-use Rattle.proof_rules.specs.State.{Live}
+use Rattle.normal_form.specs.Normal.{NormalConstraint}
 use Rattle.kernel.specs.Covered.{IsCoveredAt}
 use Rattle.kernel.specs.Database.{Constraints}
 use Rattle.kernel.proofs.CoveredAt.{covered_at_any, uncovered_end, one_more_asked, one_less_unasked, some_unasked}

@@ -1,4 +1,4 @@
-use Rattle.std.proofs.Common.{◌≡◌, IsSomeAnd, refl, sym, ap, subst, ◌∙◌}
+use Rattle.std.proofs.Common.{IsSomeAnd, refl, sym, ap, subst}
 use Rattle.std.proofs.lemmas.Bool.{false≢true}
 use Rattle.std.specs.FinMap as map
 use Rattle.substitution.specs.Covering.{Covers}
