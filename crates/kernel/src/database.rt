@@ -4,7 +4,7 @@
 ghost use Rattle.std.specs.Prelude.{◌≡◌, ◌≤◌, MatchOption};
 ghost use Rattle.proof_rules.specs.State.{id_limit, id_of};
 
-use linear::{Lit, Var};
+use linear::{Integer, Lit, Var};
 use normal_form::Normal;
 use propagate::{Id, Ids, Propagator, Reach, Trace};
 use std::alloc::{AllocError, Global};
@@ -99,7 +99,7 @@ impl<P: Propagator> Database<P> {
     }
 
     /// Takes out the live constraint that a number in a step means.
-    pub(crate) fn remove(&mut self, number: i128)
+    pub(crate) fn remove(&mut self, number: Integer)
         requires { IsSome (found self.old number) }
         ensures { self.new ≡ removed (id_of self.old.next number) self.old }
     {
@@ -213,7 +213,7 @@ impl<P: Propagator> Database<P> {
     }
 
     /// The live constraint that a number in a step means, if there is one: `-k` is the next id less `k`.
-    pub(crate) fn find(&self, number: i128) -> Option<&Normal>
+    pub(crate) fn find(&self, number: Integer) -> Option<&Normal>
         ensures { option_copied result ≡ found self.now number }
     {
         let id = id_of(self.next_id, number)?;
@@ -221,7 +221,7 @@ impl<P: Propagator> Database<P> {
     }
 
     /// The live id that a number in a step means, if there is one.
-    pub(crate) fn live_id(&self, number: i128) -> Option<Id>
+    pub(crate) fn live_id(&self, number: Integer) -> Option<Id>
         ensures { MatchOption result (found self.now number ≡ None) (λ id. (id ≡ id_of self.now.next number) × IsSome (found self.now number)) }
     {
         let id = id_of(self.next_id, number)?;
@@ -231,7 +231,7 @@ impl<P: Propagator> Database<P> {
 }
 
 /// The id that a number in a step means; `None` where it is beyond all ids.
-fn id_of(next: u64, number: i128) -> Option<Id>
+fn id_of(next: u64, number: Integer) -> Option<Id>
     ensures { MatchOption result (id_limit ≤ id_of next number) (λ id. id ≡ id_of next number) }
 {
     let size = number.unsigned_abs();

@@ -13,7 +13,7 @@ use super::consistency::is_consistent;
 use super::kernel::{Applied, Kernel};
 use super::objective::below;
 use super::values::{all_values, table_of, values};
-use linear::{Assignment, Lit};
+use linear::{Assignment, Integer, Lit};
 use normal_form::Normal;
 use proof_rules::StepFault;
 use propagate::{Propagator, Reach};
@@ -61,7 +61,7 @@ impl<'a, P: Propagator> Kernel<'a, P> {
     fn improve(
         &mut self,
         solution: Assignment,
-        value: i128,
+        value: Integer,
         better: Normal,
     ) -> Result<Applied, StepFault>
         requires value { value ≡ worth_of self.old.problem solution }
