@@ -1,6 +1,6 @@
 use Rattle.std.proofs.Common.{◌≡◌, length, take}
 use Rattle.kernel.specs.Table.{IsTableOf}
-use Rattle.kernel.proofs.values.values.Given as goal
+use Rattle.kernel.proofs.values.table_of.Given as goal
 
 -- the values that the literals so far give
 abbrev pub invariant-loop-literal : goal.invariant-loop-literal

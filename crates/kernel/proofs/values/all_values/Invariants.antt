@@ -1,5 +1,5 @@
 use Rattle.std.proofs.Common.{◌≡◌, Some, map, take}
-use Rattle.kernel.proofs.values.all.Given as goal
+use Rattle.kernel.proofs.values.all_values.Given as goal
 
 -- the values so far
 abbrev pub invariant-loop-value : goal.invariant-loop-value
