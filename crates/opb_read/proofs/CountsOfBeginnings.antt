@@ -12,9 +12,9 @@ use Rattle.opb_read.specs.Forms.{names_in}
 use Rattle.opb_read.specs.FaultLine.{is_begun, AreCountsWithin}
 use Rattle.linear.proofs.NumbersOfNames.{with_name-atmost}
 use Rattle.opb_read.proofs.NumbersOfNames.{names_in-more}
-use Rattle.opb_read.proofs.Statements.{within_piece, end_of_piece}
-use Rattle.opb_read.proofs.CountsOfPassed.{IsFew, literals, literals-cons, begun-cons, CountsFrom}
-use Rattle.opb_read.proofs.StopsAreFaults.{plain, marked, counts_plain, plain_counts, counts_marked, marked_counts}
+use Rattle.opb_read.proofs.PiecesOf.{within_piece, end_of_piece}
+use Rattle.opb_read.proofs.CountsOfPassed.{IsFew, literals, literals-cons, begun-cons, front, CountsFrom}
+use Rattle.opb_read.proofs.Faults.{start, counts_of, of_counts}
 
 names_fewer : (names : List (List ℕ)) (ts more : List Lexeme) → length (names_in names ts) ≤ length (names_in names (ts ++ more))
 names_fewer names [] more = names_in-more names more
@@ -48,8 +48,8 @@ fewer_inside : (t : Lexeme) (a b : Pieces) → AreFewer a b → AreFewer (record
 fewer_inside t a b h =
     let less = h.first in
     let behind = h.behind in
-    let ones : literals (t ∷ a.first) ≡ cond (is_literal t.kind) 1 0 + literals a.first = literals-cons t a.first (is_literal t.kind) refl in
-    let twos : literals (t ∷ b.first) ≡ cond (is_literal t.kind) 1 0 + literals b.first = literals-cons t b.first (is_literal t.kind) refl in
+    let ones : literals (t ∷ a.first) ≡ cond (is_literal t.kind) 1 0 + literals a.first = literals-cons t a.first in
+    let twos : literals (t ∷ b.first) ≡ cond (is_literal t.kind) 1 0 + literals b.first = literals-cons t b.first in
     record {
       first = omega (arith, ones, twos, less);
       others = λ few.
@@ -71,39 +71,27 @@ fewer (t ∷ ts) more = by (is_semicolon t.kind) refl (fewer ts more)
         subst (λ (x : Pieces). AreFewer x (pieces (t ∷ (ts ++ more)))) (sym (within_piece t ts e))
         (subst (AreFewer (record { first = t ∷ (pieces ts).first; others = (pieces ts).others })) (sym (within_piece t (ts ++ more) e)) (fewer_inside t (pieces ts) (pieces (ts ++ more)) h))
 
-plain_beginning : (ts more : List Lexeme) → CountsFrom plain (ts ++ more) → CountsFrom plain ts
-plain_beginning ts more w =
+counts_beginning : (m : Bool) (ts more : List Lexeme) → CountsFrom (start m) (ts ++ more) → CountsFrom (start m) ts
+counts_beginning m ts more w =
     let f = fewer ts more in
     let first : 0 + literals (pieces (ts ++ more)).first ≤ most_terms = w.first in
     let less = f.first in
-    let all = f.all in
     let variables = w.variables in
-    let sum : 0 + (cond (is_begun (pieces (ts ++ more)).first) 1 0 + count_by is_begun (pieces (ts ++ more)).others) ≤ most_constraints = w.constraints in
     record {
       variables = omega (arith, variables, names_fewer [] ts more);
       first = omega (arith, first, less);
       others = f.others (All-cons IsFew (pieces (ts ++ more)).first (pieces (ts ++ more)).others (omega (arith, first)) w.others);
-      constraints = omega (arith, sum, all);
+      constraints = by m w.constraints;
     }
-
-marked_beginning : (ts more : List Lexeme) → CountsFrom marked (ts ++ more) → CountsFrom marked ts
-marked_beginning ts more w =
-    let f = fewer ts more in
-    let first : 0 + literals (pieces (ts ++ more)).first ≤ most_terms = w.first in
-    let less = f.first in
-    let behind = f.behind in
-    let variables = w.variables in
-    let sum : 0 + (0 + count_by is_begun (pieces (ts ++ more)).others) ≤ most_constraints = w.constraints in
-    record {
-      variables = omega (arith, variables, names_fewer [] ts more);
-      first = omega (arith, first, less);
-      others = f.others (All-cons IsFew (pieces (ts ++ more)).first (pieces (ts ++ more)).others (omega (arith, first)) w.others);
-      constraints = omega (arith, sum, behind);
-    }
+  where
+    by : (x : Bool) → 0 + (front (start x).spot (pieces (ts ++ more)).first + count_by is_begun (pieces (ts ++ more)).others) ≤ most_constraints
+        → 0 + (front (start x).spot (pieces ts).first + count_by is_begun (pieces ts).others) ≤ most_constraints
+    by true h = let behind = (fewer ts more).behind in omega (arith, h, behind)
+    by false h = let all = (fewer ts more).all in omega (arith, h, all)
 
 -- one token alone is within the limits
 single_counts : (t : Lexeme) → AreCountsWithin (t ∷ [])
-single_counts t = counts_plain (t ∷ []) refl (by (is_semicolon t.kind) refl)
+single_counts t = counts_of false (t ∷ []) refl (by (is_semicolon t.kind) refl)
   where
     one_name : length (names_in [] (t ∷ [])) ≤ 1
     one_name = named (is_literal t.kind)
@@ -112,11 +100,14 @@ single_counts t = counts_plain (t ∷ []) refl (by (is_semicolon t.kind) refl)
         named true = omega (arith, with_name-atmost [] (name_of t.text))
         named false = omega arith
 
-    one_literal : (b : Bool) → is_literal t.kind ≡ b → literals (t ∷ []) ≤ 1
-    one_literal true e = omega (arith, literals-cons t [] true e)
-    one_literal false e = omega (arith, literals-cons t [] false e)
+    one_literal : literals (t ∷ []) ≤ 1
+    one_literal = by_kind (is_literal t.kind) (literals-cons t [])
+      where
+        by_kind : (b : Bool) → literals (t ∷ []) ≡ cond b 1 0 + literals [] → literals (t ∷ []) ≤ 1
+        by_kind true e = omega (arith, e)
+        by_kind false e = omega (arith, e)
 
-    by : (b : Bool) → is_semicolon t.kind ≡ b → CountsFrom plain (t ∷ [])
+    by : (b : Bool) → is_semicolon t.kind ≡ b → CountsFrom (start false) (t ∷ [])
     by true e =
         let at = end_of_piece t [] e in
         record {
@@ -129,7 +120,7 @@ single_counts t = counts_plain (t ∷ []) refl (by (is_semicolon t.kind) refl)
         let at = within_piece t [] e in
         record {
           variables = omega (arith, one_name);
-          first = subst (λ (x : Pieces). 0 + literals x.first ≤ most_terms) (sym at) (omega (arith, one_literal (is_literal t.kind) refl));
+          first = subst (λ (x : Pieces). 0 + literals x.first ≤ most_terms) (sym at) (omega (arith, one_literal));
           others = subst (λ (x : Pieces). All IsFew x.others) (sym at) (All-nil IsFew);
           constraints = subst (λ (x : Pieces). 0 + (cond (is_begun x.first) 1 0 + count_by is_begun x.others) ≤ most_constraints) (sym at) (omega arith);
         }
@@ -138,8 +129,14 @@ longer_counts : (a b : Lexeme) (ts more : List Lexeme) → AreCountsWithin (a �
 longer_counts a b ts more w = by (begins_objective (a ∷ b ∷ [])) refl
   where
     by : (m : Bool) → begins_objective (a ∷ b ∷ []) ≡ m → AreCountsWithin (a ∷ b ∷ ts)
-    by true e = counts_marked a b ts e (marked_beginning ts more (marked_counts a b (ts ++ more) e w))
-    by false e = counts_plain (a ∷ b ∷ ts) e (plain_beginning (a ∷ b ∷ ts) more (plain_counts (a ∷ b ∷ (ts ++ more)) e w))
+    by true e =
+        counts_of true (a ∷ b ∷ ts) e
+        (subst (λ (x : Bool). CountsFrom (start true) (if x then ts else a ∷ b ∷ ts)) (sym e)
+        (counts_beginning true ts more (subst (λ (x : Bool). CountsFrom (start true) (if x then ts ++ more else a ∷ b ∷ (ts ++ more))) e (of_counts true (a ∷ b ∷ (ts ++ more)) e w))))
+    by false e =
+        counts_of false (a ∷ b ∷ ts) e
+        (subst (λ (x : Bool). CountsFrom (start false) (if x then ts else a ∷ b ∷ ts)) (sym e)
+        (counts_beginning false (a ∷ b ∷ ts) more (subst (λ (x : Bool). CountsFrom (start false) (if x then ts ++ more else a ∷ b ∷ (ts ++ more))) e (of_counts false (a ∷ b ∷ (ts ++ more)) e w))))
 
 -- the counts of a beginning that is not empty
 pub beginning_counts : (t : Lexeme) (ts more : List Lexeme) → AreCountsWithin (t ∷ (ts ++ more)) → AreCountsWithin (t ∷ ts)

@@ -14,12 +14,12 @@ use Rattle.pb_text.proofs.Spans.{lexemes_stand}
 use Rattle.linear.specs.Opb.{Opb}
 use Rattle.opb_read.specs.Kinds.{is_integer, is_colon, begins_objective, statements_of, IsLargeInteger}
 use Rattle.opb_read.specs.Spells.{problem_of}
-use Rattle.opb_read.specs.Denial.{Tells}
+use Rattle.opb_read.specs.Codes.{Tells}
 use Rattle.opb_read.specs.FaultLine.{CanGoOn, AreCountsWithin, IsWithinSoFar, next_token, IsNoForm, IsTooLarge, IsTooMany, line_of_next, IsFaultAt}
 use Rattle.opb_read.specs.declared.fault.OpbCode.{OpbCode}
 use Rattle.opb_read.specs.declared.fault.OpbCode.TheVariants.{BadToken, NoRelation, NoSemicolon, BadName, ObjectiveLate, UnsupportedForm, IntegerTooLarge, TooMany, OutOfMemory}
 use Rattle.opb_read.proofs.CountsOfBeginnings.{beginning_counts}
-use Rattle.opb_read.proofs.CountsOfPassed.{IsSmall}
+use Rattle.opb_read.proofs.Within.{IsSmall}
 
 -- what can go on further has no fault of form before
 no_later : (before : List Lexeme) (t : Lexeme) (middle rest : List Lexeme) → CanGoOn (begins_objective ((before ++ t ∷ middle) ++ rest)) (before ++ t ∷ middle)

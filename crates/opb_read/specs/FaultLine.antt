@@ -9,7 +9,7 @@ use Rattle.opb_read.specs.Kinds.{is_literal, begins_objective, statements_of, Is
 use Rattle.opb_read.specs.Pieces.{Pieces, pieces}
 use Rattle.opb_read.specs.Forms.{names_in}
 use Rattle.opb_read.specs.Spells.{problem_of}
-use Rattle.opb_read.specs.Denial.{Tells, IsForm}
+use Rattle.opb_read.specs.Codes.{Tells, IsForm}
 use Rattle.opb_read.specs.FaultCodes.{code_at}
 use Rattle.opb_read.specs.Spots.{next_spot}
 use Rattle.opb_read.specs.declared.spot.Spot.{Spot}

@@ -16,6 +16,11 @@ relation_of (Symbol AtLeast) = Some relations.AtLeast
 relation_of (Symbol Equals) = Some relations.Equal
 relation_of _ = None
 
+-- the relation that a token of this kind is; of one that is none, `>=`
+abbrev pub relation_at : Kind → Relation
+relation_at (Symbol Equals) = relations.Equal
+relation_at _ = relations.AtLeast
+
 -- this word and `:` stand next
 abbrev pub begins_mark : List ℕ → List Lexeme → Bool
 begins_mark word [] = false

@@ -4,10 +4,10 @@ pub mod Forms
 pub mod Written
 pub mod Spells
 pub mod Faults
-pub mod Ahead
-pub mod Denial
+pub mod Codes
 pub mod Spots
 pub mod FaultCodes
 pub mod Progress
+pub mod Reading
 pub mod FaultLine
 pub mod Cases

@@ -1,46 +1,100 @@
--- How far the statements of a text were read, and where reading them stops. These are the words of the reader's own
+-- What reading has made of the statements so far, token by token, and where it stops. These are the words of the reader's own
 -- functions; where a fault stands is said in FaultLine.
-use Rattle.std.specs.Prelude.{◌≡◌, ℕ, ◌+◌, ◌≤◌, ◌<◌, false, if◌then◌else◌, is_some, Some, None, List, [], ◌∷◌, ◌++◌, length, drop, ◌==◌}
+use Rattle.std.specs.Prelude.{◌≡◌, ℕ, ℤ, pos, ◌+◌, ◌≤◌, false, if◌then◌else◌, Option, Some, None, List, [], ◌∷◌, ◌++◌, length, drop, unsigned_abs, ◌<◌}
 use Rattle.pb_text.specs.Lexeme.{Lexeme}
-use Rattle.pb_text.specs.declared.kind.Kind.TheVariants as kinds
-use Rattle.linear.specs.Limits.{most_terms, most_variables, most_constraints}
-use Rattle.opb_read.specs.Kinds.{is_literal, is_semicolon, relation_of, begins_objective, IsLargeInteger}
-use Rattle.opb_read.specs.Forms.{names_in}
-use Rattle.opb_read.specs.Spots.{next_spot, may_stand, is_start, begun}
-use Rattle.opb_read.specs.Ahead.{next_relation}
-use Rattle.opb_read.specs.Denial.{Tells}
+use Rattle.pb_text.specs.Number.{integer_value}
+use Rattle.pb_text.specs.Word.{is_negated, name_of}
+use Rattle.pb_text.specs.declared.kind.Kind.{Kind}
+use Rattle.linear.specs.Limits.{largest_integer, most_terms, most_variables, most_constraints}
+use Rattle.linear.specs.Table.{place_of, with_name}
+use Rattle.linear.specs.declared.term.Term.{Term}
+use Rattle.linear.specs.declared.constraint.Signed.{Signed}
+use Rattle.linear.specs.declared.constraint.Relation as linear
+use Rattle.linear.specs.declared.constraint.Relation.TheVariants as relations
+use Rattle.opb_read.specs.Kinds.{begins_objective, relation_at, IsLargeInteger}
+use Rattle.opb_read.specs.Spots.{next_spot, may_stand, begun}
+use Rattle.opb_read.specs.Codes.{Tells}
 use Rattle.opb_read.specs.FaultCodes.{code_at}
 use Rattle.opb_read.specs.declared.fault.OpbCode.{OpbCode}
+use Rattle.opb_read.specs.declared.fault.OpbCode.TheVariants.{IntegerTooLarge}
 use Rattle.opb_read.specs.declared.spot.Spot.{Spot}
-use Rattle.opb_read.specs.declared.spot.Spot.TheVariants.{Start, ObjectiveMark, Literal, Relation}
+use Rattle.opb_read.specs.declared.spot.Spot.TheVariants.{Start, ObjectiveMark, ObjectiveCoefficient, ObjectiveLiteral, Coefficient, Literal, Relation, RightSide}
 
--- a spot, the names so far, how many terms of the statement stand before, and how many constraints
+-- a spot, what the statements before say, and what was read of the statement that stands open: its terms, and the
+-- coefficient, the relation and the right side that were read last
 pub record Progress : Type 0 where
   pub spot : Spot
   pub names : List (List ℕ)
-  pub terms : ℕ
-  pub constraints : ℕ
+  pub objective : Option (List Term)
+  pub constraints : List Signed
+  pub terms : List Term
+  pub coefficient : ℤ
+  pub relation : linear.Relation
+  pub right : ℤ
+
+-- the constraint that stands open
+abbrev pub open_constraint : Progress → Signed
+open_constraint s = record { terms = s.terms; relation = s.relation; right = s.right }
+
+-- the term of the last coefficient and of this literal
+abbrev pub next_term : Progress → List ℕ → Term
+next_term s word = record { coef = s.coefficient; var = record { 0 = place_of s.names (name_of word) }; negated = is_negated word }
+
+-- what each token adds
+abbrev pub with_coefficient : Progress → List ℕ → Progress
+with_coefficient s word = record s { coefficient = integer_value word }
+
+abbrev pub with_right : Progress → List ℕ → Progress
+with_right s word = record s { right = integer_value word }
+
+abbrev pub with_relation : Progress → Kind → Progress
+with_relation s k = record s { relation = relation_at k }
+
+abbrev pub with_term : Progress → List ℕ → Progress
+with_term s word = record s { names = with_name s.names (name_of word); terms = s.terms ++ next_term s word ∷ [] }
+
+abbrev pub without_terms : Progress → Progress
+without_terms s = record s { terms = [] }
+
+-- behind the `;` of a constraint, or of the objective
+abbrev pub closed : Spot → Progress → Progress
+closed RightSide s = record s { spot = Start; constraints = s.constraints ++ open_constraint s ∷ []; terms = [] }
+closed _ s = record s { spot = Start; objective = Some s.terms; terms = [] }
+
+-- the same progress at another spot
+abbrev pub at_spot : Spot → Progress → Progress
+at_spot p s = record s { spot = p }
 
 -- the progress behind a token that leads to a spot
 abbrev pub moved : Progress → Lexeme → Spot → Progress
-moved s t p = record {
-  spot = p;
-  names = names_in s.names (t ∷ []);
-  terms = if is_literal t.kind then s.terms + 1 else if is_semicolon t.kind then 0 else s.terms;
-  constraints = if is_semicolon t.kind then s.constraints + begun s.spot else s.constraints;
-}
+moved s t Start = closed s.spot s
+moved s t ObjectiveMark = at_spot ObjectiveMark s
+moved s t ObjectiveCoefficient = at_spot ObjectiveCoefficient (with_coefficient s t.text)
+moved s t Coefficient = at_spot Coefficient (with_coefficient s t.text)
+moved s t ObjectiveLiteral = at_spot ObjectiveLiteral (with_term s t.text)
+moved s t Literal = at_spot Literal (with_term s t.text)
+moved s t Relation = at_spot Relation (with_relation s t.kind)
+moved s t RightSide = at_spot RightSide (with_right s t.text)
 
--- no count is above its limit behind a token that leads to a spot
-pub record KeepsCounts (s : Progress) (t : Lexeme) (p : Spot) : Type 0 where
-  pub variables : length (moved s t p).names ≤ most_variables
-  pub terms : (moved s t p).terms ≤ most_terms
-  pub constraints : (moved s t p).constraints + begun p ≤ most_constraints
+-- a term more breaks a limit
+abbrev pub IsOneTooMany : Progress → List ℕ → Type 0
+IsOneTooMany s word = length (with_term s word).names ≤ most_variables → length (with_term s word).terms ≤ most_terms → ⊥
+
+-- the code of an integer that is too large
+abbrev pub IsLargeCode : List ℕ → OpbCode → Type 0
+IsLargeCode word code = (code ≡ IntegerTooLarge) × (largest_integer < unsigned_abs (integer_value word))
+
+-- a progress within the limits
+pub record HoldsLimits (s : Progress) : Type 0 where
+  pub variables : length s.names ≤ most_variables
+  pub terms : length s.terms ≤ most_terms
+  pub constraints : length s.constraints + begun s.spot ≤ most_constraints
 
 -- one token, passed
 pub record Step (s : Progress) (t : Lexeme) (q : Progress) : Type 0 where
   pub stands : next_spot s.spot t.kind ≡ Some q.spot
   pub integer : IsLargeInteger t → ⊥
-  pub counts : KeepsCounts s t q.spot
+  pub counts : HoldsLimits q
   pub moves : q ≡ moved s t q.spot
 
 -- tokens, passed one by one
@@ -60,7 +114,7 @@ pub record IsOver (s : Progress) (left : List Lexeme) : Type 0 where
   pub next : left ≡ token ∷ drop 1 left
   pub spot : Spot
   pub stands : next_spot s.spot token.kind ≡ Some spot
-  pub breaks : KeepsCounts s token spot → ⊥
+  pub breaks : HoldsLimits (moved s token spot) → ⊥
 
 -- the token that stands next may stand there, no count is too large, and it is an integer that is
 pub record IsLarge (s : Progress) (left : List Lexeme) : Type 0 where
@@ -68,7 +122,7 @@ pub record IsLarge (s : Progress) (left : List Lexeme) : Type 0 where
   pub next : left ≡ token ∷ drop 1 left
   pub spot : Spot
   pub stands : next_spot s.spot token.kind ≡ Some spot
-  pub counts : KeepsCounts s token spot
+  pub counts : HoldsLimits (moved s token spot)
   pub integer : IsLargeInteger token
 
 -- the token that stands next may not stand at this spot, and has the code that the table of faults gives
@@ -87,58 +141,8 @@ pub record StopsAt (code : OpbCode) (s : Progress) (from to : List Lexeme) : Typ
   pub refuses : Refuses code last to
 
 -- where reading the statements begins
+abbrev pub start_at : Spot → Progress
+start_at p = record { spot = p; names = []; objective = None; constraints = []; terms = []; coefficient = pos 0; relation = relations.AtLeast; right = pos 0 }
+
 abbrev pub start_of : List Lexeme → Progress
-start_of tokens = record { spot = if begins_objective tokens then ObjectiveMark else Start; names = []; terms = 0; constraints = 0 }
-
--- a progress within the limits
-pub record HoldsLimits (s : Progress) : Type 0 where
-  pub variables : length s.names ≤ most_variables
-  pub terms : s.terms ≤ most_terms
-  pub constraints : s.constraints + begun s.spot ≤ most_constraints
-
--- before a statement that is no objective, behind so many constraints
-abbrev pub at_start : List (List ℕ) → ℕ → Progress
-at_start names constraints = record { spot = Start; names = names; terms = 0; constraints = constraints }
-
--- behind the mark of an objective
-abbrev pub at_mark : List (List ℕ) → Progress
-at_mark names = record { spot = ObjectiveMark; names = names; terms = 0; constraints = 0 }
-
--- in a sum, where an integer would begin the next term: `coefficient` is the spot behind it, `literal` the one behind
--- the term
-pub record IsInSum (s : Progress) (names : List (List ℕ)) (count : ℕ) (coefficient literal : Spot) : Type 0 where
-  pub within : HoldsLimits s
-  pub table : s.names ≡ names
-  pub terms : s.terms ≡ count
-  pub integer : next_spot s.spot kinds.Integer ≡ Some coefficient
-  pub name : next_spot coefficient kinds.Literal ≡ Some literal
-  pub again : next_spot literal kinds.Integer ≡ Some coefficient
-  pub same : begun literal ≡ begun coefficient
-  pub few : s.constraints + begun coefficient ≤ most_constraints
-
--- behind so many terms more of a sum
-abbrev pub behind_sum : Progress → Spot → List (List ℕ) → ℕ → Progress
-behind_sum s literal names count = record {
-  spot = if count == 0 then s.spot else literal;
-  names = names;
-  terms = s.terms + count;
-  constraints = s.constraints;
-}
-
--- so many terms more were passed, `before` of which stood before
-abbrev pub PassesTerms : Spot → ℕ → List (List ℕ) → List Lexeme → ℕ → List (List ℕ) → List Lexeme → Type 0
-PassesTerms coefficient before names from count now to =
-    (s : Progress) (literal : Spot) → IsInSum s names before coefficient literal → Reaches s from (behind_sum s literal now count) to
-
--- reading a sum stops, `before` of whose terms stood before
-abbrev pub StopsInSum : OpbCode → Spot → ℕ → List (List ℕ) → List Lexeme → List Lexeme → Type 0
-StopsInSum code coefficient before names from to = (s : Progress) (literal : Spot) → IsInSum s names before coefficient literal → StopsAt code s from to
-
--- behind the sum of a constraint: a relation alone may stand next
-pub record IsBehindSum (s : Progress) (names : List (List ℕ)) (left : List Lexeme) : Type 0 where
-  pub within : HoldsLimits s
-  pub table : s.names ≡ names
-  pub stands : (t : Lexeme) (rest : List Lexeme) → left ≡ t ∷ rest → next_spot s.spot t.kind ≡ (if is_some (relation_of t.kind) then Some Relation else None)
-  pub ends : left ≡ [] → is_start s.spot ≡ false
-  pub due : next_relation left ≡ None → s.spot ≡ Literal
-  pub few : s.constraints < most_constraints
+start_of tokens = start_at (if begins_objective tokens then ObjectiveMark else Start)

@@ -5,10 +5,10 @@
 //! the text spells, and otherwise the first token that cannot stand in its place, is the contract of `read`.
 #![tactic(auto)]
 
-mod ahead;
 pub mod cases;
 mod fault;
 pub mod laws;
+mod mark;
 mod reader;
 mod reading;
 mod spot;

@@ -1,34 +1,15 @@
 //! Reading a whole problem file.
 
-ghost use Rattle.std.specs.Prelude.{◌≡◌, ◌≤◌, [], Some, All, length, IfOk, IfErr, IfSome};
-ghost use Rattle.linear.specs.Limits.{most_constraints, IsSumWithin, IsConstraintWithin, IsWithin};
-ghost use Rattle.opb_read.specs.Spells.{Spells, problem_of};
+ghost use Rattle.std.specs.Prelude.{◌≡◌, IfOk, IfErr};
+ghost use Rattle.linear.specs.Limits.{IsWithin};
+ghost use Rattle.opb_read.specs.Spells.{Spells};
 ghost use Rattle.opb_read.specs.Faults.{Denies};
-ghost use Rattle.opb_read.specs.Kinds.{statements_of};
-ghost use Rattle.opb_read.specs.Progress.{StopsAt, start_of};
 ghost use Rattle.opb_read.specs.FaultLine.{IsFaultAt};
 
 use super::fault::{OpbCode, OpbFault};
 use super::reader::Reader;
-use linear::{Problem, Seq, Signed, Term};
+use linear::Problem;
 use std::alloc::Global;
-
-/// An objective or none, and constraints.
-type Statements = (Option<Seq<Term>>, Vec<Signed>);
-
-/// The statements of a text, up to its end.
-fn statements(reader: &mut Reader<'_>, alloc: Global) -> Result<Statements, OpbCode>
-    requires { reader.old.variables ≡ [] }
-    ensures problem { IfOk result (λ s. problem_of reader.old.left ≡ Some (record { names = reader.new.variables; objective = s.0; constraints = s.1.items })) }
-    ensures sum { IfOk result (λ s. IfSome s.0 (IsSumWithin (length reader.new.variables))) }
-    ensures few { IfOk result (λ s. length s.1.items ≤ most_constraints) }
-    ensures within { IfOk result (λ s. All (IsConstraintWithin (length reader.new.variables)) s.1.items) }
-    ensures stops { IfErr result (λ code. StopsAt code (start_of reader.old.left) (statements_of reader.old.left) reader.new.left) }
-{
-    let objective = reader.objective(alloc)?;
-    let constraints = reader.constraints(alloc)?;
-    Ok((objective, constraints))
-}
 
 /// Reads a problem file in the linear OPB format of Roussel and Manquinho: at most one objective `min: <sum> ;` and
 /// then constraints `<sum> >= <integer> ;` or `<sum> = <integer> ;`.
@@ -44,9 +25,8 @@ fn statements(reader: &mut Reader<'_>, alloc: Global) -> Result<Statements, OpbC
 /// tokens before it lead (`code_at`). With the token of a 7 or 8 it can go on to a problem, but to none within the limits:
 /// a 7 is an integer that is too large, an 8 makes the terms of a statement, the variables or the constraints too many.
 ///
-/// A refused growth is `OutOfMemory`, with the line of the token where it came: the first token of the term or of the
-/// constraint that found no room, the literal whose name found none, or the token behind a sum that found none. That a
-/// growth was refused no clause can say.
+/// A refused growth is `OutOfMemory`, with the line of the token where it came: the literal whose name or term found no room,
+/// or the `;` of the statement that found none. That a growth was refused no clause can say.
 pub fn read(alloc: Global, text: &[u8]) -> Result<Problem, OpbFault>
     ensures spells { IfOk result (λ p. Spells text.now p) }
     ensures within { IfOk result (λ p. IsWithin p) }
@@ -54,10 +34,10 @@ pub fn read(alloc: Global, text: &[u8]) -> Result<Problem, OpbFault>
     ensures line { IfErr result (λ f. IsFaultAt text.now f.code f.line) }
 {
     let mut reader = Reader::new(alloc, text);
-    match statements(&mut reader, alloc) {
-        Ok((objective, constraints)) => {
+    match reader.read(alloc) {
+        Ok(()) => {
             let names = reader.variables.into_names();
-            Ok(Problem::new(names, objective, constraints))
+            Ok(Problem::new(names, reader.objective, reader.constraints))
         }
         Err(code) => {
             let line = reader.left.line(text);

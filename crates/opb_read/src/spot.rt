@@ -5,9 +5,8 @@
 //! form of the format's wider family (a product, `<=`, `max:`, a weight, a constant) is no mere slip. The table of faults
 //! stands in `specs/FaultCodes`, row by row; here it is one match on the spot and the kind, and the start of a statement.
 
-use super::ahead::begins_mark;
 use super::fault::OpbCode;
-use linear::Term;
+use super::mark::begins_mark;
 use pb_text::{Kind, Lookahead, Symbol};
 
 /// A spot within a statement.
@@ -32,18 +31,44 @@ pub enum Spot {
 }
 
 impl Spot {
-    ghost use Rattle.std.specs.Prelude.{◌≡◌, ◌==◌, Some, length, if◌then◌else◌};
-    ghost use Rattle.opb_read.specs.Denial.{IsForm};
+    ghost use Rattle.std.specs.Prelude.{◌≡◌, Some, if◌then◌else◌};
+    ghost use Rattle.opb_read.specs.Spots.{begun, next_spot};
+    ghost use Rattle.opb_read.specs.Codes.{IsForm};
     ghost use Rattle.opb_read.specs.FaultCodes.{code_at, code_at_start, code_of_kind_at_start, other_code};
 
-    /// The spot behind these terms of an objective.
-    pub(crate) fn behind_terms(terms: &[Term]) -> Spot
-        ensures { result ≡ (if length terms.now == 0 then Spot.ObjectiveMark else Spot.ObjectiveLiteral) }
+    /// Where a token of this kind leads, if it may stand at this spot.
+    pub(crate) fn next(self, kind: Kind) -> Option<Spot>
+        ensures { result ≡ next_spot self kind }
     {
-        if terms.is_empty() {
-            Spot::ObjectiveMark
-        } else {
-            Spot::ObjectiveLiteral
+        match (self, kind) {
+            (Spot::Start | Spot::Literal, Kind::Integer) => Some(Spot::Coefficient),
+            (Spot::Start | Spot::Literal, Kind::Symbol(Symbol::AtLeast | Symbol::Equals)) => Some(
+                Spot::Relation,
+            ),
+            (Spot::Coefficient, Kind::Literal) => Some(Spot::Literal),
+            (Spot::Relation, Kind::Integer) => Some(Spot::RightSide),
+            (Spot::ObjectiveMark | Spot::ObjectiveLiteral, Kind::Integer) => Some(
+                Spot::ObjectiveCoefficient,
+            ),
+            (Spot::ObjectiveCoefficient, Kind::Literal) => Some(Spot::ObjectiveLiteral),
+            (
+                Spot::RightSide | Spot::ObjectiveMark | Spot::ObjectiveLiteral,
+                Kind::Symbol(Symbol::Semicolon),
+            ) => Some(Spot::Start),
+            _ => None,
+        }
+    }
+
+    /// Whether a constraint is begun and not closed at this spot.
+    pub(crate) fn is_in_constraint(self) -> bool
+        ensures { begun self ≡ (if result then 1 else 0) }
+    {
+        match self {
+            Spot::Coefficient | Spot::Literal | Spot::Relation | Spot::RightSide => true,
+            Spot::Start
+            | Spot::ObjectiveMark
+            | Spot::ObjectiveCoefficient
+            | Spot::ObjectiveLiteral => false,
         }
     }
 

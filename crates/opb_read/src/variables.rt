@@ -28,7 +28,7 @@ impl Variables {
     ghost use Rattle.linear.specs.Limits.{most_variables};
     ghost use Rattle.linear.specs.Table.{place_of, with_name, IsTable};
     ghost use Rattle.pb_text.specs.Name.{is_name};
-    ghost use Rattle.opb_read.specs.Denial.{IsTooManyOr};
+    ghost use Rattle.opb_read.specs.Codes.{IsTooManyOr};
 
     /// No variables yet.
     pub(crate) fn new(alloc: Global) -> Self
