@@ -12,6 +12,7 @@ ghost use Rattle.analysis.specs.Lines.{BeginsWith};
 
 use super::entry::Entry;
 use super::learned::Learned;
+use super::met::Met;
 use super::standing::Standing;
 use super::stop::Stop;
 use super::walk::walk;
@@ -21,22 +22,24 @@ use std::alloc::{AllocError, Global};
 
 /// A constraint that follows from the live ones and would have said something sooner: it has negative slack or forces a literal
 /// under fewer decisions than are open. `None` where the walk finds none, or a number grows too large: the clause of the negated
-/// decisions serves then. The line that derives it begins with the conflict.
+/// decisions serves then. The line that derives it begins with the conflict. What the analysis came by is noted.
 pub fn analyse<'a, P: Propagator>(
     alloc: Global,
     kernel: &Kernel<'a, P>,
     trail: &[Entry],
     conflict: Id,
+    met: &mut Met,
 ) -> Result<Option<Learned>, AllocError>
     ensures begins { IfOk result (λ found. IfSome found (λ l. BeginsWith conflict l.items)) }
     ensures derived { IfOk result (λ found. IfSome found (λ l. IsPostfixOf (constraint_of kernel.now.state) l.items l.constraint)) }
     ensures biting { IfOk result (λ found. IfSome found (λ l. BitesAt trail.now l.level l.constraint)) }
     ensures lower { IfOk result (λ found. IfSome found (λ l. l.level < greatest_level trail.now)) }
 {
+    met.clear();
     let Some(standing) = Standing::of(alloc, trail)? else {
         return Ok(None);
     };
-    match walk(alloc, kernel, &standing, conflict) {
+    match walk(alloc, kernel, &standing, conflict, met) {
         Ok(learned) => Ok(Some(learned)),
         Err(Stop::NothingLearned) => Ok(None),
         Err(Stop::OutOfMemory) => Err(AllocError),

@@ -32,6 +32,16 @@ fn written(coef: u128) -> Result<i128, CutFault>
     }
 }
 
+/// Whether no coefficient is above the degree.
+fn is_saturated(constraint: &Normal) -> bool {
+    for place in 0..constraint.len() {
+        if constraint.term(place).coef > constraint.degree() {
+            return false;
+        }
+    }
+    true
+}
+
 impl Derivation {
     ghost use Rattle.std.specs.Prelude.{◌≡◌, ◌≢◌, ℕ, Bool, All, Some, IfOk, pos};
     ghost use Rattle.normal_form.specs.Normal.{coefficient};
@@ -119,12 +129,15 @@ impl Derivation {
         Ok(Derivation { items, constraint })
     }
 
-    /// The same with no coefficient above the degree.
+    /// The same with no coefficient above the degree; nothing is written where none is.
     pub(crate) fn saturated(self, alloc: Global) -> Result<Self, CutFault>
         ensures more { IfOk result (λ d. GoesOnFrom self.items.items d.items.items) }
         ensures derived { (given : Given) → IsPostfixOf given self.items.items self.constraint
             → IfOk result (λ d. IsPostfixOf given d.items.items d.constraint) }
     {
+        if is_saturated(&self.constraint) {
+            return Ok(self);
+        }
         let Derivation {
             mut items,
             constraint,

@@ -135,7 +135,7 @@ fn least_biting(turns: &[Turn], degree: u128) -> Option<u32> {
     least
 }
 
-/// A level below another at which a constraint bites, the least one, if there is any.
+/// A level below another at which a constraint bites, the least one, if it bites at the last of them.
 pub(crate) fn least_level(
     alloc: Global,
     constraint: &Normal,
@@ -145,6 +145,10 @@ pub(crate) fn least_level(
     ensures biting { IfOk result (λ found. IfSome found (λ level. BitesAt standing.now level constraint.now)) }
     ensures lower { IfOk result (λ found. IfSome found (λ level. level < decisions)) }
 {
+    // Most of what a walk comes by bites nowhere, which is seen without its literals in order.
+    if decisions == 0 || !bites(constraint, standing, decisions - 1) {
+        return Ok(None);
+    }
     let turns = turns(alloc, constraint, standing)?;
     let Some(level) = least_biting(&turns, constraint.degree()) else {
         return Ok(None);
@@ -153,4 +157,22 @@ pub(crate) fn least_level(
         return Ok(Some(level));
     }
     Ok(None)
+}
+
+/// How many levels the set literals of a constraint are of (the literal block distance: Audemard and Simon, 2009).
+pub(crate) fn level_count(
+    alloc: Global,
+    constraint: &Normal,
+    standing: &Standing<'_>,
+) -> Result<u32, AllocError> {
+    let turns = turns(alloc, constraint, standing)?;
+    let mut count: u32 = 0;
+    let mut last = u32::MAX;
+    for turn in &turns {
+        if turn.level != last && turn.level != u32::MAX {
+            count = count.saturating_add(1);
+            last = turn.level;
+        }
+    }
+    Ok(count)
 }

@@ -13,7 +13,8 @@ ghost use Rattle.analysis.specs.Lines.{BeginsWith, GoesOnFrom};
 
 use super::derivation::Derivation;
 use super::learned::Learned;
-use super::level::{least_level, open_decisions};
+use super::level::{least_level, level_count, open_decisions};
+use super::met::Met;
 use super::reduction::reduced;
 use super::standing::Standing;
 use super::stop::Stop;
@@ -73,6 +74,7 @@ fn cite<'a, P: Propagator>(
     alloc: Global,
     kernel: &Kernel<'a, P>,
     id: Id,
+    met: &mut Met,
 ) -> Result<Derivation, Stop>
     ensures begins { IfOk result (λ d. BeginsWith id d.items.items) }
     ensures derived { IfOk result (λ d. IsPostfixOf (constraint_of kernel.now.state) d.items.items d.constraint) }
@@ -80,6 +82,7 @@ fn cite<'a, P: Propagator>(
     let Some(constraint) = kernel.constraint(id) else {
         return Err(Stop::NothingLearned);
     };
+    met.add(id, constraint)?;
     Ok(Derivation::cited(alloc, id, constraint)?)
 }
 
@@ -91,6 +94,7 @@ fn resolved<'a, P: Propagator>(
     current: Derivation,
     at: Falsified,
     sum: &mut Accumulator,
+    met: &mut Met,
 ) -> Result<Derivation, Stop>
     requires place { at.place < length standing.now }
     requires derived { IsPostfixOf (constraint_of kernel.now.state) current.items.items current.constraint }
@@ -101,7 +105,7 @@ fn resolved<'a, P: Propagator>(
     let Some(id) = entry.reason else {
         return Err(Stop::NothingLearned);
     };
-    let reason = cite(alloc, kernel, id)?;
+    let reason = cite(alloc, kernel, id, met)?;
     let even = reduced(alloc, reason, entry.literal, standing, at.place, sum)?;
     let cancelling = even.multiplied(alloc, at.coef)?;
     let resolvent = current.plus(alloc, cancelling)?;
@@ -114,6 +118,7 @@ pub(crate) fn walk<'a, P: Propagator>(
     kernel: &Kernel<'a, P>,
     standing: &Standing<'_>,
     conflict: Id,
+    met: &mut Met,
 ) -> Result<Learned, Stop>
     ensures begins { IfOk result (λ l. BeginsWith conflict l.items) }
     ensures derived { IfOk result (λ l. IsPostfixOf (constraint_of kernel.now.state) l.items l.constraint) }
@@ -122,16 +127,20 @@ pub(crate) fn walk<'a, P: Propagator>(
 {
     let decisions = open_decisions(standing.entries());
     let mut before = standing.entries().len();
-    let mut current = cite(alloc, kernel, conflict)?;
+    let mut current = cite(alloc, kernel, conflict, met)?;
     let mut sum = Accumulator::new(alloc);
     loop {
         if let Some(level) = least_level(alloc, &current.constraint, standing, decisions)? {
+            met.note_learned(
+                current.constraint.len(),
+                level_count(alloc, &current.constraint, standing)?,
+            );
             return Ok(current.learned(level));
         }
         let Some(at) = latest_false(&current.constraint, standing, before) else {
             return Err(Stop::NothingLearned);
         };
         before = at.place;
-        current = resolved(alloc, kernel, standing, current, at, &mut sum)?;
+        current = resolved(alloc, kernel, standing, current, at, &mut sum, met)?;
     }
 }

@@ -54,13 +54,19 @@ pub record Keeps (k : Held) (ids : ℕ) : Type 0 where
 abbrev pub given_id : Step → State → Option ℕ
 given_id (steps.Sol listing) s = None
 given_id (steps.Del ids) s = None
-given_id _ s = Some s.next
+given_id (steps.Pol items) s = Some s.next
+given_id (steps.Rup c) s = Some s.next
+given_id (steps.Red c images) s = Some s.next
+given_id (steps.Soli listing) s = Some s.next
 
 -- the relation of a constraint in a step is `>=`
 abbrev pub HasAtLeast : Step → Type 0
 HasAtLeast (steps.Rup c) = c.relation ≡ AtLeast
 HasAtLeast (steps.Red c images) = c.relation ≡ AtLeast
-HasAtLeast _ = ⊤
+HasAtLeast (steps.Pol items) = ⊤
+HasAtLeast (steps.Sol listing) = ⊤
+HasAtLeast (steps.Soli listing) = ⊤
+HasAtLeast (steps.Del ids) = ⊤
 
 -- a written constraint is not within the limits
 abbrev pub IsUnadmitted : Signed → StepFault → Type 0

@@ -63,7 +63,11 @@ counted_by rules.Del ws = unclosed (drop 1 ws)
 -- no name stands twice on the left of a substitution
 abbrev pub IsProper : Step → Type 0
 IsProper (steps.Red c images) = NamesOnce images
-IsProper _ = ⊤
+IsProper (steps.Pol items) = ⊤
+IsProper (steps.Rup c) = ⊤
+IsProper (steps.Sol listing) = ⊤
+IsProper (steps.Soli listing) = ⊤
+IsProper (steps.Del ids) = ⊤
 
 -- the step that a line's words say, its variables numbered by the table `names`
 unfoldable pub step_of : List (List ℕ) → List (List ℕ) → Option Step

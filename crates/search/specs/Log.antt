@@ -29,7 +29,10 @@ pub record Logbook : Type 0 where
 abbrev pub StepBites : State → Step → Type 0
 StepBites old (kinds.Pol items) = (n : NormalConstraint) × IsPostfixOf (constraint_of old) items n × Bites (constraints old) n
 StepBites old (kinds.Rup c) = (n : NormalConstraint) × IsNormalOf c n × Bites (constraints old) n
-StepBites old _ = ⊥
+StepBites old (kinds.Red c images) = ⊥
+StepBites old (kinds.Sol listing) = ⊥
+StepBites old (kinds.Soli listing) = ⊥
+StepBites old (kinds.Del ids) = ⊥
 
 -- legal steps lead from one state to another, and at least so many of them bite
 abbrev pub LeadsBiting : Opb → State → List Step → State → ℕ → Type 0
@@ -46,7 +49,11 @@ value_list (Some value) = value ∷ []
 -- what a step improves to, where it logs an improving solution and leads to this state
 abbrev pub improvement : Step → State → List ℤ
 improvement (kinds.Soli listing) new = value_list new.least
-improvement _ new = []
+improvement (kinds.Sol listing) new = []
+improvement (kinds.Pol items) new = []
+improvement (kinds.Rup c) new = []
+improvement (kinds.Red c images) new = []
+improvement (kinds.Del ids) new = []
 
 -- legal steps lead from one state to another, and these are the values of their improving solutions, in order
 abbrev pub LeadsImproving : Opb → State → List Step → State → List ℤ → Type 0
@@ -69,7 +76,11 @@ last_of (value ∷ later ∷ more) = last_of (later ∷ more)
 -- the step logs no improving solution
 abbrev pub ImprovesNothing : Step → Type 0
 ImprovesNothing (kinds.Soli listing) = ⊥
-ImprovesNothing _ = Unit {0}
+ImprovesNothing (kinds.Sol listing) = Unit {0}
+ImprovesNothing (kinds.Pol items) = Unit {0}
+ImprovesNothing (kinds.Rup c) = Unit {0}
+ImprovesNothing (kinds.Red c images) = Unit {0}
+ImprovesNothing (kinds.Del ids) = Unit {0}
 
 -- the state entitles to the conclusion
 abbrev pub IsEntitled : Opb → State → Conclusion → Type 0

@@ -1,0 +1,70 @@
+//! What an analysis came by: for rules of choice and of forgetting, which live on it. Nothing rests on it, so it has no contract.
+
+use linear::Var;
+use normal_form::Normal;
+use propagate::Id;
+use std::alloc::{AllocError, Global};
+
+/// The constraints that were added up in the analysis of a conflict. It is kept from one analysis to the next for its memory.
+#[derive(Drop)]
+pub struct Met {
+    variables: Vec<Var>,
+    ids: Vec<Id>,
+    literals: usize,
+    levels: u32,
+}
+
+impl Met {
+    /// Nothing.
+    pub fn new(alloc: Global) -> Self {
+        Met {
+            variables: Vec::new(alloc),
+            ids: Vec::new(alloc),
+            literals: 0,
+            levels: 0,
+        }
+    }
+
+    /// Nothing any more.
+    pub fn clear(&mut self) {
+        self.variables.clear();
+        self.ids.clear();
+        self.literals = 0;
+        self.levels = 0;
+    }
+
+    /// One constraint more.
+    pub(crate) fn add(&mut self, id: Id, constraint: &Normal) -> Result<(), AllocError> {
+        self.ids.push(id)?;
+        for place in 0..constraint.len() {
+            self.variables.push(constraint.term(place).var)?;
+        }
+        Ok(())
+    }
+
+    /// Notes how many literals what was learned has, and of how many levels they are.
+    pub fn note_learned(&mut self, literals: usize, levels: u32) {
+        self.literals = literals;
+        self.levels = levels;
+    }
+
+    /// The variables of the constraints, each as often as it stands in one.
+    pub fn variables(&self) -> &[Var] {
+        self.variables.as_slice()
+    }
+
+    /// The ids of the constraints, the conflict's first.
+    pub fn ids(&self) -> &[Id] {
+        self.ids.as_slice()
+    }
+
+    /// How many literals what was learned has, 0 where nothing was.
+    pub fn literals(&self) -> usize {
+        self.literals
+    }
+
+    /// How many levels the literals of what was learned are of, 0 where nothing was.
+    pub fn levels(&self) -> u32 {
+        self.levels
+    }
+}
