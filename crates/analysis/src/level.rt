@@ -10,6 +10,8 @@ ghost use Rattle.analysis.specs.Biting.{BitesAt, greatest_level};
 use super::biting::bites;
 use super::entry::Entry;
 use super::standing::Standing;
+use accumulate::Accumulator;
+use linear::{Integer, Var};
 use normal_form::{Normal, NormalTerm};
 use std::alloc::{AllocError, Global};
 
@@ -99,6 +101,25 @@ impl Sweep {
         }
     }
 
+    /// With the literal of a variable's net coefficient, under the literals up to a level.
+    fn with(self, var: Var, net: Integer, standing: &Standing<'_>, level: u32) -> Sweep {
+        let coef = net.unsigned_abs();
+        match standing.spot(var) {
+            Some(spot) if spot.level <= level => Sweep {
+                sum: if spot.negated == (net < 0) {
+                    self.sum.saturating_add(coef)
+                } else {
+                    self.sum
+                },
+                unset: self.unset,
+            },
+            _ => Sweep {
+                sum: self.sum.saturating_add(coef),
+                unset: self.unset.max(coef),
+            },
+        }
+    }
+
     fn bites(self, degree: u128) -> bool {
         self.sum < degree.saturating_add(self.unset)
     }
@@ -135,7 +156,7 @@ fn least_biting(turns: &[Turn], degree: u128) -> Option<u32> {
     least
 }
 
-/// A level below another at which a constraint bites, the least one, if it bites at the last of them.
+/// A level below another at which a constraint bites, the least one, if there is any.
 pub(crate) fn least_level(
     alloc: Global,
     constraint: &Normal,
@@ -145,10 +166,6 @@ pub(crate) fn least_level(
     ensures biting { IfOk result (λ found. IfSome found (λ level. BitesAt standing.now level constraint.now)) }
     ensures lower { IfOk result (λ found. IfSome found (λ level. level < decisions)) }
 {
-    // Most of what a walk comes by bites nowhere, which is seen without its literals in order.
-    if decisions == 0 || !bites(constraint, standing, decisions - 1) {
-        return Ok(None);
-    }
     let turns = turns(alloc, constraint, standing)?;
     let Some(level) = least_biting(&turns, constraint.degree()) else {
         return Ok(None);
@@ -157,6 +174,19 @@ pub(crate) fn least_level(
         return Ok(Some(level));
     }
     Ok(None)
+}
+
+/// Whether a sum may bite under one decision less than are open: most of what a walk comes by does not, which is seen without its
+/// literals in order. Where a variable is marked twice it may say no, and the walk goes on.
+pub(crate) fn may_bite(sum: &Accumulator, standing: &Standing<'_>, decisions: u32) -> bool {
+    let Some(level) = decisions.checked_sub(1) else {
+        return false;
+    };
+    let mut sweep = Sweep { sum: 0, unset: 0 };
+    for number in sum.marks() {
+        sweep = sweep.with(Var(*number), sum.net(Var(*number)), standing, level);
+    }
+    sweep.bites(sum.degree())
 }
 
 /// How many levels the set literals of a constraint are of (the literal block distance: Audemard and Simon, 2009).

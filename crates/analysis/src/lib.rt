@@ -19,6 +19,7 @@ mod learned;
 mod level;
 mod met;
 mod reduction;
+mod resolvent;
 mod slack;
 mod spot;
 mod standing;
@@ -26,7 +27,7 @@ mod stop;
 mod under;
 mod walk;
 
-pub use analysis::analyse;
+pub use analysis::Analyser;
 pub use entry::Entry;
 pub use learned::Learned;
 pub use met::Met;

@@ -16,21 +16,21 @@ pub struct Met {
 
 impl Met {
     /// Nothing.
-    pub fn new(alloc: Global) -> Self {
+    pub(crate) fn new(alloc: Global) -> Self {
         Met {
             variables: Vec::new(alloc),
             ids: Vec::new(alloc),
-            literals: 0,
-            levels: 0,
+            literals: usize::MAX,
+            levels: u32::MAX,
         }
     }
 
     /// Nothing any more.
-    pub fn clear(&mut self) {
+    pub(crate) fn clear(&mut self) {
         self.variables.clear();
         self.ids.clear();
-        self.literals = 0;
-        self.levels = 0;
+        self.literals = usize::MAX;
+        self.levels = u32::MAX;
     }
 
     /// One constraint more.
@@ -43,7 +43,7 @@ impl Met {
     }
 
     /// Notes how many literals what was learned has, and of how many levels they are.
-    pub fn note_learned(&mut self, literals: usize, levels: u32) {
+    pub(crate) fn note_learned(&mut self, literals: usize, levels: u32) {
         self.literals = literals;
         self.levels = levels;
     }
@@ -58,12 +58,12 @@ impl Met {
         self.ids.as_slice()
     }
 
-    /// How many literals what was learned has, 0 where nothing was.
+    /// How many literals what was learned has; the greatest number where nothing was.
     pub fn literals(&self) -> usize {
         self.literals
     }
 
-    /// How many levels the literals of what was learned are of, 0 where nothing was.
+    /// How many levels the literals of what was learned are of; the greatest number where nothing was.
     pub fn levels(&self) -> u32 {
         self.levels
     }

@@ -11,7 +11,7 @@ ghost use Rattle.search.specs.Undoing.{IsUndone};
 
 use super::brancher::Brancher;
 use super::log::Log;
-use analysis::{Entry, Learned, Met, analyse, bites_under};
+use analysis::{Analyser, Entry, Learned, bites_under};
 use linear::{Lit, Var};
 use normal_form::Normal;
 use proof_rules::StepFault;
@@ -36,7 +36,7 @@ pub(crate) fn learn_constraint<'a, P: Propagator>(
     decisions: &mut Vec<Lit>,
     trail: &[Entry],
     conflict: Id,
-    met: &mut Met,
+    analyser: &mut Analyser,
     brancher: &mut Box<dyn Brancher>,
 ) -> Result<bool, StepFault>
     requires { IsConsistent decisions.old.items }
@@ -47,8 +47,8 @@ pub(crate) fn learn_constraint<'a, P: Propagator>(
     ensures undone { IfOk result (λ yes. IsTrue yes → IsUndone decisions.old.items decisions.new.items) }
     ensures kept { IfOk result (λ yes. yes ≡ false → decisions.new.items ≡ decisions.old.items) }
 {
-    let found = analyse(alloc, log.kernel(), trail, conflict, met)?;
-    brancher.met(met.variables());
+    let found = analyser.analyse(alloc, log.kernel(), trail, conflict)?;
+    brancher.met(analyser.met().variables());
     let Some(learned) = found else {
         return Ok(false);
     };

@@ -18,7 +18,7 @@ use super::log::Log;
 use super::presolving::presolve;
 use super::restarts::Restarts;
 use super::trail::{Trail, level_of};
-use analysis::Met;
+use analysis::Analyser;
 use linear::{Lit, Problem, Seq};
 use proof_rules::StepFault;
 use proof_steps::Step;
@@ -65,8 +65,7 @@ struct Run<'a, P: Propagator> {
     trail: Trail,
     restarts: Restarts,
     learned: LearnedConstraints,
-    /// What the last analysis came by.
-    met: Met,
+    analyser: Analyser,
     brancher: Box<dyn Brancher>,
 }
 
@@ -97,7 +96,7 @@ impl<'a, P: Propagator> Run<'a, P> {
             &mut self.decisions,
             self.trail.entries(),
             conflict,
-            &mut self.met,
+            &mut self.analyser,
             &mut self.brancher,
         )?;
         if learned {
@@ -108,8 +107,6 @@ impl<'a, P: Propagator> Run<'a, P> {
         if count == 0 {
             return Ok(None);
         }
-        self.met
-            .note_learned(count, level_of(self.decisions.as_slice()));
         let lesson = learn_clause(
             self.alloc,
             &mut self.log,
@@ -137,10 +134,10 @@ impl<'a, P: Propagator> Run<'a, P> {
         ensures next { OnOk result (self.new.log.state.next ≡ self.old.log.state.next) }
         ensures consistent { IsConsistent self.new.decisions.items }
     {
-        let number = self.log.kernel().last_id();
+        let met = self.analyser.met();
         self.learned
-            .push(number, self.met.literals(), self.met.levels())?;
-        self.learned.meet(self.met.ids());
+            .push(self.log.kernel().last_id(), met.literals(), met.levels())?;
+        self.learned.meet(met.ids());
         if self.learned.is_due() {
             self.learned
                 .forget(self.alloc, &mut self.log, self.trail.entries())?;
@@ -219,7 +216,7 @@ fn search<'a, P: Propagator>(
         trail: Trail::new(alloc, count)?,
         restarts: Restarts::new(),
         learned: LearnedConstraints::new(alloc),
-        met: Met::new(alloc),
+        analyser: Analyser::new(alloc),
         brancher,
     };
     'turns: loop {
