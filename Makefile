@@ -1,38 +1,24 @@
-# The door for people. `make` proves every crate and builds both programs into bin/, from nothing too; `make test` runs the
-# gate: every proof from nothing, the edits that must fail, and the tests; `make demo` finds an optimum and has its proof
-# checked, and runs the checker on three pigeons in two holes, an optimum, a symmetry and a new name; `make install` puts both
-# programs and their manual pages under PREFIX.
-.PHONY: all test demo check install layout refused-growths statuses bench differential optima pigeons wrong-edits wrong-definitions wrong-bodies gate-minutes
+# The door for people. `make` proves what both programs stand on and builds them into bin/, from nothing too; `make bin/pbcheck`
+# does so for the checker alone; `make test` runs the gate: every proof from nothing, the edits that must fail, and the tests;
+# `make demo` finds an optimum and has its proof checked, and runs the checker on three pigeons in two holes, an optimum, a
+# symmetry and a new name; `make install` puts both programs and their manual pages under PREFIX.
+.PHONY: FORCE all test demo check install layout refused-growths statuses bench differential optima pigeons wrong-edits wrong-definitions wrong-bodies gate-minutes
 
 PREFIX ?= /usr/local
 
-# A line with a pipe fails where any part of it does.
-SHELL := bash
-.SHELLFLAGS := -o pipefail -c
+all:
+	@echo "make: proving what both programs stand on, each crate named as it is proved; from nothing this takes half an hour"
+	@scripts/prove pbcheck pbopt
+	@mkdir -p bin
+	cp crates/pbcheck/out/pbcheck crates/pbopt/out/pbopt bin/
 
-# Names each crate as soon as it is proved. (An awk may wait for more to read before it looks at a line; the shell's `read` does not.)
-NAMED := while read -r word name rest; do case $$word in crate) crate=$${name%:};; logic=proved) echo "make: $$crate is proved";; esac; done
+# One of them alone, over what it stands on.
+bin/pbcheck bin/pbopt: bin/%: FORCE
+	@scripts/prove $*
+	@mkdir -p bin
+	cp crates/$*/out/$* $@
 
-# How many crates are proved side by side.
-JOBS ?= $(shell nproc)
-
-SOURCES := crates.txt $(shell find crates \( -name out -o -name must-fail -o -name wrong-bodies -o -name wrong-definitions \) -prune -o -type f -print)
-
-all: bin/pbcheck bin/pbopt
-
-# Crates are proved side by side, each as soon as those that it stands on are; what an earlier run kept in out/ is not proved again.
-bin/pbcheck: $(SOURCES)
-	@echo "make: proving the crates, $(JOBS) side by side; from nothing this takes half an hour, and each crate is named as soon as it is proved"
-	@rt all check --jobs $(JOBS) 2>&1 | tee make.log | $(NAMED) || (tail -n 40 make.log; exit 1)
-	@echo "make: building pbcheck"
-	cd crates/pbcheck && rt run -- data/pigeons.opb data/pigeons.pbp > /dev/null
-	mkdir -p bin
-	cp crates/pbcheck/out/pbcheck bin/pbcheck
-
-bin/pbopt: bin/pbcheck
-	@echo "make: building pbopt"
-	cd crates/pbopt && (rt run -- data/clauses.opb --conflicts 1 > /dev/null || true)
-	cp crates/pbopt/out/pbopt bin/pbopt
+FORCE:
 
 install: all
 	install -d $(DESTDIR)$(PREFIX)/bin $(DESTDIR)$(PREFIX)/share/man/man1

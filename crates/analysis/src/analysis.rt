@@ -29,7 +29,8 @@ pub struct Analyser {
     pub(crate) resolvent: Resolvent,
     /// Where a reason is made ready before it is added.
     pub(crate) aside: Accumulator,
-    pub(crate) met: Met,
+    /// What the last analysis came by.
+    pub met: Met,
 }
 
 impl Analyser {
@@ -40,11 +41,6 @@ impl Analyser {
             aside: Accumulator::new(alloc),
             met: Met::new(alloc),
         }
-    }
-
-    /// What the last analysis came by.
-    pub fn met(&self) -> &Met {
-        &self.met
     }
 
     /// A constraint that follows from the live ones and would have said something sooner: it has negative slack or forces a literal

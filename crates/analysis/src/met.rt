@@ -8,10 +8,14 @@ use std::alloc::{AllocError, Global};
 /// The constraints that were added up in the analysis of a conflict. It is kept from one analysis to the next for its memory.
 #[derive(Drop)]
 pub struct Met {
-    variables: Vec<Var>,
-    ids: Vec<Id>,
-    literals: usize,
-    levels: u32,
+    /// The variables of the constraints, each as often as it stands in one.
+    pub variables: Vec<Var>,
+    /// The ids of the constraints, the conflict's first.
+    pub ids: Vec<Id>,
+    /// How many literals what was learned has; the greatest number where nothing was.
+    pub literals: usize,
+    /// How many levels these are of; the greatest number where nothing was.
+    pub levels: u32,
 }
 
 impl Met {
@@ -46,25 +50,5 @@ impl Met {
     pub(crate) fn note_learned(&mut self, literals: usize, levels: u32) {
         self.literals = literals;
         self.levels = levels;
-    }
-
-    /// The variables of the constraints, each as often as it stands in one.
-    pub fn variables(&self) -> &[Var] {
-        self.variables.as_slice()
-    }
-
-    /// The ids of the constraints, the conflict's first.
-    pub fn ids(&self) -> &[Id] {
-        self.ids.as_slice()
-    }
-
-    /// How many literals what was learned has; the greatest number where nothing was.
-    pub fn literals(&self) -> usize {
-        self.literals
-    }
-
-    /// How many levels the literals of what was learned are of; the greatest number where nothing was.
-    pub fn levels(&self) -> u32 {
-        self.levels
     }
 }

@@ -48,7 +48,7 @@ pub(crate) fn learn_constraint<'a, P: Propagator>(
     ensures kept { IfOk result (λ yes. yes ≡ false → decisions.new.items ≡ decisions.old.items) }
 {
     let found = analyser.analyse(alloc, log.kernel(), trail, conflict)?;
-    brancher.met(analyser.met().variables());
+    brancher.met(analyser.met.variables.as_slice());
     let Some(learned) = found else {
         return Ok(false);
     };

@@ -134,10 +134,10 @@ impl<'a, P: Propagator> Run<'a, P> {
         ensures next { OnOk result (self.new.log.state.next ≡ self.old.log.state.next) }
         ensures consistent { IsConsistent self.new.decisions.items }
     {
-        let met = self.analyser.met();
+        let met = &self.analyser.met;
         self.learned
-            .push(self.log.kernel().last_id(), met.literals(), met.levels())?;
-        self.learned.meet(met.ids());
+            .push(self.log.kernel().last_id(), met.literals, met.levels)?;
+        self.learned.meet(met.ids.as_slice());
         if self.learned.is_due() {
             self.learned
                 .forget(self.alloc, &mut self.log, self.trail.entries())?;
