@@ -61,7 +61,8 @@ impl Resolvent {
     {
         self.items.push(Item::Id(i128::from(id)))?;
         self.items.push(Item::Add)?;
-        self.sum.add(constraint)
+        self.sum.add(constraint)?;
+        Ok(())
     }
 
     /// Adds what was derived beside it.
@@ -72,7 +73,8 @@ impl Resolvent {
     {
         self.items.extend_from_slice(&other.items)?;
         self.items.push(Item::Add)?;
-        self.sum.add(&other.constraint)
+        self.sum.add(&other.constraint)?;
+        Ok(())
     }
 
     /// Saturates it; nothing is written where no coefficient is above the degree.

@@ -42,7 +42,7 @@ log_clause-requires-clause-bites g c =
     subst (λ r. IsReach live (take (c.args.count - 1) items) r) c.in-Closed.is
     (subst (λ xs. IsReach live (take (c.args.count - 1) xs) c.in_ok-closed.field-0) c.as_slice.ensures.value c.in_ok-closed.ensures.value) in
     let unset : lists closed (opposite last) ≡ false =
-    subst (λ xs. lists xs (opposite last) ≡ false) c.as_slice-2.ensures (sym c.is_listed.ensures ∙ c.if-is_listed.false) in
+    subst (λ xs. lists xs (opposite last) ≡ false) c.as_slice-2.ensures (ap (λ (l : Lit). lists c.as_slice-2.result.now l) (sym c.opposite.ensures) ∙ sym c.is_listed.ensures ∙ c.if-is_listed.false) in
     let clause = negated_clause (take c.args.count c.as_slice-else-is_listed.result.now) in
     let is : clause ≡ negated_clause (take c.args.count items) = ap (λ xs. negated_clause (take c.args.count xs)) c.as_slice-else-is_listed.ensures.value in
     subst (λ (l : Logbook). StepBites l.state (kinds.Rup clause)) (sym c.extend.ensures.same)
@@ -64,6 +64,6 @@ returns-clause-overtaken g c =
     let listed : lists closed (opposite last) ≡ true → IsOvertaken live items (c.args.count - 1) =
     λ h d. subst (λ x. IsReached live (take (c.args.count - 1) items) (opposite x)) (c.index-last.ensures ∙ get_or_default items (c.args.count - 1) last d inside) ((reach.1 (opposite last)).0 h) in
     elim c.if-is_listed.branch as (λ _. c.if-is_listed.lesson ≡ lessons.Undone → IsOvertaken live items (c.args.count - 1)) [
-      | then-is_listed w ↦ λ _. listed (subst (λ xs. lists xs (opposite last) ≡ true) c.as_slice-2.ensures (sym c.is_listed.ensures ∙ w.if-is_listed.true))
+      | then-is_listed w ↦ λ _. listed (subst (λ xs. lists xs (opposite last) ≡ true) c.as_slice-2.ensures (ap (λ (l : Lit). lists c.as_slice-2.result.now l) (sym c.opposite.ensures) ∙ sym c.is_listed.ensures ∙ w.if-is_listed.true))
       | else-is_listed+in_ok-log_clause w ↦ λ is. other (sym w.lesson-is ∙ is)
     ]
