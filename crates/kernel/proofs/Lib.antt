@@ -1,6 +1,9 @@
 pub mod Best
 pub mod Completed
 pub mod Concluded
+pub mod Consistent
+pub mod CoveredAt
+pub mod CoveringShares
 pub mod Deleting
 pub mod Improving
 pub mod Keeping

@@ -1,25 +1,14 @@
--- Tables of the values that a listing gives variables, and listings without constraints.
+-- Tables of the values that a listing gives variables.
 use Rattle.std.proofs.Common.{◌≡◌, ℕ, ◌<◌, ◌≤◌, Bool, true, false, not, inl, inr, List, [], ◌∷◌, ◌++◌, map, Option, Some, None, MatchOption, length, get_or, set, refl, sym, ap, subst, ◌∙◌, arith}
 use Rattle.std.proofs.lemmas.Bool.{cases_eq, false≢true}
 use Rattle.std.proofs.lemmas.List.{length-set, length-map, get_or-set_same, get_or-set_other, get_or-map}
-use Rattle.std.specs.FinMap as fin
-use Rattle.std.specs.Ordering.{nat_cmp}
 use Rattle.linear.specs.declared.term.Lit.{Lit}
 use Rattle.normal_form.specs.Normal.{only}
 use Rattle.normal_form.proofs.SetSums.{only_is}
-use Rattle.propagate.specs.Chain.{LeadsToConflict}
-use Rattle.propagate.specs.Slack.{IsBroken}
 use Rattle.propagate.proofs.Listings.{among_cases, among_head, among_left, among_right, or_cases}
 use Rattle.propagate.specs.Literals.{among}
 use Rattle.proof_rules.specs.Solution.{value_at}
-use Rattle.proof_rules.specs.State.{Live}
-use Rattle.proof_rules.proofs.LiveConstraints.{Any-never}
 use Rattle.kernel.specs.Table.{GivesValue, IsTableOf, GivesAll, LeavesOut, HasGap}
-
--- without constraints nothing leads to a conflict
-pub never_empty : (content : Live) (given : List Lit) → content ≡ fin.empty → LeadsToConflict (fin.values content) given → ⊥
-never_empty content given empty (chain, is_chain, conflict) =
-    Any-never (IsBroken (given ++ chain)) content (λ k n is broken. let same : None ≡ Some n = sym (fin.get-empty nat_cmp k) ∙ ap (λ m. fin.get m k) (sym empty) ∙ is in absurd (cc)) conflict
 
 not_not : (b : Bool) → not (not b) ≡ b
 not_not true = refl

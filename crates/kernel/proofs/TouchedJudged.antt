@@ -29,14 +29,14 @@ judging_first live beside images ids rises touched = record {
   shown = λ k n is absent. untouched_shown live beside images k n is (All-get (λ m. Rises 0 m.terms) live k n rises is) (λ h. absent ((touched k).1 h));
 }
 
-removed_keeps : (ids : IdSet) (id k : ℕ) → HasId (set.remove ids id) k → HasId ids k
+pub removed_keeps : (ids : IdSet) (id k : ℕ) → HasId (set.remove ids id) k → HasId ids k
 removed_keeps ids id k h = second (not (eq_by_cmp nat_cmp k id)) (set.contains ids k) (sym (set.contains-remove nat_cmp_total ids id k) ∙ h)
   where
     second : (a b : Bool) → (a && b) ≡ true → b ≡ true
     second true b h = h
     second false b h = absurd (cc)
 
-others_stay : (ids : IdSet) (id k : ℕ) → (k ≡ id → ⊥) → HasId ids k → HasId (set.remove ids id) k
+pub others_stay : (ids : IdSet) (id k : ℕ) → (k ≡ id → ⊥) → HasId ids k → HasId (set.remove ids id) k
 others_stay ids id k other h = set.contains-remove nat_cmp_total ids id k ∙ ap (λ (b : Bool). not b && set.contains ids k) (other_key k id other) ∙ h
 
 pub judging_more : (live : Live) (from : List NormalConstraint) (images : Images) (ids new : IdSet) (id : ℕ) → IsJudging live from images ids → new ≡ set.remove ids id

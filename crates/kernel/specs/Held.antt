@@ -4,6 +4,7 @@ use Rattle.linear.specs.Opb.{Opb}
 use Rattle.linear.specs.Limits.{IsWithin}
 use Rattle.linear.specs.declared.constraint.Relation.TheVariants.{AtLeast}
 use Rattle.linear.specs.declared.constraint.Signed.{Signed}
+use Rattle.linear.specs.declared.term.Term.{Term}
 use Rattle.normal_form.specs.Normal.{NormalConstraint, Fits}
 use Rattle.normal_form.specs.NormalOf.{IsNormalOf}
 use Rattle.proof_rules.specs.Shown.{IsAdmitted}
@@ -45,10 +46,11 @@ abbrev pub with_extra : Option (List Bool) → State → State
 with_extra None s = s
 with_extra (Some g) s = with_solution g s
 
--- what the fields of every kernel keep: beside the above, the greatest id of the file is known
-pub record Keeps (k : Held) (ids : ℕ) : Type 0 where
+-- what the fields of every kernel keep: beside the above, the greatest id of the file is known, and the problem's objective
+pub record Keeps (k : Held) (ids : ℕ) (objective : Option (List Term)) : Type 0 where
   pub kept : IsKept k
   pub file : ids ≡ problem_ids k.problem.constraints
+  pub objective_is : objective ≡ k.problem.objective
 
 -- the id that a step gives its constraint, if it adds one
 abbrev pub given_id : Step → State → Option ℕ

@@ -1,4 +1,5 @@
 pub mod Accepted
+pub mod Covered
 pub mod Database
 pub mod Deletion
 pub mod File

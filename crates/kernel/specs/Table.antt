@@ -1,7 +1,8 @@
 -- The values that a listing of literals gives variables.
-use Rattle.std.specs.Prelude.{◌≡◌, ℕ, ◌<◌, Bool, true, List, Option, None, Some, length, slice_index_or}
+use Rattle.std.specs.Prelude.{◌≡◌, ◌↔◌, ℕ, ◌<◌, ◌≤◌, Bool, true, false, not, List, Option, None, Some, length, slice_index_or}
 use Rattle.linear.specs.declared.term.Lit.{Lit}
-use Rattle.propagate.specs.Literals.{lists}
+use Rattle.propagate.specs.Ids.{IdSet, HasId}
+use Rattle.propagate.specs.Literals.{among, lists}
 use Rattle.proof_rules.specs.Solution.{literal_for, SaysAll}
 
 -- the listing gives the variable this value, or none
@@ -24,3 +25,16 @@ LeavesOut count listing = (v : ℕ) × (v < count) × ((value : Bool) → lists 
 -- some variable of a table has no value
 abbrev pub HasGap : List (Option Bool) → Type 0
 HasGap table = (v : ℕ) × (v < length table) × (slice_index_or table v None ≡ None)
+
+-- a set has the variables from a number on that the listing has with this sign
+abbrev pub IsSideOf : List Lit → ℕ → Bool → IdSet → Type 0
+IsSideOf listing from negated ids = (v : ℕ) → from ≤ v → HasId ids v ↔ (among listing v negated ≡ true)
+
+-- the two sets have those that stand plain in the listing, and those that stand negated
+abbrev pub AreSidesOf : List Lit → ℕ → IdSet → IdSet → Type 0
+AreSidesOf listing from plain negated = IsSideOf listing from false plain × IsSideOf listing from true negated
+
+-- the table gives the literal's variable the value that makes it true, or it is beyond the table, and its opposite is not listed
+abbrev pub Agrees : List (Option Bool) → List Lit → ℕ → Bool → Type 0
+Agrees table listing v negated =
+    (v < length table → slice_index_or table v None ≡ Some (not negated)) × (length table ≤ v → among listing v (not negated) ≡ true → ⊥)

@@ -14,7 +14,7 @@ use super::accepted::Accepted;
 use super::kernel::Kernel;
 use super::log::is_better;
 use super::objective::above;
-use linear::{Assignment, Lit, Problem, Seq, Term};
+use linear::{Assignment, Integer, Lit, Problem, Seq, Term};
 use normal_form::{Normal, NormalBuilder};
 use proof_rules::StepFault;
 use proof_steps::{Conclusion, Lower, Upper};
@@ -141,7 +141,7 @@ impl<'a, P: Propagator> Kernel<'a, P> {
 
     /// Judges whether a bound is at most the least improving value, then whether `objective >= bound` is within the limits,
     /// then whether it is shown from the live constraints.
-    fn judge_bound(&mut self, objective: &Seq<Term>, bound: i128) -> Result<(), StepFault>
+    fn judge_bound(&mut self, objective: &Seq<Term>, bound: Integer) -> Result<(), StepFault>
         requires { size_sum objective.now ≤ largest_objective }
         ensures ok { OnOk result (EntitlesLower self.old.state objective.now (Lower.At bound)) }
         ensures fault { IfErr result (λ f. OrMemory f (IsBoundFault self.old.state objective.now bound f)) }

@@ -4,7 +4,7 @@
 ghost use Rattle.std.specs.Prelude.{◌≡◌, ◌≤◌, MatchOption};
 ghost use Rattle.proof_rules.specs.State.{id_limit, id_of};
 
-use linear::{Lit, Var};
+use linear::{Integer, Lit, Var};
 use normal_form::Normal;
 use propagate::{Id, Ids, Propagator, Reach, Trace};
 use std::alloc::{AllocError, Global};
@@ -40,7 +40,7 @@ impl<P: Propagator> Database<P> {
     ghost use Rattle.std.specs.Prelude.{◌≡◌, ◌↔◌, ◌<◌, [], ◌∷◌, ◌++◌, ℕ, IfOk, IsSome, IsSomeAnd, MatchOption, None, IsTrue, OnErr, OnOk};
     ghost use Rattle.normal_form.specs.Normal.{NormalConstraint};
     ghost use Rattle.propagate.specs.Chain.{IsRefuted};
-    ghost use Rattle.propagate.specs.Content.{IsLeastAbove, IsTrace, IsTraceOfLast};
+    ghost use Rattle.propagate.specs.Content.{HasLiteral, IsTrace, IsTraceOfLast};
     ghost use Rattle.propagate.specs.Ids.{HasId};
     ghost use Rattle.propagate.specs.Literals.{IsConsistent};
     ghost use Rattle.propagate.specs.Reach.{IsReach};
@@ -99,21 +99,13 @@ impl<P: Propagator> Database<P> {
     }
 
     /// Takes out the live constraint that a number in a step means.
-    pub(crate) fn remove(&mut self, number: i128)
+    pub(crate) fn remove(&mut self, number: Integer)
         requires { IsSome (found self.old number) }
         ensures { self.new ≡ removed (id_of self.old.next number) self.old }
     {
         if let Some(id) = id_of(self.next_id, number) {
             self.constraints.remove(id);
         }
-    }
-
-    /// The least live id above this one.
-    pub(crate) fn after(&self, id: Id) -> Option<Id>
-        ensures least { IsLeastAbove self.now.live id result }
-        ensures numbered { AreNumbered self.now.live self.now.next }
-    {
-        self.constraints.after(id)
     }
 
     /// Whether the constraint of an id, if there is one, covers another.
@@ -126,6 +118,16 @@ impl<P: Propagator> Database<P> {
         }
     }
 
+    /// The ids of the live constraints that have a literal.
+    pub(crate) fn having(&mut self, alloc: Global, literal: Lit) -> Result<Ids, AllocError>
+        ensures same { self.new ≡ self.old }
+        ensures having { IfOk result (λ ids. (id : ℕ) → HasId ids id ↔ HasLiteral self.old.live literal id) }
+    {
+        let mut ids = Ids::empty(alloc);
+        self.constraints.add_occurrences(literal, &mut ids)?;
+        Ok(ids)
+    }
+
     /// Adds the ids of the live constraints that have a variable to a set.
     fn add_variable(&mut self, variable: Var, ids: &mut Ids) -> Result<(), AllocError>
         ensures same { self.new ≡ self.old }
@@ -136,11 +138,7 @@ impl<P: Propagator> Database<P> {
             negated: false,
         };
         self.constraints.add_occurrences(literal, ids)?;
-        let opposite = Lit {
-            var: variable,
-            negated: true,
-        };
-        self.constraints.add_occurrences(opposite, ids)?;
+        self.constraints.add_occurrences(literal.opposite(), ids)?;
         Ok(())
     }
 
@@ -215,7 +213,7 @@ impl<P: Propagator> Database<P> {
     }
 
     /// The live constraint that a number in a step means, if there is one: `-k` is the next id less `k`.
-    pub(crate) fn find(&self, number: i128) -> Option<&Normal>
+    pub(crate) fn find(&self, number: Integer) -> Option<&Normal>
         ensures { option_copied result ≡ found self.now number }
     {
         let id = id_of(self.next_id, number)?;
@@ -223,7 +221,7 @@ impl<P: Propagator> Database<P> {
     }
 
     /// The live id that a number in a step means, if there is one.
-    pub(crate) fn live_id(&self, number: i128) -> Option<Id>
+    pub(crate) fn live_id(&self, number: Integer) -> Option<Id>
         ensures { MatchOption result (found self.now number ≡ None) (λ id. (id ≡ id_of self.now.next number) × IsSome (found self.now number)) }
     {
         let id = id_of(self.next_id, number)?;
@@ -233,7 +231,7 @@ impl<P: Propagator> Database<P> {
 }
 
 /// The id that a number in a step means; `None` where it is beyond all ids.
-fn id_of(next: u64, number: i128) -> Option<Id>
+fn id_of(next: u64, number: Integer) -> Option<Id>
     ensures { MatchOption result (id_limit ≤ id_of next number) (λ id. id ≡ id_of next number) }
 {
     let size = number.unsigned_abs();

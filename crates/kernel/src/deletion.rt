@@ -9,12 +9,13 @@ ghost use Rattle.proof_rules.specs.State.{State, id_of};
 ghost use Rattle.kernel.specs.Deletion.{AreDeletable, IsWithout};
 
 use super::kernel::{Applied, Kernel};
+use linear::Integer;
 use proof_rules::StepFault;
 use propagate::{Id, Ids, Propagator};
 
 impl<'a, P: Propagator> Kernel<'a, P> {
     /// Takes out the constraints of some ids.
-    pub(crate) fn del(&mut self, numbers: &[i128]) -> Result<Applied, StepFault>
+    pub(crate) fn del(&mut self, numbers: &[Integer]) -> Result<Applied, StepFault>
         ensures problem { self.new.problem ≡ self.old.problem }
         ensures ok { OnOk result (LegalDel self.old.problem self.old.state numbers.now self.new.state) }
         ensures id { IfOk result (λ applied. applied.id ≡ None) }
@@ -29,7 +30,7 @@ impl<'a, P: Propagator> Kernel<'a, P> {
     }
 
     /// Judges the ids of a deletion from left to right, each as if those before it were gone.
-    fn judge_deletion(&self, numbers: &[i128]) -> Result<(), StepFault>
+    fn judge_deletion(&self, numbers: &[Integer]) -> Result<(), StepFault>
         ensures ok { OnOk result (AreDeletable self.now.problem self.now.state numbers.now) }
         ensures fault { IfErr result (λ f. OrMemory f (IsDelFault self.now.problem self.now.state numbers.now f)) }
     {
@@ -43,7 +44,7 @@ impl<'a, P: Propagator> Kernel<'a, P> {
 
     /// The id that a number means, where it is to be deleted after some others: first whether it is live is judged, then
     /// whether it is the file's, or that of a constraint that an improving solution added.
-    fn deletable(&self, gone: &Ids, number: i128) -> Result<Id, StepFault>
+    fn deletable(&self, gone: &Ids, number: Integer) -> Result<Id, StepFault>
         ensures id { (t : State) → IsWithout gone.now self.now.state t → IfOk result (λ id. id ≡ id_of t.next number) }
         ensures ok { (t : State) → IsWithout gone.now self.now.state t → OnOk result (IsDeletable self.now.problem t (id_of t.next number)) }
         ensures fault { (t : State) → IsWithout gone.now self.now.state t → IfErr result (λ f. OrMemory f (IsUndeletable self.now.problem t (id_of t.next number) f)) }
@@ -61,7 +62,7 @@ impl<'a, P: Propagator> Kernel<'a, P> {
     }
 
     /// Takes out a constraint that is to be deleted.
-    fn remove(&mut self, number: i128)
+    fn remove(&mut self, number: Integer)
         requires { IsDeletable self.old.problem self.old.state (id_of self.old.state.next number) }
         ensures problem { self.new.problem ≡ self.old.problem }
         ensures state { self.new.state ≡ without (id_of self.old.state.next number) self.old.state }

@@ -10,12 +10,12 @@ ghost use Rattle.proof_rules.specs.Justified.{IsBest};
 ghost use Rattle.proof_rules.specs.State.{HasRoom};
 
 use super::kernel::Kernel;
-use linear::Assignment;
+use linear::{Assignment, Integer};
 use propagate::Propagator;
 
 impl<'a, P: Propagator> Kernel<'a, P> {
     /// The least value of an improving solution, none where there is none.
-    pub fn least_value(&self) -> Option<i128>
+    pub fn least_value(&self) -> Option<Integer>
         ensures { result ≡ self.now.state.least }
     {
         self.log.least()

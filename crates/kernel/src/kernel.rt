@@ -14,6 +14,7 @@ use proof_steps::Step;
 use propagate::{Id, Propagator};
 use std::alloc::Global;
 use std::marker::Model;
+use substitution::NetObjective;
 
 /// What a step has added: the id of the new constraint, if any.
 #[derive(Clone, Copy, Debug, PartialEq, Eq)]
@@ -27,6 +28,8 @@ pub struct Applied {
 pub struct Kernel<'a, P: Propagator> {
     pub(crate) allocator: Global,
     pub(crate) source: &'a Problem,
+    /// The objective by variable, so that a `red` step need not go through it.
+    pub(crate) objective: NetObjective<'a>,
     pub(crate) database: Database<P>,
     pub(crate) log: Log,
     pub(crate) problem_ids: u64,
@@ -46,7 +49,7 @@ impl<'a, P: Propagator> Model for Kernel<'a, P> {
 
     ghost view = { λ k. record { problem = k.source.now; state = state_with k.database k.log } };
 
-    ghost invariant = { λ k. Keeps (record { problem = k.source.now; state = state_with k.database k.log }) k.problem_ids };
+    ghost invariant = { λ k. Keeps (record { problem = k.source.now; state = state_with k.database k.log }) k.problem_ids k.objective };
 }
 
 impl<'a, P: Propagator> Kernel<'a, P> {
@@ -65,9 +68,11 @@ impl<'a, P: Propagator> Kernel<'a, P> {
     {
         let database = constraints_of_file(alloc, problem)?;
         let problem_ids = database.next_id() - 1;
+        let objective = NetObjective::of(alloc, problem)?;
         Ok(Kernel {
             allocator: alloc,
             source: problem,
+            objective,
             database,
             log: Log::empty(alloc),
             problem_ids,

@@ -5,6 +5,7 @@
 mod accepted;
 mod admission;
 mod conclusion;
+mod consistency;
 mod database;
 mod deletion;
 mod file;

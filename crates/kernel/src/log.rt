@@ -9,7 +9,7 @@ ghost use Rattle.proof_rules.specs.Justified.{IsBest};
 ghost use Rattle.proof_rules.specs.Legal.{worth_of};
 ghost use Rattle.kernel.specs.Logged.{unlogged, with_logged, with_improved};
 
-use linear::{Assignment, Problem};
+use linear::{Assignment, Integer, Problem};
 use propagate::{Id, Ids};
 use std::alloc::{AllocError, Global};
 use std::marker::Model;
@@ -18,7 +18,7 @@ use std::marker::Model;
 #[derive(Drop)]
 pub(crate) struct Log {
     solutions: Vec<Assignment>,
-    least: Option<i128>,
+    least: Option<Integer>,
     improving: Ids,
 }
 
@@ -57,7 +57,7 @@ impl Log {
     pub(crate) fn improve(
         &mut self,
         solution: Assignment,
-        value: i128,
+        value: Integer,
         id: Id,
     ) -> Result<(), AllocError>
         ensures ok { OnOk result (self.new ≡ with_improved solution value id self.old) }
@@ -73,14 +73,14 @@ impl Log {
     }
 
     /// The least value of the improving solutions, if there is one.
-    pub(crate) fn least(&self) -> Option<i128>
+    pub(crate) fn least(&self) -> Option<Integer>
         ensures { result ≡ self.now.least }
     {
         self.least
     }
 
     /// Whether a value is below the least one of the improving solutions, if there is one.
-    pub(crate) fn improves(&self, value: i128) -> bool
+    pub(crate) fn improves(&self, value: Integer) -> bool
         ensures { IsTrue result ↔ IfSome self.now.least (λ least. value <ℤ least) }
     {
         match self.least {
@@ -90,7 +90,7 @@ impl Log {
     }
 
     /// Whether a bound is at most the least value of the improving solutions, if there is one.
-    pub(crate) fn admits(&self, bound: i128) -> bool
+    pub(crate) fn admits(&self, bound: Integer) -> bool
         ensures { IsTrue result ↔ IfSome self.now.least (λ least. bound ≤ℤ least) }
     {
         match self.least {

@@ -11,13 +11,13 @@ ghost use Rattle.proof_rules.specs.Solution.{at_least, at_most};
 ghost use Rattle.proof_rules.specs.Fault.{OrMemory};
 ghost use Rattle.kernel.specs.Held.{IsUnfit};
 
-use linear::{Relation, Seq, Signed, Term};
+use linear::{Integer, Relation, Seq, Signed, Term};
 use normal_form::{Normal, normalize};
 use proof_rules::StepFault;
 use std::alloc::{AllocError, Global};
 
 /// `objective <= value - 1`, which asks for what is worth less. It is always within the limits.
-pub(crate) fn below(alloc: Global, objective: &[Term], value: i128) -> Result<Normal, StepFault>
+pub(crate) fn below(alloc: Global, objective: &[Term], value: Integer) -> Result<Normal, StepFault>
     requires objective { size_sum objective.now ≤ largest_objective }
     requires value { unsigned_abs value ≤ largest_objective }
     ensures form { IfOk result (IsNormalOf (at_most objective.now (value -ℤ pos 1))) }
@@ -32,7 +32,11 @@ pub(crate) fn below(alloc: Global, objective: &[Term], value: i128) -> Result<No
 }
 
 /// `objective >= bound`, where it is within the limits.
-pub(crate) fn above(alloc: Global, objective: &Seq<Term>, bound: i128) -> Result<Normal, StepFault>
+pub(crate) fn above(
+    alloc: Global,
+    objective: &Seq<Term>,
+    bound: Integer,
+) -> Result<Normal, StepFault>
     requires { size_sum objective.now ≤ largest_objective }
     ensures form { IfOk result (IsNormalOf (at_least objective.now bound)) }
     ensures fits { IfOk result Fits }
@@ -74,11 +78,7 @@ fn negated(alloc: Global, terms: &[Term]) -> Result<Vec<Term>, AllocError>
 {
     let mut negated = Vec::with_capacity(alloc, terms.len())?;
     for term in terms {
-        negated.push(Term {
-            coef: -term.coef,
-            var: term.var,
-            negated: term.negated,
-        })?;
+        negated.push(Term::new(-term.coef, term.literal()))?;
     }
     Ok(negated)
 }

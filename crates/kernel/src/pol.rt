@@ -11,6 +11,7 @@ ghost use Rattle.kernel.specs.Database.{found};
 
 use super::database::Database;
 use super::kernel::{Applied, Kernel};
+use linear::Integer;
 use normal_form::Normal;
 use pol_stack::{Accumulator, Operand, Stack};
 use proof_rules::StepFault;
@@ -95,7 +96,7 @@ fn apply_item<'a, P: Propagator>(
 fn cite<'a, P: Propagator>(
     database: &'a Database<P>,
     stack: &mut Stack<'a>,
-    id: i128,
+    id: Integer,
 ) -> Result<(), StepFault>
     ensures ok { OnOk result (AppliesItem (found database.now) (Item.Id id) stack.old stack.new) }
     ensures fault { IfErr result (λ f. OrMemory f (IsIdFault (found database.now) id f)) }

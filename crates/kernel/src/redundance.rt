@@ -21,7 +21,7 @@ use normal_form::{Normal, negate};
 use proof_rules::StepFault;
 use propagate::{Id, Propagator};
 use std::alloc::Global;
-use substitution::{Substitution, apply, objective_goal};
+use substitution::{Substitution, apply};
 
 impl<'a, P: Propagator> Kernel<'a, P> {
     /// Adds a redundant constraint. The limits are judged first, then the ids, then the goals.
@@ -63,7 +63,7 @@ impl<'a, P: Propagator> Kernel<'a, P> {
         if !is_shown(self.allocator, &mut self.database, &mut beside, &goal)? {
             return Err(StepFault::GoalOpenSelf);
         }
-        let Some(goal) = objective_goal(self.allocator, self.source, witness)? else {
+        let Some(goal) = self.objective.goal(self.allocator, witness)? else {
             return Ok(());
         };
         if !is_shown(self.allocator, &mut self.database, &mut beside, &goal)? {

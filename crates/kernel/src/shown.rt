@@ -1,18 +1,21 @@
 //! Whether a constraint is shown from the live ones and a few beside them: some constraint covers it, or its negation
 //! beside all of them is refuted. A constraint of degree 0 is shown before any negation is made, which might not fit.
 //! Propagation is asked before the live constraints are looked at one by one, since it costs what the negation touches and
-//! shows most of what is written; only what it does not show is worth a pass. The database is asked, and never copied.
+//! shows most of what is written. What it does not show may be covered, by a constraint that shares literals with the wanted
+//! one: those are asked, literal by literal, and no others. The database is asked, and never copied.
 
-ghost use Rattle.std.specs.Prelude.{◌≡◌, ◌↔◌, ◌++◌, ◌∷◌, [], Any, IfOk, OnErr, IsErrOf, IsTrue};
+ghost use Rattle.std.specs.Prelude.{◌≡◌, ◌↔◌, ◌<◌, ◌++◌, ◌∷◌, [], Any, IfOk, OnErr, IsErrOf, IsTrue};
 ghost use Rattle.std.specs.FinMap as map;
 ghost use Rattle.propagate.specs.Chain.{IsRefuted};
 ghost use Rattle.substitution.specs.Covering.{Covers};
 ghost use Rattle.proof_rules.specs.Shown.{IsShown};
+ghost use Rattle.kernel.specs.Covered.{HasContradiction, IsCoveredAt};
 
 use super::database::Database;
+use linear::Lit;
 use normal_form::{Normal, negate};
 use proof_rules::StepFault;
-use propagate::{Id, Propagator};
+use propagate::Propagator;
 use std::alloc::Global;
 use substitution::covers;
 
@@ -35,8 +38,10 @@ pub(crate) fn is_shown<P: Propagator>(
         return Ok(true);
     }
     let negation = negate(alloc, constraint)?;
-    let refuted = is_refuted_beside(database, beside, negation)?;
-    Ok(refuted || is_covered(database, constraint))
+    if is_refuted_beside(database, beside, negation)? {
+        return Ok(true);
+    }
+    is_covered(alloc, database, constraint)
 }
 
 /// Whether the live constraints are refuted beside some others and one more.
@@ -68,16 +73,49 @@ fn is_covered_by(constraints: &[Normal], constraint: &Normal) -> bool
     false
 }
 
-/// Whether a live constraint covers this one.
-fn is_covered<P: Propagator>(database: &Database<P>, constraint: &Normal) -> bool
-    ensures { IsTrue result ↔ Any (λ e. Covers e constraint.now) (map.values database.now.live) }
+/// Whether a live constraint covers this one, where none is a contradiction by itself. What a constraint has in common with one
+/// that it covers is worth at least the degree of that one, so a few literals may be passed over: those of the first variables,
+/// which stand in most constraints as a rule, while those that the proof itself has brought in come last.
+fn is_covered<P: Propagator>(
+    alloc: Global,
+    database: &mut Database<P>,
+    constraint: &Normal,
+) -> Result<bool, StepFault>
+    requires degree { 0 < constraint.now.degree }
+    requires consistent { HasContradiction (map.values database.old.live) → ⊥ }
+    ensures same { database.new ≡ database.old }
+    ensures covered { IfOk result (λ yes. IsTrue yes ↔ Any (λ e. Covers e constraint.now) (map.values database.old.live)) }
+    ensures memory { OnErr result (IsErrOf result StepFault.OutOfMemory) }
 {
-    let mut id: Id = 0;
-    while let Some(next) = database.after(id) {
-        if database.is_covering(next, constraint) {
-            return true;
+    let mut place = constraint.len();
+    let mut unasked = constraint.sum();
+    while unasked >= constraint.degree() {
+        place -= 1;
+        let term = constraint.term(place);
+        if is_covered_at(alloc, database, term.literal(), constraint)? {
+            return Ok(true);
         }
-        id = next;
+        unasked -= term.coef;
     }
-    false
+    Ok(false)
+}
+
+/// Whether a live constraint that has a literal covers this one.
+fn is_covered_at<P: Propagator>(
+    alloc: Global,
+    database: &mut Database<P>,
+    literal: Lit,
+    constraint: &Normal,
+) -> Result<bool, StepFault>
+    ensures same { database.new ≡ database.old }
+    ensures covered { IfOk result (λ yes. IsTrue yes ↔ IsCoveredAt (map.values database.old.live) literal constraint.now) }
+    ensures memory { OnErr result (IsErrOf result StepFault.OutOfMemory) }
+{
+    let mut ids = database.having(alloc, literal)?;
+    while let Some(id) = ids.pop_first() {
+        if database.is_covering(id, constraint) {
+            return Ok(true);
+        }
+    }
+    Ok(false)
 }

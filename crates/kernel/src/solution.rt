@@ -2,32 +2,21 @@
 //! follow by propagation over the live constraints. Whether the completed listing is a solution is judged by the file, and
 //! never by the live constraints, which may ask for more, or for less.
 
-ghost use Rattle.std.specs.Prelude.{◌≡◌, ◌↔◌, None, Some, IfOk, IfErr, IsErrOf, IsTrue, OnOk, OnErr, length};
-ghost use Rattle.propagate.specs.Literals.{IsConsistent};
+ghost use Rattle.std.specs.Prelude.{◌≡◌, None, Some, IfOk, IfErr, IsErrOf, OnOk, OnErr, length};
 ghost use Rattle.proof_rules.specs.Fault.{OrMemory, IsSolFault, IsSoliFault};
 ghost use Rattle.proof_rules.specs.Legal.{LegalSol, LegalSoli, Logs, with_improvement, worth_of};
 ghost use Rattle.proof_rules.specs.Solution.{Completes};
 ghost use Rattle.proof_rules.specs.State.{HasRoom, constraints};
 ghost use Rattle.kernel.specs.Held.{IsKept};
 
+use super::consistency::is_consistent;
 use super::kernel::{Applied, Kernel};
 use super::objective::below;
-use super::values::values;
-use linear::{Assignment, Lit};
+use super::values::{all_values, table_of, values};
+use linear::{Assignment, Integer, Lit};
 use normal_form::Normal;
 use proof_rules::StepFault;
 use propagate::{Propagator, Reach};
-use std::alloc::{AllocError, Global};
-
-/// Whether a listing has no literal beside its opposite: without constraints nothing else is a conflict.
-fn is_consistent<P: Propagator>(alloc: Global, listing: &[Lit]) -> Result<bool, AllocError>
-    ensures { IfOk result (λ yes. IsTrue yes ↔ IsConsistent listing.now) }
-{
-    match P::empty(alloc).extend(listing)? {
-        Reach::Conflict => Ok(false),
-        Reach::Closed(_) => Ok(true),
-    }
-}
 
 impl<'a, P: Propagator> Kernel<'a, P> {
     /// Logs a solution.
@@ -72,7 +61,7 @@ impl<'a, P: Propagator> Kernel<'a, P> {
     fn improve(
         &mut self,
         solution: Assignment,
-        value: i128,
+        value: Integer,
         better: Normal,
     ) -> Result<Applied, StepFault>
         requires value { value ≡ worth_of self.old.problem solution }
@@ -112,11 +101,12 @@ impl<'a, P: Propagator> Kernel<'a, P> {
         ensures fault { IfErr result (λ f. OrMemory f (IsSolFault self.old.problem self.old.state listing.now f)) }
         ensures same { self.new ≡ self.old }
     {
-        if !is_consistent::<P>(self.allocator, listing)? {
+        let count = self.source.names().len();
+        let table = table_of(self.allocator, count, listing)?;
+        if !is_consistent(self.allocator, table.as_slice(), listing)? {
             return Err(StepFault::SolutionConflict);
         }
-        let count = self.source.names().len();
-        if let Some(solution) = values(self.allocator, count, listing)? {
+        if let Some(solution) = all_values(self.allocator, table.as_slice())? {
             return Ok(solution);
         }
         let Reach::Closed(reached) = self.database.extend(listing)? else {

@@ -16,11 +16,25 @@ pub(crate) fn values(
 ) -> Result<Option<Assignment>, AllocError>
     ensures { IfOk result (λ found. MatchOption found (LeavesOut count listing.now) (GivesAll count listing.now)) }
 {
+    let table = table_of(alloc, count, listing)?;
+    all_values(alloc, table.as_slice())
+}
+
+/// The table of the values that a listing gives the first `count` variables. A variable that has both literals has the value of
+/// one of them.
+pub(crate) fn table_of(
+    alloc: Global,
+    count: usize,
+    listing: &[Lit],
+) -> Result<Vec<Option<bool>>, AllocError>
+    ensures length { IfOk result (λ table. length table.items ≡ count) }
+    ensures table { IfOk result (λ table. IsTableOf listing.now table.items) }
+{
     let mut table = vec![in alloc; None; count]?;
     for literal in listing {
         note(&mut table, *literal);
     }
-    all(alloc, table.as_slice())
+    Ok(table)
 }
 
 /// Notes the value of a literal's variable, if the table has room for it.
@@ -35,7 +49,10 @@ fn note(table: &mut Vec<Option<bool>>, literal: Lit)
 }
 
 /// The values of a table, if none is missing.
-fn all(alloc: Global, table: &[Option<bool>]) -> Result<Option<Assignment>, AllocError>
+pub(crate) fn all_values(
+    alloc: Global,
+    table: &[Option<bool>],
+) -> Result<Option<Assignment>, AllocError>
     ensures { IfOk result (λ found. MatchOption found (HasGap table.now) (λ g. map Some g ≡ table.now)) }
 {
     let mut values = Vec::with_capacity(alloc, table.len())?;

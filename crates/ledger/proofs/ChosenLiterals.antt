@@ -1,13 +1,15 @@
 -- Literals of a constraint, by its terms.
-use Rattle.std.proofs.Common.{◌≡◌, ℕ, zero, suc, ◌+◌, ◌<◌, ◌≤◌, Bool, true, false, ◌&&◌, eqb, List, [], ◌∷◌, length, get_or, refl, ap, sym, subst, ◌∙◌, arith}
+use Rattle.std.proofs.Common.{◌≡◌, inl, inr, ◌++◌, ℕ, zero, suc, ◌+◌, ◌<◌, ◌≤◌, Bool, true, false, ◌&&◌, eqb, List, [], ◌∷◌, length, get_or, refl, ap, sym, subst, ◌∙◌, arith}
 use mathlib.Core.Bool.{beq}
-use Rattle.std.proofs.lemmas.Bool.{false≢true}
+use Rattle.std.proofs.lemmas.Bool.{cases_eq, false≢true}
 use Rattle.std.proofs.lemmas.Bool.Decides.{nat_tests}
 use Rattle.linear.specs.declared.term.Lit.{Lit}
 use Rattle.normal_form.specs.declared.term.NormalTerm.{NormalTerm}
 use Rattle.normal_form.specs.Normal.{NormalConstraint, Rises}
 use Rattle.propagate.specs.Literals.{coefficient_of}
 use Rattle.propagate.specs.Passes.{literal_of}
+use Rattle.linear.specs.Literal.{opposite}
+use Rattle.propagate.proofs.Listings.{among_left}
 use Rattle.propagate.proofs.Occurrences.{own_coefficient, same_literal, stands}
 use Rattle.ledger.specs.declared.pair.Pair.{Pair}
 use Rattle.ledger.specs.Watched.{AreOthersFalse, IsClause, IsFalseBeside}
@@ -37,6 +39,20 @@ others_false listing p n all l some =
     let at = has_term n l some in
     let d : NormalTerm = record { coef = 0; var = l.var; negated = l.negated } in
     subst (IsFalseBeside listing p) (at.2 d) (all at.0 d at.1)
+
+-- one literal more that is made false, or is one of two
+pub next_false : (listing : List Lit) (p : Pair) (ts : List NormalTerm) (index : ℕ) → ((k : ℕ) (d : NormalTerm) → k < index → IsFalseBeside listing p (literal_of (get_or ts k d))) → ((d : NormalTerm) → IsFalseBeside listing p (literal_of (get_or ts index d)))
+    → (k : ℕ) (d : NormalTerm) → k < index + 1 → IsFalseBeside listing p (literal_of (get_or ts k d))
+next_false listing p ts index before now k d h = elim (cases_eq k index) [
+  | inl e ↦ subst (λ (j : ℕ). IsFalseBeside listing p (literal_of (get_or ts j d))) (sym e) (now d)
+  | inr other ↦ before k d (omega (arith, h, other))
+]
+
+pub false_longer : (xs ys : List Lit) (p : Pair) (l : Lit) → IsFalseBeside xs p l → IsFalseBeside (xs ++ ys) p l
+false_longer xs ys p l h a b = among_left xs ys (l.var.0) (opposite l).negated (h a b)
+
+pub others_longer : (xs ys : List Lit) (n : NormalConstraint) (p : Pair) → AreOthersFalse xs n p → AreOthersFalse (xs ++ ys) n p
+others_longer xs ys n p h l some = false_longer xs ys p l (h l some)
 
 -- the terms' variables rise
 variable_from : (low : ℕ) (ts : List NormalTerm) (i : ℕ) (d : NormalTerm) → Rises low ts → i < length ts → low ≤ (get_or ts i d).var.0

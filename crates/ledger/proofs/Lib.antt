@@ -2,6 +2,7 @@ pub mod Counters
 pub mod QueueChanges
 pub mod TrailChanges
 pub mod Positions
+pub mod AssignedLiterals
 pub mod Opening
 pub mod QueuedRows
 pub mod RowPlaces
@@ -20,3 +21,4 @@ pub mod WatchedPlaces
 pub mod WatchedQuiet
 pub mod LastLiteral
 pub mod TrailLiterals
+pub mod BrokenClauses

@@ -14,6 +14,7 @@ use Rattle.propagate.specs.Walk.{IsQuiet}
 use Rattle.ledger.specs.declared.occurrence.Occurrence.{Occurrence}
 use Rattle.linear.specs.Literal.{code}
 use Rattle.ledger.specs.Occurrences.{share_of, occurrences_of}
+use Rattle.ledger.specs.Trails.{assigned}
 use Rattle.ledger.specs.Ledgers.{constraint_at, constraint_in, shown, nothing, open_sum, IsLedger, IsIndex, AreCounters, AreKnown, AreParted, AreLimits, AreReasons}
 use Rattle.ledger.specs.declared.pair.Pair.{Pair}
 use Rattle.ledger.specs.Falls.{IsAt}
@@ -241,8 +242,8 @@ nobody = record { size = omega arith; within = λ k p e. absurd (cc); each = λ 
 no_reasons : AreReasons [] [] []
 no_reasons = record { as_many = refl; forced = λ k d h. absurd (omega (arith, h)) }
 
-pub empty : (slots : Slots) (trail : List Lit × ℕ) (table clauses : List (List Occurrence)) (counters limits : List ℕ) (watchers : Watching) (reasons : List (Option ℕ)) (capacity : ℕ) → slots ≡ [] → trail ≡ ([], 0) → table ≡ [] → clauses ≡ [] → counters ≡ [] → limits ≡ [] → watchers ≡ record { rows = []; pairs = [] } → reasons ≡ []
-    → IsLedger slots trail.0 trail.1 table clauses counters limits watchers.pairs × AreReasons (shown slots) trail.0 reasons × (trail.1 ≤ capacity) × AreWatched slots trail.0 trail.1 watchers
+pub empty : (slots : Slots) (trail : List Lit × ℕ × List Lit) (table clauses : List (List Occurrence)) (counters limits : List ℕ) (watchers : Watching) (reasons : List (Option ℕ)) (capacity : ℕ) → slots ≡ [] → trail ≡ ([], 0, []) → table ≡ [] → clauses ≡ [] → counters ≡ [] → limits ≡ [] → watchers ≡ record { rows = []; pairs = [] } → reasons ≡ []
+    → IsLedger slots trail.0 trail.1 table clauses counters limits watchers.pairs × AreReasons (shown slots) (assigned trail) reasons × (trail.1 ≤ capacity) × AreWatched slots trail.0 trail.1 watchers
 empty slots trail table clauses counters limits watchers reasons capacity s t b d c l w r = rw (s, t, b, d, c, l, w, r) (nowhere, no_reasons, omega arith, nobody)
 
 pub queued_there : (slots same : List (Option NormalConstraint)) (listing new : List Lit) (queue : List ℕ) (l : Lit) → slots ≡ same → new ≡ listing ++ l ∷ []

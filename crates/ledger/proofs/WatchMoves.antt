@@ -66,7 +66,7 @@ pub beside_some : (o : Option Pair) (fallen other : Lit) → IsBeside o fallen o
 beside_some None fallen other b = absurd b
 beside_some (Some p) fallen other b = (p, refl, b)
 
-same_beside : (n : NormalConstraint) (p : Pair) (fallen other l : Lit) → IsPairOf n p → IsBeside (Some p) fallen other → IsBeside (Some p) fallen l → other ≡ l
+pub same_beside : (n : NormalConstraint) (p : Pair) (fallen other l : Lit) → IsPairOf n p → IsBeside (Some p) fallen other → IsBeside (Some p) fallen l → other ≡ l
 same_beside n p fallen other l of_it (inl (f, s)) (inl (g, t)) = sym s ∙ t
 same_beside n p fallen other l of_it (inl (f, s)) (inr (g, t)) = absurd (of_it.differ (f ∙ sym g))
 same_beside n p fallen other l of_it (inr (f, s)) (inl (g, t)) = absurd (of_it.differ (g ∙ sym f))

@@ -1,9 +1,8 @@
 -- What two literals that watch a clause tell of it, when a literal falls and when one is taken back.
-use Rattle.std.proofs.Common.{◌≡◌, ◌⊎◌, inl, inr, ℕ, ◌+◌, ◌<◌, ◌≤◌, Bool, true, false, not, Contains, Option, None, Some, List, [], ◌∷◌, ◌++◌, length, length-append, get_or, take, refl, ap, sym, subst, ◌∙◌, append-nil, arith}
+use Rattle.std.proofs.Common.{◌≡◌, ◌⊎◌, inl, inr, ℕ, ◌+◌, ◌<◌, ◌≤◌, Bool, true, false, not, Contains, Option, None, Some, List, [], ◌∷◌, ◌++◌, length, length-append, get_or, take, refl, ap, sym, subst, ◌∙◌, arith}
 use Rattle.std.proofs.lemmas.Bool.{false≢true, cases_eq, cases_lt}
 use Rattle.std.proofs.lemmas.Int.{ints}
-use Rattle.std.proofs.lemmas.List.{take-append-drop, take-append-le}
-use Rattle.std.proofs.Math.ListN.{drop_of_length-le}
+use Rattle.std.proofs.lemmas.List.{take-append-le}
 use Rattle.std.proofs.Math.Seq.{take-length}
 use Rattle.linear.specs.declared.term.Lit.{Lit}
 use Rattle.normal_form.specs.Normal.{NormalConstraint, only}
@@ -19,6 +18,7 @@ use Rattle.ledger.specs.declared.pair.Pair.{Pair}
 use Rattle.ledger.specs.Falls.{AreHandled, IsAt, IsBeside, IsHandled, IsOneOf, IsOneTrue}
 use Rattle.ledger.specs.Ledgers.{open_sum}
 use Rattle.linear.specs.Literal.{code}
+use Rattle.ledger.proofs.AssignedLiterals.{take_long}
 use Rattle.ledger.proofs.Entering.{same_code}
 use Rattle.ledger.specs.Watched.{AreOthersFalse, AreWatched, IsOpen, IsPairOf, IsWatched, StandsIn, Tell, Watching}
 
@@ -86,10 +86,7 @@ pub quiet_one : (listing : List Lit) (n : NormalConstraint) (p : Pair) → IsPai
 quiet_one listing n p of_it c (inl t) = quiet_true listing n p p.first of_it c of_it.first t
 quiet_one listing n p of_it c (inr t) = quiet_true listing n p p.second of_it c of_it.second t
 
--- all of a list, and less
-pub take_long : (h : ℕ) (xs : List Lit) → length xs ≤ h → take h xs ≡ xs
-take_long h xs long = sym (append-nil (take h xs)) ∙ ap (λ (ys : List Lit). take h xs ++ ys) (sym (drop_of_length-le xs long)) ∙ take-append-drop h xs
-
+-- all of a listing
 pub whole : (listing : List Lit) (n : NormalConstraint) (p : Pair) → ((h : ℕ) → Tell (take h listing) n p) → Tell listing n p
 whole listing n p t = subst (λ (xs : List Lit). Tell xs n p) (take-length listing) (t (length listing))
 

@@ -1,13 +1,16 @@
 -- A literal falls: the clauses that it watches are looked at, one entry of its row after another.
-use Rattle.std.specs.Prelude.{◌≡◌, ◌⊎◌, ℕ, ◌<◌, ◌≤◌, true, List, [], Option, Some, None, Contains, length, slice_index_or}
+use Rattle.std.specs.Prelude.{◌≡◌, ◌⊎◌, ℕ, ◌-◌, ◌<◌, ◌≤◌, true, List, [], Option, Some, None, MatchOption, Contains, length, slice_index_or}
 use Rattle.linear.specs.declared.term.Lit.{Lit}
 use Rattle.normal_form.specs.Normal.{NormalConstraint}
-use Rattle.linear.specs.Literal.{opposite}
 use Rattle.propagate.specs.Literals.{lists}
+use Rattle.propagate.specs.Slack.{IsBroken}
 use Rattle.ledger.specs.declared.finding.Finding.{Finding}
 use Rattle.ledger.specs.declared.finding.Finding.TheVariants as findings
+use Rattle.ledger.specs.declared.finding.Progress.{Progress}
+use Rattle.ledger.specs.declared.finding.Progress.TheVariants as progresses
 use Rattle.ledger.specs.declared.pair.Pair.{Pair}
 use Rattle.linear.specs.Literal.{code}
+use Rattle.ledger.specs.Trails.{assigned}
 use Rattle.ledger.specs.Watched.{AreOthersFalse, AreWatched, IsOpen, IsPairOf, Watching}
 
 abbrev pub IsOneTrue : List Lit → Pair → Type 0
@@ -35,16 +38,19 @@ pub record IsMoved (listing : List Lit) (n : NormalConstraint) (p : Pair) (falle
 abbrev pub IsAt : List (Option NormalConstraint) → List (Option Pair) → ℕ → NormalConstraint → Pair → Type 0
 IsAt slots pairs k n p = (slice_index_or slots k None ≡ Some n) × (slice_index_or pairs k None ≡ Some p)
 
+-- the constraint at a place is broken under all literals that are assigned
+abbrev pub IsBrokenThere : List (Option NormalConstraint) → List Lit × ℕ × List Lit → ℕ → Type 0
+IsBrokenThere slots trail k = (n : NormalConstraint) × (slice_index_or slots k None ≡ Some n) × IsBroken (assigned trail) n
+
 -- what is found of the clause at a place when a literal falls
-abbrev pub IsFound : List (Option NormalConstraint) → List Lit → List (Option Pair) → ℕ → Lit → Finding → Type 0
-IsFound slots listing pairs k fallen findings.Elsewhere = (n : NormalConstraint) (p : Pair) → IsAt slots pairs k n p → IsOneOf p fallen → ⊥
-IsFound slots listing pairs k fallen findings.Satisfied = (n : NormalConstraint) × (p : Pair) × IsAt slots pairs k n p × IsOneTrue listing p
-IsFound slots listing pairs k fallen findings.Broken =
-    (n : NormalConstraint) × (p : Pair) × IsAt slots pairs k n p × AreOthersFalse listing n p × ((l : Lit) → IsBeside (Some p) fallen l → lists listing (opposite l) ≡ true)
-IsFound slots listing pairs k fallen findings.Last =
-    (n : NormalConstraint) × (p : Pair) × IsAt slots pairs k n p × AreOthersFalse listing n p × ((l : Lit) → IsBeside (Some p) fallen l → IsOpen listing l)
-IsFound slots listing pairs k fallen (findings.Moved q) =
-    (n : NormalConstraint) × (p : Pair) × IsAt slots pairs k n p × IsMoved listing n p fallen q
+abbrev pub IsFound : List (Option NormalConstraint) → List Lit × ℕ × List Lit → List (Option Pair) → ℕ → Lit → Finding → Type 0
+IsFound slots trail pairs k fallen findings.Elsewhere = (n : NormalConstraint) (p : Pair) → IsAt slots pairs k n p → IsOneOf p fallen → ⊥
+IsFound slots trail pairs k fallen findings.Satisfied = (n : NormalConstraint) × (p : Pair) × IsAt slots pairs k n p × IsOneTrue trail.0 p
+IsFound slots trail pairs k fallen findings.Broken = IsBrokenThere slots trail k
+IsFound slots trail pairs k fallen findings.Last =
+    (n : NormalConstraint) × (p : Pair) × IsAt slots pairs k n p × AreOthersFalse trail.0 n p × ((l : Lit) → IsBeside (Some p) fallen l → IsOpen (assigned trail) l)
+IsFound slots trail pairs k fallen (findings.Moved q) =
+    (n : NormalConstraint) × (p : Pair) × IsAt slots pairs k n p × IsMoved trail.0 n p fallen q
 
 -- nothing more is to be done for a clause that a falling literal watches
 abbrev pub IsHandled : List Lit → NormalConstraint → Pair → List ℕ → ℕ → Type 0
@@ -64,3 +70,17 @@ pub record IsFalling (slots : List (Option NormalConstraint)) (listing : List Li
 abbrev pub AreHandled : List (Option NormalConstraint) → List Lit → Lit → Watching → List ℕ → Type 0
 AreHandled slots listing fallen w queue = (k : ℕ) (n : NormalConstraint) (p : Pair) → slice_index_or slots k None ≡ Some n
     → slice_index_or w.pairs k None ≡ Some p → IsOneOf p fallen → IsHandled listing n p queue k
+
+-- how a row is gone on with: the clauses before an index are handled, or one of the row is broken, and the others are watched as before
+abbrev pub IsPassed : List (Option NormalConstraint) → List Lit × ℕ × List Lit → Lit → Watching → List ℕ → Progress → Type 0
+IsPassed slots trail fallen w queue (progresses.At index) = IsFalling slots trail.0 trail.1 fallen w queue index
+IsPassed slots trail fallen w queue (progresses.Broken k) = AreWatched slots trail.0 trail.1 w × IsBrokenThere slots trail k
+
+-- how a row ends: all clauses that the literal watches are handled, or one is broken
+abbrev pub IsRowEnd : List (Option NormalConstraint) → List Lit × ℕ × List Lit → Lit → Watching → List ℕ → Option ℕ → Type 0
+IsRowEnd slots trail fallen w queue broken = MatchOption broken (AreHandled slots trail.0 fallen w queue) (IsBrokenThere slots trail)
+
+-- the row of a literal is shorter from the index on, if it is gone on with
+abbrev pub IsNearer : List ℕ → ℕ → List ℕ → Progress → Type 0
+IsNearer before index after (progresses.At next) = length after - next < length before - index
+IsNearer before index after (progresses.Broken k) = Unit {0}

@@ -1,19 +1,22 @@
 -- Constraints with the places of their literals and the counters of what a listing leaves open.
-use Rattle.std.specs.Prelude.{◌≡◌, ℕ, ◌+◌, ◌*◌, ◌<◌, ◌≤◌, false, List, [], Option, Some, None, All, length, map, take, slice_index_or}
+use Rattle.std.specs.Prelude.{◌≡◌, ◌⊎◌, ◌++◌, ◌∷◌, ℕ, ◌+◌, ◌*◌, ◌<◌, ◌≤◌, false, List, [], Option, Some, None, All, MatchOption, Contains, length, map, take, slice_index_or}
 use Rattle.linear.specs.declared.term.Lit.{Lit}
 use Rattle.normal_form.specs.declared.term.NormalTerm.{NormalTerm}
 use Rattle.normal_form.specs.Normal.{NormalConstraint, IsNormal, sum_over, variable_bound}
-use Rattle.propagate.specs.Literals.{coefficient_of}
+use Rattle.linear.specs.Literal.{opposite}
+use Rattle.propagate.specs.Literals.{coefficient_of, lists}
 use Rattle.propagate.specs.Slack.{IsForced, not_false}
+use Rattle.propagate.specs.Walk.{IsBrokenAt, IsQuiet}
 use Rattle.ledger.specs.declared.occurrence.Occurrence.{Occurrence}
 use Rattle.ledger.specs.declared.pair.Pair.{Pair}
 use Rattle.ledger.specs.Occurrences.{entries_of, occurrences_of}
 
--- what a caller sees: what stands at each place, the literals that are taken as true, the place of the constraint that
--- forced each, none for a literal that was given, and how many variables there are
+-- what a caller sees: what stands at each place, the literals that are assigned, the first of them, which were propagated, the
+-- place of the constraint that forced each, none for a literal that was given, and how many variables there are
 pub record State : Type 0 where
   pub slots : List (Option NormalConstraint)
   pub listing : List Lit
+  pub propagated : List Lit
   pub reasons : List (Option ℕ)
   pub variables : ℕ
 
@@ -98,3 +101,16 @@ IsReason constraints listing l (Some place) = (place < length constraints) × Is
 pub record AreReasons (constraints : List NormalConstraint) (listing : List Lit) (reasons : List (Option ℕ)) : Type 0 where
   pub as_many : length reasons ≡ length listing
   pub forced : (k : ℕ) (d : Lit) → k < length listing → IsReason constraints (take k listing) (slice_index_or listing k d) (slice_index_or reasons k None)
+
+-- one literal more was propagated: each constraint with its opposite is quiet, or its place waits
+pub record IsPropagatedOn (constraints : List NormalConstraint) (before after : List Lit) (waiting : List ℕ) : Type 0 where
+  pub literal : Lit
+  pub longer : after ≡ before ++ literal ∷ []
+  pub unset : lists before literal ≡ false
+  pub queued : (k : ℕ) → 0 < coefficient_of (constraint_at constraints k) (opposite literal)
+      → IsQuiet after (constraint_at constraints k) ⊎ Contains waiting k
+
+-- one literal more was propagated, or a constraint is broken, whose place this is, and nothing was
+abbrev pub IsPropagation : State → State → List ℕ → Option ℕ → Type 0
+IsPropagation old new waiting broken = MatchOption broken (IsPropagatedOn (shown old.slots) old.propagated new.propagated waiting)
+    (λ k. (new.propagated ≡ old.propagated) × IsBrokenAt (shown old.slots) old.listing k)

@@ -1,13 +1,14 @@
 //! Literals of a constraint that are still open, for a clause to be watched by.
 
-ghost use Rattle.std.specs.Prelude.{◌<◌, ◌≤◌, IfSome, IsTrue, MatchOption, length, slice_index_or};
+ghost use Rattle.std.specs.Prelude.{◌≡◌, ◌<◌, ◌≤◌, ◌⊎◌, IfSome, IsTrue, MatchOption, length, slice_index_or};
 ghost use Rattle.normal_form.specs.declared.term.NormalTerm.{NormalTerm};
 ghost use Rattle.normal_form.specs.Normal.{Rises, variable_bound};
 ghost use Rattle.propagate.specs.Passes.{literal_of};
+ghost use Rattle.ledger.specs.Trails.{assigned};
 ghost use Rattle.ledger.specs.Watched.{AreOthersFalse, IsClause, IsFalseBeside, IsOpen, IsOpenBeside, IsPairOf};
 
+use super::assignment::Assignment;
 use super::pair::Pair;
-use super::trail::Trail;
 use linear::Lit;
 use normal_form::Normal;
 
@@ -24,13 +25,14 @@ fn is_clause(constraint: &Normal) -> bool
 }
 
 /// The literal of a term, where it is open and none of two others.
-fn open_at(constraint: &Normal, trail: &Trail, index: usize, others: Pair) -> Option<Lit>
+fn open_at(constraint: &Normal, trail: &Assignment, index: usize, others: Pair) -> Option<Lit>
     requires index { index < length constraint.now.terms }
     requires rises { Rises 0 constraint.now.terms }
     requires variables { variable_bound constraint.now.terms ≤ trail.now.1 }
-    ensures { MatchOption result ((d : NormalTerm)
+    ensures value { MatchOption result ((d : NormalTerm)
         → IsFalseBeside trail.now.0 others (literal_of (slice_index_or constraint.now.terms index d)))
         (IsOpenBeside trail.now.0 constraint.now others) }
+    ensures own { IfSome result (λ l. (d : NormalTerm) → l ≡ literal_of (slice_index_or constraint.now.terms index d)) }
 {
     let literal = constraint.term(index).literal();
     if literal == others.first {
@@ -45,23 +47,30 @@ fn open_at(constraint: &Normal, trail: &Trail, index: usize, others: Pair) -> Op
     Some(literal)
 }
 
-/// A literal of a constraint that is open and none of two others, if there is one.
-pub(crate) fn open_beside(constraint: &Normal, trail: &Trail, others: Pair) -> Option<Lit>
+/// A literal of a constraint that is open and none of two others, if there is one: best one that no literal makes false which is
+/// still to be propagated, since it would soon be sought anew.
+pub(crate) fn open_beside(constraint: &Normal, trail: &Assignment, others: Pair) -> Option<Lit>
     requires { variable_bound constraint.now.terms ≤ trail.now.1 }
-    ensures { MatchOption result (AreOthersFalse trail.now.0 constraint.now others)
+    ensures rises { Rises 0 constraint.now.terms }
+    ensures value { MatchOption result (AreOthersFalse trail.now.0 constraint.now others)
         (IsOpenBeside trail.now.0 constraint.now others) }
+    ensures last { IfSome result (λ l. IsOpen (assigned trail.now) l
+        ⊎ AreOthersFalse (assigned trail.now) constraint.now others) }
 {
+    let mut chosen = None;
     for index in 0..constraint.len() {
-        let found = open_at(constraint, trail, index, others);
-        if found.is_some() {
-            return found;
+        if let Some(literal) = open_at(constraint, trail, index, others) {
+            if !trail.assigns(literal.opposite()) {
+                return Some(literal);
+            }
+            chosen = Some(literal);
         }
     }
-    None
+    chosen
 }
 
 /// The place of the first term from a place on whose literal is open.
-fn open_term(constraint: &Normal, trail: &Trail, from: usize) -> Option<usize>
+fn open_term(constraint: &Normal, trail: &Assignment, from: usize) -> Option<usize>
     requires { variable_bound constraint.now.terms ≤ trail.now.1 }
     ensures { IfSome result (λ k. (from ≤ k) × (k < length constraint.now.terms) × ((d : NormalTerm)
         → IsOpen trail.now.0 (literal_of (slice_index_or constraint.now.terms k d)))) }
@@ -75,7 +84,7 @@ fn open_term(constraint: &Normal, trail: &Trail, from: usize) -> Option<usize>
 }
 
 /// Two open literals by which a constraint can be watched: it is a clause that asks for one, and has two.
-pub(crate) fn open_pair(constraint: &Normal, trail: &Trail) -> Option<Pair>
+pub(crate) fn open_pair(constraint: &Normal, trail: &Assignment) -> Option<Pair>
     requires { variable_bound constraint.now.terms ≤ trail.now.1 }
     ensures { IfSome result (λ p. IsPairOf constraint.now p × IsOpen trail.now.0 p.first × IsOpen trail.now.0 p.second) }
 {

@@ -1,4 +1,4 @@
-//! What is found of a clause when a literal of a row falls.
+//! What is found of a clause when a literal of a row falls, and how the row is gone on with.
 
 use super::pair::Pair;
 
@@ -9,10 +9,19 @@ pub(crate) enum Finding {
     Elsewhere,
     /// One of the two literals that watch it is true.
     Satisfied,
-    /// All its other literals are false.
+    /// All its literals are false, with those that are still to be propagated.
     Broken,
     /// All its other literals are false but the second one that watches it, which is forced.
     Last,
     /// Another literal that is open watches it from now on, beside the one that stays.
     Moved(Pair),
+}
+
+/// How a row is gone on with.
+#[derive(Clone, Copy, Debug)]
+pub(crate) enum Progress {
+    /// With the entry at an index.
+    At(usize),
+    /// Not at all, since the clause at a place is broken.
+    Broken(usize),
 }

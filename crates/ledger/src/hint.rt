@@ -3,8 +3,8 @@
 ghost use Rattle.std.specs.Prelude.{◌<◌};
 ghost use Rattle.ledger.specs.Hints.{IsHintOf, IsHintWithin};
 
+use super::assignment::Assignment;
 use super::pair::Pair;
-use super::trail::Trail;
 use linear::Lit;
 
 /// It is not broken and forces nothing, or it forces a literal, or they do not tell.
@@ -16,7 +16,7 @@ pub enum Hint {
 }
 
 /// What two literals tell: one is true or both are open, or one of them is false and the other one free, or both are false.
-pub(crate) fn hint_of(trail: &Trail, pair: Pair) -> Hint
+pub(crate) fn hint_of(trail: &Assignment, pair: Pair) -> Hint
     requires first { pair.first.var.0 < trail.now.1 }
     requires second { pair.second.var.0 < trail.now.1 }
     ensures value { IsHintOf trail.now.0 pair result }

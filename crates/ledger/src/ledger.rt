@@ -1,16 +1,17 @@
 //! Constraints by place, the places of their literals, the literals that are taken as true, and what these leave
 //! open.
 //!
-//! A literal that comes or goes changes the counter of each counted constraint that has its opposite. Of clauses, those that its
-//! opposite watches are looked at as it comes; when it went, those that it watches itself are asked for by their two
-//! literals alone. A constraint that is taken out leaves its place and its entries behind: counted on, they cost little until the places are made anew, and searching the lists
+//! A literal is assigned first, and propagated later: what the counters and the clauses tell is so of the literals that were
+//! propagated, which are the first ones. To propagate a literal changes the counter of each counted constraint that has its opposite, and so
+//! does to take it back. Of clauses, those that its opposite watches are looked at, as far as to one that is broken; when a literal
+//! went, those that it watches itself are asked for by their two literals alone. A constraint that is taken out leaves its place and its entries behind: counted on, they cost little until the places are made anew, and searching the lists
 //! for them would cost more. What a place says then is nothing.
 //!
 //! That constraints which do not wait force nothing is no fact of this type: taking literals back breaks it midway.
 //! It is stated between the functions of a walk, in the crate above.
 
 ghost use Rattle.std.specs.Prelude.{◌≡◌, ◌+◌, ◌-◌, ◌<◌, ◌≤◌, ◌++◌, ◌∷◌};
-ghost use Rattle.std.specs.Prelude.{◌⊎◌, [], ℕ, false, true, All, Contains, IfSome, IsSome};
+ghost use Rattle.std.specs.Prelude.{◌⊎◌, [], ℕ, List, false, true, All, Contains, IfOk, IfSome, IsSome};
 ghost use Rattle.std.specs.Prelude.{Some, None, IsTrue, MatchOption, OnOk, OnErr, ◌↔◌, length, take, slice_index_or};
 ghost use Rattle.std.specs.Prelude.{slice_set, vec_capacity, vec_len};
 ghost use Rattle.std.specs.Option.{option_copied};
@@ -23,9 +24,10 @@ ghost use Rattle.propagate.specs.Slack.{IsBroken};
 ghost use Rattle.propagate.specs.Walk.{IsQuiet};
 ghost use Rattle.ledger.specs.Hints.{IsHint, IsHintWithin};
 ghost use Rattle.ledger.specs.Entered.{AreEntriesOf, all_of};
-ghost use Rattle.ledger.specs.Ledgers.{AreReasons, HasSlack, IsReason, constraint_at, open_sum, shown};
+ghost use Rattle.ledger.specs.Ledgers.{AreReasons, HasSlack, IsPropagation, IsReason, constraint_at, open_sum, shown};
 ghost use Rattle.ledger.specs.Watched.{IsOpen, IsPairOf};
 
+use super::assignment::Assignment;
 use super::choosing::open_pair;
 use super::entry_lists::{enter_counted, enter_watched, leave};
 use super::hint::{Hint, hint_of};
@@ -35,7 +37,6 @@ use super::occurrence::{Entries, Occurrence};
 use super::pair::Pair;
 use super::queue::Queue;
 use super::table::Table;
-use super::trail::Trail;
 use super::watchers::Watchers;
 use linear::Lit;
 use normal_form::{Normal, NormalTerm};
@@ -53,33 +54,35 @@ pub struct Ledger {
     /// Where literals stand in clauses that are watched.
     clauses: Table<Occurrence>,
     watchers: Watchers,
-    trail: Trail,
+    trail: Assignment,
     reasons: Vec<Option<usize>>,
 }
 
 impl Model for Ledger {
     ghost use Rattle.std.specs.Prelude.{◌≤◌, vec_capacity};
     ghost use Rattle.ledger.specs.Ledgers.{State, IsLedger, AreReasons, shown};
+    ghost use Rattle.ledger.specs.Trails.{assigned};
     ghost use Rattle.ledger.specs.Watched.{AreWatched};
 
     ghost Value = { State };
 
     ghost view = { λ e. record {
       slots = e.slots.items;
-      listing = e.trail.0;
+      listing = assigned e.trail;
+      propagated = e.trail.0;
       reasons = e.reasons.items;
       variables = e.trail.1;
     } };
 
     ghost invariant = { λ e. IsLedger e.slots.items e.trail.0 e.trail.1 e.table e.clauses e.counters.items e.limits.items e.watchers.pairs
-        × AreReasons (shown e.slots.items) e.trail.0 e.reasons.items × (e.trail.1 ≤ vec_capacity e.reasons)
+        × AreReasons (shown e.slots.items) (assigned e.trail) e.reasons.items × (e.trail.1 ≤ vec_capacity e.reasons)
         × AreWatched e.slots.items e.trail.0 e.trail.1 e.watchers };
 }
 
 impl Ledger {
     /// No constraint, and no variables.
     pub fn new(alloc: Global) -> Ledger
-        ensures { result ≡ record { slots = []; listing = []; reasons = []; variables = 0 } }
+        ensures { result ≡ record { slots = []; listing = []; propagated = []; reasons = []; variables = 0 } }
     {
         Ledger {
             slots: Vec::new(alloc),
@@ -88,7 +91,7 @@ impl Ledger {
             limits: Vec::new(alloc),
             clauses: Table::new(alloc),
             watchers: Watchers::new(alloc),
-            trail: Trail::new(alloc),
+            trail: Assignment::new(alloc),
             reasons: Vec::new(alloc),
         }
     }
@@ -100,40 +103,50 @@ impl Ledger {
         ensures once { IsOnce self.now.listing }
         ensures consistent { IsConsistent self.now.listing }
         ensures variables { (l : Lit) → lists self.now.listing l ≡ true → l.var.0 < self.now.variables }
+        ensures propagated { (pending : List Lit) × (self.now.listing ≡ self.now.propagated ++ pending) }
     {
         self.trail.reveal();
     }
 
-    /// Takes a free literal as true, forced by the constraint of a place or given, and queues what may now be broken
-    /// or force. Where memory runs out it stays free.
-    pub fn set_true(
-        &mut self,
-        literal: Lit,
-        reason: Option<usize>,
-        queue: &mut Queue,
-    ) -> Result<(), AllocError>
+    /// Takes a free literal as true, forced by the constraint of a place or given. It is still to be propagated.
+    pub fn assign(&mut self, literal: Lit, reason: Option<usize>)
         requires variable { literal.var.0 < self.old.variables }
         requires unset { lists self.old.listing literal ≡ false }
         requires opposite_unset { lists self.old.listing (opposite literal) ≡ false }
         requires reason { IsReason (shown self.old.slots) self.old.listing literal reason }
+        ensures { self.new ≡ record self.old { listing = self.old.listing ++ literal ∷ []; reasons = self.old.reasons ++ reason ∷ [] } }
+    {
+        self.trail.push(literal);
+        self.reasons.push_reserved(reason);
+    }
+
+    /// Whether all literals that are taken as true were propagated.
+    pub fn is_propagated(&self) -> bool
+        ensures { IsTrue result ↔ (self.now.propagated ≡ self.now.listing) }
+    {
+        self.trail.is_propagated()
+    }
+
+    /// Propagates the next literal: queues what may be broken or force something then. Where a clause is broken, whose place is
+    /// returned, or memory ends, the literal is still to be propagated.
+    pub fn propagate_next(&mut self, queue: &mut Queue) -> Result<Option<usize>, AllocError>
+        requires pending { self.old.propagated ≡ self.old.listing → ⊥ }
         requires queue { queue.old.1 ≡ length self.old.slots }
-        ensures slots { self.new.slots ≡ self.old.slots }
-        ensures variables { self.new.variables ≡ self.old.variables }
-        ensures listing { OnOk result (self.new.listing ≡ self.old.listing ++ literal ∷ []) }
-        ensures reasons { OnOk result (self.new.reasons ≡ self.old.reasons ++ reason ∷ []) }
-        ensures err { OnErr result (self.new ≡ self.old) }
+        ensures same { self.new ≡ record self.old { propagated = self.new.propagated } }
+        ensures err { OnErr result (self.new.propagated ≡ self.old.propagated) }
         ensures count { queue.new.1 ≡ queue.old.1 }
         ensures kept { (k : ℕ) → Contains queue.old.0 k → Contains queue.new.0 k }
-        ensures queued { OnOk result ((k : ℕ)
-            → 0 < coefficient_of (constraint_at (shown self.old.slots) k) (opposite literal)
-            → IsQuiet self.new.listing (constraint_at (shown self.old.slots) k) ⊎ Contains queue.new.0 k) }
+        ensures end { IfOk result (IsPropagation self.old self.new queue.new.0) }
     {
-        let fallen = literal.opposite();
-        self.watchers
+        let fallen = self.trail.next().opposite();
+        let broken = self
+            .watchers
             .fall(self.slots.as_slice(), &self.trail, fallen, queue)?;
-        self.trail.push(literal);
+        if broken.is_some() {
+            return Ok(broken);
+        }
+        self.trail.advance();
         self.trail.reveal();
-        self.reasons.push_reserved(reason);
         lower(
             self.slots.as_slice(),
             &mut self.counters,
@@ -141,7 +154,7 @@ impl Ledger {
             queue,
             self.table.row(fallen.code()),
         );
-        Ok(())
+        Ok(None)
     }
 
     /// Takes the last literal back, if there is one.
@@ -150,33 +163,33 @@ impl Ledger {
         ensures variables { self.new.variables ≡ self.old.variables }
         ensures listing { MatchOption result ((self.old.listing ≡ []) × (self.new.listing ≡ []))
             (λ l. self.old.listing ≡ self.new.listing ++ l ∷ []) }
+        ensures propagated { self.new.propagated ≡ take (length self.new.listing) self.old.propagated }
         ensures unset { IfSome result (λ l. lists self.new.listing l ≡ false) }
         ensures opposite_unset { IfSome result (λ l. IsOpen self.new.listing l) }
         ensures variable { IfSome result (λ l. l.var.0 < self.old.variables) }
         ensures reasons { self.new.reasons ≡ take (length self.new.listing) self.old.reasons }
     {
-        match self.trail.pop() {
-            None => None,
-            Some(literal) => {
-                self.reasons.pop();
-                raise(
-                    &mut self.counters,
-                    self.table.row(literal.opposite().code()),
-                );
-                Some(literal)
-            }
+        let counted = self.trail.is_propagated();
+        let literal = self.trail.pop()?;
+        self.reasons.pop();
+        if counted {
+            raise(
+                &mut self.counters,
+                self.table.row(literal.opposite().code()),
+            );
         }
+        Some(literal)
     }
 
     /// Queues the constraints with a literal, which is not made false, that may be broken or force something.
     pub fn queue_places(&self, literal: Lit, queue: &mut Queue)
         requires variable { literal.var.0 < self.now.variables }
-        requires unfallen { IsOpen self.now.listing literal }
+        requires unfallen { IsOpen self.now.propagated literal }
         requires queue { queue.old.1 ≡ length self.now.slots }
         ensures count { queue.new.1 ≡ queue.old.1 }
         ensures kept { (k : ℕ) → Contains queue.old.0 k → Contains queue.new.0 k }
         ensures queued { (k : ℕ) → 0 < coefficient_of (constraint_at (shown self.now.slots) k) literal
-            → IsQuiet self.now.listing (constraint_at (shown self.now.slots) k) ⊎ Contains queue.new.0 k }
+            → IsQuiet self.now.propagated (constraint_at (shown self.now.slots) k) ⊎ Contains queue.new.0 k }
     {
         queue_below(
             self.counters.as_slice(),
@@ -191,7 +204,7 @@ impl Ledger {
     /// What is open in the constraint of a place: it is counted, or added up where it is watched.
     fn open(&self, place: usize, constraint: &Normal) -> u128
         requires { slice_index_or self.now.slots place None ≡ Some constraint.now }
-        ensures { result ≡ open_sum self.now.listing constraint.now }
+        ensures { result ≡ open_sum self.now.propagated constraint.now }
     {
         match self.watchers.pair(place) {
             None => self.counters[place],
@@ -202,7 +215,7 @@ impl Ledger {
     /// What the two literals tell of the constraint at a place, where it is watched by two.
     pub fn hint(&self, place: usize) -> Hint
         requires { place < length self.now.slots }
-        ensures value { IsHint self.now.listing (constraint_at (shown self.now.slots) place) result }
+        ensures value { IsHint self.now.propagated (constraint_at (shown self.now.slots) place) result }
         ensures within { IsHintWithin self.now.variables result }
     {
         let Some(_) = &self.slots[place] else {
@@ -219,8 +232,8 @@ impl Ledger {
     /// where it is broken.
     pub fn slack(&self, place: usize) -> Option<u128>
         requires { place < length self.now.slots }
-        ensures { MatchOption result (IsBroken self.now.listing (constraint_at (shown self.now.slots) place))
-            (HasSlack (shown self.now.slots) self.now.listing place) }
+        ensures { MatchOption result (IsBroken self.now.propagated (constraint_at (shown self.now.slots) place))
+            (HasSlack (shown self.now.slots) self.now.propagated place) }
     {
         match &self.slots[place] {
             None => Some(0),
@@ -287,7 +300,7 @@ impl Ledger {
         requires { literal.var.0 < self.now.variables }
         ensures { result ≡ lists self.now.listing literal }
     {
-        self.trail.has(literal)
+        self.trail.assigns(literal)
     }
 
     /// Whether neither a literal nor its opposite is taken as true.
@@ -336,11 +349,6 @@ impl Ledger {
         }
     }
 
-    /// How many places of clauses that are watched have a literal, empty ones among them. Only speed depends on it.
-    pub fn clause_count(&self, literal: Lit) -> usize {
-        self.clauses.row_or_none(literal.code()).len()
-    }
-
     /// Takes the constraint of a place out, if there is one, where it is no literal's reason. The place stays.
     pub fn take_out(&mut self, place: usize) -> Option<Normal>
         requires place { place < length self.old.slots }
@@ -365,6 +373,7 @@ impl Ledger {
         requires { variables ≤ most_names }
         ensures slots { self.new.slots ≡ self.old.slots }
         ensures listing { self.new.listing ≡ self.old.listing }
+        ensures propagated { self.new.propagated ≡ self.old.propagated }
         ensures reasons { self.new.reasons ≡ self.old.reasons }
         ensures more { self.old.variables ≤ self.new.variables }
         ensures ok { OnOk result (variables ≤ self.new.variables) }
@@ -397,8 +406,8 @@ impl Ledger {
     fn attach_watched(&mut self, constraint: Normal, pair: Pair) -> Result<(), AllocError>
         requires variables { variable_bound constraint.terms ≤ self.old.variables }
         requires pair { IsPairOf constraint pair }
-        requires first { IsOpen self.old.listing pair.first }
-        requires second { IsOpen self.old.listing pair.second }
+        requires first { IsOpen self.old.propagated pair.first }
+        requires second { IsOpen self.old.propagated pair.second }
         ensures ok { OnOk result (self.new ≡ record self.old { slots = self.old.slots ++ Some constraint ∷ [] }) }
         ensures err { OnErr result (self.new ≡ self.old) }
     {

@@ -9,6 +9,7 @@
 //! follows from the constraints then, is for the walks of the crate above.
 #![tactic(auto)]
 
+mod assignment;
 mod choosing;
 mod entry_lists;
 mod finding;

@@ -7,11 +7,11 @@ ghost use Rattle.propagate.specs.Literals.{coefficient_of};
 ghost use Rattle.propagate.specs.Slack.{not_false};
 ghost use Rattle.ledger.specs.Ledgers.{open_sum};
 
-use super::trail::Trail;
+use super::assignment::Assignment;
 use normal_form::Normal;
 
 /// What the term at a place adds to the sum of the literals that are not made false.
-fn counted(constraint: &Normal, trail: &Trail, place: usize) -> u128
+fn counted(constraint: &Normal, trail: &Assignment, place: usize) -> u128
     requires place { place < length constraint.now.terms }
     requires variables { variable_bound constraint.now.terms ≤ trail.now.1 }
     ensures { sum_over (not_false trail.now.0) (take (place + 1) constraint.now.terms)
@@ -26,7 +26,7 @@ fn counted(constraint: &Normal, trail: &Trail, place: usize) -> u128
 }
 
 /// What the literals that are not made false add up to.
-pub(crate) fn open_sum(constraint: &Normal, trail: &Trail) -> u128
+pub(crate) fn open_sum(constraint: &Normal, trail: &Assignment) -> u128
     requires { variable_bound constraint.now.terms ≤ trail.now.1 }
     ensures { result ≡ open_sum trail.now.0 constraint.now }
 {

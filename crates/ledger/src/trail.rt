@@ -5,10 +5,11 @@
 
 ghost use Rattle.std.specs.Prelude.{◌≡◌, ◌+◌, ◌<◌, ◌≤◌, ◌++◌, ◌∷◌, ◌⊎◌, []};
 ghost use Rattle.std.specs.Prelude.{ℕ, false, true, OnOk, OnErr, IsTrue, ◌↔◌, None};
-ghost use Rattle.std.specs.Prelude.{length, slice_index_or, MatchOption, IfSome};
+ghost use Rattle.std.specs.Prelude.{length, slice_index_or, take, MatchOption, IfSome};
 ghost use Rattle.linear.specs.declared.term.Lit.{Lit};
 ghost use Rattle.linear.specs.Literal.{opposite};
 ghost use Rattle.propagate.specs.Literals.{IsConsistent, IsOnce, lists};
+ghost use Rattle.ledger.specs.Trails.{IsFree};
 
 use linear::Lit;
 use std::alloc::{AllocError, Global};
@@ -98,6 +99,7 @@ impl Trail {
         ensures once { IsOnce self.now.0 }
         ensures consistent { IsConsistent self.now.0 }
         ensures variables { (l : Lit) → lists self.now.0 l ≡ true → l.var.0 < self.now.1 }
+        ensures fresh { (k : ℕ) (d : Lit) → k < length self.now.0 → IsFree (take k self.now.0) (slice_index_or self.now.0 k d) }
     {
         self.listing.as_slice()
     }

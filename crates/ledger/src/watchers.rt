@@ -4,24 +4,30 @@
 //! literals falls, and then another open one is sought to watch it (Moskewicz, Madigan, Zhao, Zhang and Malik: Chaff, 2001): a
 //! literal that stands in many clauses costs those that it watches. Where literals are taken back nothing is mended. A row may have
 //! places that its literal does not watch any more: they are dropped when it falls.
+//!
+//! A row is gone through only as far as to the first clause that is broken, since a walk ends there: the literal then counts as one that
+//! was not propagated, and what its row would tell is not asked for before it is propagated anew. For that all literals
+//! that are assigned are asked, also those behind it: so of many copies of a clause whose literals all fall at once one is looked at.
 
-ghost use Rattle.std.specs.Prelude.{◌≡◌, ◌-◌, ◌<◌, ◌≤◌, ◌⊎◌, ◌++◌, ◌∷◌, [], ℕ, false, Contains, IfOk};
+ghost use Rattle.std.specs.Prelude.{◌≡◌, ◌-◌, ◌<◌, ◌≤◌, ◌⊎◌, ◌++◌, ◌∷◌, [], ℕ, false, true, Contains, IfOk};
 ghost use Rattle.std.specs.Prelude.{MatchOption, None, OnErr, OnOk, Some, length, slice_index_or, slice_set, take};
 ghost use Rattle.std.specs.List.{swap_remove};
 ghost use Rattle.linear.specs.declared.term.Lit.{Lit};
 ghost use Rattle.normal_form.specs.Normal.{NormalConstraint, variable_bound};
+ghost use Rattle.linear.specs.Literal.{opposite};
 ghost use Rattle.propagate.specs.Literals.{lists};
+ghost use Rattle.ledger.specs.Trails.{assigned};
 ghost use Rattle.ledger.specs.declared.pair.Pair.{Pair};
-ghost use Rattle.ledger.specs.Falls.{AreHandled, IsBeside, IsFalling, IsFound, IsOneOf};
+ghost use Rattle.ledger.specs.Falls.{IsBeside, IsFalling, IsFound, IsNearer, IsOneOf, IsPassed, IsRowEnd};
 ghost use Rattle.linear.specs.Literal.{code};
 ghost use Rattle.ledger.specs.Watched.{AreSameKinds, AreWatched, IsOpen, IsPairWithin, StandsIn};
 
+use super::assignment::Assignment;
 use super::choosing::open_beside;
-use super::finding::Finding;
+use super::finding::{Finding, Progress};
 use super::pair::Pair;
 use super::queue::Queue;
 use super::table::Table;
-use super::trail::Trail;
 use linear::Lit;
 use normal_form::Normal;
 use std::alloc::{AllocError, Global};
@@ -140,13 +146,20 @@ impl Watchers {
     }
 
     /// What is found of the clause at a place when a literal falls.
-    fn look(&self, slots: &[Option<Normal>], trail: &Trail, fallen: Lit, place: usize) -> Finding
+    fn look(
+        &self,
+        slots: &[Option<Normal>],
+        trail: &Assignment,
+        fallen: Lit,
+        place: usize,
+    ) -> Finding
         requires watched { AreWatched slots.now trail.now.0 trail.now.1 self.now }
         requires within { (k : ℕ) (n : NormalConstraint) → slice_index_or slots.now k None ≡ Some n
             → variable_bound n.terms ≤ trail.now.1 }
         requires unset { lists trail.now.0 fallen ≡ false }
         requires unfallen { IsOpen trail.now.0 fallen }
-        ensures { IsFound slots.now trail.now.0 self.now.pairs place fallen result }
+        requires falls { lists (assigned trail.now) (opposite fallen) ≡ true }
+        ensures { IsFound slots.now trail.now self.now.pairs place fallen result }
     {
         let Some(other) = self.beside(place, fallen) else {
             return Finding::Elsewhere;
@@ -157,21 +170,22 @@ impl Watchers {
         if trail.has(other) {
             return Finding::Satisfied;
         }
-        if trail.has(other.opposite()) {
-            return Finding::Broken;
-        }
-        match open_beside(
-            clause,
-            trail,
-            Pair {
-                first: fallen,
-                second: other,
-            },
-        ) {
-            Some(literal) => Finding::Moved(Pair {
-                first: literal,
-                second: other,
-            }),
+        let others = Pair {
+            first: fallen,
+            second: other,
+        };
+        let fell = trail.assigns(other.opposite());
+        match open_beside(clause, trail, others) {
+            Some(literal) => {
+                if fell && trail.assigns(literal.opposite()) {
+                    return Finding::Broken;
+                }
+                Finding::Moved(Pair {
+                    first: literal,
+                    second: other,
+                })
+            }
+            None if fell => Finding::Broken,
             None => Finding::Last,
         }
     }
@@ -188,85 +202,88 @@ impl Watchers {
         self.rows.swap_remove(literal.code(), index);
     }
 
-    /// Looks at the clause of an entry of a literal that falls; the index of the next entry.
+    /// Looks at the clause of an entry of a literal that falls.
     fn pass(
         &mut self,
         slots: &[Option<Normal>],
-        trail: &Trail,
+        trail: &Assignment,
         fallen: Lit,
         index: usize,
         queue: &mut Queue,
-    ) -> Result<usize, AllocError>
+    ) -> Result<Progress, AllocError>
         requires falling { IsFalling slots.now trail.now.0 trail.now.1 fallen self.old queue.old.0 index }
         requires within { (k : ℕ) (n : NormalConstraint) → slice_index_or slots.now k None ≡ Some n
             → variable_bound n.terms ≤ trail.now.1 }
         requires variable { fallen.var.0 < trail.now.1 }
         requires unset { lists trail.now.0 fallen ≡ false }
         requires unfallen { IsOpen trail.now.0 fallen }
+        requires falls { lists (assigned trail.now) (opposite fallen) ≡ true }
         requires index { index < length (slice_index_or self.old.rows (code fallen) []) }
         requires count { queue.old.1 ≡ length self.old.pairs }
-        ensures falling { IfOk result (IsFalling slots.now trail.now.0 trail.now.1 fallen self.new queue.new.0) }
+        ensures passed { IfOk result (IsPassed slots.now trail.now fallen self.new queue.new.0) }
         ensures watched { OnErr result (AreWatched slots.now trail.now.0 trail.now.1 self.new) }
         ensures kinds { AreSameKinds self.old.pairs self.new.pairs }
-        ensures less { IfOk result (λ next. length (slice_index_or self.new.rows (code fallen) []) - next
-            < length (slice_index_or self.old.rows (code fallen) []) - index) }
+        ensures less { IfOk result (IsNearer (slice_index_or self.old.rows (code fallen) []) index
+            (slice_index_or self.new.rows (code fallen) [])) }
         ensures count { queue.new.1 ≡ queue.old.1 }
         ensures kept { (k : ℕ) → Contains queue.old.0 k → Contains queue.new.0 k }
     {
         let place = self.rows.row(fallen.code())[index];
         match self.look(slots, trail, fallen, place) {
-            Finding::Satisfied => Ok(index + 1),
-            Finding::Broken => {
-                queue.add_first(place);
-                Ok(index + 1)
-            }
+            Finding::Satisfied => Ok(Progress::At(index + 1)),
+            Finding::Broken => Ok(Progress::Broken(place)),
             Finding::Last => {
                 queue.add(place);
-                Ok(index + 1)
+                Ok(Progress::At(index + 1))
             }
             Finding::Elsewhere => {
                 self.drop_entry(fallen, index);
-                Ok(index)
+                Ok(Progress::At(index))
             }
             Finding::Moved(pair) => {
                 self.put(pair.first, place)?;
                 self.pairs[place] = Some(pair);
                 self.drop_entry(fallen, index);
-                Ok(index)
+                Ok(Progress::At(index))
             }
         }
     }
 
-    /// A literal falls: what it watches is watched by another open literal from then on, or waits. Where memory ends, some of it.
+    /// A literal falls: what it watches is watched by another open literal from then on, or waits. Where a clause is broken, whose
+    /// place is returned, or memory ends, some of it.
     pub(crate) fn fall(
         &mut self,
         slots: &[Option<Normal>],
-        trail: &Trail,
+        trail: &Assignment,
         fallen: Lit,
         queue: &mut Queue,
-    ) -> Result<(), AllocError>
+    ) -> Result<Option<usize>, AllocError>
         requires watched { AreWatched slots.now trail.now.0 trail.now.1 self.old }
         requires within { (k : ℕ) (n : NormalConstraint) → slice_index_or slots.now k None ≡ Some n
             → variable_bound n.terms ≤ trail.now.1 }
         requires variable { fallen.var.0 < trail.now.1 }
         requires unset { lists trail.now.0 fallen ≡ false }
         requires unfallen { IsOpen trail.now.0 fallen }
+        requires falls { lists (assigned trail.now) (opposite fallen) ≡ true }
         requires count { queue.old.1 ≡ length self.old.pairs }
         ensures watched { AreWatched slots.now trail.now.0 trail.now.1 self.new }
-        ensures handled { OnOk result (AreHandled slots.now trail.now.0 fallen self.new queue.new.0) }
+        ensures end { IfOk result (IsRowEnd slots.now trail.now fallen self.new queue.new.0) }
         ensures kinds { AreSameKinds self.old.pairs self.new.pairs }
         ensures count { queue.new.1 ≡ queue.old.1 }
         ensures kept { (k : ℕ) → Contains queue.old.0 k → Contains queue.new.0 k }
     {
         let mut index = 0;
         while index < self.rows.row(fallen.code()).len() {
-            index = self.pass(slots, trail, fallen, index, queue)?;
+            match self.pass(slots, trail, fallen, index, queue)? {
+                Progress::At(next) => index = next,
+                Progress::Broken(place) => return Ok(Some(place)),
+            }
         }
-        Ok(())
+        Ok(None)
     }
 
     /// Queues the places that a literal watches whose clauses may force it.
-    pub(crate) fn queue_last(&self, trail: &Trail, literal: Lit, queue: &mut Queue)
+    pub(crate) fn queue_last(&self, trail: &Assignment, literal: Lit, queue: &mut Queue)
         requires within { (k : ℕ) (p : Pair) → slice_index_or self.now.pairs k None ≡ Some p → IsPairWithin trail.now.1 p }
         requires count { queue.old.1 ≡ length self.now.pairs }
         requires row { code literal < length self.now.rows }
@@ -281,7 +298,7 @@ impl Watchers {
     }
 
     /// Queues a place where the literal that watches it beside another one is made false.
-    fn queue_at(&self, trail: &Trail, literal: Lit, place: usize, queue: &mut Queue)
+    fn queue_at(&self, trail: &Assignment, literal: Lit, place: usize, queue: &mut Queue)
         requires within { (k : ℕ) (p : Pair) → slice_index_or self.now.pairs k None ≡ Some p → IsPairWithin trail.now.1 p }
         requires count { queue.old.1 ≡ length self.now.pairs }
         ensures queued { (p : Pair) → slice_index_or self.now.pairs place None ≡ Some p

@@ -1,7 +1,7 @@
 -- What a code says, by its kind.
 use Rattle.opb_read.specs.declared.fault.OpbCode.{OpbCode}
 use Rattle.opb_read.specs.declared.fault.OpbCode.TheVariants.{BadToken, NoRelation, NoSemicolon, BadName, ObjectiveLate, UnsupportedForm, IntegerTooLarge, TooMany, OutOfMemory}
-use Rattle.opb_read.specs.Denial.{Says, Tells, IsForm, IsTooManyOr}
+use Rattle.opb_read.specs.Denial.{Tells, IsForm, IsTooManyOr}
 
 pub tells_form : (code : OpbCode) (F L M : Type 0) → IsForm code → F → Tells code F L M
 tells_form BadToken F L M h f = f
@@ -46,37 +46,3 @@ tells_more UnsupportedForm F L M G N P f l m h = f h
 tells_more IntegerTooLarge F L M G N P f l m h = l h
 tells_more TooMany F L M G N P f l m h = m h
 tells_more OutOfMemory F L M G N P f l m h = tt
-
-pub says_form : (code : OpbCode) (F L : Type 0) → IsForm code → F → Says code F L
-says_form BadToken F L h f = f
-says_form NoRelation F L h f = f
-says_form NoSemicolon F L h f = f
-says_form BadName F L h f = f
-says_form ObjectiveLate F L h f = f
-says_form UnsupportedForm F L h f = f
-says_form IntegerTooLarge F L h f = absurd h
-says_form TooMany F L h f = absurd h
-says_form OutOfMemory F L h f = absurd h
-
-pub says_many : (code : OpbCode) (F L M : Type 0) → IsTooManyOr M code → (M → L) → Says code F L
-says_many BadToken F L M h f = absurd h
-says_many NoRelation F L M h f = absurd h
-says_many NoSemicolon F L M h f = absurd h
-says_many BadName F L M h f = absurd h
-says_many ObjectiveLate F L M h f = absurd h
-says_many UnsupportedForm F L M h f = absurd h
-says_many IntegerTooLarge F L M h f = absurd h
-says_many TooMany F L M h f = f h
-says_many OutOfMemory F L M h f = tt
-
--- one fact follows from another
-pub says_more : (code : OpbCode) (F L G M : Type 0) → (F → G) → (L → M) → Says code F L → Says code G M
-says_more BadToken F L G M f l h = f h
-says_more NoRelation F L G M f l h = f h
-says_more NoSemicolon F L G M f l h = f h
-says_more BadName F L G M f l h = f h
-says_more ObjectiveLate F L G M f l h = f h
-says_more UnsupportedForm F L G M f l h = f h
-says_more IntegerTooLarge F L G M f l h = l h
-says_more TooMany F L G M f l h = l h
-says_more OutOfMemory F L G M f l h = tt

@@ -11,6 +11,7 @@ pub mod PassedCanGoOn
 pub mod CountsOfPassed
 pub mod LimitsLeaveRoom
 pub mod StopsAreFaults
+pub mod FaultsDeny
 pub mod TokensPassed
 pub mod SumSteps
 pub mod StatementSteps

@@ -1,21 +1,18 @@
 -- What the tokens at the front of a text say of its objective.
-use Rattle.std.proofs.Common.{◌≡◌, inl, inr, ℕ, ◌≤◌, true, false, Option, Some, None, List, [], ◌∷◌, length, drop, if◌then◌else◌, refl, sym, ap, subst, ◌∙◌, arith}
-use Rattle.std.specs.Prelude.{All, IfSome}
-use Rattle.std.proofs.lemmas.Bool.{true≢false}
+use Rattle.std.proofs.Common.{◌≡◌, ℕ, true, false, Option, Some, None, List, [], ◌∷◌, length, drop, if◌then◌else◌, refl, sym, ap, subst, ◌∙◌}
+use Rattle.std.specs.Prelude.{IfSome}
 use Rattle.pb_text.specs.Lexeme.{Lexeme}
 use Rattle.linear.specs.declared.term.Term.{Term}
 use Rattle.linear.specs.declared.constraint.Signed.{Signed}
 use Rattle.linear.specs.Opb.{Opb}
-use Rattle.linear.specs.Limits.{IsSumWithin, IsConstraintWithin, IsWithin, most_terms, most_variables, most_constraints}
+use Rattle.linear.specs.Limits.{IsSumWithin, IsWithin}
 use Rattle.opb_read.specs.Kinds.{begins_objective}
 use Rattle.opb_read.specs.Ahead.{begins_semicolon}
 use Rattle.opb_read.specs.Pieces.{Pieces, pieces}
 use Rattle.opb_read.specs.Forms.{terms_of, behind_terms, names_in, objective_of, constraints_of}
 use Rattle.opb_read.specs.Spells.{decision_problem, optimisation_problem, problem_of}
-use Rattle.opb_read.specs.Denial.{IsForm, DeniesSum, DeniesObjective, DeniesProblem, FollowsObjective, DeniesConstraints, constraints_ahead, finished}
-use Rattle.opb_read.specs.declared.fault.OpbCode.{OpbCode}
-use Rattle.opb_read.proofs.CasesOfCodes.{says_form, says_more}
-use Rattle.opb_read.proofs.Statements.{same_sum, first_nil, semicolon_pieces, integer_first, no_some}
+use Rattle.opb_read.specs.Denial.{FollowsObjective, constraints_ahead, finished}
+use Rattle.opb_read.proofs.Statements.{same_sum, semicolon_pieces}
 
 -- the sum of an objective is all of its piece
 record Whole (names : List (List ℕ)) (piece : List Lexeme) (terms : List Term) : Type 0 where
@@ -38,30 +35,6 @@ objective_read names left terms et es =
     let end = semicolon_pieces (behind_terms left) es in
     let none : behind_terms first ≡ [] = same.behind ∙ ap (λ (p : Pieces). p.first) end in
     (ap (λ (l : List Lexeme). let r : Option (List Term) = elim l [ [] ↦ Some (terms_of names first) | a ∷ rest ↦ None ] in r) none ∙ ap (λ ts. Some ts) (same.terms ∙ sym et), same.others ∙ ap (λ (p : Pieces). p.others) end)
-
-pub objective_sum_denied : (code : OpbCode) (names : List (List ℕ)) (left : List Lexeme) → DeniesSum code names 0 left → DeniesObjective code names left
-unfolding DeniesSum DeniesObjective
-objective_sum_denied code names left h =
-    says_more code _ _ _ _
-    (λ cut ts e. let w = whole names (pieces left).first ts e in absurd (integer_first (behind_terms left) cut (sym (same_sum names left).behind ∙ w.behind)))
-    (λ limit ts e few within.
-    let w = whole names (pieces left).first ts e in
-    let same : ts ≡ terms_of names left = w.sum ∙ (same_sum names left).terms in
-    let v : IsSumWithin (length names) (terms_of names left) = subst (IsSumWithin (length names)) same within in
-    let count : length (terms_of names left) ≤ most_terms = v.count in
-    absurd (integer_first (behind_terms left) (limit few (omega (arith, count)) v.each) (sym (same_sum names left).behind ∙ w.behind)))
-    h
-
-pub objective_open : (code : OpbCode) (names : List (List ℕ)) (left : List Lexeme) → IsForm code → begins_semicolon (behind_terms left) ≡ false → DeniesObjective code names left
-unfolding DeniesObjective
-objective_open code names left form none =
-    says_form code _ _ form (λ ts e.
-    let w = whole names (pieces left).first ts e in
-    let same = same_sum names left in
-    elim (first_nil (behind_terms left) (sym same.behind ∙ w.behind)) [
-      | inl n ↦ same.others ∙ ap (λ l. (pieces l).others) n
-      | inr stop ↦ absurd (true≢false (sym stop ∙ none))
-    ])
 
 -- no objective at the front
 pub no_objective : (left : List Lexeme) → begins_objective left ≡ false → FollowsObjective (names_in [] left) None left left
@@ -108,25 +81,10 @@ optimum names p q h = by p.others refl (objective_of names p.first) refl h
     by (n ∷ os) e None g k = cc
     by (n ∷ os) e (Some ts) g k = optimum_finished names p q ts g (λ none. let x : ◌≡◌ {A = List (List Lexeme)} (n ∷ os) [] = sym e ∙ none in cc) (constraints_of names n os) k
 
-few_names : (names : List (List ℕ)) (q : Opb) → q.names ≡ names → IsWithin q → length names ≤ most_variables
-few_names names q e w = subst (λ n. length n ≤ most_variables) e w.variables
-
 sum_within : (names : List (List ℕ)) (ts : List Term) (q : Opb) → q.names ≡ names → q.objective ≡ Some ts → IsWithin q → IsSumWithin (length names) ts
 sum_within names ts q e o w =
     let at : IfSome q.objective (IsSumWithin (length names)) = subst (λ n. IfSome q.objective (IsSumWithin (length n))) e w.objective in
     subst (λ (x : Option (List Term)). IfSome x (IsSumWithin (length names))) o at
-
-pub objective_denied : (code : OpbCode) (left : List Lexeme) → begins_objective left ≡ true → DeniesObjective code (names_in [] (drop 2 left)) (drop 2 left) → DeniesProblem code left
-unfolding DeniesObjective DeniesProblem
-objective_denied code left b h =
-    let names = names_in [] (drop 2 left) in
-    let p = pieces (drop 2 left) in
-    says_more code _ _ _ _
-    (λ form. no_some (problem_of left) (λ q e. let o = optimum names p q (sym (with_objective left b) ∙ e) in o.closed (form o.terms o.sum)))
-    (λ limit q e w.
-    let o = optimum names p q (sym (with_objective left b) ∙ e) in
-    o.closed (limit o.terms o.sum (few_names names q o.table w) (sum_within names o.terms q o.table o.objective w)))
-    h
 
 record Finished (names : List (List ℕ)) (r : Option (List Signed)) (q : Opb) : Type 0 where
   constraints : List Signed
@@ -139,20 +97,6 @@ finish names o None q h = cc
 finish names o (Some cs) q h =
     let e : ◌≡◌ {A = Opb} (record { names = names; objective = o; constraints = cs }) q = cc in
     record { constraints = cs; is = refl; table = sym (ap (λ (x : Opb). x.names) e); same = sym (ap (λ (x : Opb). x.constraints) e) }
-
--- a fault in the constraints behind the objective is one of the problem
-pub problem_denied : (code : OpbCode) (names : List (List ℕ)) (o : Option (List Term)) (left rest : List Lexeme) → FollowsObjective names o left rest → DeniesConstraints code names 0 rest
-    → DeniesProblem code left
-unfolding FollowsObjective DeniesConstraints DeniesProblem
-problem_denied code names o left rest f h =
-    says_more code _ _ _ _
-    (λ form. f ∙ ap (finished names o) form)
-    (λ limit q e w.
-    let k = finish names o (constraints_ahead names rest) q (sym f ∙ e) in
-    let few : length k.constraints ≤ most_constraints = subst (λ (cs : List Signed). length cs ≤ most_constraints) k.same w.count in
-    let all : All (IsConstraintWithin (length q.names)) k.constraints = subst (All (IsConstraintWithin (length q.names))) k.same w.constraints in
-    limit k.constraints k.is (few_names names q k.table w) (omega (arith, few)) (subst (λ (n : List (List ℕ)). All (IsConstraintWithin (length n)) k.constraints) k.table all))
-    h
 
 pub problem_read : (names : List (List ℕ)) (o : Option (List Term)) (left rest : List Lexeme) (cs : List Signed) → FollowsObjective names o left rest → constraints_ahead names rest ≡ Some cs
     → problem_of left ≡ Some (record { names = names; objective = o; constraints = cs })
@@ -176,8 +120,3 @@ objective_found vars left body rest terms ev eb b eo er =
     let sum : objective_of (names_in [] (drop 2 left)) (pieces (drop 2 left)).first ≡ Some terms =
     sym (ap (λ n. objective_of n (pieces body).first) same ∙ ap (λ l. objective_of (names_in [] (drop 2 left)) (pieces l).first) eb) ∙ eo in
     subst (λ n. FollowsObjective n (Some terms) left rest) (sym same) (objective_follows left rest terms b sum (sym (ap (λ l. (pieces l).others) eb) ∙ er))
-
-pub objective_refused : (code : OpbCode) (vars : List (List ℕ)) (left body : List Lexeme) → vars ≡ [] → body ≡ drop 2 left → begins_objective left ≡ true
-    → DeniesObjective code (names_in vars body) body → DeniesProblem code left
-objective_refused code vars left body ev eb b h =
-    objective_denied code left b (subst (λ l. DeniesObjective code (names_in [] l) l) eb (subst (λ v. DeniesObjective code (names_in v body) body) ev h))

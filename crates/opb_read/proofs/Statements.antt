@@ -1,8 +1,6 @@
 -- What the tokens that stand next say of a constraint and of an objective.
-use Rattle.std.proofs.Common.{◌≡◌, ◌⊎◌, inl, inr, ℕ, ◌<◌, ◌≤◌, Bool, true, false, ◌&&◌, Option, Some, None, List, [], ◌∷◌, length, drop, if◌then◌else◌, refl, sym, ap, subst, ◌∙◌, arith}
-use Rattle.std.specs.Prelude.{All, unsigned_abs}
+use Rattle.std.proofs.Common.{◌≡◌, ◌⊎◌, inl, inr, ℕ, Bool, true, false, ◌&&◌, Option, Some, None, List, [], ◌∷◌, drop, if◌then◌else◌, refl, sym, ap, subst, ◌∙◌}
 use Rattle.std.specs.Option.{option_map}
-use Rattle.std.proofs.lemmas.List.Elements.{All-head}
 use Rattle.pb_text.specs.Lexeme.{Lexeme}
 use Rattle.pb_text.specs.Number.{integer_value}
 use Rattle.pb_text.specs.declared.kind.Kind.{Kind}
@@ -14,15 +12,10 @@ use Rattle.linear.specs.declared.constraint.Relation.{Relation}
 use Rattle.opb_read.specs.Kinds.{is_integer, is_literal, is_semicolon, relation_of}
 use Rattle.opb_read.specs.Pieces.{Pieces, pieces}
 use Rattle.opb_read.specs.Forms.{is_term, term_of, terms_of, behind_terms, names_in, Closing, closing_of, constraint_of, constraints_of}
-use Rattle.opb_read.specs.Ahead.{begins_integer, begins_semicolon, next_relation}
-use Rattle.opb_read.specs.Denial.{constraints_ahead, FollowsConstraint, DeniesSum, DeniesClosing, DeniesConstraints, IsForm}
-use Rattle.opb_read.specs.declared.fault.OpbCode.{OpbCode}
-use Rattle.opb_read.specs.declared.fault.OpbCode.TheVariants.{IntegerTooLarge}
-use Rattle.opb_read.proofs.CasesOfCodes.{says_form, says_more}
-use Rattle.linear.specs.Limits.{IsConstraintWithin, largest_integer, most_terms}
+use Rattle.opb_read.specs.Ahead.{begins_semicolon, next_relation}
+use Rattle.opb_read.specs.Denial.{FollowsConstraint}
 use Rattle.linear.specs.Table.{with_name}
 use Rattle.pb_text.specs.Word.{name_of}
-use Rattle.std.proofs.lemmas.Bool.{true≢false}
 use Rattle.opb_read.proofs.Sums.{terms_pair, behind_pair, terms_none, behind_none}
 
 -- a token that is an integer or a literal closes no statement
@@ -127,35 +120,6 @@ same_sum names (a ∷ b ∷ rest) = by (is_term a b) refl (same_sum names rest)
     by true e ih = same_sum_pair names a b rest e ih
     by false e ih = same_sum_none names a b rest e
 
--- what the front of the first piece says of the tokens
-first_cons : (left : List Lexeme) (a : Lexeme) (more : List Lexeme) → (pieces left).first ≡ a ∷ more
-    → (left ≡ a ∷ drop 1 left) × ((pieces (drop 1 left)).first ≡ more) × ((pieces left).others ≡ (pieces (drop 1 left)).others)
-first_cons [] a more h = cc
-first_cons (t ∷ rest) a more h = by (is_semicolon t.kind) refl
-  where
-    by : (e : Bool) → is_semicolon t.kind ≡ e → (t ∷ rest ≡ a ∷ rest) × ((pieces rest).first ≡ more) × ((pieces (t ∷ rest)).others ≡ (pieces rest).others)
-    by true e = let none : ◌≡◌ {A = List Lexeme} [] (a ∷ more) = sym (ap (λ (p : Pieces). p.first) (end_of_piece t rest e)) ∙ h in cc
-    by false e =
-        let same : t ∷ (pieces rest).first ≡ a ∷ more = sym (ap (λ (p : Pieces). p.first) (within_piece t rest e)) ∙ h in
-        let head : t ≡ a = cc in
-        let tail : (pieces rest).first ≡ more = cc in
-        (ap (λ x. x ∷ rest) head, tail, ap (λ (p : Pieces). p.others) (within_piece t rest e))
-
-pub first_nil : (left : List Lexeme) → (pieces left).first ≡ [] → (left ≡ []) ⊎ (begins_semicolon left ≡ true)
-first_nil [] h = inl refl
-first_nil (t ∷ rest) h = by (is_semicolon t.kind) refl
-  where
-    by : (e : Bool) → is_semicolon t.kind ≡ e → (t ∷ rest ≡ []) ⊎ (is_semicolon t.kind ≡ true)
-    by true e = inr e
-    by false e = let some : ◌≡◌ {A = List Lexeme} (t ∷ (pieces rest).first) [] = sym (ap (λ (p : Pieces). p.first) (within_piece t rest e)) ∙ h in absurd cc
-
--- an integer stands in a piece
-pub integer_first : (left : List Lexeme) → begins_integer left ≡ true → (pieces left).first ≡ [] → ⊥
-integer_first [] h e = cc
-integer_first (t ∷ rest) h e =
-    let some : ◌≡◌ {A = List Lexeme} (t ∷ (pieces rest).first) [] = sym (ap (λ (p : Pieces). p.first) (within_piece t rest (not_end t.kind h))) ∙ e in
-    cc
-
 -- what closes a piece
 record Closes (piece : List Lexeme) (c : Closing) : Type 0 where
   a : Lexeme
@@ -179,31 +143,6 @@ closes (a ∷ b ∷ []) c h = by (is_integer b.kind) refl (relation_of a.kind) r
     by false e r g k = cc
 closes (a ∷ b ∷ d ∷ rest) c h = cc
 
--- the same of the tokens that stand next
-pub record ClosesNext (left : List Lexeme) (c : Closing) : Type 0 where
-  pub relation : next_relation left ≡ Some c.relation
-  pub integer : begins_integer (drop 1 left) ≡ true
-  pub right : (b : Lexeme) (rest : List Lexeme) → drop 1 left ≡ b ∷ rest → c.right ≡ integer_value b.text
-  pub end : begins_semicolon (drop 1 (drop 1 left)) ≡ false → (pieces left).others ≡ []
-
-closes_two : (left : List Lexeme) (c : Closing) (a b : Lexeme) → (pieces left).first ≡ a ∷ b ∷ [] → relation_of a.kind ≡ Some c.relation → is_integer b.kind ≡ true
-    → c.right ≡ integer_value b.text → ClosesNext left c
-closes_two left c a b two r i v =
-    let one = first_cons left a (b ∷ []) two in
-    let next = first_cons (drop 1 left) b [] one.1 in
-    record {
-      relation = ap next_relation one.0 ∙ r;
-      integer = ap begins_integer next.0 ∙ i;
-      right = λ d rest e. let same : b ∷ drop 1 (drop 1 left) ≡ d ∷ rest = sym next.0 ∙ e in let head : b ≡ d = cc in v ∙ ap (λ (x : Lexeme). integer_value x.text) head;
-      end = λ no. elim (first_nil (drop 1 (drop 1 left)) next.1) [
-        | inl none ↦ one.2 ∙ next.2 ∙ ap (λ l. (pieces l).others) none
-        | inr stop ↦ absurd (true≢false (sym stop ∙ no))
-      ];
-    }
-
-pub closes_next : (left : List Lexeme) (c : Closing) → closing_of (pieces left).first ≡ Some c → ClosesNext left c
-closes_next left c h = let k = closes (pieces left).first c h in closes_two left c k.a k.b k.two k.relation k.integer k.right
-
 -- a relation is no end, no integer and no literal
 pub relation_not_end : (k : Kind) (r : Relation) → relation_of k ≡ Some r → (is_semicolon k ≡ false) × (is_integer k ≡ false) × (is_literal k ≡ false)
 relation_not_end Integer r h = cc
@@ -226,21 +165,9 @@ end_not_literal Stray h = refl
 end_not_literal Misspelt h = refl
 end_not_literal Other h = refl
 
--- an integer behind the terms closes nothing
-pub cut_closes_nothing : (left : List Lexeme) (c : Closing) → begins_integer left ≡ true → closing_of (pieces left).first ≡ Some c → ⊥
-cut_closes_nothing [] c h k = cc
-cut_closes_nothing (t ∷ rest) c h k =
-    let r : relation_of t.kind ≡ Some c.relation = (closes_next (t ∷ rest) c k).relation in
-    let no = relation_not_end t.kind c.relation r in
-    true≢false (sym h ∙ no.1)
-
 -- tokens that are no literals bring no names
 passed : (names : List (List ℕ)) (t : Lexeme) (rest : List Lexeme) → is_literal t.kind ≡ false → names_in names (t ∷ rest) ≡ names_in names rest
 passed names t rest e = ap (λ b. names_in (if b then with_name names (name_of t.text) else names) rest) e
-
-pub semicolon_passed : (names : List (List ℕ)) (left : List Lexeme) → begins_semicolon left ≡ true → names_in names left ≡ names_in names (drop 1 left)
-semicolon_passed names [] h = refl
-semicolon_passed names (t ∷ rest) h = passed names t rest (end_not_literal t.kind h)
 
 pub semicolon_pieces : (left : List Lexeme) → begins_semicolon left ≡ true → pieces left ≡ record { first = []; others = (pieces (drop 1 left)).first ∷ (pieces (drop 1 left)).others }
 semicolon_pieces [] h = cc
@@ -303,35 +230,6 @@ constraint_read names left rest terms c et ec eo =
     ap (constraints_of names first) (same.others ∙ eo)
     ∙ ap (λ (o : Option Signed). let r : Option (List Signed) = elim o [ None ↦ None | Some x ↦ option_map (λ cs. x ∷ cs) tail ] in r) value
 
--- constraints that were read begin so
-pub record FirstConstraint (names : List (List ℕ)) (left : List Lexeme) (cs : List Signed) : Type 0 where
-  pub closing : Closing
-  pub closes : closing_of (pieces (behind_terms left)).first ≡ Some closing
-  pub more : List Signed
-  pub is : cs ≡ signed_of (terms_of names left) closing ∷ more
-  pub unfinished : (pieces (behind_terms left)).others ≡ [] → ⊥
-
-record FirstOf (names : List (List ℕ)) (piece : List Lexeme) (others : List (List Lexeme)) (cs : List Signed) : Type 0 where
-  closing : Closing
-  closes : closing_of (behind_terms piece) ≡ Some closing
-  more : List Signed
-  is : cs ≡ signed_of (terms_of names piece) closing ∷ more
-  unfinished : others ≡ [] → ⊥
-
-first_of_piece : (names : List (List ℕ)) (piece : List Lexeme) (others : List (List Lexeme)) (cs : List Signed) → (piece ≡ [] → others ≡ [] → ⊥) → constraints_of names piece others ≡ Some cs
-    → FirstOf names piece others cs
-first_of_piece names [] [] cs ne h = absurd (ne refl refl)
-first_of_piece names (a ∷ r) [] cs ne h = cc
-first_of_piece names piece (o ∷ os) cs ne h = by (closing_of (behind_terms piece)) refl (constraints_of names o os) h
-  where
-    by : (k : Option Closing) → closing_of (behind_terms piece) ≡ k → (tail : Option (List Signed))
-        → (elim (option_map (signed_of (terms_of names piece)) k) [ None ↦ None | Some x ↦ option_map (λ ys. x ∷ ys) tail ]) ≡ Some cs → FirstOf names piece (o ∷ os) cs
-    by None e t g = cc
-    by (Some k) e None g = cc
-    by (Some k) e (Some t) g =
-        let same : signed_of (terms_of names piece) k ∷ t ≡ cs = cc in
-        record { closing = k; closes = e; more = t; is = sym same; unfinished = λ n. let m : ◌≡◌ {A = List (List Lexeme)} (o ∷ os) [] = n in cc }
-
 not_empty : (left : List Lexeme) → (left ≡ [] → ⊥) → (pieces left).first ≡ [] → (pieces left).others ≡ [] → ⊥
 not_empty [] ne f o = ne refl
 not_empty (t ∷ rest) ne f o = by (is_semicolon t.kind) refl
@@ -339,66 +237,3 @@ not_empty (t ∷ rest) ne f o = by (is_semicolon t.kind) refl
     by : (e : Bool) → is_semicolon t.kind ≡ e → ⊥
     by true e = let n : ◌≡◌ {A = List (List Lexeme)} ((pieces rest).first ∷ (pieces rest).others) [] = sym (ap (λ (p : Pieces). p.others) (end_of_piece t rest e)) ∙ o in cc
     by false e = let n : ◌≡◌ {A = List Lexeme} (t ∷ (pieces rest).first) [] = sym (ap (λ (p : Pieces). p.first) (within_piece t rest e)) ∙ f in cc
-
-pub first_constraint : (names : List (List ℕ)) (left : List Lexeme) (cs : List Signed) → (left ≡ [] → ⊥) → constraints_ahead names left ≡ Some cs → FirstConstraint names left cs
-first_constraint names left cs ne h =
-    let same = same_sum names left in
-    let f = first_of_piece names (pieces left).first (pieces left).others cs (not_empty left ne) h in
-    record {
-      closing = f.closing;
-      closes = ap closing_of (sym same.behind) ∙ f.closes;
-      more = f.more;
-      is = f.is ∙ ap (λ ts. signed_of ts f.closing ∷ f.more) same.terms;
-      unfinished = λ n. f.unfinished (same.others ∙ n);
-    }
-
-pub no_some : {X : Type 0} (o : Option X) → ((x : X) → o ≡ Some x → ⊥) → o ≡ None
-no_some None h = refl
-no_some (Some x) h = absurd (h x refl)
-
-first_within : (n : ℕ) (c : Signed) (more cs : List Signed) → cs ≡ c ∷ more → All (IsConstraintWithin n) cs → IsConstraintWithin n c
-first_within n c more cs e h = All-head (IsConstraintWithin n) c more (subst (All (IsConstraintWithin n)) e h)
-
--- a fault in the sum of a constraint is one of the constraints
-pub sum_denied : (code : OpbCode) (names : List (List ℕ)) (left : List Lexeme) → (left ≡ [] → ⊥) → DeniesSum code names 0 left → DeniesConstraints code names 0 left
-unfolding DeniesSum DeniesConstraints
-sum_denied code names left ne h =
-    says_more code _ _ _ _
-    (λ cut. no_some (constraints_ahead names left) (λ cs e. let f = first_constraint names left cs ne e in cut_closes_nothing (behind_terms left) f.closing cut f.closes))
-    (λ limit cs e few room within.
-    let f = first_constraint names left cs ne e in
-    let c = first_within (length names) (signed_of (terms_of names left) f.closing) f.more cs f.is within in
-    let count : length (terms_of names left) ≤ most_terms = c.sum.count in
-    cut_closes_nothing (behind_terms left) f.closing (limit few (omega (arith, count)) c.sum.each) f.closes)
-    h
-
--- so is a fault in what closes it
-pub closing_denied : (code : OpbCode) (names : List (List ℕ)) (left : List Lexeme) → (left ≡ [] → ⊥) → DeniesClosing code (behind_terms left) → DeniesConstraints code names 0 left
-unfolding DeniesClosing DeniesConstraints
-closing_denied code names left ne h =
-    says_more code _ _ _ _
-    (λ form. no_some (constraints_ahead names left) (λ cs e. let f = first_constraint names left cs ne e in f.unfinished (form f.closing f.closes)))
-    (λ limit cs e few room within.
-    let f = first_constraint names left cs ne e in
-    let c = first_within (length names) (signed_of (terms_of names left) f.closing) f.more cs f.is within in
-    f.unfinished (limit f.closing f.closes c.right))
-    h
-
--- the faults of what closes a constraint
-pub no_relation : (code : OpbCode) (left : List Lexeme) → IsForm code → next_relation left ≡ None → DeniesClosing code left
-unfolding DeniesClosing
-no_relation code left form none = says_form code _ _ form (λ c h. let r : next_relation left ≡ Some c.relation = (closes_next left c h).relation in absurd cc)
-
-pub no_integer : (code : OpbCode) (left : List Lexeme) → IsForm code → begins_integer (drop 1 left) ≡ false → DeniesClosing code left
-unfolding DeniesClosing
-no_integer code left form none = says_form code _ _ form (λ c h. absurd (true≢false (sym (closes_next left c h).integer ∙ none)))
-
-pub large_right : (left : List Lexeme) (b : Lexeme) (rest : List Lexeme) → drop 1 left ≡ b ∷ rest → largest_integer < unsigned_abs (integer_value b.text) → DeniesClosing IntegerTooLarge left
-unfolding DeniesClosing
-large_right left b rest e large = λ c h small.
-    let same : unsigned_abs c.right ≡ unsigned_abs (integer_value b.text) = ap unsigned_abs ((closes_next left c h).right b rest e) in
-    absurd (omega (arith, same, small, large))
-
-pub no_semicolon : (code : OpbCode) (left : List Lexeme) → IsForm code → begins_semicolon (drop 1 (drop 1 left)) ≡ false → DeniesClosing code left
-unfolding DeniesClosing
-no_semicolon code left form none = says_form code _ _ form (λ c h. (closes_next left c h).end none)

@@ -11,6 +11,7 @@ use super::spot::Spot;
 
 /// Texts that spell problems: terms as they are written, a variable however often; names numbered in order of first occurrence,
 /// the objective's first; an equality as one; comments, white space and signs count for nothing by themselves.
+#[tactic(auto, unfolding(crate::specs::Spells::problem_of, pb_text::specs::Number::integer_size, pb_text::specs::Number::integer_value, pb_text::specs::Lexeme::lexemes, pb_text::specs::Lexeme::lexemes_from, pb_text::specs::Lexeme::kind_of, pb_text::specs::Lexeme::kind_of_word, pb_text::specs::Word::is_integer, pb_text::specs::Word::is_literal, pb_text::specs::Word::is_misspelt, pb_text::specs::Name::is_name))]
 pub fn texts_spell_problems()
     ensures empty { spelled [] ≡ problem [] None [] }
     ensures comment_alone { spelled (codes "* #variable= 1 #constraint= 1" ++ 13 ∷ 10 ∷ 9 ∷ 32 ∷ []) ≡
@@ -38,6 +39,7 @@ pub fn texts_spell_problems()
 
 /// Texts that spell nothing: a name of one byte, a missing coefficient, relation or `;`, a late or second objective, a constant or
 /// a maximum, a sign or `~` apart from its word, `<=`, an empty statement.
+#[tactic(auto, unfolding(crate::specs::Spells::problem_of, pb_text::specs::Number::integer_size, pb_text::specs::Number::integer_value, pb_text::specs::Lexeme::lexemes, pb_text::specs::Lexeme::lexemes_from, pb_text::specs::Lexeme::kind_of, pb_text::specs::Lexeme::kind_of_word, pb_text::specs::Word::is_integer, pb_text::specs::Word::is_literal, pb_text::specs::Word::is_misspelt, pb_text::specs::Name::is_name))]
 pub fn texts_spell_nothing()
     ensures one_byte_name { spelled (codes "1 x >= 1 ;") ≡ None }
     ensures no_coefficient { spelled (codes "x1 >= 1 ;") ≡ None }
@@ -56,6 +58,7 @@ pub fn texts_spell_nothing()
 {}
 
 /// Codes at spots: a token is told by where it stands, and not by itself.
+#[tactic(auto, unfolding(pb_text::specs::Lexeme::lexemes, pb_text::specs::Lexeme::lexemes_from, pb_text::specs::Lexeme::kind_of, pb_text::specs::Lexeme::kind_of_word, pb_text::specs::Word::is_integer, pb_text::specs::Word::is_literal, pb_text::specs::Word::is_misspelt, pb_text::specs::Name::is_name))]
 pub fn codes_by_spot()
     ensures bare_coefficient { code_at Spot.Coefficient (lexemes (codes "<= 1 ;")) ≡ OpbCode.BadToken }
     ensures behind_a_literal { code_at Spot.Literal (lexemes (codes "<= 1 ;")) ≡ OpbCode.UnsupportedForm }

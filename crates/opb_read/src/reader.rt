@@ -1,8 +1,7 @@
 //! The reader of a problem file, from left to right: what is left of the text, and the names so far.
 //!
-//! Each function reads one part of the grammar of linear OPB files (Roussel and Manquinho) and says three things: what it
-//! read, in the words of the grammar; of a fault, that the part is not there; and how far it came (`Reaches`, `StopsAt`),
-//! one token after another, so that a fault stands at the first token that cannot stand in its place. At a fault, the token
+//! Each function reads one part of the grammar of linear OPB files (Roussel and Manquinho) and says two things: what it
+//! read, in the words of the grammar; and how far it came (`Reaches`, `StopsAt`), one token after another, so that a fault stands at the first token that cannot stand in its place. At a fault, the token
 //! that has it stands next. So nothing is kept of a statement but its terms, and the line of a fault is that of the next token.
 
 ghost use Rattle.std.specs.Prelude.{◌≡◌, ◌<◌, ◌≤◌, ◌+◌, ℕ, List, true, false, Some, [], ◌∷◌, length, drop, unsigned_abs, IfOk, IfErr, IfSome, OnOk, OnErr, All, MatchOption};
@@ -11,7 +10,7 @@ ghost use Rattle.pb_text.specs.Lexeme.{lexemes};
 ghost use Rattle.pb_text.specs.Number.{integer_value};
 ghost use Rattle.pb_text.specs.Token.{lexeme_of};
 ghost use Rattle.opb_read.specs.Ahead.{begins_integer, begins_semicolon, next_relation, starts_constraint};
-ghost use Rattle.opb_read.specs.Denial.{constraints_ahead, DeniesClosing, DeniesConstraints, DeniesObjective, DeniesProblem, DeniesSum, FollowsConstraint, FollowsObjective, IsForm};
+ghost use Rattle.opb_read.specs.Denial.{constraints_ahead, FollowsConstraint, FollowsObjective, IsForm};
 ghost use Rattle.opb_read.specs.FaultCodes.{code_at};
 ghost use Rattle.opb_read.specs.Forms.{behind_terms, closing_of, names_in, objective_of, terms_of};
 ghost use Rattle.opb_read.specs.Kinds.{statements_of};
@@ -64,7 +63,6 @@ impl<'a> Reader<'a> {
         ensures within { IfOk result (IsTermWithin (length (names_in self.old.variables self.old.left))) }
         ensures room { OnOk result (count < most_terms) }
         ensures shorter { OnOk result (length self.new.left < length self.old.left) }
-        ensures denies { IfErr result (λ code. DeniesSum code (names_in self.old.variables self.old.left) count self.old.left) }
         ensures passes { OnOk result (PassesTerms behind count self.old.variables self.old.left 1 self.new.variables self.new.left) }
         ensures stops { IfErr result (λ code. StopsInSum code behind count self.old.variables self.old.left self.new.left) }
     {
@@ -97,7 +95,6 @@ impl<'a> Reader<'a> {
         ensures end { OnOk result (begins_integer self.new.left ≡ false) }
         ensures names { OnOk result (names_in self.old.variables self.old.left ≡ names_in self.new.variables self.new.left) }
         ensures within { IfOk result (λ v. IsSumWithin (length (names_in self.old.variables self.old.left)) v.items) }
-        ensures denies { IfErr result (λ code. DeniesSum code (names_in self.old.variables self.old.left) 0 self.old.left) }
         ensures passes { IfOk result (λ v.
             PassesTerms behind 0 self.old.variables self.old.left (length v.items) self.new.variables self.new.left) }
         ensures stops { IfErr result (λ code. StopsInSum code behind 0 self.old.variables self.old.left self.new.left) }
@@ -143,7 +140,6 @@ impl<'a> Reader<'a> {
         ensures others { OnOk result ((pieces self.old.left).others ≡ (pieces self.new.left).first ∷ (pieces self.new.left).others) }
         ensures small { IfOk result (λ c. unsigned_abs c.1 ≤ largest_integer) }
         ensures names { OnOk result (names_in self.old.variables self.old.left ≡ names_in self.new.variables self.new.left) }
-        ensures denies { IfErr result (λ code. DeniesClosing code self.old.left) }
         ensures passes { OnOk result ((s : Progress) →
             IsBehindSum s self.old.variables self.old.left →
             Reaches s self.old.left (at_start self.new.variables (s.constraints + 1)) self.new.left) }
@@ -172,7 +168,6 @@ impl<'a> Reader<'a> {
         ensures names { OnOk result (names_in self.old.variables self.old.left ≡ names_in self.new.variables self.new.left) }
         ensures piece { OnOk result ((pieces self.old.left).others ≡ (pieces self.new.left).first ∷ (pieces self.new.left).others) }
         ensures within { IfOk result (IsConstraintWithin (length (names_in self.old.variables self.old.left))) }
-        ensures denies { IfErr result (λ code. DeniesConstraints code (names_in self.old.variables self.old.left) 0 self.old.left) }
         ensures passes { OnOk result ((n : ℕ) →
             HoldsLimits (at_start self.old.variables n) →
             n < most_constraints →
@@ -197,7 +192,6 @@ impl<'a> Reader<'a> {
         requires few { count ≤ most_constraints }
         ensures room { OnOk result (count < most_constraints) }
         ensures starts { OnOk result (starts_constraint self.now.left ≡ true) }
-        ensures denies { IfErr result (λ code. (names : List (List ℕ)) → DeniesConstraints code names count self.now.left) }
         ensures refuses { IfErr result (λ code. (names : List (List ℕ)) → Refuses code (at_start names count) self.now.left) }
     {
         if !begins_constraint(token.kind) {
@@ -215,7 +209,6 @@ impl<'a> Reader<'a> {
         ensures names { OnOk result (names_in self.old.variables self.old.left ≡ self.new.variables) }
         ensures few { IfOk result (λ v. length v.items ≤ most_constraints) }
         ensures within { IfOk result (λ v. All (IsConstraintWithin (length (names_in self.old.variables self.old.left))) v.items) }
-        ensures denies { IfErr result (λ code. DeniesConstraints code (names_in self.old.variables self.old.left) 0 self.old.left) }
         ensures stops { IfErr result (λ code.
             HoldsLimits (at_start self.old.variables 0) → StopsAt code (at_start self.old.variables 0) self.old.left self.new.left) }
     {
@@ -239,7 +232,6 @@ impl<'a> Reader<'a> {
         ensures others { OnOk result ((pieces self.old.left).others ≡ (pieces self.new.left).first ∷ (pieces self.new.left).others) }
         ensures names { OnOk result (names_in self.old.variables self.old.left ≡ names_in self.new.variables self.new.left) }
         ensures within { IfOk result (IsSumWithin (length (names_in self.old.variables self.old.left))) }
-        ensures denies { IfErr result (λ code. DeniesObjective code (names_in self.old.variables self.old.left) self.old.left) }
         ensures passes { OnOk result (HoldsLimits (at_mark self.old.variables) →
             Reaches (at_mark self.old.variables) self.old.left (at_start self.new.variables 0) self.new.left) }
         ensures stops { IfErr result (λ code.
@@ -256,7 +248,6 @@ impl<'a> Reader<'a> {
         requires { self.old.variables ≡ [] }
         ensures objective { IfOk result (λ o. FollowsObjective (names_in self.new.variables self.new.left) o self.old.left self.new.left) }
         ensures within { IfOk result (λ o. IfSome o (IsSumWithin (length (names_in self.new.variables self.new.left)))) }
-        ensures denies { IfErr result (λ code. DeniesProblem code self.old.left) }
         ensures passes { OnOk result (Reaches
             (start_of self.old.left)
             (statements_of self.old.left)

@@ -4,7 +4,6 @@ ghost use Rattle.std.specs.Prelude.{◌≡◌, ◌≤◌, [], Some, All, length,
 ghost use Rattle.linear.specs.Limits.{most_constraints, IsSumWithin, IsConstraintWithin, IsWithin};
 ghost use Rattle.opb_read.specs.Spells.{Spells, problem_of};
 ghost use Rattle.opb_read.specs.Faults.{Denies};
-ghost use Rattle.opb_read.specs.Denial.{DeniesProblem};
 ghost use Rattle.opb_read.specs.Kinds.{statements_of};
 ghost use Rattle.opb_read.specs.Progress.{StopsAt, start_of};
 ghost use Rattle.opb_read.specs.FaultLine.{IsFaultAt};
@@ -24,7 +23,6 @@ fn statements(reader: &mut Reader<'_>, alloc: Global) -> Result<Statements, OpbC
     ensures sum { IfOk result (λ s. IfSome s.0 (IsSumWithin (length reader.new.variables))) }
     ensures few { IfOk result (λ s. length s.1.items ≤ most_constraints) }
     ensures within { IfOk result (λ s. All (IsConstraintWithin (length reader.new.variables)) s.1.items) }
-    ensures denies { IfErr result (λ code. DeniesProblem code reader.old.left) }
     ensures stops { IfErr result (λ code. StopsAt code (start_of reader.old.left) (statements_of reader.old.left) reader.new.left) }
 {
     let objective = reader.objective(alloc)?;

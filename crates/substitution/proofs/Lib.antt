@@ -9,3 +9,5 @@ pub mod Values
 pub mod Difference
 pub mod Opposites
 pub mod Untouched
+pub mod Regrouped
+pub mod NetTables

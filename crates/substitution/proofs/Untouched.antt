@@ -1,5 +1,5 @@
 -- A constraint without a variable that is given an image is itself under a substitution.
-use Rattle.std.proofs.Common.{◌≡◌, ◌≢◌, ℕ, ◌+◌, Bool, true, false, cond, ◌==◌, List, [], ◌∷◌, ◌++◌, map, All, refl, ap, sym, ◌∙◌, arith}
+use Rattle.std.proofs.Common.{◌≡◌, ◌≢◌, ℕ, Bool, true, false, cond, ◌==◌, List, [], ◌∷◌, ◌++◌, map, All, refl, ap, sym, ◌∙◌, arith}
 use Rattle.std.specs.Prelude.{ℤ, pos, ◌+ℤ◌}
 use Rattle.std.proofs.lemmas.Bool.Decides.{nat_tests}
 use Rattle.std.proofs.lemmas.Int.{ints}
@@ -19,7 +19,7 @@ use Rattle.substitution.specs.Under.{IsUntouched, term_at, constant_at, terms_un
 passed : (v w : ℕ) (i rest : Image) → (w ≡ v → ⊥) → cond (v == w) i rest ≡ rest
 passed v w i rest h = let other : (v == w) ≡ false = grind (arith, nat_tests) in ap (λ (b : Bool). cond b i rest) other
 
-stays : (images : Images) (v : ℕ) → All (λ p. p.0.0 ≢ v) images → image_of images v ≡ itself v
+pub stays : (images : Images) (v : ℕ) → All (λ p. p.0.0 ≢ v) images → image_of images v ≡ itself v
 stays [] v h = refl
 stays (p ∷ ps) v h =
     passed v (p.0.0) p.1 (image_of ps v) (All-head (λ q. q.0.0 ≢ v) p ps h) ∙ stays ps v (All-tail (λ q. q.0.0 ≢ v) p ps h)

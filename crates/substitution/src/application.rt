@@ -14,7 +14,7 @@ ghost use Rattle.substitution.specs.Under.{term_at, constant_at, terms_under, co
 
 use super::image::Image;
 use super::substitution::Substitution;
-use linear::{Relation, Seq, Signed, Term};
+use linear::{Integer, Relation, Seq, Signed, Term};
 use normal_form::{CutFault, Normal, normalize};
 use std::alloc::{AllocError, Global};
 
@@ -22,22 +22,18 @@ use std::alloc::{AllocError, Global};
 #[derive(Drop)]
 pub(crate) struct Partial {
     pub(crate) terms: Vec<Term>,
-    pub(crate) constant: i128,
+    pub(crate) constant: Integer,
 }
 
 impl Partial {
     /// Puts in a coefficient at an image.
-    pub(crate) fn put(&mut self, coef: i128, image: Image) -> Result<(), AllocError>
+    pub(crate) fn put(&mut self, coef: Integer, image: Image) -> Result<(), AllocError>
         requires { unsigned_abs self.old.constant + unsigned_abs coef ≤ largest_sum }
         ensures terms { OnOk result (self.new.terms.items ≡ self.old.terms.items ++ term_at coef image) }
         ensures constant { OnOk result (self.new.constant ≡ self.old.constant +ℤ constant_at coef image) }
     {
         match image {
-            Image::Lit(lit) => self.terms.push(Term {
-                coef,
-                var: lit.var,
-                negated: lit.negated,
-            })?,
+            Image::Lit(lit) => self.terms.push(Term::new(coef, lit))?,
             Image::Zero => {}
             Image::One => self.constant += coef,
         }

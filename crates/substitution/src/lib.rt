@@ -14,5 +14,5 @@ pub use application::apply;
 pub use composition::compose;
 pub use covering::covers;
 pub use image::Image;
-pub use objective::objective_goal;
+pub use objective::{NetObjective, objective_goal};
 pub use substitution::Substitution;

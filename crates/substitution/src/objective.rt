@@ -2,21 +2,154 @@
 //!
 //! A redundance step may take answers away as long as one of least value is left (Bogaerts, Gocht, McCreesh and
 //! Nordström, for the VeriPB format): the answer after the substitution must be worth no more than the one before. The
-//! difference of the two sums is one constraint over the values before. The objective's terms come from a file and are
-//! within its limits, so the difference always has a normal form.
+//! difference of the two sums is one constraint over the values before. Only the variables that are given images count in
+//! it, each with its net coefficient: so a table of these is made once for each objective, and a goal costs what its
+//! substitution names, however long the objective is. The objective's terms come from a file and are within its limits, so
+//! the difference always has a normal form.
 
-ghost use Rattle.std.specs.Prelude.{◌≡◌, ◌+◌, ◌≤◌, None, IfOk, IfSome, IsErrOf, MatchOption, OnErr, neg_ℤ, unsigned_abs};
+ghost use Rattle.std.specs.Prelude.{◌≡◌, ◌+◌, ◌<◌, ◌≤◌, ◌++◌, ◌∷◌, ◌+ℤ◌, [], List, None, IfOk, IfSome, IsErrOf, MatchOption, OnErr, length, neg_ℤ, pos, slice_index_or, unsigned_abs};
 ghost use Rattle.std.specs.Option.{IsSomeAnd};
-ghost use Rattle.normal_form.specs.Normal.{IsNormal, largest_sum};
-ghost use Rattle.normal_form.specs.NormalOf.{size_sum};
 ghost use Rattle.linear.specs.Largest.{largest_objective};
-ghost use Rattle.substitution.specs.Objective.{IsObjectiveGoal, not_raised};
+ghost use Rattle.linear.specs.Limits.{IsSumWithin};
+ghost use Rattle.normal_form.specs.Normal.{IsNormal, largest_sum};
+ghost use Rattle.normal_form.specs.NormalOf.{size_sum, slope};
+ghost use Rattle.substitution.specs.Images.{Images};
+ghost use Rattle.substitution.specs.Objective.{AreNetsOf, IsObjectiveGoal, net_terms, not_raised};
 
 use super::application::Partial;
 use super::substitution::Substitution;
-use linear::{Lit, Problem, Relation, Seq, Signed, Term};
+use linear::{Integer, Problem, Relation, Seq, Signed, Term, Var};
 use normal_form::{CutFault, Normal, normalize};
 use std::alloc::{AllocError, Global};
+use std::marker::Model;
+
+/// The objective of a problem, if it has one, with its net coefficients by variable.
+#[derive(Drop)]
+pub struct NetObjective<'a> {
+    problem: &'a Problem,
+    nets: Vec<Integer>,
+}
+
+impl<'a> Model for NetObjective<'a> {
+    ghost use Rattle.std.specs.Prelude.{IfSome, List, Option};
+    ghost use Rattle.linear.specs.declared.term.Term.{Term};
+    ghost use Rattle.substitution.specs.Objective.{AreNetsOf};
+
+    ghost Value = { Option (List Term) };
+
+    ghost view = { λ o. o.problem.now.objective };
+
+    ghost invariant = { λ o. IfSome o.problem.now.objective (λ terms. AreNetsOf terms o.nets.items) };
+}
+
+impl<'a> NetObjective<'a> {
+    ghost use Rattle.std.specs.Prelude.{◌≡◌, None, IfOk, IfSome, IsErrOf, MatchOption, OnErr};
+    ghost use Rattle.std.specs.Option.{IsSomeAnd};
+    ghost use Rattle.normal_form.specs.Normal.{IsNormal};
+    ghost use Rattle.substitution.specs.Objective.{IsObjectiveGoal};
+
+    /// The objective of a problem. It takes sixteen bytes for each variable of the file, and nothing where there is no objective.
+    pub fn of(alloc: Global, problem: &'a Problem) -> Result<Self, AllocError>
+        ensures { IfOk result (λ objective. objective ≡ problem.now.objective) }
+    {
+        let count = problem.names().len();
+        let nets = match problem.objective() {
+            None => Vec::new(alloc),
+            Some(objective) => nets_of(alloc, objective.as_slice(), count)?,
+        };
+        Ok(NetObjective { problem, nets })
+    }
+
+    /// The normal form of `objective - (objective under the substitution) >= 0`, which holds exactly where the
+    /// substitution does not raise the objective; none where there is no objective. It is always within the limits, and
+    /// costs what the substitution names.
+    pub fn goal(
+        &self,
+        alloc: Global,
+        substitution: &Substitution,
+    ) -> Result<Option<Normal>, CutFault>
+        ensures goal { IfOk result (λ goal. MatchOption self.now (goal ≡ None)
+            (λ objective. IsSomeAnd goal (IsObjectiveGoal objective substitution.now))) }
+        ensures normal { IfOk result (λ goal. IfSome goal IsNormal) }
+        ensures others { OnErr result (IsErrOf result CutFault.OutOfMemory) }
+    {
+        // That the objective is within the limits, and that no variable is given two images, is known by the types; this
+        // makes it known here.
+        self.problem.reveal();
+        substitution.reveal();
+        let Some(_objective) = self.problem.objective() else {
+            return Ok(None);
+        };
+        let terms = net_terms(alloc, self.nets.as_slice(), substitution)?;
+        let signed = difference(alloc, terms.as_slice(), substitution)?;
+        Ok(Some(normalize(alloc, &signed)?))
+    }
+}
+
+/// A net coefficient with one more term of its variable.
+fn with_term(net: Integer, term: Term) -> Integer
+    requires { unsigned_abs net + unsigned_abs term.coef ≤ largest_sum }
+    ensures { result ≡ net +ℤ slope term }
+{
+    if term.negated {
+        net - term.coef
+    } else {
+        net + term.coef
+    }
+}
+
+/// Adds a term to the net coefficient of its variable.
+fn add_term(nets: &mut Vec<Integer>, term: Term)
+    requires place { term.var.0 < length nets.old.items }
+    requires room { unsigned_abs (slice_index_or nets.old.items (term.var.0) (pos 0)) + unsigned_abs term.coef ≤ largest_sum }
+    ensures length { length nets.new.items ≡ length nets.old.items }
+    ensures added { (before : List Term) → AreNetsOf before nets.old.items → AreNetsOf (before ++ term ∷ []) nets.new.items }
+{
+    let place = term.var.0 as usize;
+    nets[place] = with_term(nets[place], term);
+}
+
+/// The net coefficients of an objective over so many variables.
+fn nets_of(alloc: Global, objective: &[Term], count: usize) -> Result<Vec<Integer>, AllocError>
+    requires { IsSumWithin count objective.now }
+    ensures { IfOk result (λ nets. AreNetsOf objective.now nets.items) }
+{
+    let mut nets = vec![in alloc; 0; count]?;
+    for term in objective {
+        add_term(&mut nets, *term);
+    }
+    Ok(nets)
+}
+
+/// The net coefficient of a variable; 0 for the names that only a proof has.
+fn net_of(nets: &[Integer], variable: Var) -> Integer
+    ensures { result ≡ slice_index_or nets.now (variable.0) (pos 0) }
+{
+    match nets.get(variable.0 as usize) {
+        Some(net) => *net,
+        None => 0,
+    }
+}
+
+/// The net terms of the variables of a substitution.
+fn net_terms(
+    alloc: Global,
+    nets: &[Integer],
+    substitution: &Substitution,
+) -> Result<Vec<Term>, AllocError>
+    ensures { IfOk result (λ terms. terms.items ≡ net_terms nets.now substitution.now) }
+{
+    let images = substitution.as_slice();
+    let mut terms = Vec::with_capacity(alloc, images.len())?;
+    for image in images {
+        terms.push(Term {
+            coef: net_of(nets, image.0),
+            var: image.0,
+            negated: false,
+        })?;
+    }
+    Ok(terms)
+}
 
 /// The terms of the objective, and after them those with images put in, with all signs changed.
 fn with_images(
@@ -33,10 +166,7 @@ fn with_images(
         constant: 0,
     };
     for term in objective {
-        let image = substitution.image_of_literal(Lit {
-            var: term.var,
-            negated: term.negated,
-        });
+        let image = substitution.image_of_literal(term.literal());
         partial.put(-term.coef, image)?;
     }
     Ok(partial)
@@ -60,8 +190,7 @@ fn difference(
     })
 }
 
-/// The normal form of `objective - (objective under the substitution) >= 0`, which holds exactly where the
-/// substitution does not raise the objective; none where there is no objective. It is always within the limits.
+/// The same for one substitution alone, where no table of the objective is kept.
 pub fn objective_goal(
     alloc: Global,
     problem: &Problem,
@@ -72,13 +201,5 @@ pub fn objective_goal(
     ensures normal { IfOk result (λ goal. IfSome goal IsNormal) }
     ensures others { OnErr result (IsErrOf result CutFault.OutOfMemory) }
 {
-    // That the problem, and so the objective, is within the limits is known by its type; this makes it known here.
-    problem.reveal();
-    match problem.objective() {
-        None => Ok(None),
-        Some(objective) => {
-            let signed = difference(alloc, objective.as_slice(), substitution)?;
-            Ok(Some(normalize(alloc, &signed)?))
-        }
-    }
+    NetObjective::of(alloc, problem)?.goal(alloc, substitution)
 }

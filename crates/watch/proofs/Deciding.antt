@@ -114,10 +114,10 @@ pub without_last : (slots : List (Option NormalConstraint)) (o : Option NormalCo
 without_last slots o = ap (λ (n : ℕ). take n (slots ++ o ∷ [])) (omega (arith, length-append slots (o ∷ []))) ∙ take-append_seam slots (o ∷ [])
 
 -- a walk from the root comes to a root
-pub root_after : (old new : State) (w w' : List ℕ) (count count' : ℕ) → IsRoot old w count → GoesOn old new → count' ≡ count → AreLookedAt (shown old.slots) new.listing w' → IsRoot new w' count'
+pub root_after : (old new : State) (w w' : List ℕ) (count count' : ℕ) → IsRoot old w count → GoesOn old new → count' ≡ count → AreLookedAt (shown old.slots) new.propagated w' → IsRoot new w' count'
 root_after old new w w' count count' r g e looked = record {
   places = e ∙ r.places ∙ ap (length {A = Option NormalConstraint}) (sym g.slots);
-  looked_at = subst (λ (os : List (Option NormalConstraint)). AreLookedAt (shown os) new.listing w') (sym g.slots) looked;
+  looked_at = subst (λ (os : List (Option NormalConstraint)). AreLookedAt (shown os) new.propagated w') (sym g.slots) looked;
   forced = (
     r.forced.0 ++ g.reasons.0,
     g.reasons.1 ∙ ap (λ (rs : List (Option ℕ)). rs ++ map Some g.reasons.0) r.forced.1 ∙ sym (map-append Some r.forced.0 g.reasons.0),
@@ -143,9 +143,9 @@ pub live_after : (slots new : List (Option NormalConstraint)) (added : List Norm
 live_after slots new added k e low h = rw e (live_behind slots added k low (omega (arith, h, ap (length {A = Option NormalConstraint}) e)))
 
 -- what stood before stands again
-pub root_again : (old new : State) (w : List ℕ) (count : ℕ) → new.slots ≡ old.slots → new.listing ≡ old.listing → new.reasons ≡ old.reasons → count ≡ length old.slots → IsSettled (shown old.slots) old.listing → AllForced old.reasons → IsRoot new w count
+pub root_again : (old new : State) (w : List ℕ) (count : ℕ) → new.slots ≡ old.slots → new.propagated ≡ old.listing → new.reasons ≡ old.reasons → count ≡ length old.slots → IsSettled (shown old.slots) old.listing → AllForced old.reasons → IsRoot new w count
 root_again old new w count a b c e settled forced =
-    let looked : AreLookedAt (shown new.slots) new.listing w = rw (a, b) (looked_when_settled (shown old.slots) old.listing w settled) in
+    let looked : AreLookedAt (shown new.slots) new.propagated w = rw (a, b) (looked_when_settled (shown old.slots) old.listing w settled) in
     record { places = e ∙ ap (length {A = Option NormalConstraint}) (sym a); looked_at = looked; forced = (forced.0, c ∙ forced.1) }
 
 -- refuted constraints are refuted beside others

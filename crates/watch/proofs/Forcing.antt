@@ -22,10 +22,9 @@ use Rattle.ledger.proofs.Opening.{fewer}
 use Rattle.watch.proofs.Walking.{goes_on_further}
 
 -- what is so while the terms of a constraint are gone over
-pub record IsForcing (ns : List NormalConstraint) (from listing : List Lit) (waiting : List ℕ) (place slack index : ℕ) : Type 0 where
+pub record IsForcing (ns : List NormalConstraint) (from listing : List Lit) (place slack index : ℕ) : Type 0 where
   pub has_slack : HasSlack ns listing place slack
   pub goes_on : IsContinued ns from listing
-  pub looked_at : AreLookedAt ns listing (place ∷ waiting)
   pub done : (k : ℕ) → k < index → CanForce listing slack (term_at ns place k) → ⊥
 
 can_before : (xs ys new : List Lit) (slack : ℕ) (t : NormalTerm) → new ≡ xs ++ ys → CanForce new slack t → CanForce xs slack t
@@ -33,14 +32,13 @@ can_before xs ys new slack t e f =
     let here : CanForce (xs ++ ys) slack t = rw e at f in
     (here.0, fewer xs ys (t.var.0) t.negated (lists xs (literal_of t)) refl here.1, fewer xs ys (t.var.0) (Rattle.std.proofs.Common.not t.negated) (lists xs (opposite (literal_of t))) refl here.2)
 
-pub forcing_more : (ns ms : List NormalConstraint) (from listing new : List Lit) (w w' : List ℕ) (place slack index : ℕ) → ms ≡ ns → IsForcing ns from listing w place slack index
-    → HasSlack ms new place slack → IsContinued ms listing new → AreLookedAt ms new (place ∷ w') → (CanForce new slack (term_at ms place index) → ⊥) → IsForcing ns from new w' place slack (index + 1)
-forcing_more ns ms from listing new w w' place slack index e h has goes looked done =
+pub forcing_more : (ns ms : List NormalConstraint) (from listing new : List Lit) (place slack index : ℕ) → ms ≡ ns → IsForcing ns from listing place slack index
+    → HasSlack ms new place slack → IsContinued ms listing new → (CanForce new slack (term_at ms place index) → ⊥) → IsForcing ns from new place slack (index + 1)
+forcing_more ns ms from listing new place slack index e h has goes done =
     let here : IsContinued ns listing new = rw e at goes in
     record {
       has_slack = rw e at has;
       goes_on = goes_on_further ns from listing new h.goes_on here;
-      looked_at = rw e at looked;
       done = λ k low can. elim (cases_eq k index) [
         | inl same ↦ done (subst (λ (ks : List NormalConstraint). CanForce new slack (term_at ks place index)) (sym e) (subst (λ (j : ℕ). CanForce new slack (term_at ns place j)) same can))
         | inr other ↦ h.done k (omega (arith, low, other)) (can_before listing here.0 new slack (term_at ns place k) here.2 can)
@@ -56,24 +54,13 @@ pub longer : (ns : List NormalConstraint) (xs ys : List Lit) → IsContinued ns 
 longer ns xs ys g = omega (arith, ap (length {A = Lit}) g.2, length-append xs g.0)
 
 -- a constraint whose terms can force nothing is quiet
-pub quiet_after : (ns : List NormalConstraint) (from listing : List Lit) (w : List ℕ) (place slack : ℕ) → Rises 0 (constraint_at ns place).terms → IsForcing ns from listing w place slack (length (constraint_at ns place).terms) → IsQuiet listing (constraint_at ns place)
-quiet_after ns from listing w place slack rises h =
+pub quiet_after : (ns : List NormalConstraint) (from listing : List Lit) (place slack : ℕ) → Rises 0 (constraint_at ns place).terms → IsForcing ns from listing place slack (length (constraint_at ns place).terms) → IsQuiet listing (constraint_at ns place)
+quiet_after ns from listing place slack rises h =
     let n : NormalConstraint = constraint_at ns place in
     let has : open_sum listing n ≡ n.degree + slack = h.has_slack in (
       λ b. omega (arith, ints, b, has),
       nothing_forced listing n slack rises has (λ k d low can. h.done k low (subst (λ (t : NormalTerm). CanForce listing slack t) (get_or_default n.terms k d _ low) can)),
     )
-
-at_rest : (ns : List NormalConstraint) (from listing : List Lit) (w : List ℕ) (place slack : ℕ) → Rises 0 (constraint_at ns place).terms → IsForcing ns from listing w place slack (length (constraint_at ns place).terms)
-    → (k : ℕ) → Contains (place ∷ w) k → IsQuiet listing (constraint_at ns k) ⊎ Contains w k
-at_rest ns from listing w place slack rises h k (zero, low, e) = inl (subst (λ (j : ℕ). IsQuiet listing (constraint_at ns j)) e (quiet_after ns from listing w place slack rises h))
-at_rest ns from listing w place slack rises h k (suc i, low, e) = inr (i, omega (arith, low), e)
-
-pub looked_after : (ns : List NormalConstraint) (from listing : List Lit) (w : List ℕ) (place slack : ℕ) → Rises 0 (constraint_at ns place).terms → IsForcing ns from listing w place slack (length (constraint_at ns place).terms) → AreLookedAt ns listing w
-looked_after ns from listing w place slack rises h k low = elim (h.looked_at k low) [
-  | inl quiet ↦ inl quiet
-  | inr waits ↦ at_rest ns from listing w place slack rises h k waits
-]
 
 -- where nothing waits, all is settled
 pub settled_when_empty : (ns : List NormalConstraint) (listing : List Lit) (w : List ℕ) → w ≡ [] → AreLookedAt ns listing w → IsSettled ns listing

@@ -1,5 +1,5 @@
 -- Given literals, one after another, and where a walk over them ends.
-use Rattle.std.proofs.Common.{◌≡◌, ℕ, ◌+◌, ◌<◌, ◌⊎◌, inl, inr, Bool, true, false, Contains, Option, None, Some, is_some, MatchOption, not, List, [], ◌∷◌, ◌++◌, length, get_or, map, take, refl, ap, sym, subst, ◌∙◌, append-nil, append_assoc, length-append, arith}
+use Rattle.std.proofs.Common.{◌≡◌, ℕ, ◌+◌, ◌<◌, inl, inr, Bool, true, false, Option, None, Some, is_some, MatchOption, not, List, [], ◌∷◌, ◌++◌, length, get_or, map, take, refl, ap, sym, subst, ◌∙◌, append-nil, append_assoc, length-append, arith}
 use Rattle.std.proofs.lemmas.Bool.{false≢true}
 use Rattle.std.proofs.lemmas.List.{take_more}
 use Rattle.std.proofs.Math.Seq.{take-append_seam}
@@ -8,8 +8,8 @@ use Rattle.normal_form.specs.Normal.{NormalConstraint}
 use Rattle.normal_form.proofs.SetSums.{Within}
 use Rattle.propagate.specs.Chain.{IsChain, IsClosure, IsImpossible, IsRefuted, IsSettled}
 use Rattle.linear.specs.Literal.{opposite}
-use Rattle.propagate.specs.Literals.{among, coefficient_of, lists, IsConsistent, IsOnce}
-use Rattle.propagate.specs.Walk.{IsBrokenAt, IsQuiet}
+use Rattle.propagate.specs.Literals.{among, lists, IsConsistent, IsOnce}
+use Rattle.propagate.specs.Walk.{IsBrokenAt}
 use Rattle.propagate.proofs.ChainEnds.{by_set}
 use Rattle.propagate.proofs.Chains.{no_conflict_from}
 use Rattle.propagate.proofs.Closure.{more_literals}
@@ -18,25 +18,9 @@ use Rattle.propagate.proofs.Listings.{among_cases, among_left}
 use Rattle.propagate.proofs.ReasonedChains.{conflict_at}
 use Rattle.propagate.proofs.SearchEnds.{one_end_or_conflict}
 use Rattle.watch.specs.Givens.{HasAll, IsGiven, IsWholeEnd, Overlies}
-use Rattle.ledger.specs.Ledgers.{State, constraint_at, shown}
-use Rattle.watch.specs.Looking.{AreLookedAt, GoesOn, IsContinued}
+use Rattle.ledger.specs.Ledgers.{State, shown}
+use Rattle.watch.specs.Looking.{GoesOn, IsContinued}
 use Rattle.watch.proofs.KeptWalk.{all_within, closure_kept, conflict_kept}
-use Rattle.ledger.proofs.Opening.{still_quiet}
-use Rattle.watch.proofs.Walking.{none_or_some}
-
--- all that do not wait are still looked at
-pub looked_given : (ns : List NormalConstraint) (listing new : List Lit) (l : Lit) (q q' : List ℕ) → new ≡ listing ++ l ∷ [] → lists listing l ≡ false
-    → AreLookedAt ns listing q
-    → ((k : ℕ) → Contains q k → Contains q' k)
-    → ((k : ℕ) → 0 < coefficient_of (constraint_at ns k) (opposite l) → IsQuiet new (constraint_at ns k) ⊎ Contains q' k)
-    → AreLookedAt ns new q'
-looked_given ns listing new l q q' e unset all kept queued k low = elim (none_or_some (coefficient_of (constraint_at ns k) (opposite l))) [
-  | inl z ↦ elim (all k low) [
-    | inl quiet ↦ inl (subst (λ (xs : List Lit). IsQuiet xs (constraint_at ns k)) (sym e) (still_quiet listing l (constraint_at ns k) unset z quiet))
-    | inr waits ↦ inr (kept k waits)
-  ]
-  | inr some ↦ queued k some
-]
 
 -- nothing is added, or one literal
 pub given_none : (s : State) (given : List Lit) → IsGiven s s given

@@ -13,8 +13,8 @@ use Rattle.propagate.specs.Walk.{IsBrokenAt}
 use Rattle.propagate.proofs.Listings.{among_cases, among_head, among_left, among_right, among_tail}
 use Rattle.watch.specs.Givens.{HasAll, IsGiven}
 use Rattle.ledger.specs.Ledgers.{State, shown}
-use Rattle.watch.specs.Looking.{AreLookedAt, GoesOn}
-use Rattle.watch.specs.Roots.{AllForced, IsRoot}
+use Rattle.watch.specs.Looking.{GoesOn}
+use Rattle.watch.specs.Roots.{AllForced}
 use Rattle.watch.specs.Steps.{AreGiven, Clashes}
 use Rattle.watch.proofs.Deciding.{reason_at}
 use Rattle.watch.proofs.GivenOnes.{one_within}
@@ -111,9 +111,3 @@ given_by_marks xs rs marks given same a k d low none = same ((get_or xs k d).var
 pub root_ends : (old new : State) (given : List Lit) (w : List ℕ) (r : Option ℕ) (b : Bool) → b ≡ is_some r → b ≡ true → GoesOn old new → MatchOption r ((w ≡ []) × IsSettled (shown old.slots) new.listing) (IsBrokenAt (shown old.slots) new.listing) → HasEnd (shown old.slots) given new.listing r
 root_ends old new given w None b e f g end = absurd (false≢true (sym e ∙ f))
 root_ends old new given w (Some place) b e f g end = end
-
--- room for more variables changes nothing
-pub root_same : (old new : State) (w : List ℕ) (count : ℕ) → new.slots ≡ old.slots → new.listing ≡ old.listing → new.reasons ≡ old.reasons → IsRoot old w count → IsRoot new w count
-root_same old new w count a b c r =
-    let looked : AreLookedAt (shown new.slots) new.listing w = rw (a, b) r.looked_at in
-    record { places = r.places ∙ ap (length {A = Option NormalConstraint}) (sym a); looked_at = looked; forced = (r.forced.0, c ∙ r.forced.1) }

@@ -169,21 +169,21 @@ levels_back listing reasons given heights level count h e v =
     }
 
 -- what is kept, after each change of the trail
-pub kept_settled : (old new : State) (levels : List Lit × List ℕ) (q q' : List ℕ) (c c' : ℕ) → length old.reasons ≡ length old.listing → length new.reasons ≡ length new.listing → GoesOn old new → c' ≡ c → AreLookedAt (shown old.slots) new.listing q' → IsKept old levels q c → IsKept new levels q' c'
+pub kept_settled : (old new : State) (levels : List Lit × List ℕ) (q q' : List ℕ) (c c' : ℕ) → length old.reasons ≡ length old.listing → length new.reasons ≡ length new.listing → GoesOn old new → c' ≡ c → AreLookedAt (shown old.slots) new.propagated q' → IsKept old levels q c → IsKept new levels q' c'
 kept_settled old new levels q q' c c' many all g e looked k =
     let added : List (Option ℕ) = map Some g.reasons.0 in
     let lengths : length (old.reasons ++ added) ≡ length (old.listing ++ g.listing.0) = ap (length {A = Option ℕ}) (sym g.reasons.1) ∙ all ∙ ap (length {A = Lit}) g.listing.2 in
     let given = given_walked old.listing g.listing.0 old.reasons g.reasons.0 levels.0 many lengths (top_given old.listing old.reasons levels.0 levels.1 many k.levels_are) in
     record {
       places = e ∙ k.places ∙ ap (length {A = Option NormalConstraint}) (sym g.slots);
-      looked_at = subst (λ (os : List (Option NormalConstraint)). AreLookedAt (shown os) new.listing q') (sym g.slots) looked;
+      looked_at = subst (λ (os : List (Option NormalConstraint)). AreLookedAt (shown os) new.propagated q') (sym g.slots) looked;
       levels_are = rw (g.listing.2, g.reasons.1) (levels_grown old.listing g.listing.0 old.reasons added levels.0 levels.1 many lengths k.levels_are given);
     }
 
 given_more : (xs : List Lit) (rs : List (Option ℕ)) (given : List Lit) (l : Lit) → AreGiven xs rs given → AreGiven xs rs (given ++ l ∷ [])
 given_more xs rs given l a k d low none = among_left given (l ∷ []) ((get_or xs k d).var.0) (get_or xs k d).negated (a k d low none)
 
-pub kept_opened : (old new : State) (levels pushed : List Lit × List ℕ) (l : Lit) (height : ℕ) (q q' : List ℕ) (c c' : ℕ) → length old.reasons ≡ length old.listing → length new.reasons ≡ length new.listing → IsGiven old new (l ∷ []) → lists new.listing l ≡ true → c' ≡ c → AreLookedAt (shown old.slots) new.listing q'
+pub kept_opened : (old new : State) (levels pushed : List Lit × List ℕ) (l : Lit) (height : ℕ) (q q' : List ℕ) (c c' : ℕ) → length old.reasons ≡ length old.listing → length new.reasons ≡ length new.listing → IsGiven old new (l ∷ []) → lists new.listing l ≡ true → c' ≡ c → AreLookedAt (shown old.slots) new.propagated q'
     → pushed ≡ (levels.0 ++ l ∷ [], levels.1 ++ height ∷ []) → height ≡ length old.listing → IsKept old levels q c → IsKept new pushed q' c'
 kept_opened old new levels pushed l height q q' c c' many all g here e looked is low k =
     let rest : List (Option ℕ) = g.reasons.0 in
@@ -193,15 +193,15 @@ kept_opened old new levels pushed l height q q' c c' many all g here e looked is
     let there = levels_pushed old.listing g.added old.reasons rest levels.0 levels.1 l many lengths k.levels_are given (ap (λ (xs : List Lit). lists xs l) (sym g.listing) ∙ here) in
     record {
       places = e ∙ k.places ∙ ap (length {A = Option NormalConstraint}) (sym g.slots);
-      looked_at = subst (λ (os : List (Option NormalConstraint)). AreLookedAt (shown os) new.listing q') (sym g.slots) looked;
+      looked_at = subst (λ (os : List (Option NormalConstraint)). AreLookedAt (shown os) new.propagated q') (sym g.slots) looked;
       levels_are = rw (g.listing, g.reasons.1, is, low) there;
     }
 
 pub kept_back : (old new : State) (levels back : List Lit × List ℕ) (level count : ℕ) (q q' : List ℕ) (c c' : ℕ) → level ≤ length levels.0 → count ≡ height_of old.listing levels.1 level → new.slots ≡ old.slots → new.listing ≡ take count old.listing → new.reasons ≡ take count old.reasons → c' ≡ c
-    → AreLookedAt (shown old.slots) new.listing q' → back ≡ (take level levels.0, take level levels.1) → IsKept old levels q c → IsKept new back q' c'
+    → AreLookedAt (shown old.slots) new.propagated q' → back ≡ (take level levels.0, take level levels.1) → IsKept old levels q c → IsKept new back q' c'
 kept_back old new levels back level count q q' c c' h is slots listing reasons e looked f k = record {
   places = e ∙ k.places ∙ ap (length {A = Option NormalConstraint}) (sym slots);
-  looked_at = subst (λ (os : List (Option NormalConstraint)). AreLookedAt (shown os) new.listing q') (sym slots) looked;
+  looked_at = subst (λ (os : List (Option NormalConstraint)). AreLookedAt (shown os) new.propagated q') (sym slots) looked;
   levels_are = rw (listing, reasons, f) (levels_back old.listing old.reasons levels.0 levels.1 level count h is k.levels_are);
 }
 
@@ -209,7 +209,7 @@ pub height_low : (s : State) (levels : List Lit × List ℕ) (q : List ℕ) (c l
 height_low s levels q c level k h = below_end s.listing s.reasons levels.0 levels.1 level k.levels_are h
 
 -- other constraints, the trail as it was
-pub kept_same : (old new : State) (levels : List Lit × List ℕ) (q q' : List ℕ) (c c' : ℕ) → new.listing ≡ old.listing → new.reasons ≡ old.reasons → c' ≡ length new.slots → AreLookedAt (shown new.slots) new.listing q' → IsKept old levels q c → IsKept new levels q' c'
+pub kept_same : (old new : State) (levels : List Lit × List ℕ) (q q' : List ℕ) (c c' : ℕ) → new.listing ≡ old.listing → new.reasons ≡ old.reasons → c' ≡ length new.slots → AreLookedAt (shown new.slots) new.propagated q' → IsKept old levels q c → IsKept new levels q' c'
 kept_same old new levels q q' c c' listing reasons e looked k = record {
   places = e;
   looked_at = looked;
@@ -254,9 +254,9 @@ kept_root s levels q c many e r =
       levels_are = subst (λ (p : List Lit × List ℕ). AreLevels s.listing s.reasons p.0 p.1) (sym e) none;
     }
 
-pub kept_wider : (old new : State) (levels : List Lit × List ℕ) (q : List ℕ) (c : ℕ) → new.slots ≡ old.slots → new.listing ≡ old.listing → new.reasons ≡ old.reasons → IsKept old levels q c → IsKept new levels q c
-kept_wider old new levels q c slots listing reasons k =
-    let looked : AreLookedAt (shown new.slots) new.listing q = rw (slots, listing) k.looked_at in
+pub kept_wider : (old new : State) (levels : List Lit × List ℕ) (q : List ℕ) (c : ℕ) → new.slots ≡ old.slots → new.listing ≡ old.listing → new.propagated ≡ old.propagated → new.reasons ≡ old.reasons → IsKept old levels q c → IsKept new levels q c
+kept_wider old new levels q c slots listing propagated reasons k =
+    let looked : AreLookedAt (shown new.slots) new.propagated q = rw (slots, propagated) k.looked_at in
     kept_same old new levels q q c c listing reasons (k.places ∙ ap (length {A = Option NormalConstraint}) (sym slots)) looked k
 
 -- the first literals of a listing are among it
@@ -284,5 +284,5 @@ level_closed old mid new l height count e counts many is =
     is ∙ ap (λ (xs : List Lit). (xs, take (count - 1) mid.1)) left ∙ ap (λ (ys : List ℕ). (old.0, ys)) right
 
 -- more waits
-pub kept_longer : (s : State) (levels : List Lit × List ℕ) (q q' : List ℕ) (count after : ℕ) → after ≡ count → AreLookedAt (shown s.slots) s.listing q' → IsKept s levels q count → IsKept s levels q' after
+pub kept_longer : (s : State) (levels : List Lit × List ℕ) (q q' : List ℕ) (count after : ℕ) → after ≡ count → AreLookedAt (shown s.slots) s.propagated q' → IsKept s levels q count → IsKept s levels q' after
 kept_longer s levels q q' count after e looked k = record { places = e ∙ k.places; looked_at = looked; levels_are = k.levels_are }

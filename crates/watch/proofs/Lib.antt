@@ -17,3 +17,4 @@ pub mod KeptLevels
 pub mod Ascents
 pub mod Reasoned
 pub mod AddedIds
+pub mod Propagating

@@ -1,5 +1,7 @@
 -- One literal fewer that is true: what stays quiet, and what has to be looked at.
-use Rattle.std.proofs.Common.{◌≡◌, ℕ, zero, suc, ◌<◌, ◌⊎◌, inl, inr, Bool, true, false, not, Contains, Option, None, Some, List, [], ◌∷◌, ◌++◌, length, get_or, map, set, take, refl, ap, sym, subst, ◌∙◌, arith}
+use Rattle.std.proofs.Common.{◌≡◌, ℕ, zero, suc, ◌<◌, ◌⊎◌, inl, inr, Bool, true, false, not, Contains, Option, None, Some, MatchOption, List, [], ◌∷◌, ◌++◌, ◌≤◌, ◌+◌, length, length-append, get_or, map, set, take, refl, ap, sym, subst, ◌∙◌, append-nil, arith}
+use Rattle.std.proofs.Math.Seq.{take-append_seam}
+use Rattle.ledger.proofs.AssignedLiterals.{take_long}
 use Rattle.std.proofs.lemmas.Bool.{false≢true, cases_eq}
 use Rattle.std.proofs.lemmas.Int.{ints}
 use Rattle.std.proofs.lemmas.List.{get_or-set_same, get_or-set_other, length-map, length-set}
@@ -94,7 +96,20 @@ pub root_without : (old new : State) (place : ℕ) (w : List ℕ) (count : ℕ) 
 root_without old new place w count e r =
     let out : IsRoot (record old { slots = set old.slots place None }) w count = record {
       places = r.places ∙ sym (length-set old.slots place None);
-      looked_at = looked_without old.slots place old.listing w r.looked_at;
+      looked_at = looked_without old.slots place old.propagated w r.looked_at;
       forced = r.forced;
     } in
     subst (λ (s : State). IsRoot s w count) (sym e) out
+
+-- a literal that was not propagated goes, and all that was propagated stays
+pub shorter : (r : Option Lit) (old new : List Lit) → MatchOption r ((old ≡ []) × (new ≡ [])) (λ l. old ≡ new ++ l ∷ []) → length old ≤ length new + 1
+shorter None old new e = omega (arith, ap (length {A = Lit}) e.0)
+shorter (Some l) old new e = omega (arith, ap (length {A = Lit}) e, length-append new (l ∷ []))
+
+pub still_propagated : (p old new pending : List Lit) → old ≡ p ++ pending → (p ≡ old → ⊥) → length old ≤ length new + 1 → take (length new) p ≡ p
+still_propagated p old new [] e some h = absurd (some (sym (append-nil p) ∙ sym e))
+still_propagated p old new (x ∷ xs) e some h = take_long (length new) p (omega (arith, h, ap (length {A = Lit}) e, length-append p (x ∷ xs)))
+
+-- where all was propagated, all that is left is
+pub whole_back : (p old new after : List Lit) (l : Lit) → p ≡ old → old ≡ new ++ l ∷ [] → after ≡ take (length new) p → after ≡ new
+whole_back p old new after l all e is = is ∙ ap (take (length new)) (all ∙ e) ∙ take-append_seam new (l ∷ [])

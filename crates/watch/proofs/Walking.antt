@@ -1,5 +1,5 @@
 -- One forced literal more.
-use Rattle.std.proofs.Common.{◌≡◌, ℕ, zero, suc, ◌+◌, ◌<◌, ◌⊎◌, inl, inr, Bool, true, false, not, cond, Contains, Option, Some, List, [], ◌∷◌, ◌++◌, length, get_or, map, refl, ap, sym, subst, ◌∙◌, append-nil, append_assoc, arith}
+use Rattle.std.proofs.Common.{◌≡◌, ℕ, zero, suc, ◌+◌, ◌<◌, ◌⊎◌, inl, inr, Bool, true, false, not, cond, Option, Some, List, [], ◌∷◌, ◌++◌, length, get_or, map, refl, ap, sym, subst, ◌∙◌, append-nil, append_assoc, arith}
 use Rattle.std.proofs.lemmas.Bool.{false≢true}
 use Rattle.std.proofs.lemmas.Bool.Decides.{nat_tests}
 use Rattle.std.proofs.lemmas.List.{get_or_default, map-append}
@@ -8,17 +8,15 @@ use Rattle.normal_form.specs.declared.term.NormalTerm.{NormalTerm}
 use Rattle.normal_form.specs.Normal.{NormalConstraint, sum_over, only, Rises}
 use Rattle.normal_form.proofs.OneList.{absent}
 use Rattle.normal_form.proofs.SetSums.{only_is}
-use Rattle.linear.specs.Literal.{opposite}
-use Rattle.propagate.specs.Literals.{coefficient_of, lists}
+use Rattle.propagate.specs.Literals.{lists}
 use Rattle.propagate.specs.Slack.{IsForced}
 use Rattle.propagate.specs.Chain.{IsForcedByOne, IsChain}
-use Rattle.propagate.specs.Walk.{IsQuiet}
 use Rattle.ledger.specs.Ledgers.{State, constraint_at, open_sum, shown, HasSlack, term_at}
-use Rattle.watch.specs.Looking.{AreLookedAt, GoesOn, IsContinued, CanForce}
+use Rattle.watch.specs.Looking.{GoesOn, IsContinued, CanForce}
 use Rattle.propagate.specs.Passes.{literal_of}
 use Rattle.propagate.proofs.Occurrences.{forced_at}
 use Rattle.propagate.proofs.Listings.{among_right, among_head}
-use Rattle.ledger.proofs.Opening.{open_less, still_quiet}
+use Rattle.ledger.proofs.Opening.{open_less}
 
 -- a normal constraint has a variable with one sign only
 other_sign : (v x : ℕ) (s y : Bool) → only v (not s) x y ≡ true → only v s x y ≡ false
@@ -48,40 +46,9 @@ one_sign low (t ∷ ts) v s r h =
 pub same_open : (listing : List Lit) (l : Lit) (n : NormalConstraint) → Rises 0 n.terms → IsForced listing l n → open_sum (listing ++ l ∷ []) n ≡ open_sum listing n
 same_open listing l n r f = omega (arith, open_less listing l n f.unset, one_sign 0 n.terms (l.var.0) l.negated r f.occurs)
 
-pub waits_more : (place : ℕ) (q q' : List ℕ) → ((k : ℕ) → Contains q k → Contains q' k) → (k : ℕ) → Contains (place ∷ q) k → Contains (place ∷ q') k
-waits_more place q q' kept k (zero, low, e) = (zero, omega arith, e)
-waits_more place q q' kept k (suc i, low, e) = let r = kept k (i, omega (arith, low), e) in (suc r.0, omega (arith, r.1), r.2)
-
-waits_later : (place : ℕ) (q : List ℕ) (k : ℕ) → Contains q k → Contains (place ∷ q) k
-waits_later place q k r = (suc r.0, omega (arith, r.1), r.2)
-
 pub none_or_some : (n : ℕ) → (n ≡ 0) ⊎ (0 < n)
 none_or_some zero = inl refl
 none_or_some (suc n) = inr (omega arith)
-
--- all that do not wait are still looked at
-pub looked_more : (ns : List NormalConstraint) (listing : List Lit) (l : Lit) (place : ℕ) (q q' : List ℕ) → lists listing l ≡ false
-    → AreLookedAt ns listing (place ∷ q)
-    → ((k : ℕ) → Contains q k → Contains q' k)
-    → ((k : ℕ) → 0 < coefficient_of (constraint_at ns k) (opposite l) → IsQuiet (listing ++ l ∷ []) (constraint_at ns k) ⊎ Contains q' k)
-    → AreLookedAt ns (listing ++ l ∷ []) (place ∷ q')
-looked_more ns listing l place q q' unset all kept new k low = elim (none_or_some (coefficient_of (constraint_at ns k) (opposite l))) [
-  | inl z ↦ elim (all k low) [
-    | inl quiet ↦ inl (still_quiet listing l (constraint_at ns k) unset z quiet)
-    | inr waits ↦ inr (waits_more place q q' kept k waits)
-  ]
-  | inr some ↦ elim (new k some) [
-    | inl quiet ↦ inl quiet
-    | inr waits ↦ inr (waits_later place q' k waits)
-  ]
-]
-
--- what waits may be more
-pub looked_later : (ns : List NormalConstraint) (listing : List Lit) (q q' : List ℕ) → AreLookedAt ns listing q → ((k : ℕ) → Contains q k → Contains q' k) → AreLookedAt ns listing q'
-looked_later ns listing q q' all kept k low = elim (all k low) [
-  | inl quiet ↦ inl quiet
-  | inr waits ↦ inr (kept k waits)
-]
 
 pub forced_there : (ns : List NormalConstraint) (listing : List Lit) (l : Lit) (place : ℕ) → place < length ns → IsForced listing l (constraint_at ns place) → IsForcedByOne ns listing l
 forced_there ns listing l place low f = (place, constraint_at ns place, low, get_or_default ns place (constraint_at ns place) _ low, f)
@@ -101,66 +68,29 @@ goes_on_further ns a b c g h =
     (g.0 ++ h.0, chain_joined ns a g.0 h.0 g.1 (subst (λ (xs : List Lit). IsChain ns xs h.0) g.2 h.1), h.2 ∙ ap (λ (xs : List Lit). xs ++ h.0) g.2 ∙ append_assoc a g.0 h.0)
 
 -- all of it, for the literal of a term
-pub record IsStep (ns : List NormalConstraint) (listing new : List Lit) (place index slack : ℕ) (q : List ℕ) : Type 0 where
+pub record IsStep (ns : List NormalConstraint) (listing new : List Lit) (place index slack : ℕ) : Type 0 where
   pub has_slack : HasSlack ns new place slack
   pub goes_on : IsContinued ns listing new
-  pub looked_at : AreLookedAt ns new (place ∷ q)
   pub done : CanForce new slack (term_at ns place index) → ⊥
 
 -- a term that can force its literal does
 pub forced_by_term : (ns : List NormalConstraint) (listing : List Lit) (place index slack : ℕ) (t : NormalTerm) → index < length (constraint_at ns place).terms → Rises 0 (constraint_at ns place).terms → HasSlack ns listing place slack → t ≡ get_or (constraint_at ns place).terms index t → CanForce listing slack t → IsForced listing (literal_of t) (constraint_at ns place)
 forced_by_term ns listing place index slack t inside rises has is can = forced_at listing (constraint_at ns place) slack index t rises inside is has can
 
-pub step : (ns : List NormalConstraint) (listing new : List Lit) (place index slack : ℕ) (q q' : List ℕ) (t : NormalTerm)
+pub step : (ns : List NormalConstraint) (listing new : List Lit) (place index slack : ℕ) (t : NormalTerm)
     → place < length ns → index < length (constraint_at ns place).terms → Rises 0 (constraint_at ns place).terms → HasSlack ns listing place slack
-    → AreLookedAt ns listing (place ∷ q)
     → t ≡ get_or (constraint_at ns place).terms index t → CanForce listing slack t
     → new ≡ listing ++ literal_of t ∷ []
-    → ((k : ℕ) → Contains q k → Contains q' k)
-    → ((k : ℕ) → 0 < coefficient_of (constraint_at ns k) (opposite (literal_of t)) → IsQuiet new (constraint_at ns k) ⊎ Contains q' k)
-    → IsStep ns listing new place index slack q'
-step ns listing new place index slack q q' t low inside rises has looked is can e kept queued =
+    → IsStep ns listing new place index slack
+step ns listing new place index slack t low inside rises has is can e =
     let n : NormalConstraint = constraint_at ns place in
     let f : IsForced listing (literal_of t) n = forced_at listing n slack index t rises inside is has can in
-    let queued' = rw e at queued in
     rw e (record {
       has_slack = omega (arith, has, same_open listing (literal_of t) n rises f);
       goes_on = goes_on_by_one ns listing (literal_of t) place low f;
-      looked_at = looked_more ns listing (literal_of t) place q q' f.unset looked kept queued';
       done = λ again.
           let same : term_at ns place index ≡ t = get_or_default n.terms index _ t inside ∙ sym is in
           false≢true (sym again.1 ∙ ap (λ (u : NormalTerm). lists (listing ++ literal_of t ∷ []) (literal_of u)) same ∙ among_right listing (literal_of t ∷ []) (t.var.0) t.negated (among_head (literal_of t) []));
-    })
-
-no_more_waits : (ns : List NormalConstraint) (listing : List Lit) (place : ℕ) (q : List ℕ) → IsQuiet listing (constraint_at ns place) → (k : ℕ) → Contains (place ∷ q) k → IsQuiet listing (constraint_at ns k) ⊎ Contains q k
-no_more_waits ns listing place q quiet k (zero, low, e) = inl (subst (λ (j : ℕ). IsQuiet listing (constraint_at ns j)) e quiet)
-no_more_waits ns listing place q quiet k (suc i, low, e) = inr (i, omega (arith, low), e)
-
--- a place whose constraint is quiet waits no more
-pub visited : (ns : List NormalConstraint) (listing : List Lit) (place : ℕ) (q : List ℕ) → AreLookedAt ns listing (place ∷ q) → IsQuiet listing (constraint_at ns place) → AreLookedAt ns listing q
-visited ns listing place q looked quiet k low = elim (looked k low) [
-  | inl done ↦ inl done
-  | inr waits ↦ no_more_waits ns listing place q quiet k waits
-]
-
--- a constraint forces its last literal, and is quiet then
-pub record IsTaken (ns : List NormalConstraint) (listing new : List Lit) (place : ℕ) (q : List ℕ) : Type 0 where
-  pub goes_on : IsContinued ns listing new
-  pub looked_at : AreLookedAt ns new q
-  pub waits : AreLookedAt ns new (place ∷ q)
-
-pub forced_last : (ns : List NormalConstraint) (listing new : List Lit) (l : Lit) (place : ℕ) (q q' : List ℕ) → place < length ns → IsForced listing l (constraint_at ns place) → IsQuiet (listing ++ l ∷ []) (constraint_at ns place)
-    → AreLookedAt ns listing (place ∷ q) → new ≡ listing ++ l ∷ []
-    → ((k : ℕ) → Contains q k → Contains q' k)
-    → ((k : ℕ) → 0 < coefficient_of (constraint_at ns k) (opposite l) → IsQuiet new (constraint_at ns k) ⊎ Contains q' k)
-    → IsTaken ns listing new place q'
-forced_last ns listing new l place q q' low f quiet looked e kept queued =
-    let queued' = rw e at queued in
-    let all : AreLookedAt ns (listing ++ l ∷ []) (place ∷ q') = looked_more ns listing l place q q' f.unset looked kept queued' in
-    rw e (record {
-      goes_on = goes_on_by_one ns listing l place low f;
-      looked_at = visited ns (listing ++ l ∷ []) place q' all quiet;
-      waits = all;
     })
 
 -- nothing is added

@@ -30,7 +30,7 @@ pub record AreLevels (listing : List Lit) (reasons : List (Option ℕ)) (given :
 -- what is kept between calls: what does not wait is looked at, and what is not given is forced
 pub record IsKept (s : State) (levels : List Lit × List ℕ) (waiting : List ℕ) (count : ℕ) : Type 0 where
   pub places : count ≡ length s.slots
-  pub looked_at : AreLookedAt (shown s.slots) s.listing waiting
+  pub looked_at : AreLookedAt (shown s.slots) s.propagated waiting
   pub levels_are : AreLevels s.listing s.reasons levels.0 levels.1
 
 -- where a way up over given literals ended

@@ -10,5 +10,5 @@ AllForced reasons = (places : List ℕ) × (reasons ≡ map Some places)
 -- the literals are forced from nothing, and what does not wait is settled
 pub record IsRoot (s : State) (waiting : List ℕ) (count : ℕ) : Type 0 where
   pub places : count ≡ length s.slots
-  pub looked_at : AreLookedAt (shown s.slots) s.listing waiting
+  pub looked_at : AreLookedAt (shown s.slots) s.propagated waiting
   pub forced : AllForced s.reasons

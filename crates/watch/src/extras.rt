@@ -21,11 +21,12 @@ pub(crate) fn attach_waiting(
     constraint: Normal,
 ) -> Result<(), AllocError>
     requires count { queue.old.1 ≡ length ledger.old.slots }
-    requires looked_at { AreLookedAt (shown ledger.old.slots) ledger.old.listing queue.old.0 }
+    requires looked_at { AreLookedAt (shown ledger.old.slots) ledger.old.propagated queue.old.0 }
     ensures listing { ledger.new.listing ≡ ledger.old.listing }
+    ensures propagated { ledger.new.propagated ≡ ledger.old.propagated }
     ensures reasons { ledger.new.reasons ≡ ledger.old.reasons }
     ensures count { queue.new.1 ≡ length ledger.new.slots }
-    ensures looked_at { AreLookedAt (shown ledger.new.slots) ledger.new.listing queue.new.0 }
+    ensures looked_at { AreLookedAt (shown ledger.new.slots) ledger.new.propagated queue.new.0 }
     ensures ok { OnOk result (ledger.new.slots ≡ ledger.old.slots ++ Some constraint ∷ []) }
     ensures err { OnErr result (ledger.new.slots ≡ ledger.old.slots) }
 {
@@ -52,11 +53,12 @@ pub(crate) fn attach_all(
     extras: &[Normal],
 ) -> Result<(), AllocError>
     requires count { queue.old.1 ≡ length ledger.old.slots }
-    requires looked_at { AreLookedAt (shown ledger.old.slots) ledger.old.listing queue.old.0 }
+    requires looked_at { AreLookedAt (shown ledger.old.slots) ledger.old.propagated queue.old.0 }
     ensures listing { ledger.new.listing ≡ ledger.old.listing }
+    ensures propagated { ledger.new.propagated ≡ ledger.old.propagated }
     ensures reasons { ledger.new.reasons ≡ ledger.old.reasons }
     ensures count { queue.new.1 ≡ length ledger.new.slots }
-    ensures looked_at { AreLookedAt (shown ledger.new.slots) ledger.new.listing queue.new.0 }
+    ensures looked_at { AreLookedAt (shown ledger.new.slots) ledger.new.propagated queue.new.0 }
     ensures more { (added : List NormalConstraint) × (ledger.new.slots ≡ ledger.old.slots ++ map Some added) }
     ensures ok { OnOk result (ledger.new.slots ≡ ledger.old.slots ++ map Some extras.now) }
 {

@@ -41,7 +41,7 @@ pub(crate) fn go_back(ledger: &mut Ledger, queue: &mut Queue, levels: &mut Level
 /// Adds what is forced, up to a constraint that is broken, whatever levels there are.
 fn settle_kept(ledger: &mut Ledger, queue: &mut Queue) -> Result<Ascent, AllocError>
     requires count { queue.old.1 ≡ length ledger.old.slots }
-    requires looked_at { AreLookedAt (shown ledger.old.slots) ledger.old.listing queue.old.0 }
+    requires looked_at { AreLookedAt (shown ledger.old.slots) ledger.old.propagated queue.old.0 }
     ensures slots { ledger.new.slots ≡ ledger.old.slots }
     ensures variables { ledger.new.variables ≡ ledger.old.variables }
     ensures goes_on { GoesOn ledger.old ledger.new }
@@ -61,13 +61,7 @@ fn settle_kept(ledger: &mut Ledger, queue: &mut Queue) -> Result<Ascent, AllocEr
 }
 
 /// One level more, where the opposite of its literal is not there.
-fn open_level(
-    ledger: &mut Ledger,
-    queue: &mut Queue,
-    levels: &mut Levels,
-    literal: Lit,
-) -> Result<(), AllocError>
-    requires kept { IsKept ledger.old levels.old queue.old.0 queue.old.1 }
+fn open_level(ledger: &mut Ledger, levels: &mut Levels, literal: Lit) -> Result<(), AllocError>
     requires variable { literal.var.0 < ledger.old.variables }
     requires free { lists ledger.old.listing (opposite literal) ≡ false }
     ensures slots { ledger.new.slots ≡ ledger.old.slots }
@@ -75,16 +69,11 @@ fn open_level(
     ensures levels { OnOk result (levels.new.0 ≡ levels.old.0 ++ literal ∷ []) }
     ensures no_levels { OnErr result (levels.new ≡ levels.old) }
     ensures pushed { OnOk result (lists ledger.old.listing literal ≡ false → IsPushed ledger.old ledger.new literal) }
-    ensures kept { IsKept ledger.new levels.new queue.new.0 queue.new.1 }
+    ensures kept { (queue : List ℕ × ℕ) → IsKept ledger.old levels.old queue.0 queue.1
+        → IsKept ledger.new levels.new queue.0 queue.1 }
 {
     levels.push(literal, ledger.len())?;
-    match give(ledger, queue, literal) {
-        Err(_) => {
-            levels.truncate(levels.count() - 1);
-            return Err(AllocError);
-        }
-        Ok(()) => {}
-    }
+    give(ledger, literal);
     ledger.reveal();
     Ok(())
 }
@@ -108,7 +97,7 @@ fn step_up(
     if ledger.has(literal.opposite()) {
         return Ok(Ascent::Clash);
     }
-    open_level(ledger, queue, levels, literal)?;
+    open_level(ledger, levels, literal)?;
     settle_kept(ledger, queue)
 }
 
@@ -128,7 +117,7 @@ pub(crate) fn decide(
     ensures decided { OnOk result (IsDecided ledger.old ledger.new literal) }
     ensures broken { IfOk result (λ a. IsSettledOrBroken (shown ledger.old.slots) ledger.new.listing (broken_place a)) }
 {
-    open_level(ledger, queue, levels, literal)?;
+    open_level(ledger, levels, literal)?;
     settle_kept(ledger, queue)
 }
 

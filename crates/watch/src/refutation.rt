@@ -25,6 +25,8 @@ fn settle_root(ledger: &mut Ledger, queue: &mut Queue) -> Result<bool, AllocErro
     ensures root { IsRoot ledger.new queue.new.0 queue.new.1 }
     ensures settled { IfOk result (λ yes. (IsTrue yes → ⊥)
         → IsSettled (shown ledger.new.slots) ledger.new.listing) }
+    ensures propagated { IfOk result (λ yes. (IsTrue yes → ⊥) → ledger.new.propagated ≡ ledger.new.listing) }
+    ensures first { take (length ledger.old.propagated) ledger.new.propagated ≡ ledger.old.propagated }
 {
     ledger.reveal();
     Ok(settle(ledger, queue)?.is_some())
@@ -40,6 +42,7 @@ fn decide_beside(
     requires { IsRoot ledger.old queue.old.0 queue.old.1 }
     ensures value { IfOk result (λ yes. IsTrue yes ↔ IsRefuted (shown ledger.old.slots ++ extras.now)) }
     ensures literals { take (length ledger.old.listing) ledger.new.listing ≡ ledger.old.listing }
+    ensures first { take (length ledger.old.propagated) ledger.new.propagated ≡ ledger.old.propagated }
     ensures more_literals { length ledger.old.listing ≤ length ledger.new.listing }
     ensures reasons { take (length ledger.old.listing) ledger.new.reasons ≡ ledger.old.reasons }
     ensures slots { (added : List NormalConstraint) × (ledger.new.slots ≡ ledger.old.slots ++ map Some added) }
@@ -59,6 +62,7 @@ fn refute_beside(
 ) -> Result<bool, AllocError>
     requires root { IsRoot ledger.old queue.old.0 queue.old.1 }
     requires settled { IsSettled (shown ledger.old.slots) ledger.old.listing }
+    requires propagated { ledger.old.propagated ≡ ledger.old.listing }
     ensures slots { ledger.new.slots ≡ ledger.old.slots }
     ensures root { IsRoot ledger.new queue.new.0 queue.new.1 }
     ensures value { IfOk result (λ yes. IsTrue yes ↔ IsRefuted (shown ledger.old.slots ++ extras.now)) }

@@ -14,18 +14,23 @@ ghost use Rattle.watch.specs.Roots.{IsRoot};
 
 use ledger::{Ledger, Queue};
 
-/// Takes the last literal back, if there is one, and queues the constraints that may force it.
+/// Takes the last literal back, if there is one, and queues the constraints that may force it, where it was propagated.
 fn take_back_one(ledger: &mut Ledger, queue: &mut Queue)
     requires count { queue.old.1 ≡ length ledger.old.slots }
-    requires looked_at { AreLookedAt (shown ledger.old.slots) ledger.old.listing queue.old.0 }
+    requires looked_at { AreLookedAt (shown ledger.old.slots) ledger.old.propagated queue.old.0 }
     ensures slots { ledger.new.slots ≡ ledger.old.slots }
     ensures variables { ledger.new.variables ≡ ledger.old.variables }
     ensures literals { length ledger.new.listing ≡ length ledger.old.listing - 1 }
     ensures listing { ledger.new.listing ≡ take (length ledger.new.listing) ledger.old.listing }
     ensures reasons { ledger.new.reasons ≡ take (length ledger.new.listing) ledger.old.reasons }
     ensures count { queue.new.1 ≡ queue.old.1 }
-    ensures looked_at { AreLookedAt (shown ledger.old.slots) ledger.new.listing queue.new.0 }
+    ensures looked_at { AreLookedAt (shown ledger.old.slots) ledger.new.propagated queue.new.0 }
 {
+    ledger.reveal();
+    if !ledger.is_propagated() {
+        ledger.take_back();
+        return;
+    }
     if let Some(literal) = ledger.take_back() {
         ledger.queue_places(literal, queue);
     }
@@ -35,13 +40,13 @@ fn take_back_one(ledger: &mut Ledger, queue: &mut Queue)
 pub(crate) fn take_back_to(ledger: &mut Ledger, queue: &mut Queue, count: usize)
     requires count { count ≤ length ledger.old.listing }
     requires places { queue.old.1 ≡ length ledger.old.slots }
-    requires looked_at { AreLookedAt (shown ledger.old.slots) ledger.old.listing queue.old.0 }
+    requires looked_at { AreLookedAt (shown ledger.old.slots) ledger.old.propagated queue.old.0 }
     ensures slots { ledger.new.slots ≡ ledger.old.slots }
     ensures variables { ledger.new.variables ≡ ledger.old.variables }
     ensures listing { ledger.new.listing ≡ take count ledger.old.listing }
     ensures reasons { ledger.new.reasons ≡ take count ledger.old.reasons }
     ensures places { queue.new.1 ≡ queue.old.1 }
-    ensures looked_at { AreLookedAt (shown ledger.old.slots) ledger.new.listing queue.new.0 }
+    ensures looked_at { AreLookedAt (shown ledger.old.slots) ledger.new.propagated queue.new.0 }
 {
     ledger.reveal();
     while ledger.len() > count {

@@ -1,200 +1,140 @@
 //! Chains of forced literals, as long as they go, and back again.
 //!
-//! A constraint that does not wait in the queue is not broken and forces nothing: that is so before a walk and after
-//! it, so that an empty queue says that all is settled, and no pass over the constraints ends a walk. What a
-//! constraint forces does not change its own slack, so all that it forces is listed at once.
+//! A constraint that does not wait in the queue is not broken and forces nothing under what was propagated: that is so before a walk
+//! and after it, so that an empty queue says that all is settled, and no pass over the constraints ends a walk. What a
+//! constraint forces does not change its own slack, so all that it forces is assigned at once, and propagated then, literal by
+//! literal. A walk ends with the first conflict that is found. The literals that were not propagated then stay assigned, and what their
+//! rows would tell is not asked for: it need not be known of what was propagated, and they are taken back first.
 
-ghost use Rattle.std.specs.Prelude.{◌≡◌, ◌<◌, ◌≤◌, ◌∷◌, ◌⊎◌, [], IfOk, MatchOption, OnOk, length, take};
+ghost use Rattle.std.specs.Prelude.{◌≡◌, ◌<◌, ◌≤◌, ◌∷◌, ◌⊎◌, [], None, IfOk, MatchOption, OnOk, length, take};
 ghost use Rattle.propagate.specs.Chain.{IsSettled};
-ghost use Rattle.propagate.specs.Walk.{IsBrokenAt};
+ghost use Rattle.propagate.specs.Walk.{IsBrokenAt, IsQuiet};
 ghost use Rattle.ledger.specs.Ledgers.{constraint_at, shown, HasSlack, term_at};
-ghost use Rattle.watch.specs.Looking.{AreLookedAt, GoesOn, CanForce, IsVisited};
+ghost use Rattle.watch.specs.Looking.{AreLookedAt, CanForce, GoesOn, IsForcedOut, IsPropagationEnd, IsVisited, PropagatesOn};
 
 use ledger::{Hint, Ledger, Queue};
 use std::alloc::AllocError;
 
 /// Forces the literal of a term, where its coefficient is above the slack and it is free.
-fn force_term(
-    ledger: &mut Ledger,
-    queue: &mut Queue,
-    place: usize,
-    index: usize,
-    slack: u128,
-) -> Result<(), AllocError>
+fn force_term(ledger: &mut Ledger, place: usize, index: usize, slack: u128)
     requires place { place < length ledger.old.slots }
     requires index { index < length (constraint_at (shown ledger.old.slots) place).terms }
     requires slack { HasSlack (shown ledger.old.slots) ledger.old.listing place slack }
-    requires count { queue.old.1 ≡ length ledger.old.slots }
-    requires looked_at { AreLookedAt (shown ledger.old.slots) ledger.old.listing (place ∷ queue.old.0) }
     ensures goes_on { GoesOn ledger.old ledger.new }
-    ensures count { queue.new.1 ≡ queue.old.1 }
-    ensures progress { OnOk result ((queue.new.0 ≡ queue.old.0)
-        ⊎ (length ledger.old.listing < length ledger.new.listing)) }
+    ensures propagated { ledger.new.propagated ≡ ledger.old.propagated }
     ensures slack { HasSlack (shown ledger.old.slots) ledger.new.listing place slack }
-    ensures looked_at { AreLookedAt (shown ledger.old.slots) ledger.new.listing (place ∷ queue.new.0) }
-    ensures done { OnOk result (CanForce ledger.new.listing slack (term_at (shown ledger.old.slots) place index) → ⊥) }
+    ensures done { CanForce ledger.new.listing slack (term_at (shown ledger.old.slots) place index) → ⊥ }
 {
     let term = ledger.term(place, index);
     let literal = term.literal();
     if term.coef <= slack || !ledger.leaves_free(literal) {
-        return Ok(());
+        return;
     }
-    ledger.set_true(literal, Some(place), queue)?;
-    Ok(())
+    ledger.assign(literal, Some(place));
 }
 
-/// Constraints with more terms are not gone through once more to choose where to begin.
-const FEW_TERMS: usize = 64;
-
-/// Which term of a constraint has the literal whose opposite stands in most clauses; behind the last one where none is chosen.
-fn widest(ledger: &Ledger, place: usize) -> usize
-    requires { place < length ledger.now.slots }
-{
-    let end = ledger.term_count(place);
-    if end > FEW_TERMS {
-        return end;
-    }
-    let mut chosen = end;
-    let mut most = 0;
-    for index in 0..end {
-        let count = ledger.clause_count(ledger.term(place, index).literal().opposite());
-        if count > most {
-            chosen = index;
-            most = count;
-        }
-    }
-    chosen
-}
-
-/// Forces a first literal of a constraint: one whose opposite stands in many clauses is best made true before the others, since these
-/// clauses would else be watched by that opposite, each in place of another literal that falls, only to be looked at once more.
-fn force_widest(
-    ledger: &mut Ledger,
-    queue: &mut Queue,
-    place: usize,
-    slack: u128,
-) -> Result<(), AllocError>
+/// Forces all that the constraint at a place forces, term by term, where its slack is this.
+fn force_each(ledger: &mut Ledger, place: usize, slack: u128)
     requires place { place < length ledger.old.slots }
     requires slack { HasSlack (shown ledger.old.slots) ledger.old.listing place slack }
-    requires count { queue.old.1 ≡ length ledger.old.slots }
-    requires looked_at { AreLookedAt (shown ledger.old.slots) ledger.old.listing (place ∷ queue.old.0) }
     ensures goes_on { GoesOn ledger.old ledger.new }
-    ensures count { queue.new.1 ≡ queue.old.1 }
-    ensures progress { OnOk result ((queue.new.0 ≡ queue.old.0)
-        ⊎ (length ledger.old.listing < length ledger.new.listing)) }
-    ensures slack { HasSlack (shown ledger.old.slots) ledger.new.listing place slack }
-    ensures looked_at { AreLookedAt (shown ledger.old.slots) ledger.new.listing (place ∷ queue.new.0) }
-{
-    let index = widest(ledger, place);
-    if index >= ledger.term_count(place) {
-        return Ok(());
-    }
-    force_term(ledger, queue, place, index, slack)
-}
-
-/// Forces all that the constraint at a place forces, term by term.
-fn force_each(
-    ledger: &mut Ledger,
-    queue: &mut Queue,
-    place: usize,
-    slack: u128,
-) -> Result<(), AllocError>
-    requires place { place < length ledger.old.slots }
-    requires slack { HasSlack (shown ledger.old.slots) ledger.old.listing place slack }
-    requires count { queue.old.1 ≡ length ledger.old.slots }
-    requires looked_at { AreLookedAt (shown ledger.old.slots) ledger.old.listing (place ∷ queue.old.0) }
-    ensures goes_on { GoesOn ledger.old ledger.new }
-    ensures count { queue.new.1 ≡ queue.old.1 }
-    ensures progress { OnOk result ((queue.new.0 ≡ queue.old.0)
-        ⊎ (length ledger.old.listing < length ledger.new.listing)) }
-    ensures looked_at { OnOk result (AreLookedAt (shown ledger.old.slots) ledger.new.listing queue.new.0) }
-    ensures waits { AreLookedAt (shown ledger.old.slots) ledger.new.listing (place ∷ queue.new.0) }
+    ensures propagated { ledger.new.propagated ≡ ledger.old.propagated }
+    ensures quiet { IsQuiet ledger.new.listing (constraint_at (shown ledger.old.slots) place) }
 {
     let end = ledger.term_count(place);
     for index in 0..end {
-        force_term(ledger, queue, place, index, slack)?;
+        force_term(ledger, place, index, slack);
     }
-    Ok(())
 }
 
-/// Forces all that the constraint at a place forces, where its slack is this; it waits no more, but where memory ends.
-fn force(
-    ledger: &mut Ledger,
-    queue: &mut Queue,
-    place: usize,
-    slack: u128,
-) -> Result<(), AllocError>
+/// Looks at the constraint of a place by its terms: whether it is broken, and else all that it forces is assigned.
+fn look_through(ledger: &mut Ledger, place: usize) -> bool
     requires place { place < length ledger.old.slots }
-    requires slack { HasSlack (shown ledger.old.slots) ledger.old.listing place slack }
-    requires count { queue.old.1 ≡ length ledger.old.slots }
-    requires looked_at { AreLookedAt (shown ledger.old.slots) ledger.old.listing (place ∷ queue.old.0) }
+    requires propagated { ledger.old.propagated ≡ ledger.old.listing }
     ensures goes_on { GoesOn ledger.old ledger.new }
-    ensures count { queue.new.1 ≡ queue.old.1 }
-    ensures progress { OnOk result ((queue.new.0 ≡ queue.old.0)
-        ⊎ (length ledger.old.listing < length ledger.new.listing)) }
-    ensures looked_at { OnOk result (AreLookedAt (shown ledger.old.slots) ledger.new.listing queue.new.0) }
-    ensures waits { AreLookedAt (shown ledger.old.slots) ledger.new.listing (place ∷ queue.new.0) }
-{
-    force_widest(ledger, queue, place, slack)?;
-    force_each(ledger, queue, place, slack)?;
-    Ok(())
-}
-
-/// Looks at the constraint of a place by its terms: whether it is broken, and else all that it forces is there.
-fn look_through(ledger: &mut Ledger, queue: &mut Queue, place: usize) -> Result<bool, AllocError>
-    requires place { place < length ledger.old.slots }
-    requires count { queue.old.1 ≡ length ledger.old.slots }
-    requires looked_at { AreLookedAt (shown ledger.old.slots) ledger.old.listing (place ∷ queue.old.0) }
-    ensures goes_on { GoesOn ledger.old ledger.new }
-    ensures count { queue.new.1 ≡ queue.old.1 }
-    ensures progress { OnOk result ((queue.new.0 ≡ queue.old.0)
-        ⊎ (length ledger.old.listing < length ledger.new.listing)) }
-    ensures looked_at { IfOk result (IsVisited (shown ledger.old.slots) ledger.new.listing place queue.new.0) }
-    ensures waits { AreLookedAt (shown ledger.old.slots) ledger.new.listing (place ∷ queue.new.0) }
+    ensures propagated { ledger.new.propagated ≡ ledger.old.propagated }
+    ensures end { IsForcedOut (shown ledger.old.slots) ledger.new.listing place result }
 {
     match ledger.slack(place) {
-        None => Ok(true),
+        None => true,
         Some(slack) => {
-            force(ledger, queue, place, slack)?;
-            Ok(false)
+            force_each(ledger, place, slack);
+            false
         }
     }
 }
 
 /// Looks at the constraint of a place, by the two literals that watch it where they tell: whether it is broken, and else
-/// all that it forces is there.
-fn visit(ledger: &mut Ledger, queue: &mut Queue, place: usize) -> Result<bool, AllocError>
+/// all that it forces is assigned.
+fn force(ledger: &mut Ledger, place: usize) -> bool
     requires place { place < length ledger.old.slots }
-    requires count { queue.old.1 ≡ length ledger.old.slots }
-    requires looked_at { AreLookedAt (shown ledger.old.slots) ledger.old.listing (place ∷ queue.old.0) }
+    requires propagated { ledger.old.propagated ≡ ledger.old.listing }
     ensures goes_on { GoesOn ledger.old ledger.new }
-    ensures count { queue.new.1 ≡ queue.old.1 }
-    ensures progress { OnOk result ((queue.new.0 ≡ queue.old.0)
-        ⊎ (length ledger.old.listing < length ledger.new.listing)) }
-    ensures looked_at { IfOk result (IsVisited (shown ledger.old.slots) ledger.new.listing place queue.new.0) }
-    ensures waits { AreLookedAt (shown ledger.old.slots) ledger.new.listing (place ∷ queue.new.0) }
+    ensures propagated { ledger.new.propagated ≡ ledger.old.propagated }
+    ensures end { IsForcedOut (shown ledger.old.slots) ledger.new.listing place result }
 {
     match ledger.hint(place) {
-        Hint::Quiet => Ok(false),
+        Hint::Quiet => false,
         Hint::Forces(literal) => {
-            ledger.set_true(literal, Some(place), queue)?;
-            Ok(false)
+            ledger.assign(literal, Some(place));
+            false
         }
-        Hint::Unknown => look_through(ledger, queue, place),
+        Hint::Unknown => look_through(ledger, place),
     }
 }
 
-/// Adds forced literals until a constraint is broken, whose place is returned and waits again, or nothing waits and
-/// nothing more is forced. Where memory ends, what was not looked at waits.
-pub(crate) fn settle(ledger: &mut Ledger, queue: &mut Queue) -> Result<Option<usize>, AllocError>
-    requires count { queue.old.1 ≡ length ledger.old.slots }
-    requires looked_at { AreLookedAt (shown ledger.old.slots) ledger.old.listing queue.old.0 }
-    ensures goes_on { GoesOn ledger.old ledger.new }
+/// Propagates all literals that are assigned, up to a constraint that is broken, whose place is returned.
+fn propagate(ledger: &mut Ledger, queue: &mut Queue) -> Result<Option<usize>, AllocError>
+    requires { queue.old.1 ≡ length ledger.old.slots }
+    ensures on { PropagatesOn ledger.old ledger.new queue.old.0 queue.new.0 }
     ensures count { queue.new.1 ≡ queue.old.1 }
-    ensures looked_at { AreLookedAt (shown ledger.old.slots) ledger.new.listing queue.new.0 }
+    ensures idle { ledger.old.propagated ≡ ledger.old.listing → queue.new.0 ≡ queue.old.0 }
+    ensures end { IfOk result (IsPropagationEnd ledger.new) }
+{
+    while !ledger.is_propagated() {
+        let broken = ledger.propagate_next(queue)?;
+        if broken.is_some() {
+            return Ok(broken);
+        }
+        ledger.reveal();
+    }
+    Ok(None)
+}
+
+/// Looks at the constraint of a place, and propagates what it forces; the place of one that is broken then, if there is one.
+fn visit(ledger: &mut Ledger, queue: &mut Queue, place: usize) -> Result<Option<usize>, AllocError>
+    requires place { place < length ledger.old.slots }
+    requires propagated { ledger.old.propagated ≡ ledger.old.listing }
+    requires count { queue.old.1 ≡ length ledger.old.slots }
+    requires looked_at { AreLookedAt (shown ledger.old.slots) ledger.old.propagated (place ∷ queue.old.0) }
+    ensures goes_on { GoesOn ledger.old ledger.new }
+    ensures first { take (length ledger.old.propagated) ledger.new.propagated ≡ ledger.old.propagated }
+    ensures count { queue.new.1 ≡ queue.old.1 }
+    ensures progress { OnOk result ((queue.new.0 ≡ queue.old.0)
+        ⊎ (length ledger.old.listing < length ledger.new.listing)) }
+    ensures waits { AreLookedAt (shown ledger.old.slots) ledger.new.propagated (place ∷ queue.new.0) }
+    ensures end { IfOk result (IsVisited (shown ledger.old.slots) ledger.new queue.new.0) }
+{
+    if force(ledger, place) {
+        return Ok(Some(place));
+    }
+    propagate(ledger, queue)
+}
+
+/// Visits what waits until a constraint is broken, whose place is returned, or nothing waits and nothing more is forced. Where
+/// memory ends or one is broken, what was not looked at waits.
+fn visit_all(ledger: &mut Ledger, queue: &mut Queue) -> Result<Option<usize>, AllocError>
+    requires propagated { ledger.old.propagated ≡ ledger.old.listing }
+    requires count { queue.old.1 ≡ length ledger.old.slots }
+    requires looked_at { AreLookedAt (shown ledger.old.slots) ledger.old.propagated queue.old.0 }
+    ensures goes_on { GoesOn ledger.old ledger.new }
+    ensures first { take (length ledger.old.propagated) ledger.new.propagated ≡ ledger.old.propagated }
+    ensures count { queue.new.1 ≡ queue.old.1 }
+    ensures looked_at { AreLookedAt (shown ledger.old.slots) ledger.new.propagated queue.new.0 }
     ensures end { IfOk result (λ broken. MatchOption broken
         ((queue.new.0 ≡ []) × IsSettled (shown ledger.old.slots) ledger.new.listing)
         (IsBrokenAt (shown ledger.old.slots) ledger.new.listing)) }
+    ensures propagated { IfOk result (λ broken. broken ≡ None → ledger.new.propagated ≡ ledger.new.listing) }
 {
     while let Some(place) = queue.take() {
         match visit(ledger, queue, place) {
@@ -202,16 +142,37 @@ pub(crate) fn settle(ledger: &mut Ledger, queue: &mut Queue) -> Result<Option<us
                 queue.add(place);
                 return Err(AllocError);
             }
-            Ok(true) => {
+            Ok(Some(broken)) => {
                 queue.add(place);
-                return Ok(Some(place));
+                return Ok(Some(broken));
             }
-            Ok(false) => {}
+            Ok(None) => {}
         }
         queue.reveal();
         ledger.reveal();
     }
     Ok(None)
+}
+
+/// Adds forced literals until a constraint is broken, whose place is returned, or nothing waits and
+/// nothing more is forced. Where memory ends, what was not looked at waits.
+pub(crate) fn settle(ledger: &mut Ledger, queue: &mut Queue) -> Result<Option<usize>, AllocError>
+    requires count { queue.old.1 ≡ length ledger.old.slots }
+    requires looked_at { AreLookedAt (shown ledger.old.slots) ledger.old.propagated queue.old.0 }
+    ensures goes_on { GoesOn ledger.old ledger.new }
+    ensures first { take (length ledger.old.propagated) ledger.new.propagated ≡ ledger.old.propagated }
+    ensures count { queue.new.1 ≡ queue.old.1 }
+    ensures looked_at { AreLookedAt (shown ledger.old.slots) ledger.new.propagated queue.new.0 }
+    ensures end { IfOk result (λ broken. MatchOption broken
+        ((queue.new.0 ≡ []) × IsSettled (shown ledger.old.slots) ledger.new.listing)
+        (IsBrokenAt (shown ledger.old.slots) ledger.new.listing)) }
+    ensures propagated { IfOk result (λ broken. broken ≡ None → ledger.new.propagated ≡ ledger.new.listing) }
+{
+    let broken = propagate(ledger, queue)?;
+    if broken.is_some() {
+        return Ok(broken);
+    }
+    visit_all(ledger, queue)
 }
 
 /// Takes back all literals but the first ones.
@@ -220,9 +181,11 @@ pub(crate) fn undo(ledger: &mut Ledger, count: usize)
     ensures slots { ledger.new.slots ≡ ledger.old.slots }
     ensures variables { ledger.new.variables ≡ ledger.old.variables }
     ensures listing { ledger.new.listing ≡ take count ledger.old.listing }
+    ensures propagated { ledger.new.propagated ≡ take count ledger.old.propagated }
     ensures reasons { ledger.new.reasons ≡ take count ledger.old.reasons }
 {
     while ledger.len() > count {
         ledger.take_back();
     }
+    ledger.reveal();
 }

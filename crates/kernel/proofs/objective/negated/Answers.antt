@@ -3,6 +3,7 @@ use Rattle.std.proofs.Common.{◌≡◌, ◌+◌, false, List, [], ◌∷◌, �
 use Rattle.std.specs.Prelude.{ℤ, pos, neg_ℤ}
 use Rattle.std.proofs.lemmas.Int.{ints}
 use Rattle.std.proofs.lemmas.List.{map_more}
+use Rattle.linear.specs.declared.term.Lit.{Lit}
 use Rattle.linear.specs.declared.term.Term.{Term}
 use Rattle.normal_form.proofs.Runs.{size_at}
 use Rattle.normal_form.specs.NormalOf.{sign_changed}
@@ -21,6 +22,12 @@ next_changed new old before after z t e f h k =
     e ∙ ap (λ xs. xs ++ record { coef = z; var = t.var; negated = t.negated } ∷ []) f
     ∙ ap (λ (y : ℤ). before ++ record { coef = y; var = t.var; negated = t.negated } ∷ []) h ∙ sym k
 
+made : (m : Term) (z : ℤ) (l : Lit) (t : Term) → m ≡ record { coef = z; var = l.var; negated = l.negated } → l ≡ record { var = t.var; negated = t.negated } → m ≡ record { coef = z; var = t.var; negated = t.negated }
+made m z l t e f = e ∙ ap (λ (k : Lit). of_literal k) f
+  where
+    of_literal : Lit → Term
+    of_literal k = record { coef = z; var = k.var; negated = k.negated }
+
 pub loop-term-preserved : goal.loop-term-preserved
 loop-term-preserved c =
     let ts : List Term = c.args.terms.now in
@@ -29,4 +36,4 @@ loop-term-preserved c =
     let size = size_at ts i first (omega arith) in
     let same = opposite_kept t.coef (omega (arith, size, c.requires)) in
     next_changed c.push.new.self.items c.loop-term.negated.items (map sign_changed (take i ts)) (map sign_changed (take (i + 1) ts)) _ t
-    c.in_ok-push.ensures.items c.loop-term.invariant same (map_more sign_changed ts i first c.loop-term-test.true)
+    (c.in_ok-push.ensures.items ∙ ap (λ (u : Term). c.loop-term.negated.items ++ u ∷ []) (made c.new.result _ c.literal.result t c.new.ensures c.literal.ensures)) c.loop-term.invariant same (map_more sign_changed ts i first c.loop-term-test.true)

@@ -1,12 +1,15 @@
-use Rattle.std.proofs.Common.{◌≡◌, ℕ, ◌-◌, ◌<◌, ◌≤◌, Some}
-use Rattle.std.specs.FinMap as map
-use Rattle.normal_form.specs.Normal.{NormalConstraint}
-use Rattle.substitution.specs.Covering.{Covers}
+-- Nothing has changed, no constraint that covers has one of the literals that were asked, and what the others are worth is known.
+use Rattle.std.proofs.Common.{◌≡◌, ◌≤◌, length, take}
+use Rattle.normal_form.specs.Normal.{total}
+use Rattle.kernel.proofs.CoveredAt.{IsUncoveredFrom}
 use Rattle.kernel.proofs.shown.is_covered.Given as goal
 
-abbrev pub decreases-loop-next : goal.decreases-loop-next
-decreases-loop-next g l = l.database.next - l.id
+abbrev pub decreases-loop-unasked : goal.decreases-loop-unasked
+decreases-loop-unasked g l = l.place
 
--- no constraint up to here covers it
-abbrev pub invariant-loop-next : goal.invariant-loop-next
-invariant-loop-next g l = (k : ℕ) (n : NormalConstraint) → 0 < k → k ≤ l.id → map.get l.database.live k ≡ Some n → Covers n l.constraint → ⊥
+abbrev pub invariant-loop-unasked : goal.invariant-loop-unasked
+invariant-loop-unasked g l =
+    (l.database ≡ l.fn.database)
+    × (l.place ≤ length l.constraint.terms)
+    × (l.unasked ≡ total (take l.place l.constraint.terms))
+    × IsUncoveredFrom l.fn.database.live l.constraint l.place

@@ -1,8 +1,66 @@
--- No literal was left.
-use Rattle.std.proofs.Common.{arith}
-use Rattle.ledger.proofs.ChosenLiterals.{others_false}
+-- No literal was left, or one that is still to fall.
+use Rattle.std.proofs.Common.{◌≡◌, inr, true, None, Some, Option, get_or, refl, ap, sym, subst, ◌∙◌, arith}
+use Rattle.linear.specs.declared.term.Lit.{Lit}
+use Rattle.linear.specs.Literal.{opposite}
+use Rattle.normal_form.specs.declared.term.NormalTerm.{NormalTerm}
+use Rattle.normal_form.specs.Normal.{NormalConstraint}
+use Rattle.propagate.specs.Literals.{lists}
+use Rattle.propagate.specs.Passes.{literal_of}
+use Rattle.ledger.specs.Trails.{assigned}
+use Rattle.ledger.specs.Watched.{AreOthersFalse, IsFalseBeside, IsOpenBeside}
+use Rattle.ledger.specs.declared.pair.Pair.{Pair}
+use Rattle.std.specs.Prelude.{IfSome, MatchOption}
+use Rattle.ledger.proofs.ChosenLiterals.{false_longer, next_false, others_false}
+use Rattle.ledger.proofs.FallingRows.{variable_below}
 use Rattle.ledger.proofs.choosing.open_beside.Goals as goal
+use Rattle.ledger.proofs.choosing.open_beside.Goals.{in-Some+else-not-assigns, in_default}
 
-pub returns : goal.returns
-returns c =
-    others_false c.args.trail.now.0 c.args.others c.args.constraint.now (λ k d h. c.loop-index.invariant k d (omega (arith, h, c.loop-index-test.false, c.len-index-end.ensures.value, c.loop-index.auto.index-end)))
+pub assigns-requires : goal.assigns-requires
+assigns-requires c = grind (arith, variable_below c.args.constraint.now c.in-Some.literal c.args.trail.now.1 c.in-Some.ensures.value.occurs c.requires, c.opposite.ensures)
+
+pub loop-index-preserved : goal.loop-index-preserved
+loop-index-preserved c =
+    let t = c.args.trail.now in
+    let n : NormalConstraint = c.args.constraint.now in
+    let p : Pair = c.args.others in
+    let i = c.loop-index.invariant in
+    elim c.match-open_at.branch [
+      | in-Some+else-not-assigns w ↦
+          let l : Lit = w.in-Some.literal in
+          let falls : lists (assigned t) (opposite l) ≡ true = ap (lists (assigned t)) (sym w.opposite.ensures) ∙ sym w.assigns.ensures ∙ w.if-not-assigns.false in
+          rw w.chosen-is (record {
+            none = λ e. absurd (some_none l e);
+            all = next_false (assigned t) p n.terms c.loop-index.index i.all (λ d a b. subst (λ (m : Lit). lists (assigned t) (opposite m) ≡ true) (w.in-Some.ensures.own d) falls);
+            chosen = w.in-Some.ensures.value;
+          })
+      | in_default w ↦
+          let now : (d : NormalTerm) → IsFalseBeside t.0 p (literal_of (get_or n.terms c.loop-index.index d)) = w.in_default.ensures.value in
+          rw w.chosen-is (record {
+            none = λ e. next_false t.0 p n.terms c.loop-index.index (i.none e) now;
+            all = next_false (assigned t) p n.terms c.loop-index.index i.all (λ d. false_longer t.0 t.2 p (literal_of (get_or n.terms c.loop-index.index d)) (now d));
+            chosen = i.chosen;
+          })
+    ]
+  where
+    some_none : (l : Lit) → Some l ≡ None → ⊥
+    some_none l e = cc
+
+pub returns-clause-value : goal.returns-clause-value
+returns-clause-value c =
+    let t = c.args.trail.now in
+    let n : NormalConstraint = c.args.constraint.now in
+    either c.loop-index.chosen (AreOthersFalse t.0 n c.args.others) (IsOpenBeside t.0 n c.args.others) (λ e. others_false t.0 c.args.others n (λ k d h. c.loop-index.invariant.none e k d (omega (arith, h, c.loop-index-test.false, c.len-index-end.ensures.value, c.loop-index.auto.index-end)))) c.loop-index.invariant.chosen
+  where
+    either : (o : Option Lit) (A : Type 0) (B : Lit → Type 0) → (o ≡ None → A) → IfSome o B → MatchOption o A B
+    either None A B f g = f refl
+    either (Some l) A B f g = g
+
+pub returns-clause-last : goal.returns-clause-last
+returns-clause-last c =
+    let t = c.args.trail.now in
+    let n : NormalConstraint = c.args.constraint.now in
+    if_some c.loop-index.chosen (λ l. inr (others_false (assigned t) c.args.others n (λ k d h. c.loop-index.invariant.all k d (omega (arith, h, c.loop-index-test.false, c.len-index-end.ensures.value, c.loop-index.auto.index-end)))))
+  where
+    if_some : {A : Lit → Type 0} (o : Option Lit) → ((l : Lit) → A l) → IfSome o A
+    if_some None f = tt
+    if_some (Some l) f = f l

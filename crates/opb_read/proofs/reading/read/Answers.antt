@@ -1,7 +1,7 @@
 use Rattle.std.proofs.Common.{ap, subst, ◌∙◌}
 use Rattle.linear.specs.Opb.{Opb}
-use Rattle.opb_read.specs.Denial.{DeniesProblem}
-use Rattle.opb_read.proofs.Spelled.{denied_text, spells_text}
+use Rattle.opb_read.proofs.Spelled.{spells_text}
+use Rattle.opb_read.proofs.FaultsDeny.{fault_denies}
 use Rattle.opb_read.specs.Kinds.{statements_of}
 use Rattle.opb_read.specs.Progress.{StopsAt, start_of}
 use Rattle.opb_read.proofs.StopsAreFaults.{fault_at}
@@ -14,10 +14,6 @@ returns-in-Ok-clause-spells c =
     let same = c.new.ensures ∙ ap (λ n. let r : Opb = record { names = n; objective = o; constraints = cs } in r) c.into_names-names.ensures.names in
     spells_text c.args.text.now c.new-reader.result.left _ c.new.result c.new-reader.ensures.left c.in-Ok.ensures.problem same
 
-pub returns-in-Err-clause-denies : goal.returns-in-Err-clause-denies
-returns-in-Err-clause-denies c =
-    denied_text c.in-Err.code c.args.text.now (subst (DeniesProblem c.in-Err.code) c.new-reader.ensures.left c.in-Err.ensures.denies)
-
 pub returns-in-Err-clause-line : goal.returns-in-Err-clause-line
 returns-in-Err-clause-line c =
     let code = c.in-Err.code in
@@ -29,3 +25,6 @@ returns-in-Err-clause-line c =
     left
     (subst (λ tokens. StopsAt code (start_of tokens) (statements_of tokens) left) c.new-reader.ensures.left c.in-Err.ensures.stops)
     c.line-line.ensures
+
+pub returns-in-Err-clause-denies : goal.returns-in-Err-clause-denies
+returns-in-Err-clause-denies c = fault_denies c.in-Err.code c.args.text.now c.line-line.result (returns-in-Err-clause-line c)

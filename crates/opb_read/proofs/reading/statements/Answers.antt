@@ -3,23 +3,9 @@ use Rattle.std.specs.Prelude.{Option}
 use Rattle.std.proofs.lemmas.Result.{err_from_is_err_and}
 use Rattle.linear.specs.Opb.{Opb}
 use Rattle.opb_read.specs.Forms.{names_in}
-use Rattle.opb_read.proofs.Objectives.{problem_denied, problem_read}
+use Rattle.opb_read.proofs.Objectives.{problem_read}
 use Rattle.opb_read.proofs.ConstraintSteps.{stops_in_constraints}
 use Rattle.opb_read.proofs.reading.statements.Goals as goal
-
-pub returns-in_err-constraints-clause-denies : goal.returns-in_err-constraints-clause-denies
-returns-in_err-constraints-clause-denies c =
-    let rest = c.objective.new.self.left in
-    let p = err_from_is_err_and c.from_residual-in_err-constraints.result c.from_residual-in_err-constraints.ensures.1 in
-    rw (p.1, p.2)
-    (problem_denied
-    c.in_err-constraints.field-0.0
-    (names_in c.objective.new.self.variables rest)
-    c.in_ok-objective.objective
-    c.args.reader.now.left
-    rest
-    c.in_ok-objective.ensures.objective
-    c.in_err-constraints.ensures.denies)
 
 pub returns-clause-problem : goal.returns-clause-problem
 returns-clause-problem c =

@@ -1,5 +1,5 @@
 -- The excess so far, and the terms of lower variables are passed.
-use Rattle.std.proofs.Common.{◌↔◌, ◌+◌, ◌≤◌, true, false, IsTrue, refl, arith}
+use Rattle.std.proofs.Common.{◌↔◌, ◌+◌, ◌≤◌, false, IsTrue, refl, arith}
 use Rattle.std.proofs.lemmas.Bool.{false≢true}
 use Rattle.normal_form.specs.Normal.{NormalConstraint, Rises}
 use Rattle.substitution.specs.Covering.{Covers}

@@ -13,12 +13,12 @@ use Rattle.watch.proofs.continuing.chain_of_last.Goals as goal
 pub returns-in_err-widen-clause-kept : goal.returns-in_err-widen-clause-kept
 returns-in_err-widen-clause-kept c =
     let e = c.widen.ensures in
-    kept_wider c.args.ledger.now c.widen.new.self c.args.levels.now c.args.queue.now.0 c.args.queue.now.1 e.slots e.listing e.reasons c.requires.kept
+    kept_wider c.args.ledger.now c.widen.new.self c.args.levels.now c.args.queue.now.0 c.args.queue.now.1 e.slots e.listing e.propagated e.reasons c.requires.kept
 
 pub follow-requires-clause-kept : goal.follow-requires-clause-kept
 follow-requires-clause-kept c =
     let e = c.widen.ensures in
-    kept_wider c.args.ledger.now c.widen.new.self c.args.levels.now c.args.queue.now.0 c.args.queue.now.1 e.slots e.listing e.reasons c.requires.kept
+    kept_wider c.args.ledger.now c.widen.new.self c.args.levels.now c.args.queue.now.0 c.args.queue.now.1 e.slots e.listing e.propagated e.reasons c.requires.kept
 
 pub returns-clause-value : goal.returns-clause-value
 returns-clause-value c =

@@ -9,6 +9,7 @@ invariant-loop-extra l = record {
   listing : l.ledger.listing ≡ l.initial.ledger.listing;
   reasons : l.ledger.reasons ≡ l.initial.ledger.reasons;
   count : l.queue.1 ≡ length l.ledger.slots;
-  looked_at : AreLookedAt (shown l.ledger.slots) l.ledger.listing l.queue.0;
+  propagated : l.ledger.propagated ≡ l.initial.ledger.propagated;
+  looked_at : AreLookedAt (shown l.ledger.slots) l.ledger.propagated l.queue.0;
   slots : l.ledger.slots ≡ l.initial.ledger.slots ++ map Some (take l.extra-index l.extras);
 }

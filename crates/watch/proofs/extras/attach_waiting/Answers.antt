@@ -19,17 +19,17 @@ returns-in-Err-clause-looked_at c =
     let d = c.detach.new.self in
     let attached : c.attach.new.self.slots ≡ w.slots ++ Some c.args.constraint ∷ [] = ap (λ (s : State). s.slots) c.in_ok-attach.ensures.ok in
     let slots : d.slots ≡ c.args.ledger.now.slots = ap (λ (s : State). s.slots) c.detach.ensures ∙ ap (λ (os : List (Option NormalConstraint)). take (length os - 1) os) attached ∙ without_last w.slots (Some c.args.constraint) ∙ c.in_ok-widen.ensures.slots in
-    let listing : d.listing ≡ c.args.ledger.now.listing = ap (λ (s : State). s.listing) c.detach.ensures ∙ ap (λ (s : State). s.listing) c.in_ok-attach.ensures.ok ∙ c.in_ok-widen.ensures.listing in
+    let propagated : d.propagated ≡ c.args.ledger.now.propagated = ap (λ (s : State). s.propagated) c.detach.ensures ∙ ap (λ (s : State). s.propagated) c.in_ok-attach.ensures.ok ∙ c.in_ok-widen.ensures.propagated in
     let waiting : c.grow.new.self.0 ≡ c.args.queue.now.0 = ap (λ (p : List ℕ × ℕ). p.0) c.in-Err.ensures.err in
-    let it : AreLookedAt (shown d.slots) d.listing c.grow.new.self.0 = rw (slots, listing, waiting) c.requires.looked_at in it
+    let it : AreLookedAt (shown d.slots) d.propagated c.grow.new.self.0 = rw (slots, propagated, waiting) c.requires.looked_at in it
 
 pub returns-clause-looked_at : goal.returns-clause-looked_at
 returns-clause-looked_at c =
     let w = c.widen.new.self in
     let old = c.args.ledger.now in
     let slots : c.attach.new.self.slots ≡ old.slots ++ Some c.args.constraint ∷ [] = ap (λ (s : State). s.slots) c.in_ok-attach.ensures.ok ∙ ap (λ (os : List (Option NormalConstraint)). os ++ Some c.args.constraint ∷ []) c.in_ok-widen.ensures.slots in
-    let listing : c.attach.new.self.listing ≡ old.listing = ap (λ (s : State). s.listing) c.in_ok-attach.ensures.ok ∙ c.in_ok-widen.ensures.listing in
+    let propagated : c.attach.new.self.propagated ≡ old.propagated = ap (λ (s : State). s.propagated) c.in_ok-attach.ensures.ok ∙ c.in_ok-widen.ensures.propagated in
     let place : c.count-place.result ≡ length old.slots = c.count-place.ensures ∙ ap (length {A = Option NormalConstraint}) c.in_ok-widen.ensures.slots in
     let waiting : c.grow.new.self.0 ≡ c.args.queue.now.0 = ap (λ (p : List ℕ × ℕ). p.0) c.in-Ok.ensures.ok in
-    looked_with_slot old.slots c.attach.new.self.slots c.args.constraint old.listing c.attach.new.self.listing c.args.queue.now.0 c.add.new.self.0 c.count-place.result slots listing place c.requires.looked_at
+    looked_with_slot old.slots c.attach.new.self.slots c.args.constraint old.propagated c.attach.new.self.propagated c.args.queue.now.0 c.add.new.self.0 c.count-place.result slots propagated place c.requires.looked_at
     (λ k x. c.add.ensures.kept k (subst (λ (q : List ℕ). Contains q k) (sym waiting) x)) c.add.ensures.there

@@ -23,8 +23,8 @@ pub returns-clause-root : goal.returns-clause-root
 returns-clause-root c =
     let old = c.args.ledger.now in
     let new = c.detach_from.new.ledger in
-    let listing : new.listing ≡ old.listing = ap (λ (s : State). s.listing) c.detach_from.ensures ∙ c.undo.ensures.listing ∙ ap (λ (n : ℕ). take n c.decide_beside-answer.new.ledger.listing) c.len-root.ensures.value ∙ c.decide_beside-answer.ensures.literals in
+    let propagated : new.propagated ≡ old.listing = ap (λ (s : State). s.propagated) c.detach_from.ensures ∙ c.undo.ensures.propagated ∙ ap (λ (n : ℕ). take n c.decide_beside-answer.new.ledger.propagated) (c.len-root.ensures.value ∙ sym (ap (length {A = Lit}) c.requires.propagated)) ∙ c.decide_beside-answer.ensures.first ∙ c.requires.propagated in
     let reasons : new.reasons ≡ old.reasons = ap (λ (s : State). s.reasons) c.detach_from.ensures ∙ c.undo.ensures.reasons ∙ ap (λ (n : ℕ). take n c.decide_beside-answer.new.ledger.reasons) c.len-root.ensures.value ∙ c.decide_beside-answer.ensures.reasons in
     let slots : new.slots ≡ old.slots = ap (λ (s : State). s.slots) c.detach_from.ensures ∙ ap (λ (os : List (Option NormalConstraint)). take c.count-count.result os) (c.undo.ensures.slots ∙ c.decide_beside-answer.ensures.slots.1)
     ∙ ap (λ (n : ℕ). take n (old.slots ++ map Some c.decide_beside-answer.ensures.slots.0)) c.count-count.ensures ∙ take-append_seam old.slots (map Some c.decide_beside-answer.ensures.slots.0) in
-    root_again old new c.clear.new.self.0 c.clear.new.self.1 slots listing reasons (ap (λ (p : List ℕ × ℕ). p.1) c.clear.ensures ∙ c.count-count.ensures) c.requires.settled c.requires.root.forced
+    root_again old new c.clear.new.self.0 c.clear.new.self.1 slots propagated reasons (ap (λ (p : List ℕ × ℕ). p.1) c.clear.ensures ∙ c.count-count.ensures) c.requires.settled c.requires.root.forced

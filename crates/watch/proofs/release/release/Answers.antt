@@ -13,6 +13,6 @@ returns-clause-root c =
     let t = c.take_back_to.ensures in
     record {
       places = t.places ∙ c.requires.root.places ∙ ap length (sym t.slots);
-      looked_at = subst (λ (os : List (Option NormalConstraint)). AreLookedAt (shown os) new.listing c.take_back_to.new.queue.0) (sym t.slots) t.looked_at;
+      looked_at = subst (λ (os : List (Option NormalConstraint)). AreLookedAt (shown os) new.propagated c.take_back_to.new.queue.0) (sym t.slots) t.looked_at;
       forced = forced_first old.reasons new.reasons c.count_before-count.result t.reasons c.requires.root.forced;
     }

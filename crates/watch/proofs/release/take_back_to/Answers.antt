@@ -35,5 +35,5 @@ loop-ledger-preserved c =
       listing = t.listing ∙ ap (λ (xs : List Lit). take (length new.listing) xs) i.listing ∙ take-take (length new.listing) (length cur.listing) old.listing (omega (arith, t.literals));
       reasons = t.reasons ∙ ap (λ (rs : List (Option ℕ)). take (length new.listing) rs) i.reasons ∙ take-take (length new.listing) (length cur.listing) old.reasons (omega (arith, t.literals));
       long = omega (arith, i.long, t.literals, c.len.ensures.value, c.loop-ledger-test.true);
-      looked_at = subst (λ (os : List (Option NormalConstraint)). AreLookedAt (shown os) new.listing c.take_back_one.new.queue.0) i.slots t.looked_at;
+      looked_at = subst (λ (os : List (Option NormalConstraint)). AreLookedAt (shown os) new.propagated c.take_back_one.new.queue.0) i.slots t.looked_at;
     }

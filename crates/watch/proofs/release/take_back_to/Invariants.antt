@@ -12,7 +12,7 @@ invariant-loop-ledger l = record {
   listing : l.ledger.listing ≡ take (length l.ledger.listing) l.initial.ledger.listing;
   reasons : l.ledger.reasons ≡ take (length l.ledger.listing) l.initial.ledger.reasons;
   long : l.count ≤ length l.ledger.listing;
-  looked_at : AreLookedAt (shown l.initial.ledger.slots) l.ledger.listing l.queue.0;
+  looked_at : AreLookedAt (shown l.initial.ledger.slots) l.ledger.propagated l.queue.0;
 }
 
 abbrev pub decreases-loop-ledger : goal.decreases-loop-ledger

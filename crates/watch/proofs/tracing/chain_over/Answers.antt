@@ -12,17 +12,17 @@ use Rattle.watch.proofs.tracing.chain_over.Goals as goal
 pub returns-in_err-widen-clause-kept : goal.returns-in_err-widen-clause-kept
 returns-in_err-widen-clause-kept c =
     let e = c.widen.ensures in
-    kept_wider c.args.ledger.now c.widen.new.self c.args.levels.now c.args.queue.now.0 c.args.queue.now.1 e.slots e.listing e.reasons c.requires.kept
+    kept_wider c.args.ledger.now c.widen.new.self c.args.levels.now c.args.queue.now.0 c.args.queue.now.1 e.slots e.listing e.propagated e.reasons c.requires.kept
 
 pub returns-in_err-marks-clause-kept : goal.returns-in_err-marks-clause-kept
 returns-in_err-marks-clause-kept c =
     let e = c.widen.ensures in
-    kept_wider c.args.ledger.now c.widen.new.self c.args.levels.now c.args.queue.now.0 c.args.queue.now.1 e.slots e.listing e.reasons c.requires.kept
+    kept_wider c.args.ledger.now c.widen.new.self c.args.levels.now c.args.queue.now.0 c.args.queue.now.1 e.slots e.listing e.propagated e.reasons c.requires.kept
 
 pub follow-requires-clause-kept : goal.follow-requires-clause-kept
 follow-requires-clause-kept c =
     let e = c.widen.ensures in
-    kept_wider c.args.ledger.now c.widen.new.self c.args.levels.now c.args.queue.now.0 c.args.queue.now.1 e.slots e.listing e.reasons c.requires.kept
+    kept_wider c.args.ledger.now c.widen.new.self c.args.levels.now c.args.queue.now.0 c.args.queue.now.1 e.slots e.listing e.propagated e.reasons c.requires.kept
 
 pub tell_all-requires-clause-wide : goal.tell_all-requires-clause-wide
 tell_all-requires-clause-wide c = omega (arith, c.in_ok-marks.ensures.count, c.variable_count.ensures, c.in_ok-ascent.ensures.variables)

@@ -1,30 +1,20 @@
--- What the first literal forces stands before what the others do.
-use Rattle.std.proofs.Common.{◌≡◌, List, ◌∷◌, ap, subst, ◌∙◌, length}
+-- The last open literal of a clause is forced, and the clause is quiet.
+use Rattle.std.proofs.Common.{◌<◌, List, ap, sym, subst, length, arith}
+use Rattle.std.proofs.lemmas.List.{length-map}
+use Rattle.linear.specs.declared.term.Lit.{Lit}
+use Rattle.propagate.specs.Slack.{IsForced}
 use Rattle.normal_form.specs.Normal.{NormalConstraint}
-use Rattle.ledger.specs.Ledgers.{shown}
-use Rattle.watch.specs.Looking.{AreLookedAt}
-use Rattle.watch.proofs.Forcing.{progress_more, longer}
-use Rattle.watch.proofs.Walking.{goes_both}
+use Rattle.ledger.specs.Ledgers.{State, constraint_at, constraint_in, shown}
+use Rattle.watch.specs.Looking.{IsContinued}
+use Rattle.watch.proofs.Walking.{goes_by_one, goes_on_by_one}
 use Rattle.watch.proofs.walk.force.Goals as goal
 
--- as far as memory was there
-pub returns-in_err-force_each-clause-goes_on : goal.returns-in_err-force_each-clause-goes_on
-returns-in_err-force_each-clause-goes_on c = goes_both c.args.ledger.now c.force_widest.new.ledger c.force_each.new.ledger c.in_ok-force_widest.ensures.goes_on c.force_each.ensures.goes_on
-
-pub returns-in_err-force_each-clause-waits : goal.returns-in_err-force_each-clause-waits
-returns-in_err-force_each-clause-waits c =
-    subst (λ (ns : List NormalConstraint). AreLookedAt ns c.force_each.new.ledger.listing (c.args.place ∷ c.force_each.new.queue.0)) (ap shown c.in_ok-force_widest.ensures.goes_on.slots) c.force_each.ensures.waits
-
-pub returns : goal.returns
-returns c =
-    let first = c.in_ok-force_widest.ensures in
-    let others = c.in_ok-force_each.ensures in
-    let same : shown c.force_widest.new.ledger.slots ≡ shown c.args.ledger.now.slots = ap shown first.goes_on.slots in
-    record {
-      goes_on = goes_both c.args.ledger.now c.force_widest.new.ledger c.force_each.new.ledger first.goes_on others.goes_on;
-      count = others.count ∙ first.count;
-      progress = progress_more (length c.args.ledger.now.listing) (length c.force_widest.new.ledger.listing) (length c.force_each.new.ledger.listing) c.args.queue.now.0 c.force_widest.new.queue.0 c.force_each.new.queue.0
-          (longer (shown c.args.ledger.now.slots) c.args.ledger.now.listing c.force_widest.new.ledger.listing first.goes_on.listing) (longer (shown c.force_widest.new.ledger.slots) c.force_widest.new.ledger.listing c.force_each.new.ledger.listing others.goes_on.listing) first.progress others.progress;
-      looked_at = subst (λ (ns : List NormalConstraint). AreLookedAt ns c.force_each.new.ledger.listing c.force_each.new.queue.0) same others.looked_at;
-      waits = subst (λ (ns : List NormalConstraint). AreLookedAt ns c.force_each.new.ledger.listing (c.args.place ∷ c.force_each.new.queue.0)) same others.waits;
-    }
+pub returns-in-Forces-clause-goes_on : goal.returns-in-Forces-clause-goes_on
+returns-in-Forces-clause-goes_on c =
+    let old = c.args.ledger.now in
+    let ns : List NormalConstraint = shown old.slots in
+    let l : Lit = c.in-Forces.literal in
+    let low : c.args.place < length ns = omega (arith, c.requires.place, length-map old.slots constraint_in) in
+    let forced = subst (λ (xs : List Lit). IsForced xs l (constraint_at ns c.args.place)) c.requires.propagated c.in-Forces.ensures.value.0 in
+    goes_by_one old c.assign.new.self c.args.place (ap (λ (s : State). s.slots) c.assign.ensures) (ap (λ (s : State). s.variables) c.assign.ensures)
+    (subst (IsContinued ns old.listing) (sym (ap (λ (s : State). s.listing) c.assign.ensures)) (goes_on_by_one ns old.listing l c.args.place low forced)) (ap (λ (s : State). s.reasons) c.assign.ensures)

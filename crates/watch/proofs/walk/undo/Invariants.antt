@@ -7,6 +7,7 @@ invariant-loop-ledger l = record {
   slots : l.ledger.slots ≡ l.initial.ledger.slots;
   variables : l.ledger.variables ≡ l.initial.ledger.variables;
   first : take l.count l.ledger.listing ≡ take l.count l.initial.ledger.listing;
+  first_propagated : take l.count l.ledger.propagated ≡ take l.count l.initial.ledger.propagated;
   first_reasons : take l.count l.ledger.reasons ≡ take l.count l.initial.ledger.reasons;
   long : l.count ≤ length l.ledger.listing;
 }

@@ -1,42 +1,33 @@
--- The last open literal of a clause is forced, and the clause waits no more.
-use Rattle.std.proofs.Common.{◌<◌, ℕ, List, subst, sym, arith, length, ◌∷◌}
-use Rattle.std.proofs.lemmas.List.{length-map}
-use Rattle.ledger.specs.Ledgers.{State, constraint_in, shown}
-use Rattle.watch.specs.Looking.{AreLookedAt, GoesOn}
-use Rattle.watch.proofs.Walking.{forced_last, goes_by_one, goes_nowhere, looked_later, waits_more}
+-- What the place forces was propagated, and it is quiet then.
+use Rattle.std.proofs.Common.{◌≡◌, ◌∷◌, ℕ, List, Bool, Option, None, Some, ap, sym, subst, ◌∙◌}
+use Rattle.linear.specs.declared.term.Lit.{Lit}
+use Rattle.normal_form.specs.Normal.{NormalConstraint}
+use Rattle.propagate.specs.Walk.{IsBrokenAt, IsQuiet}
+use Rattle.ledger.specs.Ledgers.{State, constraint_at, shown}
+use Rattle.watch.specs.Looking.{AreLookedAt, IsForcedOut, IsPropagationEnd, IsVisited}
+use Rattle.watch.proofs.Propagating.{if_ok, looked_beside, visited}
 use Rattle.watch.proofs.walk.visit.Goals as goal
 
-pub returns-in_err-set_true-in-Forces-clause-goes_on : goal.returns-in_err-set_true-in-Forces-clause-goes_on
-returns-in_err-set_true-in-Forces-clause-goes_on c = subst (GoesOn c.args.ledger.now) (sym c.in_err-set_true-in-Forces.ensures.err) (goes_nowhere c.args.ledger.now)
+looked : (c : goal.After-propagate) → AreLookedAt (shown c.args.ledger.now.slots) c.propagate.new.ledger.propagated (c.args.place ∷ c.propagate.new.queue.0)
+looked c =
+    let ns : List NormalConstraint = shown c.args.ledger.now.slots in
+    let f = c.force.ensures in
+    looked_beside ns c.force.new.ledger c.propagate.new.ledger c.args.place c.args.queue.now.0 c.propagate.new.queue.0 (ap shown f.goes_on.slots) c.propagate.ensures.on
+    (subst (λ (xs : List Lit). AreLookedAt ns xs (c.args.place ∷ c.args.queue.now.0)) (sym f.propagated) c.requires.looked_at)
 
-pub returns-in_err-set_true-in-Forces-clause-waits : goal.returns-in_err-set_true-in-Forces-clause-waits
-returns-in_err-set_true-in-Forces-clause-waits c =
-    let old = c.args.ledger.now in
-    let queue : List ℕ = c.set_true.new.queue.0 in
-    subst (λ (t : State). AreLookedAt (shown old.slots) t.listing (c.args.place ∷ queue)) (sym c.in_err-set_true-in-Forces.ensures.err)
-    (looked_later (shown old.slots) old.listing (c.args.place ∷ c.args.queue.now.0) (c.args.place ∷ queue) c.requires.looked_at (waits_more c.args.place c.args.queue.now.0 queue c.set_true.ensures.kept))
+pub returns-clause-waits : goal.returns-clause-waits
+returns-clause-waits c = looked c
 
-pub returns-in_ok-set_true-in-Forces-clause-goes_on : goal.returns-in_ok-set_true-in-Forces-clause-goes_on
-returns-in_ok-set_true-in-Forces-clause-goes_on c =
-    let old = c.args.ledger.now in
-    let s = c.in_ok-set_true-in-Forces.ensures in
-    let hint = c.in-Forces.ensures.value in
-    let low : c.args.place < length (shown old.slots) = omega (arith, c.requires.place, length-map old.slots constraint_in) in
-    goes_by_one old c.set_true.new.self c.args.place s.slots s.variables
-    (forced_last (shown old.slots) old.listing c.set_true.new.self.listing c.in-Forces.literal c.args.place c.args.queue.now.0 c.set_true.new.queue.0 low hint.0 hint.1 c.requires.looked_at s.listing s.kept s.queued).goes_on s.reasons
+ended : (ns : List NormalConstraint) (s : State) (place : ℕ) (q : List ℕ) (broken : Option ℕ) → shown s.slots ≡ ns → AreLookedAt ns s.propagated (place ∷ q) → IsQuiet s.listing (constraint_at ns place) → IsPropagationEnd s broken → IsVisited ns s q broken
+ended ns s place q None e all quiet end = (end, visited ns s.propagated place q all (subst (λ (xs : List Lit). IsQuiet xs (constraint_at ns place)) (sym end) quiet))
+ended ns s place q (Some k) e all quiet end = subst (λ (ms : List NormalConstraint). IsBrokenAt ms s.listing k) e end
 
-pub returns-in_ok-set_true-in-Forces-clause-looked_at : goal.returns-in_ok-set_true-in-Forces-clause-looked_at
-returns-in_ok-set_true-in-Forces-clause-looked_at c =
-    let old = c.args.ledger.now in
-    let s = c.in_ok-set_true-in-Forces.ensures in
-    let hint = c.in-Forces.ensures.value in
-    let low : c.args.place < length (shown old.slots) = omega (arith, c.requires.place, length-map old.slots constraint_in) in
-    (forced_last (shown old.slots) old.listing c.set_true.new.self.listing c.in-Forces.literal c.args.place c.args.queue.now.0 c.set_true.new.queue.0 low hint.0 hint.1 c.requires.looked_at s.listing s.kept s.queued).looked_at
-
-pub returns-in_ok-set_true-in-Forces-clause-waits : goal.returns-in_ok-set_true-in-Forces-clause-waits
-returns-in_ok-set_true-in-Forces-clause-waits c =
-    let old = c.args.ledger.now in
-    let s = c.in_ok-set_true-in-Forces.ensures in
-    let hint = c.in-Forces.ensures.value in
-    let low : c.args.place < length (shown old.slots) = omega (arith, c.requires.place, length-map old.slots constraint_in) in
-    (forced_last (shown old.slots) old.listing c.set_true.new.self.listing c.in-Forces.literal c.args.place c.args.queue.now.0 c.set_true.new.queue.0 low hint.0 hint.1 c.requires.looked_at s.listing s.kept s.queued).waits
+pub returns-clause-end : goal.returns-clause-end
+returns-clause-end c =
+    let ns : List NormalConstraint = shown c.args.ledger.now.slots in
+    let new = c.propagate.new.ledger in
+    let same = c.propagate.ensures.on.same in
+    let slots : shown new.slots ≡ ns = ap (λ (s : State). shown s.slots) same ∙ ap shown c.force.ensures.goes_on.slots in
+    let out : IsQuiet c.force.new.ledger.listing (constraint_at ns c.args.place) = subst (λ (b : Bool). IsForcedOut ns c.force.new.ledger.listing c.args.place b) c.if-force.false c.force.ensures.end in
+    let quiet : IsQuiet new.listing (constraint_at ns c.args.place) = subst (λ (xs : List Lit). IsQuiet xs (constraint_at ns c.args.place)) (sym (ap (λ (s : State). s.listing) same)) out in
+    if_ok (IsPropagationEnd new) (IsVisited ns new c.propagate.new.queue.0) c.propagate.result (λ broken. ended ns new c.args.place c.propagate.new.queue.0 broken slots (looked c) quiet) c.propagate.ensures.end

@@ -1,5 +1,6 @@
 -- The occurrences of both literals are those of the variable.
 use Rattle.std.proofs.Common.{true, ap, subst}
+use Rattle.linear.specs.declared.term.Lit.{Lit}
 use Rattle.proof_rules.specs.State.{Live}
 use Rattle.propagate.specs.Content.{AddsOccurrences}
 use Rattle.kernel.specs.Database.{Constraints}
@@ -12,6 +13,7 @@ returns-clause-added g c =
     let content = g.P.Propagator.content in
     let middle = c.add_occurrences.new.ids in
     let ids = c.add_occurrences-2.new.ids in
-    let second = subst (λ (m : Live). AddsOccurrences m (record { var = c.args.variable; negated = true }) middle ids) c.in_ok-add_occurrences.ensures.content c.in_ok-add_occurrences-2.ensures.added in
+    let other = subst (λ (l : Lit). AddsOccurrences (content c.add_occurrences.new.self) l middle ids) c.opposite.ensures c.in_ok-add_occurrences-2.ensures.added in
+    let second = subst (λ (m : Live). AddsOccurrences m (record { var = c.args.variable; negated = true }) middle ids) c.in_ok-add_occurrences.ensures.content other in
     subst (λ (live : Live). AddsVariable live c.args.variable c.args.ids.now ids) (ap (λ (d : Constraints). d.live) c.self.view_is)
     (both_literals (content c.self.inside.constraints) c.args.variable c.args.ids.now middle ids c.in_ok-add_occurrences.ensures.added second)

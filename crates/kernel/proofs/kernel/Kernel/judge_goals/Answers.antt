@@ -2,7 +2,6 @@ use Rattle.std.proofs.Common.{◌≡◌, ◌++◌, ◌∷◌, [], All, Some, IfS
 use Rattle.std.proofs.lemmas.Bool.{false≢true}
 use Rattle.std.proofs.lemmas.Result.{err_from_is_err_and}
 use Rattle.std.specs.FinMap as map
-use Rattle.linear.specs.Opb.{Opb}
 use Rattle.normal_form.proofs.Negations.{negation}
 use Rattle.normal_form.proofs.NormalForm.{one_form}
 use Rattle.substitution.specs.Under.{substituted}
@@ -68,7 +67,7 @@ returns-in_default-clause-shown g c =
     let m = c.in_ok-negate.field-0 in
     let images = c.args.witness.now in
     let live = ap (λ (x : Held). x.state.live) c.self.view_is in
-    let problem = ap (λ (x : Held). x.problem) c.self.view_is in
+    let objective : c.self.inside.objective ≡ k.problem.objective = c.self.invariant.objective_is ∙ ap (λ (x : Held). x.problem.objective) c.self.view_is in
     let alone = beside_negation c.new-beside.result.items c.push.new.self.items m c.new-beside.ensures.items c.in_ok-push.ensures.items in
     let from = same_from c.self.inside.database c.self.inside.database k.state c.push.new.self.items c.push.new.self.items m refl live alone refl in
     let then = same_from c.self.inside.database c.judge_live.new.database k.state c.push.new.self.items c.judge_live.new.beside.items m c.in_ok-judge_live.ensures.same live alone c.in_ok-judge_live.ensures.beside in (
@@ -78,8 +77,8 @@ returns-in_default-clause-shown g c =
         each_live = subst (λ xs. All (IsShownUnder xs images) (constraints k.state)) from
             (subst (λ l. All (IsShownUnder (map.values c.self.inside.database.live ++ c.push.new.self.items) images) (map.values l)) live c.in_ok-judge_live.ensures.shown);
         itself = (c.in_ok-goal.goal, c.in_ok-goal.ensures.under, subst (λ xs. IsShown xs c.in_ok-goal.goal) then (c.in_ok-is_shown.ensures.shown.0 c.if-not-branch.false));
-        objective = subst (λ (q : Opb). IfSome q.objective (IsShownNotRaised (constraints k.state ++ m ∷ []) images)) problem
-            (no_objective_goal c.self.inside.source.now.objective c.in_ok-goal-2.field-0 images (constraints k.state ++ m ∷ []) c.in_ok-goal-2.ensures.goal c.in_default.is);
+        objective = subst (λ o. IfSome o (IsShownNotRaised (constraints k.state ++ m ∷ []) images)) objective
+            (no_objective_goal c.self.inside.objective c.in_ok-goal-2.field-0 images (constraints k.state ++ m ∷ []) c.in_ok-goal-2.ensures.goal c.in_default.is);
       },
     )
 
@@ -90,7 +89,7 @@ returns-then-not-branch-2-clause-fault g c =
     let m = c.in_ok-negate.field-0 in
     let images = c.args.witness.now in
     let live = ap (λ (x : Held). x.state.live) c.self.view_is in
-    let problem = ap (λ (x : Held). x.problem) c.self.view_is in
+    let objective : c.self.inside.objective ≡ k.problem.objective = c.self.invariant.objective_is ∙ ap (λ (x : Held). x.problem.objective) c.self.view_is in
     let alone = beside_negation c.new-beside.result.items c.push.new.self.items m c.new-beside.ensures.items c.in_ok-push.ensures.items in
     let from = same_from c.self.inside.database c.self.inside.database k.state c.push.new.self.items c.push.new.self.items m refl live alone refl in
     let then = same_from c.self.inside.database c.judge_live.new.database k.state c.push.new.self.items c.judge_live.new.beside.items m c.in_ok-judge_live.ensures.same live alone c.in_ok-judge_live.ensures.beside in
@@ -101,8 +100,8 @@ returns-then-not-branch-2-clause-fault g c =
     (subst (λ l. All (IsShownUnder (map.values c.self.inside.database.live ++ c.push.new.self.items) images) (map.values l)) live c.in_ok-judge_live.ensures.shown) in
     let itself : IsShownUnder (constraints k.state ++ m ∷ []) images n =
     (c.in_ok-goal.goal, c.in_ok-goal.ensures.under, subst (λ xs. IsShown xs c.in_ok-goal.goal) then (c.in_ok-is_shown.ensures.shown.0 c.if-not-branch.false)) in
-    let o = objective_judged c.self.inside.source.now.objective c.in_ok-goal-2.field-0 c.in-Some.goal images (constraints k.state) c.in_ok-goal-2.ensures.goal c.in-Some.is in
-    let is : k.problem.objective ≡ Some o.0 = sym (ap (λ (q : Opb). q.objective) problem) ∙ o.1 in
+    let o = objective_judged c.self.inside.objective c.in_ok-goal-2.field-0 c.in-Some.goal images (constraints k.state) c.in_ok-goal-2.ensures.goal c.in-Some.is in
+    let is : k.problem.objective ≡ Some o.0 = sym objective ∙ o.1 in
     let never : IsShownNotRaised (constraints k.state ++ m ∷ []) images o.0 → ⊥ = λ h.
     false≢true (sym c.if-not-branch-2.true ∙ c.in_ok-is_shown-2.ensures.shown.1
     (subst (λ xs. IsShown xs c.in-Some.goal) (sym last) (subst (IsShown (constraints k.state ++ m ∷ [])) (one_form (not_raised o.0 images) h.0 c.in-Some.goal h.1 o.2) h.2))) in
@@ -115,14 +114,14 @@ returns-clause-shown g c =
     let m = c.in_ok-negate.field-0 in
     let images = c.args.witness.now in
     let live = ap (λ (x : Held). x.state.live) c.self.view_is in
-    let problem = ap (λ (x : Held). x.problem) c.self.view_is in
+    let objective : c.self.inside.objective ≡ k.problem.objective = c.self.invariant.objective_is ∙ ap (λ (x : Held). x.problem.objective) c.self.view_is in
     let alone = beside_negation c.new-beside.result.items c.push.new.self.items m c.new-beside.ensures.items c.in_ok-push.ensures.items in
     let from = same_from c.self.inside.database c.self.inside.database k.state c.push.new.self.items c.push.new.self.items m refl live alone refl in
     let then = same_from c.self.inside.database c.judge_live.new.database k.state c.push.new.self.items c.judge_live.new.beside.items m c.in_ok-judge_live.ensures.same live alone c.in_ok-judge_live.ensures.beside in
     let last = same_from c.self.inside.database c.is_shown.new.database k.state c.push.new.self.items c.is_shown.new.beside.items m
     (c.in_ok-is_shown.ensures.same ∙ c.in_ok-judge_live.ensures.same) live alone (c.in_ok-is_shown.ensures.beside ∙ c.in_ok-judge_live.ensures.beside) in
-    let o = objective_judged c.self.inside.source.now.objective c.in_ok-goal-2.field-0 c.in-Some.goal images (constraints k.state) c.in_ok-goal-2.ensures.goal c.in-Some.is in
-    let is : k.problem.objective ≡ Some o.0 = sym (ap (λ (q : Opb). q.objective) problem) ∙ o.1 in
+    let o = objective_judged c.self.inside.objective c.in_ok-goal-2.field-0 c.in-Some.goal images (constraints k.state) c.in_ok-goal-2.ensures.goal c.in-Some.is in
+    let is : k.problem.objective ≡ Some o.0 = sym objective ∙ o.1 in
     let shown : IsShownNotRaised (constraints k.state ++ m ∷ []) images o.0 = (c.in-Some.goal, o.2, subst (λ xs. IsShown xs c.in-Some.goal) last (c.in_ok-is_shown-2.ensures.shown.0 c.if-not-branch-2.false)) in (
       m,
       record {

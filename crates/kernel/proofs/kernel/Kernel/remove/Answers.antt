@@ -19,8 +19,8 @@ invariant_of-self g c =
     let deletable : IsDeletable p s (id_of s.next c.args.number) =
     subst (λ (x : Held). IsDeletable x.problem x.state (id_of x.state.next c.args.number)) (sym c.self.view_is) c.requires in
     let after = kept_step p s (without (id_of s.next c.args.number) s) (steps.Del (c.args.number ∷ [])) c.self.invariant.kept (deletable, refl) in
-    let kept : Keeps (record { problem = p; state = state_with (removed (id_of k.database.next c.args.number) k.database) k.log }) k.problem_ids =
-    record { kept = after; file = c.self.invariant.file } in
-    subst (λ d. Keeps (record { problem = p; state = state_with d k.log }) k.problem_ids) (sym c.remove.ensures)
-    (subst (λ z. Keeps (record { problem = p; state = state_with (removed (id_of k.database.next z) k.database) k.log }) k.problem_ids)
+    let kept : Keeps (record { problem = p; state = state_with (removed (id_of k.database.next c.args.number) k.database) k.log }) k.problem_ids k.objective =
+    record { kept = after; file = c.self.invariant.file; objective_is = c.self.invariant.objective_is } in
+    subst (λ d. Keeps (record { problem = p; state = state_with d k.log }) k.problem_ids k.objective) (sym c.remove.ensures)
+    (subst (λ z. Keeps (record { problem = p; state = state_with (removed (id_of k.database.next z) k.database) k.log }) k.problem_ids k.objective)
     (sym (to_z-of_z w128 c.args.number fits)) kept)

@@ -21,5 +21,5 @@ returns-in-Some-pair-clause-value c =
     let watched = c.self.invariant.3.each c.args.place n p there at in
     let rises = (normal_there e.slots.items e.trail.0 e.trail.1 e.table e.clauses e.counters.items e.limits.items e.watchers.pairs c.args.place n c.self.invariant.0 low there).rises in
     let holds : IsHint e.trail.0 n c.hint_of.result = hint_holds e.trail.0 n p c.hint_of.result c.reveal.ensures.consistent rises watched.of_it (whole e.trail.0 n p watched.tell) c.hint_of.ensures.value in
-    subst (λ (s : State). IsHint s.listing (constraint_at (shown s.slots) c.args.place) c.hint_of.result) c.self.view_is
+    subst (λ (s : State). IsHint s.propagated (constraint_at (shown s.slots) c.args.place) c.hint_of.result) c.self.view_is
     (subst (λ (m : NormalConstraint). IsHint e.trail.0 m c.hint_of.result) (sym shows) holds)

@@ -17,4 +17,4 @@ returns-in-None c =
     let there : get_or e.slots.items c.args.place None ≡ Some c.args.constraint.now = ap (λ (s : State). get_or s.slots c.args.place None) c.self.view_is ∙ c.requires in
     let low : c.args.place < length e.slots.items = some_there e.slots.items c.args.place c.args.constraint.now there in
     counter_there e.slots.items e.trail.0 e.trail.1 e.table e.clauses e.counters.items e.limits.items e.watchers.pairs c.args.place c.index.result.now c.args.constraint.now c.self.invariant.0 low there (sym c.pair.ensures ∙ c.in-None.is) c.index.ensures
-    ∙ ap (λ (s : State). open_sum s.listing c.args.constraint.now) c.self.view_is
+    ∙ ap (λ (s : State). open_sum s.propagated c.args.constraint.now) c.self.view_is

@@ -50,7 +50,7 @@ invariant_of-self-2 c =
     let clauses : 2 * w ≤ length c.widen-2.new.self = fits v w c.args.variables (length c.widen-2.new.self) (omega (arith, i.watched_index.size, c.widen-2.ensures.longer)) c.in_ok-widen-2.ensures.ok most in
     let rows : 2 * w ≤ length c.widen-3.new.self.rows = fits v w c.args.variables (length c.widen-3.new.self.rows) (omega (arith, c.self.invariant.3.size, c.widen-3.ensures.longer)) c.in_ok-widen-3.ensures.ok most in
     let room : c.args.variables ≤ vec_capacity c.reserve.new.self = omega (arith, c.in_ok-reserve.ensures.ok, c.in_ok-reserve.ensures.succeeds, c.reserve.ensures.len, c.len.ensures, c.saturating_sub.ensures) in
-    rw c.widen-4.ensures.listing (
+    rw (c.widen-4.ensures.propagated, c.widen-4.ensures.pending) (
       with_pairs e.slots.items e.trail.0 w c.widen.new.self c.widen-2.new.self e.counters.items e.limits.items e.watchers.pairs c.widen-3.new.self.pairs
           (widened e.slots.items e.trail.0 v w e.table c.widen.new.self e.clauses c.widen-2.new.self e.counters.items e.limits.items e.watchers.pairs i c.widen-4.ensures.more table c.widen.ensures.kept clauses c.widen-2.ensures.kept)
           c.widen-3.ensures.pairs,

@@ -6,31 +6,26 @@ use Rattle.ledger.specs.Watched.{Watching}
 use Rattle.ledger.proofs.FallingRows.{dropped, dropped_by, entry_is, moved_on, number_inside, place_is, stays, variable_below}
 use Rattle.ledger.proofs.watchers.Watchers.pass.Goals as goal
 
-pub returns-in-Satisfied-clause-falling : goal.returns-in-Satisfied-clause-falling
-returns-in-Satisfied-clause-falling c =
+pub returns-in-Satisfied-clause-passed : goal.returns-in-Satisfied-clause-passed
+returns-in-Satisfied-clause-passed c =
     let found = c.in-Satisfied.ensures in
     let place : ℕ = get_or c.row.result.now c.args.index 0 in
     let is = place_is c.args.self.now.rows c.self.inside.rows c.row.result.now c.args.fallen c.code.result c.args.index c.row.ensures c.code.ensures (ap (λ (w : Watching). w.rows) c.self.view_is) c.requires.index in
     stays c.args.slots.now c.args.trail.now.0 c.args.trail.now.1 c.args.fallen c.args.self.now c.args.queue.now.0 c.args.queue.now.0 c.args.index place found.0 found.1 c.requires.falling c.requires.index is (λ k h. h) found.2 (inl found.3)
 
-pub returns-in-Broken-clause-falling : goal.returns-in-Broken-clause-falling
-returns-in-Broken-clause-falling c =
-    let found = c.in-Broken.ensures in
-    let place : ℕ = get_or c.row.result.now c.args.index 0 in
-    let is = place_is c.args.self.now.rows c.self.inside.rows c.row.result.now c.args.fallen c.code.result c.args.index c.row.ensures c.code.ensures (ap (λ (w : Watching). w.rows) c.self.view_is) c.requires.index in
-    stays c.args.slots.now c.args.trail.now.0 c.args.trail.now.1 c.args.fallen c.args.self.now c.args.queue.now.0 c.add_first.new.self.0 c.args.index place found.0 found.1 c.requires.falling c.requires.index is c.add_first.ensures.kept found.2
-    (inr (found.3, c.add_first.ensures.there))
+pub returns-in-Broken-clause-passed : goal.returns-in-Broken-clause-passed
+returns-in-Broken-clause-passed c = (c.requires.falling.watched, c.in-Broken.ensures)
 
-pub returns-in-Last-clause-falling : goal.returns-in-Last-clause-falling
-returns-in-Last-clause-falling c =
+pub returns-in-Last-clause-passed : goal.returns-in-Last-clause-passed
+returns-in-Last-clause-passed c =
     let found = c.in-Last.ensures in
     let place : ℕ = get_or c.row.result.now c.args.index 0 in
     let is = place_is c.args.self.now.rows c.self.inside.rows c.row.result.now c.args.fallen c.code.result c.args.index c.row.ensures c.code.ensures (ap (λ (w : Watching). w.rows) c.self.view_is) c.requires.index in
     stays c.args.slots.now c.args.trail.now.0 c.args.trail.now.1 c.args.fallen c.args.self.now c.args.queue.now.0 c.add.new.self.0 c.args.index place found.0 found.1 c.requires.falling c.requires.index is c.add.ensures.kept found.2
     (inr (found.3, c.add.ensures.there))
 
-pub returns-in-Elsewhere-clause-falling : goal.returns-in-Elsewhere-clause-falling
-returns-in-Elsewhere-clause-falling c =
+pub returns-in-Elsewhere-clause-passed : goal.returns-in-Elsewhere-clause-passed
+returns-in-Elsewhere-clause-passed c =
     let place : ℕ = get_or c.row.result.now c.args.index 0 in
     let is = place_is c.args.self.now.rows c.self.inside.rows c.row.result.now c.args.fallen c.code.result c.args.index c.row.ensures c.code.ensures (ap (λ (w : Watching). w.rows) c.self.view_is) c.requires.index in
     let number : code c.args.fallen < length c.args.self.now.rows = number_inside c.args.fallen c.args.trail.now.1 c.args.self.now.rows c.requires.variable c.requires.falling.watched.size in
@@ -44,8 +39,8 @@ put-requires c =
     let within = c.requires.within (get_or c.row.result.now c.args.index 0) found.0 found.2.0 in
     number_inside c.in-Moved.pair.first c.args.trail.now.1 c.args.self.now.rows (variable_below found.0 c.in-Moved.pair.first c.args.trail.now.1 found.3.of_it.first within) c.requires.falling.watched.size
 
-pub returns-in_ok-put-in-Moved-clause-falling : goal.returns-in_ok-put-in-Moved-clause-falling
-returns-in_ok-put-in-Moved-clause-falling c =
+pub returns-in_ok-put-in-Moved-clause-passed : goal.returns-in_ok-put-in-Moved-clause-passed
+returns-in_ok-put-in-Moved-clause-passed c =
     let found = c.in-Moved.ensures in
     let q : Pair = c.in-Moved.pair in
     let place : ℕ = get_or c.row.result.now c.args.index 0 in

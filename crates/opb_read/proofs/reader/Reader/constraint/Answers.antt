@@ -10,26 +10,12 @@ use Rattle.opb_read.specs.Ahead.{begins_integer, next_relation, starts_constrain
 use Rattle.opb_read.specs.Forms.{names_in, closing_of, terms_of, behind_terms}
 use Rattle.opb_read.specs.Progress.{HoldsLimits, at_start, behind_sum, IsBehindSum, PassesTerms}
 use Rattle.opb_read.specs.declared.spot.Spot.TheVariants.{Coefficient, Literal}
-use Rattle.opb_read.specs.Denial.{DeniesClosing, FollowsConstraint}
-use Rattle.opb_read.proofs.Statements.{same_sum, sum_denied, closing_denied, constraint_read}
+use Rattle.opb_read.specs.Denial.{FollowsConstraint}
+use Rattle.opb_read.proofs.Statements.{same_sum, constraint_read}
 use Rattle.opb_read.proofs.TokensPassed.{reaches_then, stops_then}
 use Rattle.opb_read.proofs.StatementSteps.{in_constraint_sum, no_terms_passed, behind_its_sum}
-use Rattle.opb_read.proofs.ConstraintSteps.{not_empty, starts_with_relation}
+use Rattle.opb_read.proofs.ConstraintSteps.{starts_with_relation}
 use Rattle.opb_read.proofs.reader.Reader.constraint.Goals as goal
-
-pub returns-in_err-terms-clause-denies : goal.returns-in_err-terms-clause-denies
-returns-in_err-terms-clause-denies c =
-    let left = c.args.self.now.left in
-    let p = err_from_is_err_and c.from_residual.result c.from_residual.ensures.1 in
-    rw (p.1, p.2) (sum_denied c.in_err-terms.field-0.0 (names_in c.args.self.now.variables left) left (not_empty left c.requires) c.in_err-terms.ensures.denies)
-
-pub returns-in_err-relation-clause-denies : goal.returns-in_err-relation-clause-denies
-returns-in_err-relation-clause-denies c =
-    let left = c.args.self.now.left in
-    let code = c.in_err-relation.field-0.0 in
-    let p = err_from_is_err_and c.from_residual-in_err-relation.result c.from_residual-in_err-relation.ensures.1 in
-    rw (p.1, p.2)
-    (closing_denied code (names_in c.args.self.now.variables left) left (not_empty left c.requires) (subst (DeniesClosing code) c.in_ok-terms.ensures.left c.in_err-relation.ensures.denies))
 
 pub returns-clause-constraint : goal.returns-clause-constraint
 returns-clause-constraint c =

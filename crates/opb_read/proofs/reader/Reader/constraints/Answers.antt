@@ -7,38 +7,13 @@ use Rattle.linear.specs.Limits.{most_constraints, IsConstraintWithin}
 use Rattle.opb_read.specs.Forms.{names_in}
 use Rattle.std.specs.Option.{option_map}
 use Rattle.linear.specs.declared.constraint.Signed.{Signed}
-use Rattle.opb_read.specs.Denial.{FollowsConstraint, DeniesConstraints, constraints_ahead}
+use Rattle.opb_read.specs.Denial.{FollowsConstraint, constraints_ahead}
 use Rattle.opb_read.specs.Progress.{Refuses, Reaches, at_start}
 use Rattle.opb_read.specs.declared.fault.OpbCode.TheVariants.{OutOfMemory}
 use Rattle.opb_read.proofs.TokensPassed.{reaches_none}
 use Rattle.opb_read.proofs.ConstraintSteps.{stops_at_start, stops_in_constraint, one_more}
-use Rattle.opb_read.proofs.AllConstraints.{next_constraint, denied_all, denied_later}
+use Rattle.opb_read.proofs.AllConstraints.{next_constraint}
 use Rattle.opb_read.proofs.reader.Reader.constraints.Goals as goal
-
-pub returns-in_err-start-clause-denies : goal.returns-in_err-start-clause-denies
-returns-in_err-start-clause-denies c =
-    let whole = c.args.self.now.left in
-    let names = names_in c.args.self.now.variables whole in
-    let l = c.loop-token in
-    let code = c.in_err-start.field-0.0 in
-    let count : c.len.result ≡ length l.constraints.items = search rules in
-    let here : DeniesConstraints code names c.len.result l.self.left = c.in_err-start.ensures.denies names in
-    let p = err_from_is_err_and c.from_residual.result c.from_residual.ensures.1 in
-    rw (p.1, p.2) (denied_all code names l.constraints.items whole l.self.left l.invariant.0 (subst (λ n. DeniesConstraints code names n l.self.left) count here))
-
-pub returns-in_err-constraint-clause-denies : goal.returns-in_err-constraint-clause-denies
-returns-in_err-constraint-clause-denies c =
-    let whole = c.args.self.now.left in
-    let names = names_in c.args.self.now.variables whole in
-    let l = c.loop-token in
-    let code = c.in_err-constraint.field-0.0 in
-    let here : DeniesConstraints code names 0 l.self.left = subst (λ n. DeniesConstraints code n 0 l.self.left) l.invariant.1 c.in_err-constraint.ensures.denies in
-    let p = err_from_is_err_and c.from_residual-in_err-constraint.result c.from_residual-in_err-constraint.ensures.1 in
-    rw (p.1, p.2) (denied_all code names l.constraints.items whole l.self.left l.invariant.0 (denied_later code names (length l.constraints.items) l.self.left here))
-
-pub returns-then-is_err-clause-denies : goal.returns-then-is_err-clause-denies
-unfolding DeniesConstraints
-returns-then-is_err-clause-denies c = tt
 
 pub returns-in_err-start-clause-stops : goal.returns-in_err-start-clause-stops
 returns-in_err-start-clause-stops c =

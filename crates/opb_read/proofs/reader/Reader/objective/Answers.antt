@@ -1,9 +1,8 @@
 use Rattle.std.proofs.Common.{◌≡◌, false, true, None, Some, sym, subst, arith, rules}
-use Rattle.std.proofs.lemmas.Result.{err_from_is_err_and}
 use Rattle.opb_read.specs.Kinds.{begins_objective}
 use Rattle.opb_read.specs.Forms.{names_in}
 use Rattle.opb_read.specs.Denial.{FollowsObjective}
-use Rattle.opb_read.proofs.Objectives.{no_objective, behind_mark, objective_found, objective_refused}
+use Rattle.opb_read.proofs.Objectives.{no_objective, behind_mark, objective_found}
 use Rattle.opb_read.proofs.reader.Reader.objective.Goals as goal
 
 pub returns-then-not-begins_objective-clause-objective : goal.returns-then-not-begins_objective-clause-objective
@@ -11,14 +10,6 @@ returns-then-not-begins_objective-clause-objective c =
     let left = c.args.self.now.left in
     let no : begins_objective left ≡ false = first_of (cc, search rules, grind arith) in
     subst (λ v. FollowsObjective (names_in v left) None left left) (sym c.requires) (no_objective left no)
-
-pub returns-in_err-sum-clause-denies : goal.returns-in_err-sum-clause-denies
-returns-in_err-sum-clause-denies c =
-    let left = c.args.self.now.left in
-    let yes_it_does : begins_objective left ≡ true = first_of (cc, search rules, grind arith) in
-    let at = behind_mark left c.advance.new.self c.advance-2.new.self c.advance.ensures c.advance-2.ensures in
-    let p = err_from_is_err_and c.from_residual.result c.from_residual.ensures.1 in
-    rw (p.1, p.2) (objective_refused c.in_err-sum.field-0.0 c.args.self.now.variables left c.advance-2.new.self c.requires at yes_it_does c.in_err-sum.ensures.denies)
 
 pub returns-clause-objective : goal.returns-clause-objective
 returns-clause-objective c =

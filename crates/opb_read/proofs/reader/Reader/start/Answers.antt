@@ -4,26 +4,9 @@ use Rattle.opb_read.specs.declared.spot.Spot.TheVariants.{Start}
 use Rattle.pb_text.specs.Token.{lexeme_of}
 use Rattle.linear.specs.Limits.{most_constraints}
 use Rattle.opb_read.specs.Ahead.{begins_constraint}
-use Rattle.opb_read.specs.Denial.{DeniesConstraints}
-use Rattle.opb_read.proofs.AllConstraints.{begins_none, denied_start, denied_many}
 use Rattle.opb_read.specs.Progress.{Refuses, at_start}
 use Rattle.opb_read.proofs.ConstraintSteps.{refused_start, refused_many}
 use Rattle.opb_read.proofs.reader.Reader.start.Goals as goal
-
-pub returns-then-not-begins_constraint-clause-denies : goal.returns-then-not-begins_constraint-clause-denies
-returns-then-not-begins_constraint-clause-denies c names =
-    let code = c.fault.result in
-    let no : begins_constraint c.args.token.kind ≡ false = first_of (cc, search rules, grind arith) in
-    let none = begins_none c.args.token.kind no in
-    subst
-    (λ l. DeniesConstraints code names c.args.count l)
-    (sym c.requires.next)
-    (denied_start code names c.args.count (lexeme_of c.args.token) (drop 1 c.args.self.now.left) c.fault.ensures.form none.0 none.1)
-
-pub returns-then-count-eq-MOST_CONSTRAINTS-clause-denies : goal.returns-then-count-eq-MOST_CONSTRAINTS-clause-denies
-returns-then-count-eq-MOST_CONSTRAINTS-clause-denies c names =
-    let full : c.args.count ≡ most_constraints = omega (arith, c.if-count-eq-MOST_CONSTRAINTS.true) in
-    subst (λ l. DeniesConstraints _ names c.args.count l) (sym c.requires.next) (denied_many names c.args.count (lexeme_of c.args.token) (drop 1 c.args.self.now.left) full)
 
 pub returns-then-not-begins_constraint-clause-refuses : goal.returns-then-not-begins_constraint-clause-refuses
 returns-then-not-begins_constraint-clause-refuses c names =

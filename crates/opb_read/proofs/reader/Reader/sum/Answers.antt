@@ -7,22 +7,9 @@ use Rattle.pb_text.specs.Lexeme.{Lexeme}
 use Rattle.linear.specs.declared.term.Term.{Term}
 use Rattle.linear.specs.Limits.{most_terms, IsTermWithin}
 use Rattle.opb_read.specs.Forms.{terms_of, names_in}
-use Rattle.opb_read.specs.Denial.{DeniesSum}
-use Rattle.opb_read.proofs.Sums.{denied_whole}
 use Rattle.opb_read.specs.Progress.{PassesTerms, StopsInSum}
 use Rattle.opb_read.proofs.SumSteps.{sum_begins, sum_goes_on, sum_stops, sum_wants}
 use Rattle.opb_read.proofs.reader.Reader.sum.Goals as goal
-
-pub returns-in_err-term-clause-denies : goal.returns-in_err-term-clause-denies
-returns-in_err-term-clause-denies c =
-    let whole = c.args.self.now.left in
-    let names = names_in c.args.self.now.variables whole in
-    let l = c.loop-coefficient in
-    let code = c.in_err-term.field-0.0 in
-    let count : c.len.result ≡ length l.terms.items = search rules in
-    let here : DeniesSum code names c.len.result l.self.left = subst (λ n. DeniesSum code n c.len.result l.self.left) l.invariant.2 c.in_err-term.ensures.denies in
-    let p = err_from_is_err_and c.from_residual.result c.from_residual.ensures.1 in
-    rw (p.1, p.2) (denied_whole code names l.terms.items l.self.left whole l.invariant.0 l.invariant.1 (subst (λ n. DeniesSum code names n l.self.left) count here))
 
 pub returns-in_err-term-clause-stops : goal.returns-in_err-term-clause-stops
 returns-in_err-term-clause-stops c =
@@ -33,10 +20,6 @@ returns-in_err-term-clause-stops c =
     subst (λ n. StopsInSum code c.args.behind n l.self.variables l.self.left c.term.new.self.left) count c.in_err-term.ensures.stops in
     let p = err_from_is_err_and c.from_residual.result c.from_residual.ensures.1 in
     rw (p.1, p.2) (sum_stops code c.args.behind c.args.self.now.variables l.self.variables c.args.self.now.left l.self.left c.term.new.self.left (length l.terms.items) l.invariant.5 here)
-
-pub returns-then-is_err-clause-denies : goal.returns-then-is_err-clause-denies
-unfolding DeniesSum
-returns-then-is_err-clause-denies c = tt
 
 pub returns-then-is_err-clause-stops : goal.returns-then-is_err-clause-stops
 returns-then-is_err-clause-stops c =
@@ -66,10 +49,6 @@ returns-clause-passes c =
     (λ (ts : List Term). PassesTerms c.args.behind 0 c.args.self.now.variables c.args.self.now.left (length ts) c.loop-coefficient.self.variables c.loop-coefficient.self.left)
     (sym copied)
     c.loop-coefficient.invariant.5
-
-pub returns-in_default-from_slice-clause-denies : goal.returns-in_default-from_slice-clause-denies
-unfolding DeniesSum
-returns-in_default-from_slice-clause-denies c = tt
 
 pub returns-in_default-from_slice-clause-stops : goal.returns-in_default-from_slice-clause-stops
 returns-in_default-from_slice-clause-stops c =

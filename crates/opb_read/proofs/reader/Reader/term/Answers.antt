@@ -1,4 +1,4 @@
-use Rattle.std.proofs.Common.{◌≡◌, ◌<◌, ◌∷◌, length, drop, false, refl, sym, ap, subst, ◌∙◌, arith, unsigned_abs, FitsSigned, to_z, of_z, rules}
+use Rattle.std.proofs.Common.{◌≡◌, ◌<◌, ◌∷◌, length, false, sym, ap, subst, ◌∙◌, arith, unsigned_abs, FitsSigned, to_z, of_z, rules}
 use Rattle.std.proofs.lemmas.Int.{to_z-of_z}
 use Rattle.std.proofs.lemmas.Result.{err_from_is_err_and}
 use mir.Syntax.{w128}
@@ -8,59 +8,13 @@ use Rattle.linear.specs.Limits.{most_variables, IsTermWithin}
 use Rattle.linear.specs.Table.{with_name, place_of}
 use Rattle.opb_read.specs.Ahead.{begins_literal}
 use Rattle.opb_read.specs.Forms.{terms_of, behind_terms, names_in}
-use Rattle.opb_read.specs.Denial.{DeniesSum, IsTooManyOr}
-use Rattle.opb_read.proofs.Sums.{is_pair, behind_pair, names_pair, next_term, next_within, denied_form, denied_large, denied_full, denied_many, not_literal, split_two}
+use Rattle.opb_read.specs.Denial.{IsTooManyOr}
+use Rattle.opb_read.proofs.Sums.{is_pair, behind_pair, names_pair, next_term, next_within, not_literal, split_two}
 use Rattle.opb_read.proofs.SumSteps.{small_value, term_passed, stops_at_coefficient, stops_at_literal, stops_at_term, stops_at_variable}
 use Rattle.opb_read.proofs.reader.Reader.term.Goals as goal
 
 pub file_integer-requires : goal.file_integer-requires
 file_integer-requires c = c.requires.integer
-
-pub returns-in_default-clause-denies : goal.returns-in_default-clause-denies
-returns-in_default-clause-denies c =
-    let names = names_in c.args.self.now.variables c.args.self.now.left in
-    subst (λ l. DeniesSum _ names c.args.count l) (sym c.requires.next) (denied_large names c.args.count (lexeme_of c.args.coefficient) _ c.requires.integer c.in_default.ensures)
-
-pub returns-in_default-next-clause-denies : goal.returns-in_default-next-clause-denies
-returns-in_default-next-clause-denies c =
-    let names = names_in c.args.self.now.variables c.args.self.now.left in
-    let none : begins_literal (drop 1 c.args.self.now.left) ≡ false = ap begins_literal (sym c.advance.ensures ∙ c.in_default-next.ensures) in
-    subst
-    (λ l. DeniesSum c.fault.result names c.args.count l)
-    (sym c.requires.next)
-    (denied_form c.fault.result names c.args.count (lexeme_of c.args.coefficient) (drop 1 c.args.self.now.left) c.fault.ensures.form c.requires.integer none)
-
-pub returns-in_default-as_literal-clause-denies : goal.returns-in_default-as_literal-clause-denies
-returns-in_default-as_literal-clause-denies c =
-    let names = names_in c.args.self.now.variables c.args.self.now.left in
-    let code = c.fault-in_default-as_literal.result in
-    let none : begins_literal (drop 1 c.args.self.now.left) ≡ false = ap begins_literal (sym c.advance.ensures ∙ c.in-Some-next.ensures) ∙ not_literal _ c.in_default-as_literal.ensures.cases in
-    subst
-    (λ l. DeniesSum code names c.args.count l)
-    (sym c.requires.next)
-    (denied_form code names c.args.count (lexeme_of c.args.coefficient) (drop 1 c.args.self.now.left) c.fault-in_default-as_literal.ensures.form c.requires.integer none)
-
-pub returns-then-count-eq-MOST_TERMS-clause-denies : goal.returns-then-count-eq-MOST_TERMS-clause-denies
-returns-then-count-eq-MOST_TERMS-clause-denies c =
-    let names = names_in c.args.self.now.variables c.args.self.now.left in
-    let a = lexeme_of c.args.coefficient in
-    let b = lexeme_of c.in-Some-next.token in
-    let two = split_two c.args.self.now.left _ _ a b c.requires.next c.advance.ensures c.in-Some-next.ensures refl in
-    subst (λ l. DeniesSum _ names c.args.count l) (sym two) (denied_full names c.args.count a b _ c.requires.integer c.in-Some-as_literal.ensures.cases (omega arith))
-
-pub returns-in_err-var-clause-denies : goal.returns-in_err-var-clause-denies
-returns-in_err-var-clause-denies c =
-    let vars = c.args.self.now.variables in
-    let a = lexeme_of c.args.coefficient in
-    let b = lexeme_of c.in-Some-next.token in
-    let two = split_two c.args.self.now.left _ _ a b c.requires.next c.advance.ensures c.in-Some-next.ensures refl in
-    let p = err_from_is_err_and c.from_residual.result c.from_residual.ensures.1 in
-    rw (p.1, p.2) (
-    subst
-    (λ l. DeniesSum c.in_err-var.field-0.0 (names_in vars l) c.args.count l)
-    (sym two)
-    (denied_many c.in_err-var.field-0.0 vars c.args.count a b (drop 1 c.advance.new.self) c.requires.integer c.in-Some-as_literal.ensures.cases
-    (subst (λ n. IsTooManyOr (most_variables < length (with_name vars n)) c.in_err-var.field-0.0) c.in-Some-as_literal.ensures.name c.in_err-var.ensures.refused)))
 
 pub returns-clause-term : goal.returns-clause-term
 returns-clause-term c =

@@ -1,0 +1,12 @@
+-- What is added to no id.
+use Rattle.std.proofs.Common.{ap, subst}
+use Rattle.proof_rules.specs.State.{Live}
+use Rattle.propagate.specs.Content.{AddsOccurrences}
+use Rattle.kernel.specs.Database.{Constraints}
+use Rattle.kernel.proofs.CoveredAt.{occurrences_alone}
+use Rattle.kernel.proofs.database.Database.having.Goals as goal
+
+pub returns-clause-having : goal.returns-clause-having
+returns-clause-having g c =
+    let added = subst (λ (live : Live). AddsOccurrences live c.args.literal c.empty-ids.result c.add_occurrences.new.ids) (ap (λ (d : Constraints). d.live) c.self.view_is) c.in_ok-add_occurrences.ensures.added in
+    occurrences_alone c.args.self.now.live c.args.literal c.empty-ids.result c.add_occurrences.new.ids c.empty-ids.ensures added

@@ -1,0 +1,17 @@
+use Rattle.std.proofs.Common.{List, false, take, sym, subst, ◌∙◌}
+use Rattle.std.proofs.lemmas.List.{take_more}
+use Rattle.linear.specs.declared.term.Lit.{Lit}
+use Rattle.kernel.specs.Table.{IsTableOf}
+use Rattle.kernel.proofs.values.table_of.Goals as goal
+
+abbrev first : Lit
+first = record { var = record { 0 = 0 }; negated = false }
+
+pub loop-literal-preserved : goal.loop-literal-preserved
+loop-literal-preserved c =
+    let at = c.loop-literal in
+    let listing : List Lit = c.args.listing.now in (
+      c.note.ensures.length ∙ at.invariant.0,
+      subst (λ xs. IsTableOf xs c.note.new.table.items) (sym (take_more listing at.literal-index first c.loop-literal-test.true))
+          (c.note.ensures.noted (take at.literal-index listing) at.invariant.1),
+    )

@@ -1,0 +1,12 @@
+-- Nothing is behind the last one.
+use Rattle.std.proofs.Common.{ap, sym, ◌∙◌}
+use Rattle.ledger.specs.Ledgers.{State}
+use Rattle.ledger.proofs.AssignedLiterals.{none_when, whole_when}
+use Rattle.ledger.proofs.ledger.Ledger.is_propagated.Goals as goal
+
+pub returns : goal.returns
+returns c =
+    let e = c.self.inside in
+    let propagated = ap (λ (s : State). s.propagated) c.self.view_is in
+    let listing = ap (λ (s : State). s.listing) c.self.view_is in
+    (λ yes. sym propagated ∙ whole_when e.trail (c.is_propagated.ensures.0 yes) ∙ listing, λ same. c.is_propagated.ensures.1 (none_when e.trail (propagated ∙ same ∙ sym listing)))
