@@ -86,18 +86,19 @@ impl Heap {
 
     /// The place below another one whose variable goes before the other's.
     fn first_below(&self, place: usize, scores: &[u64]) -> usize {
-        let left = place * 2 + 1;
-        if self.goes_before(left + 1, left, scores) {
-            left + 1
+        let left = place.saturating_mul(2).saturating_add(1);
+        let right = left.saturating_add(1);
+        if self.goes_before(right, left, scores) {
+            right
         } else {
             left
         }
     }
 
-    /// Moves the variable on top down as far as it goes.
+    /// Moves the variable on top down as far as it goes. A heap is never deeper than a place has bits.
     fn sink(&mut self, scores: &[u64]) {
         let mut place = 0;
-        while place < self.variables.len() / 2 {
+        for _ in 0..usize::BITS {
             let below = self.first_below(place, scores);
             if !self.goes_before(below, place, scores) {
                 return;

@@ -121,7 +121,7 @@ impl<'a, P: Propagator> Run<'a, P> {
     /// Takes off the trail what came with decisions that are undone.
     fn go_back(&mut self)
         ensures log { self.new.log ≡ self.old.log }
-        ensures decisions { self.new.decisions ≡ self.old.decisions }
+        ensures decisions { self.new.decisions.items ≡ self.old.decisions.items }
     {
         let level = level_of(self.decisions.as_slice());
         self.trail.go_back(level, &mut self.brancher);
