@@ -104,7 +104,7 @@ defaulted [] i d f h = absurd (omega (arith, h))
 defaulted (n ∷ ns) zero d f h = refl
 defaulted (n ∷ ns) (suc i) d f h = defaulted ns i d f (omega (arith, h))
 
-beyond_all : (ns : List ℤ) (i : ℕ) → length ns ≤ i → get_or ns i (pos 0) ≡ pos 0
+pub beyond_all : (ns : List ℤ) (i : ℕ) → length ns ≤ i → get_or ns i (pos 0) ≡ pos 0
 beyond_all [] zero h = refl
 beyond_all [] (suc i) h = refl
 beyond_all (n ∷ ns) zero h = absurd (omega (arith, h))

@@ -1,5 +1,5 @@
 -- A constraint as an array: at each place the net coefficient of the variable of that number.
-use Rattle.std.specs.Prelude.{ℕ, ◌+◌, ◌<◌, ◌≤◌, ◌≡◌, All, Contains, length, slice_index_or, ℤ, pos, neg_ℤ, ◌+ℤ◌, unsigned_abs, Bool, List, [], ◌∷◌, ◌++◌, if◌then◌else◌}
+use Rattle.std.specs.Prelude.{ℕ, suc, min, negsuc, ◌+◌, ◌<◌, ◌≤◌, ◌≡◌, All, Contains, length, slice_index_or, ℤ, pos, neg_ℤ, ◌+ℤ◌, unsigned_abs, Bool, List, [], ◌∷◌, ◌++◌, if◌then◌else◌}
 use Rattle.normal_form.specs.Normal.{NormalConstraint, largest_sum}
 use Rattle.normal_form.specs.Balance.{net_term}
 use Rattle.normal_form.specs.declared.term.NormalTerm.{NormalTerm}
@@ -53,3 +53,12 @@ pub record IsKept (nets : List ℤ) (marks : List ℕ) (sum degree : ℕ) : Type
 -- a number stands at this place of the list or after it
 abbrev pub IsAhead : ℕ → List ℕ → ℕ → Type 0
 IsAhead i xs v = (k : ℕ) × (i ≤ k) × (k < length xs) × (slice_index_or xs k v ≡ v)
+
+-- a net coefficient of at most this size, on the same side of 0
+abbrev pub capped : ℕ → ℤ → ℤ
+capped most (pos n) = pos (min n most)
+capped most (negsuc n) = neg_ℤ (pos (min (suc n) most))
+
+-- each cell of an array is capped at this size
+abbrev pub AreCapped : ℕ → List ℤ → List ℤ → Type 0
+AreCapped most old new = (v : ℕ) → slice_index_or new v (pos 0) ≡ capped most (slice_index_or old v (pos 0))

@@ -9,12 +9,14 @@
 //!
 //! A constraint is added first, and taken back where the result is too large: so one pass is enough where it is not.
 
-ghost use Rattle.std.specs.Prelude.{◌≡◌, IfOk, OnOk, OnErr, IsErrOf};
+ghost use Rattle.std.specs.Prelude.{◌≡◌, ◌<◌, ℕ, Bool, false, true, neg_ℤ, Contains, IfOk, OnOk, OnErr, IsErrOf};
 ghost use Rattle.linear.specs.Valuation.{Valuation};
-ghost use Rattle.normal_form.specs.Normal.{NormalConstraint, IsNormal, Fits, Holds};
-ghost use Rattle.cut_rules.specs.Rules.{IsSum, IsTooLarge, IsWeakening};
+ghost use Rattle.normal_form.specs.Normal.{NormalConstraint, IsNormal, Fits, Holds, coefficient};
+ghost use Rattle.normal_form.specs.NormalOf.{at_least_zero};
+ghost use Rattle.cut_rules.specs.Rules.{IsSaturation, IsSum, IsTooLarge, IsWeakening};
 ghost use Rattle.accumulate.specs.Nets.{nothing};
 
+use super::capping::cap;
 use super::cells::{Change, apply, degree_after, fits, prepare};
 use super::reading::{clear, collect, finished};
 use linear::Var;
@@ -30,7 +32,7 @@ pub struct Accumulator {
     nets: Vec<i128>,
     touched: Vec<u32>,
     sum: u128,
-    bound: u128,
+    degree: u128,
 }
 
 impl Model for Accumulator {
@@ -39,9 +41,9 @@ impl Model for Accumulator {
 
     ghost Value = { NormalConstraint };
 
-    ghost view = { λ a. constraint_of a.nets.items a.bound };
+    ghost view = { λ a. constraint_of a.nets.items a.degree };
 
-    ghost invariant = { λ a. IsKept a.nets.items a.touched.items a.sum a.bound };
+    ghost invariant = { λ a. IsKept a.nets.items a.touched.items a.sum a.degree };
 }
 
 impl Accumulator {
@@ -53,8 +55,36 @@ impl Accumulator {
             nets: Vec::new(alloc),
             touched: Vec::new(alloc),
             sum: 0,
-            bound: 0,
+            degree: 0,
         }
+    }
+
+    /// The degree.
+    pub fn degree(&self) -> u128
+        ensures { result ≡ self.now.degree }
+    {
+        self.degree
+    }
+
+    /// The net coefficient of a variable: above 0 that of the variable itself, below 0 that of its negation.
+    pub fn net(&self, var: Var) -> i128
+        ensures plain { coefficient self.now (var.0) false ≡ at_least_zero result }
+        ensures negated { coefficient self.now (var.0) true ≡ at_least_zero (neg_ℤ result) }
+    {
+        let place = var.0 as usize;
+        if place < self.nets.len() {
+            self.nets[place]
+        } else {
+            0
+        }
+    }
+
+    /// The numbers of the variables that were in the sum since it was empty: each that has a coefficient is among them, perhaps
+    /// more than once.
+    pub fn marks(&self) -> &[u32]
+        ensures { (v : ℕ) (s : Bool) → 0 < coefficient self.now v s → Contains result.now v }
+    {
+        self.touched.as_slice()
     }
 
     /// Becomes the sum with another constraint, by the equations of `cut_rules::add`. `TooLarge` comes exactly where
@@ -71,13 +101,13 @@ impl Accumulator {
     {
         prepare(&mut self.nets, &mut self.touched, other)?;
         let sum = apply(&mut self.nets, self.sum, other, Change::Add);
-        let degree = degree_after(self.sum, self.bound, other, sum);
+        let degree = degree_after(self.sum, self.degree, other, sum);
         if !fits(sum, degree) {
             apply(&mut self.nets, sum, other, Change::TakeBack);
             return Err(CutFault::TooLarge);
         }
         self.sum = sum;
-        self.bound = degree;
+        self.degree = degree;
         Ok(())
     }
 
@@ -89,7 +119,7 @@ impl Accumulator {
         self.clear();
         prepare(&mut self.nets, &mut self.touched, other)?;
         self.sum = apply(&mut self.nets, 0, other, Change::Add);
-        self.bound = other.degree();
+        self.degree = other.degree();
         Ok(())
     }
 
@@ -106,7 +136,15 @@ impl Accumulator {
         let size = self.nets[place].unsigned_abs();
         self.nets[place] = 0;
         self.sum -= size;
-        self.bound = self.bound.saturating_sub(size);
+        self.degree = self.degree.saturating_sub(size);
+    }
+
+    /// No coefficient is above the degree any more.
+    pub fn saturate(&mut self)
+        ensures saturation { IsSaturation self.old self.new }
+        ensures keeps { (a : Valuation) → Holds a self.old → Holds a self.new }
+    {
+        self.sum = cap(&mut self.nets, &self.touched, self.sum, self.degree);
     }
 
     /// Hands over the constraint, and is empty then: without terms, of degree 0. After an error, which is that memory
@@ -119,7 +157,7 @@ impl Accumulator {
     {
         self.touched.sort()?;
         let terms = collect(alloc, &self.nets, &self.touched)?;
-        let taken = finished(terms, self.bound)?;
+        let taken = finished(terms, self.degree)?;
         self.clear();
         Ok(taken)
     }
@@ -131,6 +169,6 @@ impl Accumulator {
         clear(&mut self.nets, &self.touched);
         self.touched.clear();
         self.sum = 0;
-        self.bound = 0;
+        self.degree = 0;
     }
 }

@@ -5,6 +5,7 @@
 #![tactic(auto)]
 
 mod accumulator;
+mod capping;
 mod cells;
 mod reading;
 

@@ -12,33 +12,60 @@ ghost use Rattle.analysis.specs.Lines.{BeginsWith};
 
 use super::entry::Entry;
 use super::learned::Learned;
+use super::met::Met;
+use super::resolvent::Resolvent;
 use super::standing::Standing;
 use super::stop::Stop;
 use super::walk::walk;
+use accumulate::Accumulator;
 use kernel::Kernel;
 use propagate::{Id, Propagator};
 use std::alloc::{AllocError, Global};
 
-/// A constraint that follows from the live ones and would have said something sooner: it has negative slack or forces a literal
-/// under fewer decisions than are open. `None` where the walk finds none, or a number grows too large: the clause of the negated
-/// decisions serves then. The line that derives it begins with the conflict.
-pub fn analyse<'a, P: Propagator>(
-    alloc: Global,
-    kernel: &Kernel<'a, P>,
-    trail: &[Entry],
-    conflict: Id,
-) -> Result<Option<Learned>, AllocError>
-    ensures begins { IfOk result (λ found. IfSome found (λ l. BeginsWith conflict l.items)) }
-    ensures derived { IfOk result (λ found. IfSome found (λ l. IsPostfixOf (constraint_of kernel.now.state) l.items l.constraint)) }
-    ensures biting { IfOk result (λ found. IfSome found (λ l. BitesAt trail.now l.level l.constraint)) }
-    ensures lower { IfOk result (λ found. IfSome found (λ l. l.level < greatest_level trail.now)) }
-{
-    let Some(standing) = Standing::of(alloc, trail)? else {
-        return Ok(None);
-    };
-    match walk(alloc, kernel, &standing, conflict) {
-        Ok(learned) => Ok(Some(learned)),
-        Err(Stop::NothingLearned) => Ok(None),
-        Err(Stop::OutOfMemory) => Err(AllocError),
+/// Analyses one conflict after another. What it holds between them is of no account, but for what the last one met: it is kept
+/// for its memory.
+#[derive(Drop)]
+pub struct Analyser {
+    pub(crate) resolvent: Resolvent,
+    /// Where a reason is made ready before it is added.
+    pub(crate) aside: Accumulator,
+    /// What the last analysis came by.
+    pub met: Met,
+}
+
+impl Analyser {
+    /// Of no conflict yet.
+    pub fn new(alloc: Global) -> Self {
+        Analyser {
+            resolvent: Resolvent::new(alloc),
+            aside: Accumulator::new(alloc),
+            met: Met::new(alloc),
+        }
+    }
+
+    /// A constraint that follows from the live ones and would have said something sooner: it has negative slack or forces a literal
+    /// under fewer decisions than are open. `None` where the walk finds none, or a number grows too large: the clause of the negated
+    /// decisions serves then. The line that derives it begins with the conflict.
+    pub fn analyse<'a, P: Propagator>(
+        &mut self,
+        alloc: Global,
+        kernel: &Kernel<'a, P>,
+        trail: &[Entry],
+        conflict: Id,
+    ) -> Result<Option<Learned>, AllocError>
+        ensures begins { IfOk result (λ found. IfSome found (λ l. BeginsWith conflict l.items)) }
+        ensures derived { IfOk result (λ found. IfSome found (λ l. IsPostfixOf (constraint_of kernel.now.state) l.items l.constraint)) }
+        ensures biting { IfOk result (λ found. IfSome found (λ l. BitesAt trail.now l.level l.constraint)) }
+        ensures lower { IfOk result (λ found. IfSome found (λ l. l.level < greatest_level trail.now)) }
+    {
+        self.met.clear();
+        let Some(standing) = Standing::of(alloc, trail)? else {
+            return Ok(None);
+        };
+        match walk(alloc, kernel, &standing, conflict, self) {
+            Ok(learned) => Ok(Some(learned)),
+            Err(Stop::NothingLearned) => Ok(None),
+            Err(Stop::OutOfMemory) => Err(AllocError),
+        }
     }
 }

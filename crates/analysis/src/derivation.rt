@@ -6,10 +6,9 @@
 ghost use Rattle.std.specs.Prelude.{◌≡◌, pos, IfOk};
 ghost use Rattle.proof_rules.specs.Expression.{Given, IsPostfixOf};
 
-use super::learned::Learned;
 use accumulate::Accumulator;
-use cut_rules::{add, divide, multiply, saturate};
-use linear::{Seq, Var};
+use cut_rules::{divide, multiply};
+use linear::Var;
 use normal_form::{CutFault, Normal};
 use proof_steps::Item;
 use propagate::Id;
@@ -37,7 +36,7 @@ impl Derivation {
     ghost use Rattle.normal_form.specs.Normal.{coefficient};
     ghost use Rattle.cut_rules.specs.Rules.{IsCeiling};
     ghost use Rattle.proof_rules.specs.Expression.{Given, IsPostfixOf};
-    ghost use Rattle.analysis.specs.Lines.{BeginsWith, GoesOnFrom};
+    ghost use Rattle.analysis.specs.Lines.{BeginsWith};
 
     /// The constraint of an id.
     pub(crate) fn cited(alloc: Global, id: Id, constraint: &Normal) -> Result<Self, CutFault>
@@ -117,50 +116,5 @@ impl Derivation {
         items.push(Item::Multiply(written))?;
         let constraint = multiply(alloc, &constraint, written)?;
         Ok(Derivation { items, constraint })
-    }
-
-    /// The same with no coefficient above the degree.
-    pub(crate) fn saturated(self, alloc: Global) -> Result<Self, CutFault>
-        ensures more { IfOk result (λ d. GoesOnFrom self.items.items d.items.items) }
-        ensures derived { (given : Given) → IsPostfixOf given self.items.items self.constraint
-            → IfOk result (λ d. IsPostfixOf given d.items.items d.constraint) }
-    {
-        let Derivation {
-            mut items,
-            constraint,
-        } = self;
-        items.push(Item::Saturate)?;
-        let constraint = saturate(alloc, &constraint)?;
-        Ok(Derivation { items, constraint })
-    }
-
-    /// The sum with another.
-    pub(crate) fn plus(self, alloc: Global, other: Derivation) -> Result<Self, CutFault>
-        ensures more { IfOk result (λ d. GoesOnFrom self.items.items d.items.items) }
-        ensures derived { (given : Given) → IsPostfixOf given self.items.items self.constraint → IsPostfixOf given other.items.items other.constraint
-            → IfOk result (λ d. IsPostfixOf given d.items.items d.constraint) }
-    {
-        let Derivation {
-            mut items,
-            constraint,
-        } = self;
-        items.extend_from_slice(&other.items)?;
-        items.push(Item::Add)?;
-        let constraint = add(alloc, &constraint, &other.constraint)?;
-        Ok(Derivation { items, constraint })
-    }
-
-    /// As what was learned, with the level under which it bites.
-    pub(crate) fn learned(self, level: u32) -> Learned
-        ensures items { result.items ≡ self.items.items }
-        ensures constraint { result.constraint ≡ self.constraint }
-        ensures level { result.level ≡ level }
-    {
-        let Derivation { items, constraint } = self;
-        Learned {
-            items: Seq::from_vec(items),
-            constraint,
-            level,
-        }
     }
 }

@@ -10,6 +10,8 @@ ghost use Rattle.analysis.specs.Biting.{BitesAt, greatest_level};
 use super::biting::bites;
 use super::entry::Entry;
 use super::standing::Standing;
+use accumulate::Accumulator;
+use linear::{Integer, Var};
 use normal_form::{Normal, NormalTerm};
 use std::alloc::{AllocError, Global};
 
@@ -99,6 +101,25 @@ impl Sweep {
         }
     }
 
+    /// With the literal of a variable's net coefficient, under the literals up to a level.
+    fn with(self, var: Var, net: Integer, standing: &Standing<'_>, level: u32) -> Sweep {
+        let coef = net.unsigned_abs();
+        match standing.spot(var) {
+            Some(spot) if spot.level <= level => Sweep {
+                sum: if spot.negated == (net < 0) {
+                    self.sum.saturating_add(coef)
+                } else {
+                    self.sum
+                },
+                unset: self.unset,
+            },
+            _ => Sweep {
+                sum: self.sum.saturating_add(coef),
+                unset: self.unset.max(coef),
+            },
+        }
+    }
+
     fn bites(self, degree: u128) -> bool {
         self.sum < degree.saturating_add(self.unset)
     }
@@ -153,4 +174,35 @@ pub(crate) fn least_level(
         return Ok(Some(level));
     }
     Ok(None)
+}
+
+/// Whether a sum may bite under one decision less than are open: most of what a walk comes by does not, which is seen without its
+/// literals in order. Where a variable is marked twice it may say no, and the walk goes on.
+pub(crate) fn may_bite(sum: &Accumulator, standing: &Standing<'_>, decisions: u32) -> bool {
+    let Some(level) = decisions.checked_sub(1) else {
+        return false;
+    };
+    let mut sweep = Sweep { sum: 0, unset: 0 };
+    for number in sum.marks() {
+        sweep = sweep.with(Var(*number), sum.net(Var(*number)), standing, level);
+    }
+    sweep.bites(sum.degree())
+}
+
+/// How many levels the set literals of a constraint are of (the literal block distance: Audemard and Simon, 2009).
+pub(crate) fn level_count(
+    alloc: Global,
+    constraint: &Normal,
+    standing: &Standing<'_>,
+) -> Result<u32, AllocError> {
+    let turns = turns(alloc, constraint, standing)?;
+    let mut count: u32 = 0;
+    let mut last = u32::MAX;
+    for turn in &turns {
+        if turn.level != last && turn.level != u32::MAX {
+            count = count.saturating_add(1);
+            last = turn.level;
+        }
+    }
+    Ok(count)
 }

@@ -35,7 +35,7 @@ fn counted(constraint: &Normal, literal: Lit, place: usize) -> u128
 }
 
 /// The coefficient of a literal.
-fn coefficient_of(constraint: &Normal, literal: Lit) -> u128
+pub(crate) fn coefficient_of(constraint: &Normal, literal: Lit) -> u128
     ensures { result ≡ coefficient constraint.now (literal.var.0) literal.negated }
 {
     let mut coef: u128 = 0;

@@ -5,23 +5,26 @@
 //! two cancel. The walk ends at the first constraint that bites under fewer decisions than are open. To walk on would still
 //! derive something; but what it learns then is weaker, and a search that did so needed ten times the conflicts on coverings.
 
-ghost use Rattle.std.specs.Prelude.{ℕ, ◌<◌, IfOk, IfSome, length};
-ghost use Rattle.proof_rules.specs.Expression.{IsPostfixOf};
+ghost use Rattle.std.specs.Prelude.{ℕ, ◌≡◌, ◌<◌, ◌≤◌, pos, Some, IfOk, IfSome, MatchOption, OnOk, length};
+ghost use Rattle.proof_rules.specs.Expression.{Given, IsPostfixOf};
 ghost use Rattle.proof_rules.specs.State.{constraint_of};
 ghost use Rattle.analysis.specs.Biting.{BitesAt, greatest_level};
 ghost use Rattle.analysis.specs.Lines.{BeginsWith, GoesOnFrom};
 
+use super::analysis::Analyser;
 use super::derivation::Derivation;
 use super::learned::Learned;
-use super::level::{least_level, open_decisions};
-use super::reduction::reduced;
+use super::level::{least_level, level_count, may_bite, open_decisions};
+use super::reduction::{coefficient_of, reduced};
 use super::standing::Standing;
 use super::stop::Stop;
 use accumulate::Accumulator;
 use kernel::Kernel;
-use normal_form::{Normal, NormalTerm};
+use linear::{Lit, Seq};
+use normal_form::Normal;
 use propagate::{Id, Propagator};
 use std::alloc::Global;
+use std::mem;
 
 /// A literal of a constraint that is false since a place on the trail, by its coefficient.
 #[derive(Clone, Copy, Debug)]
@@ -30,82 +33,135 @@ struct Falsified {
     coef: u128,
 }
 
-/// A term's literal, if it is false since before a place.
-fn false_before(term: NormalTerm, standing: &Standing<'_>, before: usize) -> Option<Falsified>
+/// The coefficient of a literal in a sum.
+fn coefficient_in(sum: &Accumulator, literal: Lit) -> u128 {
+    let net = sum.net(literal.var);
+    if (net < 0) == literal.negated {
+        net.unsigned_abs()
+    } else {
+        0
+    }
+}
+
+/// The literal of a sum that became false last before a place.
+fn latest_false(sum: &Accumulator, standing: &Standing<'_>, before: usize) -> Option<Falsified>
+    requires { before ≤ length standing.now }
     ensures { IfSome result (λ at. at.place < before) }
 {
-    match standing.false_since(term.literal()) {
-        Some(place) if place < before => Some(Falsified {
-            place,
-            coef: term.coef,
-        }),
-        _ => None,
+    let mut place = before;
+    while place > 0 {
+        place -= 1;
+        let coef = coefficient_in(sum, standing.entries()[place].literal.opposite());
+        if coef > 0 {
+            return Some(Falsified { place, coef });
+        }
     }
+    None
 }
 
-/// The one of two that came later, if there is any.
-fn later(first: Option<Falsified>, second: Option<Falsified>) -> Option<Falsified>
-    ensures { (before : ℕ) → IfSome first (λ at. at.place < before) → IfSome second (λ at. at.place < before) → IfSome result (λ at. at.place < before) }
-{
-    match (first, second) {
-        (Some(one), Some(other)) if one.place < other.place => second,
-        (Some(_), _) => first,
-        (None, _) => second,
-    }
-}
-
-/// The latest false literal of a constraint before a place.
-fn latest_false(constraint: &Normal, standing: &Standing<'_>, before: usize) -> Option<Falsified>
-    ensures { IfSome result (λ at. at.place < before) }
-{
-    let mut latest = None;
-    for index in 0..constraint.len() {
-        latest = later(
-            latest,
-            false_before(constraint.term(index), standing, before),
-        );
-    }
-    latest
-}
-
-/// The constraint of an id.
-fn cite<'a, P: Propagator>(
-    alloc: Global,
+/// Begins with the conflict.
+fn begin<'a, P: Propagator>(
     kernel: &Kernel<'a, P>,
-    id: Id,
-) -> Result<Derivation, Stop>
-    ensures begins { IfOk result (λ d. BeginsWith id d.items.items) }
-    ensures derived { IfOk result (λ d. IsPostfixOf (constraint_of kernel.now.state) d.items.items d.constraint) }
+    conflict: Id,
+    analyser: &mut Analyser,
+) -> Result<(), Stop>
+    ensures begins { OnOk result (BeginsWith conflict analyser.new.resolvent.items.items) }
+    ensures derived { OnOk result (IsPostfixOf (constraint_of kernel.now.state) analyser.new.resolvent.items.items analyser.new.resolvent.sum) }
 {
-    let Some(constraint) = kernel.constraint(id) else {
+    let Some(constraint) = kernel.constraint(conflict) else {
         return Err(Stop::NothingLearned);
     };
-    Ok(Derivation::cited(alloc, id, constraint)?)
+    analyser.met.add(conflict, constraint)?;
+    analyser.resolvent.begin(conflict, constraint)?;
+    Ok(())
 }
 
-/// What the walk has, resolved with the reason of the literal that made one of its literals false.
-fn resolved<'a, P: Propagator>(
+/// Adds the reason of the literal that made one of the sum's literals false, so often that the two cancel.
+fn add_reason(
+    alloc: Global,
+    id: Id,
+    reason: &Normal,
+    standing: &Standing<'_>,
+    at: Falsified,
+    analyser: &mut Analyser,
+) -> Result<(), Stop>
+    requires place { at.place < length standing.now }
+    ensures more { OnOk result (GoesOnFrom analyser.old.resolvent.items.items analyser.new.resolvent.items.items) }
+    ensures derived { (given : Given) → IsPostfixOf given analyser.old.resolvent.items.items analyser.old.resolvent.sum → given (pos id) ≡ Some reason.now
+        → OnOk result (IsPostfixOf given analyser.new.resolvent.items.items analyser.new.resolvent.sum) }
+{
+    let literal = standing.entries()[at.place].literal;
+    if at.coef == 1 && coefficient_of(reason, literal) == 1 {
+        return Ok(analyser.resolvent.add_cited(id, reason)?);
+    }
+    let cited = Derivation::cited(alloc, id, reason)?;
+    let even = reduced(
+        alloc,
+        cited,
+        literal,
+        standing,
+        at.place,
+        &mut analyser.aside,
+    )?;
+    let cancelling = even.multiplied(alloc, at.coef)?;
+    Ok(analyser.resolvent.add(cancelling)?)
+}
+
+/// Resolves what the walk has with the reason of the literal that made one of its literals false.
+fn resolve<'a, P: Propagator>(
     alloc: Global,
     kernel: &Kernel<'a, P>,
     standing: &Standing<'_>,
-    current: Derivation,
     at: Falsified,
-    sum: &mut Accumulator,
-) -> Result<Derivation, Stop>
+    analyser: &mut Analyser,
+) -> Result<(), Stop>
     requires place { at.place < length standing.now }
-    requires derived { IsPostfixOf (constraint_of kernel.now.state) current.items.items current.constraint }
-    ensures more { IfOk result (λ d. GoesOnFrom current.items.items d.items.items) }
-    ensures derived { IfOk result (λ d. IsPostfixOf (constraint_of kernel.now.state) d.items.items d.constraint) }
+    requires derived { IsPostfixOf (constraint_of kernel.now.state) analyser.old.resolvent.items.items analyser.old.resolvent.sum }
+    ensures more { OnOk result (GoesOnFrom analyser.old.resolvent.items.items analyser.new.resolvent.items.items) }
+    ensures derived { OnOk result (IsPostfixOf (constraint_of kernel.now.state) analyser.new.resolvent.items.items analyser.new.resolvent.sum) }
 {
-    let entry = standing.entries()[at.place];
-    let Some(id) = entry.reason else {
+    let Some(id) = standing.entries()[at.place].reason else {
         return Err(Stop::NothingLearned);
     };
-    let reason = cite(alloc, kernel, id)?;
-    let even = reduced(alloc, reason, entry.literal, standing, at.place, sum)?;
-    let cancelling = even.multiplied(alloc, at.coef)?;
-    let resolvent = current.plus(alloc, cancelling)?;
-    Ok(resolvent.saturated(alloc)?)
+    let Some(reason) = kernel.constraint(id) else {
+        return Err(Stop::NothingLearned);
+    };
+    analyser.met.add(id, reason)?;
+    add_reason(alloc, id, reason, standing, at, analyser)?;
+    analyser.resolvent.saturate()?;
+    Ok(())
+}
+
+/// What the walk has, where it bites under fewer decisions than are open.
+fn learn(
+    alloc: Global,
+    standing: &Standing<'_>,
+    decisions: u32,
+    analyser: &mut Analyser,
+) -> Result<Option<Learned>, Stop>
+    ensures begins { (id : ℕ) → BeginsWith id analyser.old.resolvent.items.items
+        → IfOk result (λ found. MatchOption found (BeginsWith id analyser.new.resolvent.items.items) (λ l. BeginsWith id l.items)) }
+    ensures derived { (given : Given) → IsPostfixOf given analyser.old.resolvent.items.items analyser.old.resolvent.sum
+        → IfOk result (λ found. MatchOption found (IsPostfixOf given analyser.new.resolvent.items.items analyser.new.resolvent.sum) (λ l. IsPostfixOf given l.items l.constraint)) }
+    ensures biting { IfOk result (λ found. IfSome found (λ l. BitesAt standing.now l.level l.constraint)) }
+    ensures lower { IfOk result (λ found. IfSome found (λ l. l.level < decisions)) }
+{
+    if !may_bite(&analyser.resolvent.sum, standing, decisions) {
+        return Ok(None);
+    }
+    let constraint = analyser.resolvent.sum.take(alloc)?;
+    let Some(level) = least_level(alloc, &constraint, standing, decisions)? else {
+        analyser.resolvent.sum.load(&constraint)?;
+        return Ok(None);
+    };
+    let levels = level_count(alloc, &constraint, standing)?;
+    analyser.met.note_learned(constraint.len(), levels);
+    let items = mem::replace(&mut analyser.resolvent.items, Vec::new(alloc));
+    Ok(Some(Learned {
+        items: Seq::from_vec(items),
+        constraint,
+        level,
+    }))
 }
 
 /// What the constraint of an id, which has negative slack under a trail, comes to on the walk.
@@ -114,6 +170,7 @@ pub(crate) fn walk<'a, P: Propagator>(
     kernel: &Kernel<'a, P>,
     standing: &Standing<'_>,
     conflict: Id,
+    analyser: &mut Analyser,
 ) -> Result<Learned, Stop>
     ensures begins { IfOk result (λ l. BeginsWith conflict l.items) }
     ensures derived { IfOk result (λ l. IsPostfixOf (constraint_of kernel.now.state) l.items l.constraint) }
@@ -121,17 +178,16 @@ pub(crate) fn walk<'a, P: Propagator>(
     ensures lower { IfOk result (λ l. l.level < greatest_level standing.now) }
 {
     let decisions = open_decisions(standing.entries());
+    begin(kernel, conflict, analyser)?;
     let mut before = standing.entries().len();
-    let mut current = cite(alloc, kernel, conflict)?;
-    let mut sum = Accumulator::new(alloc);
     loop {
-        if let Some(level) = least_level(alloc, &current.constraint, standing, decisions)? {
-            return Ok(current.learned(level));
+        if let Some(learned) = learn(alloc, standing, decisions, analyser)? {
+            return Ok(learned);
         }
-        let Some(at) = latest_false(&current.constraint, standing, before) else {
+        let Some(at) = latest_false(&analyser.resolvent.sum, standing, before) else {
             return Err(Stop::NothingLearned);
         };
         before = at.place;
-        current = resolved(alloc, kernel, standing, current, at, &mut sum)?;
+        resolve(alloc, kernel, standing, at, analyser)?;
     }
 }

@@ -1,7 +1,7 @@
 //! The rules of choice that the solver is tried with: none, the conflicts', and one that answers a variable that is set wherever
 //! there is one.
 
-use linear::{Lit, Var};
+use linear::{Lit, Problem, Var};
 use search::{Activity, Brancher, First, Value};
 use std::alloc::{AllocError, Global};
 
@@ -10,6 +10,8 @@ use std::alloc::{AllocError, Global};
 struct Stubborn;
 
 impl Brancher for Stubborn {
+    fn begin(&mut self, _problem: &Problem) {}
+
     fn pick(&mut self, values: &[Value]) -> Option<Lit> {
         for (place, value) in values.iter().enumerate() {
             if !matches!(value, Value::Free) {
@@ -23,7 +25,13 @@ impl Brancher for Stubborn {
         None
     }
 
+    fn met(&mut self, _variables: &[Var]) {}
+
     fn conflict(&mut self, _variables: &[Var]) {}
+
+    fn unassigned(&mut self, _literal: Lit) {}
+
+    fn solution(&mut self, _literals: &[Lit]) {}
 
     fn restarted(&mut self) {}
 }

@@ -1,114 +1,172 @@
-//! A rule of choice that follows the conflicts: the variable that most of them named comes next.
+//! A rule of choice that follows the conflicts: the variable that their analyses met most, of late, comes next.
 //!
-//! What was learned lately says where the trouble is, so old counts weigh half after each restart; and a variable takes the sign
-//! that it last had, since that is where the search was before it went back.
+//! This is the rule of exponentially rising increments (VSIDS: Moskewicz, Madigan, Zhao, Zhang and Malik, 2001, in the form
+//! of MiniSat): each time that an analysis meets a variable its score rises by an increment, which grows by a twentieth with each
+//! conflict, so that what was met lately counts most. Scores are whole numbers: when one comes near the greatest, all of
+//! them and the increment fall by the same power of two.
+//!
+//! A variable takes the sign that it had last, since that is where the search was before it went back (Pipatsrisawat and
+//! Darwiche, 2007); at first the one that the objective likes; and after a restart that of the best solution, so that the search
+//! goes on near it.
 
 use super::brancher::{Brancher, Value};
-use linear::{Lit, Var};
+use super::heap::Heap;
+use linear::{Integer, Lit, Problem, Term, Var};
 use std::alloc::{AllocError, Global};
 
-/// What is kept of a variable.
-#[derive(Clone, Copy, Debug)]
-struct Seen {
-    conflicts: u64,
-    last: bool,
-}
+/// The increment at first: small steps of it are told apart.
+const FIRST_INCREMENT: u64 = 1 << 16;
 
-/// Picks a free variable that most conflicts named, the first among equals, with the sign that it last had, at first false.
+/// Past this number all scores fall.
+const LARGEST_SCORE: u64 = 1 << 62;
+
+/// By so many bits.
+const FALL: u32 = 44;
+
+/// Picks a free variable of the highest score, the first among equals, with the sign that it had last.
 #[derive(Drop)]
 pub struct Activity {
-    seen: Vec<Seen>,
+    heap: Heap,
+    scores: Vec<u64>,
+    increment: u64,
+    /// The value that each variable had last.
+    phases: Vec<bool>,
+    /// The values in the best solution; empty before there is one.
+    best: Vec<bool>,
 }
 
 impl Activity {
     /// Of no conflict yet.
     pub fn new(alloc: Global) -> Self {
         Activity {
-            seen: Vec::new(alloc),
+            heap: Heap::new(alloc),
+            scores: Vec::new(alloc),
+            increment: FIRST_INCREMENT,
+            phases: Vec::new(alloc),
+            best: Vec::new(alloc),
         }
     }
 
+    /// Has so many variables known, at least.
     fn grow(&mut self, count: usize) -> Result<(), AllocError> {
-        for _ in self.seen.len()..count {
-            self.seen.push(Seen {
-                conflicts: 0,
-                last: false,
-            })?;
+        for _ in self.scores.len()..count {
+            self.scores.push(0)?;
+            self.phases.push(false)?;
+            self.heap.grow()?;
         }
         Ok(())
     }
 
-    fn keep_signs(&mut self, values: &[Value]) {
-        for (seen, value) in self.seen.iter_mut().zip(values) {
-            match value {
-                Value::True => seen.last = true,
-                Value::False => seen.last = false,
-                Value::Free => {}
+    /// Has each variable of an objective take the value at first by which it costs less.
+    fn like(&mut self, objective: &[Term]) {
+        for term in objective {
+            let place = term.var.0 as usize;
+            if place < self.phases.len() {
+                self.phases[place] = costs_less_as_true(*term);
             }
         }
     }
 
-    fn count(&mut self, variable: Var) {
+    /// All scores fall, by the same power of two.
+    fn lower(&mut self) {
+        for score in self.scores.iter_mut() {
+            *score >>= FALL;
+        }
+        self.increment = (self.increment >> FALL).max(1);
+    }
+
+    /// The score of a variable rises.
+    fn raise(&mut self, variable: Var) {
         let place = variable.0 as usize;
-        if place < self.seen.len() {
-            self.seen[place].conflicts = self.seen[place].conflicts.saturating_add(1);
+        if place >= self.scores.len() {
+            return;
         }
-    }
-
-    /// Of two variables by their numbers, the one that more conflicts named, the first among equals.
-    fn busier(&self, first: Option<u32>, second: u32) -> Option<u32> {
-        let Some(first) = first else {
-            return Some(second);
-        };
-        let conflicts = |number: u32| match self.seen.get(number as usize) {
-            Some(seen) => seen.conflicts,
-            None => 0,
-        };
-        if conflicts(first) < conflicts(second) {
-            Some(second)
-        } else {
-            Some(first)
+        self.scores[place] = self.scores[place].saturating_add(self.increment);
+        if self.scores[place] > LARGEST_SCORE {
+            self.lower();
         }
-    }
-
-    fn busiest(&self, values: &[Value]) -> Option<u32> {
-        let mut best = None;
-        let mut number: u32 = 0;
-        for value in values {
-            if matches!(value, Value::Free) {
-                best = self.busier(best, number);
-            }
-            number = number.saturating_add(1);
-        }
-        best
+        self.heap.raised(variable.0, &self.scores);
     }
 }
 
+/// Whether a term costs less where its variable is true.
+fn costs_less_as_true(term: Term) -> bool {
+    let zero: Integer = 0;
+    if term.negated {
+        term.coef > zero
+    } else {
+        term.coef < zero
+    }
+}
+
+/// Whether a variable is free.
+fn is_free(values: &[Value], number: u32) -> bool {
+    matches!(values.get(number as usize), Some(Value::Free))
+}
+
 impl Brancher for Activity {
-    fn pick(&mut self, values: &[Value]) -> Option<Lit> {
-        if self.grow(values.len()).is_err() {
-            return None;
+    fn begin(&mut self, problem: &Problem) {
+        if self.grow(problem.names().len()).is_err() {
+            return;
         }
-        self.keep_signs(values);
-        let number = self.busiest(values)?;
-        let seen = self.seen.get(number as usize)?;
-        Some(Lit {
-            var: Var(number),
-            negated: !seen.last,
-        })
+        if let Some(objective) = problem.objective() {
+            self.like(objective.as_slice());
+        }
     }
 
-    fn conflict(&mut self, variables: &[Var]) {
+    /// Variables that are not free leave the heap; they come back as soon as they are free again.
+    fn pick(&mut self, values: &[Value]) -> Option<Lit> {
+        for _ in 0..self.heap.len() {
+            let number = self.heap.take(&self.scores)?;
+            if is_free(values, number) {
+                let phase = self.phases.get(number as usize)?;
+                return Some(Lit {
+                    var: Var(number),
+                    negated: !*phase,
+                });
+            }
+        }
+        None
+    }
+
+    fn met(&mut self, variables: &[Var]) {
         for variable in variables {
-            if self.grow(variable.0 as usize + 1).is_ok() {
-                self.count(*variable);
+            self.raise(*variable);
+        }
+    }
+
+    fn conflict(&mut self, _variables: &[Var]) {
+        self.increment = self.increment.saturating_add(self.increment / 20);
+        if self.increment > LARGEST_SCORE {
+            self.lower();
+        }
+    }
+
+    /// Where there is no memory for a place in the heap, the variable is left to the search.
+    fn unassigned(&mut self, literal: Lit) {
+        let place = literal.var.0 as usize;
+        if place < self.phases.len() {
+            self.phases[place] = !literal.negated;
+            let _ = self.heap.insert(literal.var.0, &self.scores);
+        }
+    }
+
+    fn solution(&mut self, literals: &[Lit]) {
+        self.best.clear();
+        if self.best.extend_from_slice(&self.phases).is_err() {
+            return;
+        }
+        for literal in literals {
+            let place = literal.var.0 as usize;
+            if place < self.best.len() {
+                self.best[place] = !literal.negated;
             }
         }
     }
 
     fn restarted(&mut self) {
-        for seen in self.seen.iter_mut() {
-            seen.conflicts /= 2;
+        for (phase, best) in self.phases.iter_mut().zip(&self.best) {
+            *phase = *best;
         }
     }
 }

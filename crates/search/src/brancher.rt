@@ -2,11 +2,12 @@
 //!
 //! A brancher advises and no more: whatever it answers, the steps that are logged are legal, since an answer that is no
 //! free variable's literal is replaced. So it has no contract but that its calls return, anybody may write one, and it is
-//! handed in as a `Box<dyn Brancher>`. It is told of conflicts and restarts since most rules of choice count these.
+//! handed in as a `Box<dyn Brancher>`. It is told of what rules of choice live on: what an analysis met, what was learned, what is
+//! no more assigned, solutions and restarts.
 
 ghost use Rattle.std.specs.Prelude.{◌≡◌, None};
 
-use linear::{Lit, Var};
+use linear::{Lit, Problem, Var};
 
 /// What a search knows of a variable at a time.
 #[derive(Clone, Copy, Debug, PartialEq, Eq)]
@@ -19,12 +20,25 @@ pub enum Value {
 
 /// A rule of choice.
 pub trait Brancher: Drop {
+    /// A search of this problem begins.
+    fn begin(&mut self, problem: &Problem);
+
     /// The literal to be taken as true next, where `values` has the value of each variable of the file by its number. None
     /// leaves the choice to the search; so does a literal of a variable that is not free.
     fn pick(&mut self, values: &[Value]) -> Option<Lit>;
 
+    /// The analysis of a conflict came by these variables: those of each constraint that was added up in it, as often as
+    /// one was.
+    fn met(&mut self, variables: &[Var]);
+
     /// A conflict was learned from: these variables occur in what was learned.
     fn conflict(&mut self, variables: &[Var]);
+
+    /// The search went back: this literal is no more decided or forced.
+    fn unassigned(&mut self, literal: Lit);
+
+    /// A solution was found, by these literals, which is better than those before.
+    fn solution(&mut self, literals: &[Lit]);
 
     /// The search began anew: no decision is open.
     fn restarted(&mut self);
@@ -35,6 +49,8 @@ pub trait Brancher: Drop {
 pub struct First;
 
 impl Brancher for First {
+    fn begin(&mut self, _problem: &Problem) {}
+
     /// Always none.
     fn pick(&mut self, _values: &[Value]) -> Option<Lit>
         ensures { result ≡ None }
@@ -42,7 +58,13 @@ impl Brancher for First {
         None
     }
 
+    fn met(&mut self, _variables: &[Var]) {}
+
     fn conflict(&mut self, _variables: &[Var]) {}
+
+    fn unassigned(&mut self, _literal: Lit) {}
+
+    fn solution(&mut self, _literals: &[Lit]) {}
 
     fn restarted(&mut self) {}
 }

@@ -11,7 +11,7 @@ ghost use Rattle.search.specs.Undoing.{IsUndone};
 
 use super::brancher::Brancher;
 use super::log::Log;
-use analysis::{Entry, Learned, analyse, bites_under};
+use analysis::{Analyser, Entry, Learned, bites_under};
 use linear::{Lit, Var};
 use normal_form::Normal;
 use proof_rules::StepFault;
@@ -36,6 +36,7 @@ pub(crate) fn learn_constraint<'a, P: Propagator>(
     decisions: &mut Vec<Lit>,
     trail: &[Entry],
     conflict: Id,
+    analyser: &mut Analyser,
     brancher: &mut Box<dyn Brancher>,
 ) -> Result<bool, StepFault>
     requires { IsConsistent decisions.old.items }
@@ -46,7 +47,9 @@ pub(crate) fn learn_constraint<'a, P: Propagator>(
     ensures undone { IfOk result (λ yes. IsTrue yes → IsUndone decisions.old.items decisions.new.items) }
     ensures kept { IfOk result (λ yes. yes ≡ false → decisions.new.items ≡ decisions.old.items) }
 {
-    let Some(learned) = analyse(alloc, log.kernel(), trail, conflict)? else {
+    let found = analyser.analyse(alloc, log.kernel(), trail, conflict)?;
+    brancher.met(analyser.met.variables.as_slice());
+    let Some(learned) = found else {
         return Ok(false);
     };
     let Learned {

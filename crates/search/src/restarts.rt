@@ -1,23 +1,39 @@
 //! When a search begins anew.
 //!
-//! A search that began with a bad choice can stay under it for long. So from time to time all decisions are undone, after more
-//! conflicts each time, so that a problem which needs many conflicts under one choice is still solved.
+//! A search that began with a bad choice can stay under it for long. So from time to time all decisions are undone. How many
+//! conflicts come between two restarts follows the sequence 1, 1, 2, 1, 1, 2, 4, 1, 1, 2, 1, 1, 2, 4, 8, .., which is within a
+//! factor of the best one whatever the problem (Luby, Sinclair and Zuckerman, 1993).
 
-/// So many conflicts come before the first restart, and twice as many before the second, and so on.
+/// So many conflicts come before the first restart; later numbers are multiples of it.
 const CONFLICTS: u64 = 100;
 
-/// How many restarts there were, and how many conflicts are left until the next one.
+/// Where the sequence is, in Knuth's form of it (the second number of each pair, in which the first one counts up), and how many
+/// conflicts are left until the next restart.
 #[derive(Clone, Copy, Debug)]
 pub(crate) struct Restarts {
-    next: u64,
+    counter: u64,
+    multiple: u64,
     left: u64,
 }
 
 impl Restarts {
     pub(crate) fn new() -> Self {
         Restarts {
-            next: 1,
+            counter: 1,
+            multiple: 1,
             left: CONFLICTS,
+        }
+    }
+
+    /// The next number of the sequence: where the last one was the greatest power of two that divides the counter the sequence
+    /// begins anew, and else the number doubles.
+    fn advance(&mut self) {
+        let lowest = self.counter & self.counter.wrapping_neg();
+        if lowest == self.multiple {
+            self.counter = self.counter.saturating_add(1);
+            self.multiple = 1;
+        } else {
+            self.multiple = self.multiple.saturating_mul(2);
         }
     }
 
@@ -27,8 +43,8 @@ impl Restarts {
         if self.left > 0 {
             return false;
         }
-        self.next = self.next.saturating_add(1);
-        self.left = CONFLICTS.saturating_mul(self.next);
+        self.advance();
+        self.left = CONFLICTS.saturating_mul(self.multiple);
         true
     }
 }

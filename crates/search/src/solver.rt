@@ -13,11 +13,12 @@ use super::cutting::learn_constraint;
 use super::descent::{Descent, descend};
 use super::endings::{end_exhausted, end_solved, end_stopped, may_stop};
 use super::found::{Found, Unfinished};
-use super::lessons::Lessons;
+use super::learned::LearnedConstraints;
 use super::log::Log;
 use super::presolving::presolve;
 use super::restarts::Restarts;
 use super::trail::{Trail, level_of};
+use analysis::Analyser;
 use linear::{Lit, Problem, Seq};
 use proof_rules::StepFault;
 use proof_steps::Step;
@@ -63,7 +64,8 @@ struct Run<'a, P: Propagator> {
     decisions: Vec<Lit>,
     trail: Trail,
     restarts: Restarts,
-    lessons: Lessons,
+    learned: LearnedConstraints,
+    analyser: Analyser,
     brancher: Box<dyn Brancher>,
 }
 
@@ -94,10 +96,11 @@ impl<'a, P: Propagator> Run<'a, P> {
             &mut self.decisions,
             self.trail.entries(),
             conflict,
+            &mut self.analyser,
             &mut self.brancher,
         )?;
         if learned {
-            self.trail.go_back(level_of(self.decisions.as_slice()));
+            self.go_back();
             return Ok(Some(Lesson::Learned));
         }
         let count = least_conflict(&mut self.log, self.decisions.as_slice())?;
@@ -111,27 +114,40 @@ impl<'a, P: Propagator> Run<'a, P> {
             count,
             &mut self.brancher,
         )?;
-        self.trail.go_back(level_of(self.decisions.as_slice()));
+        self.go_back();
         Ok(Some(lesson))
     }
 
-    /// Counts a conflict that was learned from. Where a restart is due it undoes all decisions, and forgets the older half of
-    /// what was learned.
-    fn restart_if_due(&mut self) -> Result<(), StepFault>
+    /// Takes off the trail what came with decisions that are undone.
+    fn go_back(&mut self)
+        ensures log { self.new.log ≡ self.old.log }
+        ensures decisions { self.new.decisions.items ≡ self.old.decisions.items }
+    {
+        let level = level_of(self.decisions.as_slice());
+        self.trail.go_back(level, &mut self.brancher);
+    }
+
+    /// Counts a conflict that was learned from; forgets half of what was learned, and begins anew, where that is due.
+    fn count_conflict(&mut self) -> Result<(), StepFault>
         requires { IsConsistent self.old.decisions.items }
         ensures problem { self.new.log.problem ≡ self.old.log.problem }
         ensures next { OnOk result (self.new.log.state.next ≡ self.old.log.state.next) }
         ensures consistent { IsConsistent self.new.decisions.items }
     {
-        self.lessons.push(self.log.kernel().last_id())?;
-        if !self.restarts.is_due() {
-            return Ok(());
+        let met = &self.analyser.met;
+        self.learned
+            .push(self.log.kernel().last_id(), met.literals, met.levels)?;
+        self.learned.meet(met.ids.as_slice());
+        if self.learned.is_due() {
+            self.learned
+                .forget(self.alloc, &mut self.log, self.trail.entries())?;
         }
-        self.decisions.clear();
-        self.trail.go_back(0);
-        self.brancher.restarted();
-        self.lessons
-            .forget(self.alloc, &mut self.log, self.trail.entries())
+        if self.restarts.is_due() {
+            self.decisions.clear();
+            self.go_back();
+            self.brancher.restarted();
+        }
+        Ok(())
     }
 
     /// Decides until there is a conflict or a solution, and learns from that.
@@ -161,14 +177,15 @@ impl<'a, P: Propagator> Run<'a, P> {
                 }
                 match self.resolve(conflict)? {
                     None => return Ok(Some(end_exhausted(&mut self.log)?)),
-                    Some(Lesson::Learned) => self.restart_if_due()?,
+                    Some(Lesson::Learned) => self.count_conflict()?,
                     Some(Lesson::Undone) => {}
                 }
                 Ok(None)
             }
             Descent::Settled(listing) => {
                 self.decisions.clear();
-                self.trail.go_back(0);
+                self.brancher.solution(listing.as_slice());
+                self.go_back();
                 accept(&mut self.log, listing, limit)
             }
         }
@@ -189,6 +206,8 @@ fn search<'a, P: Propagator>(
         return Err(StepFault::TooLarge);
     };
     presolve(alloc, &mut log)?;
+    let mut brancher = brancher;
+    brancher.begin(problem);
     let mut run = Run {
         alloc,
         log,
@@ -196,7 +215,8 @@ fn search<'a, P: Propagator>(
         decisions: Vec::new(alloc),
         trail: Trail::new(alloc, count)?,
         restarts: Restarts::new(),
-        lessons: Lessons::new(alloc),
+        learned: LearnedConstraints::new(alloc),
+        analyser: Analyser::new(alloc),
         brancher,
     };
     'turns: loop {

@@ -3,6 +3,7 @@
 //! It is kept for the analysis of conflicts alone, from one decision to the next. Nothing rests on it: what an analysis comes
 //! to is a derivation whatever the trail says, and whether it bites is asked of propagation again. So a trail has no contract.
 
+use super::brancher::Brancher;
 use analysis::Entry;
 use linear::Lit;
 use propagate::Id;
@@ -59,15 +60,17 @@ impl Trail {
         })
     }
 
-    /// Takes off what came with more decisions than these.
-    pub(crate) fn go_back(&mut self, level: u32) {
+    /// Takes off what came with more decisions than these, and tells a brancher so, from the last literal on.
+    pub(crate) fn go_back(&mut self, level: u32, brancher: &mut Box<dyn Brancher>) {
         let mut kept = self.entries.len();
         while kept > 0 && self.entries[kept - 1].level > level {
             kept -= 1;
-            let place = self.entries[kept].literal.var.0 as usize;
+            let literal = self.entries[kept].literal;
+            let place = literal.var.0 as usize;
             if place < self.stands.len() {
                 self.stands[place] = false;
             }
+            brancher.unassigned(literal);
         }
         self.entries.truncate(kept);
     }

@@ -1,6 +1,8 @@
--- What was found stands before the place.
-use Rattle.std.proofs.Common.{◌<◌, IfSome}
+use Rattle.std.proofs.Common.{◌≤◌, length}
 use Rattle.analysis.proofs.walk.latest_false.Given as goal
 
-abbrev pub invariant-loop-index : goal.invariant-loop-index
-invariant-loop-index l = IfSome l.latest (λ at. at.place < l.before)
+abbrev pub invariant-loop-place : goal.invariant-loop-place
+invariant-loop-place l = l.place ≤ l.before
+
+abbrev pub decreases-loop-place : goal.decreases-loop-place
+decreases-loop-place l = l.place

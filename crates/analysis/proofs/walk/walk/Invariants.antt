@@ -5,12 +5,12 @@ use Rattle.proof_rules.specs.State.{constraint_of}
 use Rattle.analysis.specs.Lines.{BeginsWith}
 use Rattle.analysis.proofs.walk.walk.Given as goal
 
-abbrev pub invariant-loop-sum : goal.invariant-loop-sum
-invariant-loop-sum g l = record {
+abbrev pub invariant-loop-learned : goal.invariant-loop-learned
+invariant-loop-learned g l = record {
   place : l.before ≤ length l.standing;
-  begins : BeginsWith l.conflict l.current.items.items;
-  derived : IsPostfixOf (constraint_of l.kernel.state) l.current.items.items l.current.constraint;
+  begins : BeginsWith l.conflict l.analyser.resolvent.items.items;
+  derived : IsPostfixOf (constraint_of l.kernel.state) l.analyser.resolvent.items.items l.analyser.resolvent.sum;
 }
 
-abbrev pub decreases-loop-sum : goal.decreases-loop-sum
-decreases-loop-sum g l = l.before
+abbrev pub decreases-loop-learned : goal.decreases-loop-learned
+decreases-loop-learned g l = l.before

@@ -17,13 +17,13 @@ learn-requires-clause-bites g c =
     let live = constraints c.args.log.now.state in
     let given : List Lit = take learned.level c.args.decisions.now.items in
     let lent : IsPostfixOf (constraint_of c.kernel.result.now.state) learned.items learned.constraint =
-    subst (λ o. IfSome o (λ l. IsPostfixOf (constraint_of c.kernel.result.now.state) l.items l.constraint)) c.in-Some.is c.in_ok-learned.ensures.derived in
+    subst (λ o. IfSome o (λ l. IsPostfixOf (constraint_of c.kernel.result.now.state) l.items l.constraint)) c.in-Some.is c.in_ok-found.ensures.derived in
     let derived : IsPostfixOf (constraint_of c.args.log.now.state) learned.items learned.constraint =
     subst (λ (s : State). IsPostfixOf (constraint_of s) learned.items learned.constraint) c.kernel.ensures.state lent in
     let reach : IsReach live given (reaches.Closed closed) =
     subst (λ r. IsReach live given r) c.in-Closed.is
-    (subst (λ xs. IsReach live (take learned.level xs) c.in_ok-closed.field-0) c.as_slice.ensures.value c.in_ok-closed.ensures.value) in
+    (subst (λ xs. IsReach live (take learned.level xs) c.in_ok-closed.field-0) c.as_slice-2.ensures.value c.in_ok-closed.ensures.value) in
     let bites : IsBroken closed learned.constraint ⊎ ((l : Lit) × IsForced closed l learned.constraint) =
-    subst (λ xs. IsBroken xs learned.constraint ⊎ ((l : Lit) × IsForced xs l learned.constraint)) c.as_slice-2.ensures (c.in_ok-bites_under.ensures.0 c.if-not-branch.false).0 in
+    subst (λ xs. IsBroken xs learned.constraint ⊎ ((l : Lit) × IsForced xs l learned.constraint)) c.as_slice-3.ensures (c.in_ok-bites_under.ensures.0 c.if-not-branch.false).0 in
     subst (λ (l : Logbook). StepBites l.state (kinds.Pol learned.items)) (sym c.extend.ensures.same)
     (learned.constraint, derived, settled_bites live given closed learned.constraint reach bites)

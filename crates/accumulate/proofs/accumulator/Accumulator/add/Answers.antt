@@ -37,13 +37,13 @@ invariant_of-self-then-not-fits c =
 pub returns-then-not-fits-clause-unchanged : goal.returns-then-not-fits-clause-unchanged
 returns-then-not-fits-clause-unchanged c =
     let back : terms_from 0 c.apply.new.nets.items ≡ terms_from 0 c.prepare.new.nets.items = taken_back c.prepare.new.nets.items c.apply-sum.new.nets.items c.apply.new.nets.items c.args.other.now.terms c.apply-sum.ensures.gives c.apply.ensures.gives in
-    same_of c.self.inside.nets.items c.apply.new.nets.items c.self.inside.bound (back ∙ c.prepare.ensures.terms) ∙ c.self.view_is
+    same_of c.self.inside.nets.items c.apply.new.nets.items c.self.inside.degree (back ∙ c.prepare.ensures.terms) ∙ c.self.view_is
 
 pub returns-then-not-fits-clause-too_large : goal.returns-then-not-fits-clause-too_large
-returns-then-not-fits-clause-too_large c e = too_large_given c.args.self.now c.args.other.now c.prepare.new.nets.items c.apply-sum.new.nets.items c.self.inside.bound c.self.inside.sum c.apply-sum.result c.degree_after-degree.result (same_of c.self.inside.nets.items c.prepare.new.nets.items c.self.inside.bound c.prepare.ensures.terms ∙ c.self.view_is) c.apply-sum.ensures.gives (sizes_same c.self.inside.nets.items c.prepare.new.nets.items c.self.inside.sum c.prepare.ensures.terms c.self.invariant.summed) c.apply-sum.ensures.sum c.degree_after-degree.ensures.value (λ p. never (c.if-not-fits.ensures.1 p))
+returns-then-not-fits-clause-too_large c e = too_large_given c.args.self.now c.args.other.now c.prepare.new.nets.items c.apply-sum.new.nets.items c.self.inside.degree c.self.inside.sum c.apply-sum.result c.degree_after-degree.result (same_of c.self.inside.nets.items c.prepare.new.nets.items c.self.inside.degree c.prepare.ensures.terms ∙ c.self.view_is) c.apply-sum.ensures.gives (sizes_same c.self.inside.nets.items c.prepare.new.nets.items c.self.inside.sum c.prepare.ensures.terms c.self.invariant.summed) c.apply-sum.ensures.sum c.degree_after-degree.ensures.value (λ p. never (c.if-not-fits.ensures.1 p))
 
 pub returns-clause-sum : goal.returns-clause-sum
-returns-clause-sum c = sum_given c.args.self.now c.args.other.now c.prepare.new.nets.items c.apply-sum.new.nets.items c.self.inside.bound c.self.inside.sum c.apply-sum.result c.degree_after-degree.result (same_of c.self.inside.nets.items c.prepare.new.nets.items c.self.inside.bound c.prepare.ensures.terms ∙ c.self.view_is) c.apply-sum.ensures.gives (sizes_same c.self.inside.nets.items c.prepare.new.nets.items c.self.inside.sum c.prepare.ensures.terms c.self.invariant.summed) c.apply-sum.ensures.sum c.degree_after-degree.ensures.value
+returns-clause-sum c = sum_given c.args.self.now c.args.other.now c.prepare.new.nets.items c.apply-sum.new.nets.items c.self.inside.degree c.self.inside.sum c.apply-sum.result c.degree_after-degree.result (same_of c.self.inside.nets.items c.prepare.new.nets.items c.self.inside.degree c.prepare.ensures.terms ∙ c.self.view_is) c.apply-sum.ensures.gives (sizes_same c.self.inside.nets.items c.prepare.new.nets.items c.self.inside.sum c.prepare.ensures.terms c.self.invariant.summed) c.apply-sum.ensures.sum c.degree_after-degree.ensures.value
 
 pub returns-clause-normal : goal.returns-clause-normal
 returns-clause-normal c =

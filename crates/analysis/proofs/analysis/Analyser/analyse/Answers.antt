@@ -1,7 +1,7 @@
 use Rattle.std.proofs.Common.{◌≡◌, List, Option, IfSome, subst}
 use Rattle.analysis.specs.declared.entry.Entry.{Entry}
 use Rattle.analysis.specs.Biting.{BitesAt}
-use Rattle.analysis.proofs.analysis.analyse.Goals as goal
+use Rattle.analysis.proofs.analysis.Analyser.analyse.Goals as goal
 
 pub returns-in-Ok-clause-biting : goal.returns-in-Ok-clause-biting
 returns-in-Ok-clause-biting g c =

@@ -1,5 +1,5 @@
 use Rattle.search.proofs.Forgetting.{next_stays}
-use Rattle.search.proofs.lessons.Lessons.forget.Goals as goal
+use Rattle.search.proofs.learned.LearnedConstraints.forget.Goals as goal
 
 pub returns-in_ok-apply-clause-next : goal.returns-in_ok-apply-clause-next
 returns-in_ok-apply-clause-next g c =

@@ -3,8 +3,8 @@ use Rattle.std.proofs.Common.{◌+◌, false, None, subst, sym, take}
 use Rattle.propagate.specs.Ids.{IdSet}
 use Rattle.analysis.specs.declared.entry.Entry.{Entry}
 use Rattle.search.proofs.Reasons.{AreReasonsIn, same_ids, one_id_more}
-use Rattle.search.proofs.lessons.reasons_of.Goals as goal
-use Rattle.search.proofs.lessons.reasons_of.Goals.{in-Some+in_ok-insert, in_default}
+use Rattle.search.proofs.learned.reasons_of.Goals as goal
+use Rattle.search.proofs.learned.reasons_of.Goals.{in-Some+in_ok-insert, in_default}
 
 abbrev blank : Entry
 blank = record { literal = record { var = record { 0 = 0 }; negated = false }; reason = None; level = 0 }

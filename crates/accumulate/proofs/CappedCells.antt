@@ -1,0 +1,74 @@
+-- What capping does to a net coefficient, to an array of them, and to the constraint that it stands for.
+use Rattle.std.proofs.Common.{◌≡◌, ℕ, zero, suc, ◌+◌, ◌-◌, ◌<◌, ◌≤◌, min, Bool, true, false, List, length, get_or, refl, ap, sym, subst, ◌∙◌, arith, to_z, of_z}
+use mir.Syntax.{w128}
+use Rattle.std.specs.Prelude.{ℤ, pos, negsuc, neg_ℤ, unsigned_abs}
+use Rattle.std.proofs.lemmas.Int.{ints}
+use Rattle.std.proofs.Math.ListN.{set}
+use Rattle.normal_form.specs.Normal.{NormalConstraint, coefficient, largest_sum}
+use Rattle.normal_form.specs.NormalOf.{at_least_zero}
+use Rattle.cut_rules.specs.Rules.{IsSaturation}
+use Rattle.accumulate.specs.Nets.{AreCapped, capped, constraint_of, sizes}
+use Rattle.accumulate.proofs.NetTerms.{set_sizes, size_below, terms_rise}
+use Rattle.accumulate.proofs.Coefficients.{coefficients_at}
+
+none_above : (k : ℕ) → at_least_zero (neg_ℤ (pos k)) ≡ 0
+none_above zero = refl
+none_above (suc k) = refl
+
+twice_turned : (k : ℕ) → neg_ℤ (neg_ℤ (pos k)) ≡ pos k
+twice_turned zero = refl
+twice_turned (suc k) = refl
+
+least_zero : (m : ℕ) → min 0 m ≡ 0
+least_zero m = omega arith
+
+capped_below : (m k : ℕ) → capped m (neg_ℤ (pos k)) ≡ neg_ℤ (pos (min k m))
+capped_below m zero = ap pos (least_zero m) ∙ sym (ap (λ (k : ℕ). neg_ℤ (pos k)) (least_zero m))
+capped_below m (suc k) = refl
+
+-- capped once is capped for good
+again : (m : ℕ) (z : ℤ) → capped m (capped m z) ≡ capped m z
+again m (pos n) = ap pos (omega arith)
+again m (negsuc n) = capped_below m (min (suc n) m) ∙ ap (λ (k : ℕ). neg_ℤ (pos k)) (omega arith)
+
+size_of_turned : (k : ℕ) → unsigned_abs (neg_ℤ (pos k)) ≡ k
+size_of_turned zero = refl
+size_of_turned (suc k) = refl
+
+pub capped_size : (m : ℕ) (z : ℤ) → unsigned_abs (capped m z) ≤ unsigned_abs z
+capped_size m (pos n) = omega arith
+capped_size m (negsuc n) = omega (arith, size_of_turned (min (suc n) m))
+
+plain : (m : ℕ) (z : ℤ) → at_least_zero (capped m z) ≡ min (at_least_zero z) m
+plain m (pos n) = refl
+plain m (negsuc n) = omega (arith, none_above (min (suc n) m))
+
+negated : (m : ℕ) (z : ℤ) → at_least_zero (neg_ℤ (capped m z)) ≡ min (at_least_zero (neg_ℤ z)) m
+negated m (pos n) = omega (arith, none_above (min n m), none_above n)
+negated m (negsuc n) = ap at_least_zero (twice_turned (min (suc n) m))
+
+by_sign : (P : Bool → Type 0) → P false → P true → (s : Bool) → P s
+by_sign P f t true = t
+by_sign P f t false = f
+
+-- an array that is capped at the degree is the saturation
+pub saturated : (d : NormalConstraint) (ns new : List ℤ) (degree : ℕ) → constraint_of ns degree ≡ d → AreCapped degree ns new → IsSaturation d (constraint_of new degree)
+saturated d ns new degree is all = subst (λ (x : NormalConstraint). IsSaturation x (constraint_of new degree)) is (record {
+  coefficients = λ v s. by_sign (λ s. coefficient (constraint_of new degree) v s ≡ min (coefficient (constraint_of ns degree) v s) degree)
+      ((coefficients_at new degree v).0 ∙ ap at_least_zero (all v) ∙ plain degree (get_or ns v (pos 0)) ∙ ap (λ (k : ℕ). min k degree) (sym ((coefficients_at ns degree v).0)))
+      ((coefficients_at new degree v).1 ∙ ap (λ (z : ℤ). at_least_zero (neg_ℤ z)) (all v) ∙ negated degree (get_or ns v (pos 0)) ∙ ap (λ (k : ℕ). min k degree) (sym ((coefficients_at ns degree v).1)))
+      s;
+  degree = refl;
+  rises = terms_rise 0 new;
+})
+
+-- a number of this size is read back as it is
+pub whole : (z : ℤ) → unsigned_abs z ≤ largest_sum → to_z w128 (of_z w128 z) ≡ z
+whole z h = omega (arith, ints, h)
+
+pub cell_size : (ns : List ℤ) (i sum : ℕ) (z : ℤ) → i < length ns → z ≡ get_or ns i z → sum ≡ sizes ns → unsigned_abs z ≤ sum
+cell_size ns i sum z h e s = omega (arith, size_below ns i z h, ap unsigned_abs e, s)
+
+-- what a cell that is set changes in the sum of the sizes
+pub set_sum : (ns : List ℤ) (i sum before after : ℕ) (old new : ℤ) → i < length ns → old ≡ get_or ns i old → sum ≡ sizes ns → before ≡ unsigned_abs old → after ≡ unsigned_abs new → sum - before + after ≡ sizes (set ns i new)
+set_sum ns i sum before after old new h e s b a = omega (arith, set_sizes ns i new old h, size_below ns i old h, ap unsigned_abs e, s, b, a)

@@ -1,0 +1,33 @@
+-- A cell becomes smaller in size, or stays.
+use Rattle.std.proofs.Common.{◌≡◌, ◌≤◌, ap, ◌∙◌, arith, to_z, of_z}
+use mir.Syntax.{w128}
+use Rattle.std.specs.Prelude.{ℤ, unsigned_abs}
+use Rattle.accumulate.proofs.CappedCells.{capped_size, cell_size, set_sum, whole}
+use Rattle.accumulate.proofs.capping.cap_cell.Goals as goal
+
+pub capped-after-requires : goal.capped-after-requires
+capped-after-requires c =
+    let small : unsigned_abs c.index-before.result.now ≤ c.args.sum = cell_size c.args.nets.now.items c.args.place c.args.sum c.index-before.result.now c.requires.place c.index-before.ensures c.requires.sum in
+    omega (arith, small, c.requires.small, ap unsigned_abs (whole c.index-before.result.now (omega (arith, small, c.requires.small))))
+
+pub overflow_sub-result : goal.overflow_sub-result
+overflow_sub-result c =
+    let small : unsigned_abs c.index-before.result.now ≤ c.args.sum = cell_size c.args.nets.now.items c.args.place c.args.sum c.index-before.result.now c.requires.place c.index-before.ensures c.requires.sum in
+    omega (arith, small, c.unsigned_abs.ensures.value, ap unsigned_abs (whole c.index-before.result.now (omega (arith, small, c.requires.small))))
+
+pub returns-clause-sum : goal.returns-clause-sum
+returns-clause-sum c =
+    let old : ℤ = c.index-before.result.now in
+    let small : unsigned_abs old ≤ c.args.sum = cell_size c.args.nets.now.items c.args.place c.args.sum old c.requires.place c.index-before.ensures c.requires.sum in
+    let before : c.unsigned_abs.result ≡ unsigned_abs old = c.unsigned_abs.ensures.value ∙ ap unsigned_abs (whole old (omega (arith, small, c.requires.small))) in
+    set_sum c.args.nets.now.items c.args.place c.args.sum c.unsigned_abs.result c.unsigned_abs-2.result old (to_z w128 (of_z w128 c.capped-after.result)) c.requires.place c.index-before.ensures c.requires.sum before c.unsigned_abs-2.ensures.value
+
+pub returns-clause-less : goal.returns-clause-less
+returns-clause-less c =
+    let old : ℤ = c.index-before.result.now in
+    let after : ℤ = c.capped-after.result in
+    let small : unsigned_abs old ≤ c.args.sum = cell_size c.args.nets.now.items c.args.place c.args.sum old c.requires.place c.index-before.ensures c.requires.sum in
+    let read : unsigned_abs (to_z w128 (of_z w128 old)) ≡ unsigned_abs old = ap unsigned_abs (whole old (omega (arith, small, c.requires.small))) in
+    let smaller : unsigned_abs after ≤ unsigned_abs old = omega (arith, capped_size c.args.most (to_z w128 (of_z w128 old)), ap unsigned_abs c.capped-after.ensures, read) in
+    let kept : unsigned_abs (to_z w128 (of_z w128 after)) ≡ unsigned_abs after = ap unsigned_abs (whole after (omega (arith, smaller, small, c.requires.small))) in
+    omega (arith, small, smaller, read, kept, c.unsigned_abs.ensures.value, c.unsigned_abs-2.ensures.value)

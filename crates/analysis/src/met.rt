@@ -1,0 +1,54 @@
+//! What an analysis came by: for rules of choice and of forgetting, which live on it. Nothing rests on it, so it has no contract.
+
+use linear::Var;
+use normal_form::Normal;
+use propagate::Id;
+use std::alloc::{AllocError, Global};
+
+/// The constraints that were added up in the analysis of a conflict. It is kept from one analysis to the next for its memory.
+#[derive(Drop)]
+pub struct Met {
+    /// The variables of the constraints, each as often as it stands in one.
+    pub variables: Vec<Var>,
+    /// The ids of the constraints, the conflict's first.
+    pub ids: Vec<Id>,
+    /// How many literals what was learned has; the greatest number where nothing was.
+    pub literals: usize,
+    /// How many levels these are of; the greatest number where nothing was.
+    pub levels: u32,
+}
+
+impl Met {
+    /// Nothing.
+    pub(crate) fn new(alloc: Global) -> Self {
+        Met {
+            variables: Vec::new(alloc),
+            ids: Vec::new(alloc),
+            literals: usize::MAX,
+            levels: u32::MAX,
+        }
+    }
+
+    /// Nothing any more.
+    pub(crate) fn clear(&mut self) {
+        self.variables.clear();
+        self.ids.clear();
+        self.literals = usize::MAX;
+        self.levels = u32::MAX;
+    }
+
+    /// One constraint more.
+    pub(crate) fn add(&mut self, id: Id, constraint: &Normal) -> Result<(), AllocError> {
+        self.ids.push(id)?;
+        for place in 0..constraint.len() {
+            self.variables.push(constraint.term(place).var)?;
+        }
+        Ok(())
+    }
+
+    /// Notes how many literals what was learned has, and of how many levels they are.
+    pub(crate) fn note_learned(&mut self, literals: usize, levels: u32) {
+        self.literals = literals;
+        self.levels = levels;
+    }
+}

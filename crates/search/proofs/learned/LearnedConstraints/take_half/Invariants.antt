@@ -1,0 +1,6 @@
+use Rattle.std.proofs.Common.{All}
+use Rattle.search.specs.Undoing.{IsNoReason}
+use Rattle.search.proofs.learned.LearnedConstraints.take_half.Given as goal
+
+abbrev pub invariant-loop-one : goal.invariant-loop-one
+invariant-loop-one l = All (IsNoReason l.trail) l.gone.items
