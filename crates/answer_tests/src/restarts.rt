@@ -1,7 +1,7 @@
-//! A problem that needs more conflicts than come before the first restart, so that a search begins anew, forgets, and goes on.
+//! A problem that needs more conflicts than come before a search begins anew and before it forgets, so that it does both and goes on.
 //!
-//! Seven pigeons do not fit into six holes. Where a clause says of each two of them that they are not both in one hole, that takes some
-//! hundreds of conflicts, and the first restart comes after 100.
+//! Nine pigeons do not fit into eight holes. Where a clause says of each two of them that they are not both in one hole, that takes some
+//! thousands of conflicts; the first restart comes after 100, and half of what was learned is forgotten after 2,000.
 
 use super::plain::{PlainConstraint, PlainProblem, PlainTerm};
 use super::rules::Rule;
@@ -10,9 +10,9 @@ use super::spelled::text_of;
 use std::alloc::{AllocError, Global};
 use std::test::Fail;
 
-const PIGEONS: usize = 7;
+const PIGEONS: usize = 9;
 
-const HOLES: usize = 6;
+const HOLES: usize = 8;
 
 /// That a pigeon is in a hole, or that it is not.
 fn stays(pigeon: usize, hole: usize, negated: bool) -> PlainTerm {
@@ -94,9 +94,9 @@ fn end_of(alloc: Global, limit: u64, rule: Rule) -> Result<End, Fail> {
 
 #[test]
 fn goes_on_after_a_restart(rt: HostRuntime) -> Result<(), Fail> {
-    // more than 100 conflicts are needed, and so one restart, or two where the conflicts choose
-    for (rule, too_few) in [(Rule::First, 101), (Rule::Activity, 301)] {
-        let stopped = end_of(rt.alloc(), too_few, rule)?;
+    // more than 2,000 conflicts are needed
+    for rule in [Rule::First, Rule::Activity] {
+        let stopped = end_of(rt.alloc(), 2001, rule)?;
         assert_eq!(rt; stopped, End::Stopped, "with {rule:?}");
         let whole = end_of(rt.alloc(), 1000000, rule)?;
         assert_eq!(rt; whole, End::Denied { forgets: true }, "with {rule:?}");
