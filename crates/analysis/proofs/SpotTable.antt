@@ -6,7 +6,7 @@ use Rattle.std.proofs.lemmas.List.{get_or-set_same, get_or-set_other}
 use Rattle.linear.specs.declared.term.Lit.{Lit}
 use Rattle.normal_form.specs.Normal.{only, same_sign}
 use Rattle.propagate.specs.Literals.{among}
-use Rattle.propagate.proofs.Listings.{among_append}
+use Rattle.propagate.proofs.Assignments.{among_append}
 use Rattle.analysis.specs.declared.entry.Entry.{Entry}
 use Rattle.analysis.specs.declared.spot.Spot.{Spot}
 use Rattle.analysis.specs.Biting.{literals_up_to}

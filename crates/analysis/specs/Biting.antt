@@ -2,7 +2,7 @@
 use Rattle.std.specs.Prelude.{◌≡◌, ◌<◌, ℕ, max, ◌⊎◌, List, [], ◌∷◌, length, map, nat_lt, slice_index_or, if◌then◌else◌}
 use Rattle.linear.specs.declared.term.Lit.{Lit}
 use Rattle.normal_form.specs.Normal.{NormalConstraint}
-use Rattle.propagate.specs.Slack.{IsBroken, IsForced}
+use Rattle.propagate.specs.Slack.{IsFalsified, IsForced}
 use Rattle.analysis.specs.declared.entry.Entry.{Entry}
 
 -- the literals that stood on the trail while no more than so many decisions were open
@@ -15,18 +15,18 @@ abbrev pub greatest_level : List Entry → ℕ
 greatest_level [] = 0
 greatest_level (e ∷ es) = max e.level (greatest_level es)
 
--- under the literals of a listing the constraint has negative slack or forces a literal
+-- under the literals of an assignment the constraint has negative slack or forces a literal
 abbrev pub Bites : List Lit → NormalConstraint → Type 0
-Bites listing n = IsBroken listing n ⊎ ((l : Lit) × IsForced listing l n)
+Bites assigned n = IsFalsified assigned n ⊎ ((l : Lit) × IsForced assigned l n)
 
 -- under the literals up to the level the constraint has negative slack or forces a literal
 abbrev pub BitesAt : List Entry → ℕ → NormalConstraint → Type 0
 BitesAt trail level n = Bites (literals_up_to level trail) n
 
 abbrev pub variables_of : List Lit → List ℕ
-variables_of listing = map (λ l. l.var.0) listing
+variables_of assigned = map (λ l. l.var.0) assigned
 
 -- some variable stands at two places
 abbrev pub RepeatsVariable : List Lit → Type 0
-RepeatsVariable listing =
-    (i j : ℕ) × (i < j) × (j < length listing) × (slice_index_or (variables_of listing) i 0 ≡ slice_index_or (variables_of listing) j 0)
+RepeatsVariable assigned =
+    (i j : ℕ) × (i < j) × (j < length assigned) × (slice_index_or (variables_of assigned) i 0 ≡ slice_index_or (variables_of assigned) j 0)

@@ -18,8 +18,8 @@ abbrev pub forces_since_one : NormalConstraint
 forces_since_one = normal (plain 1 2 ∷ plain 1 4 ∷ []) 1
 
 -- 1 ~x1 1 x2 >= 1
-abbrev pub broken_since_one : NormalConstraint
-broken_since_one = normal (negated 1 1 ∷ plain 1 2 ∷ []) 1
+abbrev pub falsified_since_one : NormalConstraint
+falsified_since_one = normal (negated 1 1 ∷ plain 1 2 ∷ []) 1
 
 -- 1 ~x3 1 x4 >= 1
 abbrev pub forces_since_two : NormalConstraint

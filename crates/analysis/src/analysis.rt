@@ -1,4 +1,4 @@
-//! The analysis of a conflict, from the broken constraint back over the reasons of what was forced.
+//! The analysis of a conflict, from the falsified constraint back over the reasons of what was forced.
 //!
 //! A learned constraint is worth keeping only where it would have forced something at an earlier decision level (it bites
 //! there). So reasons are added up, last forced first, until the sum does; the sum is a `pol` line, so whatever is

@@ -4,7 +4,7 @@ ghost use Rattle.std.specs.Prelude.{◌≡◌, [], ◌∷◌, pos};
 ghost use Rattle.propagate.specs.Cases.{one_of_two, x, not_x};
 ghost use Rattle.proof_steps.specs.declared.step.Item.TheVariants.{Add, Id, Saturate};
 ghost use Rattle.analysis.specs.Biting.{BitesAt, RepeatsVariable, greatest_level, literals_up_to};
-ghost use Rattle.analysis.specs.Cases.{broken_since_one, forces_since_one, forces_since_two, two_decisions};
+ghost use Rattle.analysis.specs.Cases.{falsified_since_one, forces_since_one, forces_since_two, two_decisions};
 ghost use Rattle.analysis.specs.Lines.{BeginsWith, GoesOnFrom};
 
 /// x1 was decided, ~x2 forced, and x3 decided next: two decisions are open, and the first two literals stand since the first.
@@ -21,8 +21,8 @@ pub fn two_decisions_open()
 pub fn bites_since()
     ensures forces { BitesAt two_decisions 1 forces_since_one }
     ensures forces_nothing { BitesAt two_decisions 0 forces_since_one → ⊥ }
-    ensures broken { BitesAt two_decisions 1 broken_since_one }
-    ensures unbroken { BitesAt two_decisions 0 broken_since_one → ⊥ }
+    ensures falsified { BitesAt two_decisions 1 falsified_since_one }
+    ensures unfalsified { BitesAt two_decisions 0 falsified_since_one → ⊥ }
     ensures second { BitesAt two_decisions 2 forces_since_two }
     ensures not_first { BitesAt two_decisions 1 forces_since_two → ⊥ }
     ensures satisfied { BitesAt two_decisions 2 one_of_two → ⊥ }

@@ -1,6 +1,6 @@
 //! The least level under which a constraint bites.
 //!
-//! From level to level downwards, the literals of a constraint that came onto the trail at the level are taken back: what was
+//! From level to level downwards, the literals of a constraint that came onto the trail at the level are backtracked: what was
 //! false counts again, and what was set can be forced again. One pass over the constraint's literals in the order of their levels
 //! comes by every level there is. It only finds the level; that the constraint bites there is then computed from the definition.
 

@@ -5,7 +5,7 @@
 
 ghost use Rattle.std.specs.Prelude.{◌≡◌, ◌+◌, ◌<◌, MatchOption, length, take};
 ghost use Rattle.normal_form.specs.Normal.{sum_over};
-ghost use Rattle.propagate.specs.Slack.{IsBroken, not_false};
+ghost use Rattle.propagate.specs.Slack.{IsFalsified, not_false};
 ghost use Rattle.analysis.specs.Biting.{literals_up_to};
 
 use super::standing::Standing;
@@ -38,7 +38,7 @@ fn open_sum(constraint: &Normal, standing: &Standing<'_>, level: u32) -> u128
 
 /// The slack of a constraint under the literals up to a level, or `None` where it is negative.
 pub(crate) fn slack(constraint: &Normal, standing: &Standing<'_>, level: u32) -> Option<u128>
-    ensures { MatchOption result (IsBroken (literals_up_to level standing.now) constraint.now)
+    ensures { MatchOption result (IsFalsified (literals_up_to level standing.now) constraint.now)
         (λ slack. sum_over (not_false (literals_up_to level standing.now)) constraint.now.terms ≡ constraint.now.degree + slack) }
 {
     open_sum(constraint, standing, level).checked_sub(constraint.degree())

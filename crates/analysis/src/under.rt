@@ -1,4 +1,4 @@
-//! Whether a constraint bites under a listing that is no trail: the closure of the decisions to which a search goes back.
+//! Whether a constraint bites under an assignment that is no trail: the closure of the decisions to which a search goes back.
 //!
 //! A trail may say less than propagation over what is live by now. So whoever goes back asks the propagator what the decisions
 //! that are left extend to, and then asks here.
@@ -25,24 +25,24 @@ fn at_start(literal: Lit) -> Entry
     }
 }
 
-/// The trail of a listing, without decisions.
-fn trail_of(alloc: Global, listing: &[Lit]) -> Result<Vec<Entry>, AllocError>
-    ensures flat { IfOk result (λ trail. literals_up_to 0 trail.items ≡ listing.now) }
-    ensures literals { IfOk result (λ trail. map (λ e. e.literal) trail.items ≡ listing.now) }
+/// The trail of an assignment, without decisions.
+fn trail_of(alloc: Global, assigned: &[Lit]) -> Result<Vec<Entry>, AllocError>
+    ensures flat { IfOk result (λ trail. literals_up_to 0 trail.items ≡ assigned.now) }
+    ensures literals { IfOk result (λ trail. map (λ e. e.literal) trail.items ≡ assigned.now) }
 {
-    let mut trail = Vec::with_capacity(alloc, listing.len())?;
-    for literal in listing {
+    let mut trail = Vec::with_capacity(alloc, assigned.len())?;
+    for literal in assigned {
         trail.push(at_start(*literal))?;
     }
     Ok(trail)
 }
 
-/// Whether a constraint has negative slack, or forces a literal, under a listing in which no variable stands twice. Of any other
-/// listing the answer is no.
-pub fn bites_under(alloc: Global, constraint: &Normal, listing: &[Lit]) -> Result<bool, AllocError>
-    ensures { IfOk result (λ yes. IsTrue yes ↔ (Bites listing.now constraint.now × (RepeatsVariable listing.now → ⊥))) }
+/// Whether a constraint has negative slack, or forces a literal, under an assignment in which no variable stands twice. Of any other
+/// assignment the answer is no.
+pub fn bites_under(alloc: Global, constraint: &Normal, assigned: &[Lit]) -> Result<bool, AllocError>
+    ensures { IfOk result (λ yes. IsTrue yes ↔ (Bites assigned.now constraint.now × (RepeatsVariable assigned.now → ⊥))) }
 {
-    let trail = trail_of(alloc, listing)?;
+    let trail = trail_of(alloc, assigned)?;
     let Some(standing) = Standing::of(alloc, trail.as_slice())? else {
         return Ok(false);
     };

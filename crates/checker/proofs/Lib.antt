@@ -8,3 +8,5 @@ pub mod Claimed
 pub mod OneProof
 pub mod PrintedClaim
 pub mod ProvedAccepted
+pub mod Streaming
+pub mod VerdictsSaid

@@ -1,18 +1,23 @@
 -- The walk of the code: what is read and accepted is one position further, and what is refused is where judging stops.
-use Rattle.std.proofs.Common.{◌≡◌, ◌≢◌, ◌<◌, ℕ, None, List, [], ◌∷◌, length, arith, refl, sym, ap, subst, ◌∙◌}
+use Rattle.std.proofs.Common.{◌≡◌, ◌≢◌, ℕ, Option, Some, None, List, [], ◌∷◌, ◌++◌, refl, sym, ap, subst, ◌∙◌}
+use Rattle.std.specs.Prelude.{MatchOption}
+use Rattle.std.proofs.lemmas.List.{append-nil, append_assoc}
 use Rattle.linear.specs.Opb.{Opb}
 use Rattle.proof_rules.specs.Justified.{IsJustified}
 use Rattle.proof_rules.specs.Legal.{Legal}
 use Rattle.proof_rules.specs.State.{State, IsStart}
-use Rattle.proof_text.specs.Faults.{DeniesLine}
 use Rattle.proof_text.specs.Lines.{Numbered, lines_of}
+use Rattle.proof_text.specs.LinesAhead.{numbered_of}
+use Rattle.proof_text.specs.declared.reader.NumberedLine.{NumberedLine}
 use Rattle.proof_text.specs.declared.fault.ProofFault.{ProofFault}
 use Rattle.proof_text.specs.declared.fault.ProofFault.TheVariants as readings
 use Rattle.proof_text.specs.declared.line.Line.{Line}
 use Rattle.proof_text.specs.declared.line.Line.TheVariants as lines
+use Rattle.proof_text.specs.Sections.{section_behind}
+use Rattle.proof_text.specs.declared.line.Section.{Section}
 use Rattle.proof_text.specs.declared.line.Section.TheVariants as sections
 use Rattle.kernel.specs.Held.{Held}
-use Rattle.checker.specs.Stopped.{IsStopped, Refuses, Stops}
+use Rattle.checker.specs.Stopped.{IsStopped, IsTruncated, LeadsNowhere, Refuses}
 use Rattle.checker.specs.Stopped.{refused}
 use Rattle.checker.specs.StopsBy.{StopsBy, reading_stop}
 use Rattle.checker.specs.Walk.{Accepts, Advances, Position, Reaches, Walks, beginning}
@@ -40,87 +45,124 @@ pub stops_so : (why so : ℕ → Code → Type 0) (stop : Stop) → ((line : ℕ
 stops_so why so (stops.At line code) brings stop = brings line code stop
 stops_so why so stops.NoMemory brings stop = tt
 
--- what was accepted where nothing but the reading went before
-accepts_before : (p : Opb) (old mid new : Position) (said : Line) → mid.section ≡ old.section → mid.state ≡ old.state → mid.concluded ≡ old.concluded → Accepts p mid said new → Accepts p old said new
-accepts_before p old mid new lines.Header section state concluded a = record { section_is = a.section_is; state = a.state ∙ state; concluded = a.concluded ∙ concluded }
-accepts_before p old mid new (lines.Count n) section state concluded a = (a.0, record { section_is = a.1.section_is; state = a.1.state ∙ state; concluded = a.1.concluded ∙ concluded })
-accepts_before p old mid new (lines.Step step) section state concluded a =
-    record { section_is = a.section_is ∙ section; legal = subst (λ s. Legal p s step new.state) state a.legal; concluded = a.concluded ∙ concluded }
-accepts_before p old mid new lines.Output section state concluded a = record { section_is = a.section_is; state = a.state ∙ state; concluded = a.concluded ∙ concluded }
-accepts_before p old mid new (lines.Conclusion c) section state concluded a =
-    record { section_is = a.section_is; best = a.best; justified = subst (λ s. IsJustified p s c a.best) state a.justified; state = a.state ∙ state; concluded = a.concluded }
-accepts_before p old mid new lines.End section state concluded a = record { section_is = a.section_is; state = a.state ∙ state; concluded = a.concluded ∙ concluded }
+-- what was accepted where nothing but the reading went before, and only the section changes behind
+accepts_within : (p : Opb) (old mid new end : Position) (said : Line) → mid.state ≡ old.state → mid.concluded ≡ old.concluded → end.state ≡ new.state → end.concluded ≡ new.concluded
+    → Accepts p mid said new → Accepts p old said end
+accepts_within p old mid new end lines.Header state concluded later kept a = record { state = later ∙ a.state ∙ state; concluded = kept ∙ a.concluded ∙ concluded }
+accepts_within p old mid new end (lines.Count n) state concluded later kept a = (a.0, record { state = later ∙ a.1.state ∙ state; concluded = kept ∙ a.1.concluded ∙ concluded })
+accepts_within p old mid new end (lines.Step step) state concluded later kept a =
+    record { legal = subst (λ s. Legal p old.state step s) (sym later) (subst (λ s. Legal p s step new.state) state a.legal); concluded = kept ∙ a.concluded ∙ concluded }
+accepts_within p old mid new end lines.Output state concluded later kept a = record { state = later ∙ a.state ∙ state; concluded = kept ∙ a.concluded ∙ concluded }
+accepts_within p old mid new end (lines.Conclusion c) state concluded later kept a =
+    record { best = a.best; justified = subst (λ s. IsJustified p s c a.best) state a.justified; state = later ∙ a.state ∙ state; concluded = kept ∙ a.concluded }
+accepts_within p old mid new end lines.End state concluded later kept a = record { state = later ∙ a.state ∙ state; concluded = kept ∙ a.concluded ∙ concluded }
+
+-- another section at a position
+abbrev pub moved : Position → Section → Position
+moved at section = record at { section = section }
 
 -- a line that is read and accepted
-pub advances_by : (p : Opb) (old mid new : Position) (number : ℕ) (said : Line) → Reads old mid number said → Accepts p mid said new → new.names ≡ mid.names → new.left ≡ mid.left → Advances p old new
-advances_by p old mid new number said reads accepts names left =
+pub advances_by : (p : Opb) (line : Numbered) (old mid new : Position) (said : Line) → Reads line old mid said → Accepts p mid said new → new.section ≡ mid.section → new.names ≡ mid.names
+    → Advances p line old (moved new (section_behind new.section said))
+advances_by p line old mid new said reads accepts section names =
     let state = ap (λ (x : Position). x.state) reads.now_at in
-    let section = ap (λ (x : Position). x.section) reads.now_at in
+    let before = ap (λ (x : Position). x.section) reads.now_at in
     let concluded = ap (λ (x : Position). x.concluded) reads.now_at in
-    let before : Accepts p old said new = accepts_before p old mid new said section state concluded accepts in
+    let end : Position = moved new (section_behind new.section said) in
+    let within : Accepts p old said end = accepts_within p old mid new end said state concluded refl refl accepts in
     record {
       next = reads.next;
-      left = left ∙ ap (λ (x : Position). x.left) reads.now_at;
+      section = ap (λ q. section_behind q said) (section ∙ before) ∙ ap (section_behind old.section) reads.said_is;
       names = names ∙ ap (λ (x : Position). x.names) reads.now_at;
-      accepts = subst (λ l. Accepts p old l new) reads.said_is before;
+      accepts = subst (λ l. Accepts p old l end) reads.said_is within;
     }
 
 -- what is read is refused at the line of this number
 abbrev pub RefusesAt : ℕ → Held → Line → ℕ → Code → Type 0
 RefusesAt number k said line code = (line ≡ number) × Refuses k.problem k.state said code
 
--- a line that is read and refused
-pub stops_refused : (p : Opb) (old mid : Position) (number : ℕ) (said : Line) (last : ℕ) (stop : Stop) → Reads old mid number said → StopsBy (RefusesAt number (record { problem = p; state = mid.state }) said) stop → StopsBy (Stops p old last) stop
-stops_refused p old mid number said last stop reads why = stops_so (RefusesAt number (record { problem = p; state = mid.state }) said) (Stops p old last) stop by why
+-- the line leads nowhere
+abbrev pub NowhereAt : Opb → Position → Numbered → ℕ → Code → Type 0
+NowhereAt p at next line code = (line ≡ next.number) × LeadsNowhere p at next code
+
+-- a line that is read and refused; `k` is the kernel in the words of the code
+pub stops_refused : (p : Opb) (next : Numbered) (old mid : Position) (k : Held) (said : Line) (stop : Stop) → k.problem ≡ p → k.state ≡ mid.state → Reads next old mid said → StopsBy (RefusesAt next.number k said) stop
+    → StopsBy (NowhereAt p old next) stop
+stops_refused p next old mid k said stop same stands reads why = stops_so (RefusesAt next.number k said) (NowhereAt p old next) stop by why
   where
-    state : mid.state ≡ old.state
-    state = ap (λ (x : Position). x.state) reads.now_at
+    state : k.state ≡ old.state
+    state = stands ∙ ap (λ (x : Position). x.state) reads.now_at
 
-    by : (line : ℕ) (code : Code) → RefusesAt number (record { problem = p; state = mid.state }) said line code → Stops p old last line code
-    by line code r = refused (record {
-      next = reads.next;
-      line_is = r.0 ∙ reads.number_is;
-      refuses = subst (λ l. Refuses p old.state l code) reads.said_is (subst (λ s. Refuses p s said code) state r.1);
-    })
+    by : (line : ℕ) (code : Code) → RefusesAt next.number k said line code → NowhereAt p old next line code
+    by line code r = (
+      r.0,
+      refused (record {
+        next = reads.next;
+        refuses = subst (λ l. Refuses p old.state l code) reads.said_is (subst (λ s. Refuses p s said code) state (subst (λ q. Refuses q k.state said code) same r.1));
+      }),
+    )
 
--- one position behind others
-walks_on : (p : Opb) (at old new : Position) (path : List Position) → Walks p at path old → Advances p old new → (more : List Position) × Walks p at more new
-walks_on p at old new [] walks on = (new ∷ [], (subst (λ q. Advances p q new) walks on, refl))
-walks_on p at old new (next ∷ path) walks on = let rest = walks_on p next old new path walks.1 on in (next ∷ rest.0, (walks.0, rest.1))
+-- one line behind others
+walks_on : (p : Opb) (at old new : Position) (read : List Numbered) (line : Numbered) → Walks p at read old → Advances p line old new → Walks p at (read ++ line ∷ []) new
+walks_on p at old new [] line walks on = (new, subst (λ q. Advances p line q new) walks on, refl)
+walks_on p at old new (l ∷ ls) line walks on = (walks.0, walks.1, walks_on p walks.0 old new ls line walks.2 on)
 
-pub reaches_on : (p : Opb) (proof : List ℕ) (old new : Position) → Reaches p proof old → Advances p old new → Reaches p proof new
-reaches_on p proof old new reached on =
-    let more = walks_on p (beginning p proof reached.start) old new reached.path reached.walks on in
-    record { start = reached.start; starts = reached.starts; path = more.0; walks = more.1 }
+pub reaches_on : (p : Opb) (read : List Numbered) (line : Numbered) (old new : Position) → Reaches p read old → Advances p line old new → Reaches p (read ++ line ∷ []) new
+reaches_on p read line old new reached on =
+    record { start = reached.start; starts = reached.starts; walks = walks_on p (beginning p reached.start) old new read line reached.walks on }
 
--- where the walk stops, judging does; `q` is the problem in the words of the code
-pub stopped_at : (p q : Opb) (proof : List ℕ) (at : Position) (last : ℕ) (stop : Stop) → q ≡ p → Reaches p proof at → last ≡ (lines_of proof).last → StopsBy (Stops q at last) stop → StopsBy (IsStopped p proof) stop
-stopped_at p q proof at last stop same reached ends why = stops_so (Stops q at last) (IsStopped p proof) stop by why
+-- one line more that was read is one fewer that is left
+pub read_on : {A : Type 0} (all read : List A) (line : A) (left behind : List A) → all ≡ read ++ left → left ≡ line ∷ behind → all ≡ (read ++ line ∷ []) ++ behind
+read_on all read line left behind in_order next = in_order ∙ ap (λ ls. read ++ ls) next ∙ sym (append_assoc read (line ∷ []) behind)
+
+-- the reader has no more
+pub none_left : (o : Option NumberedLine) (left behind : List Numbered) → o ≡ None → MatchOption o ((left ≡ []) × (behind ≡ [])) (λ l. left ≡ numbered_of l ∷ behind) → left ≡ []
+none_left None left behind e none = none.0
+none_left (Some l) left behind e next = cc
+
+-- where a line leads nowhere, judging stops
+pub stopped_at : (p q : Opb) (proof : List ℕ) (at : Position) (read left behind : List Numbered) (next : Numbered) (stop : Stop) → q ≡ p → Reaches p read at → (lines_of proof).lines ≡ read ++ left
+    → left ≡ next ∷ behind → StopsBy (NowhereAt q at next) stop → StopsBy (IsStopped p proof) stop
+stopped_at p q proof at read left behind next stop same reached in_order first why = stops_so (NowhereAt q at next) (IsStopped p proof) stop by why
   where
-    by : (line : ℕ) (code : Code) → Stops q at last line code → IsStopped p proof line code
-    by line code stops = record { at = at; reached = reached; stops = subst (λ n. Stops p at n line code) ends (subst (λ r. Stops r at last line code) same stops) }
+    by : (line : ℕ) (code : Code) → NowhereAt q at next line code → IsStopped p proof line code
+    by line code nowhere = record {
+      at = at;
+      read = read;
+      left = next ∷ behind;
+      in_order = in_order ∙ ap (λ ls. read ++ ls) first;
+      reached = reached;
+      stops = subst (λ r. NowhereAt r at next line code) same nowhere;
+    }
 
--- a walk that comes to its last line less one is shorter
-pub shorter : (p : Opb) (old new : Position) → Advances p old new → length new.left < length old.left
-shorter p old new on = let long = ap length on.next.in_order in let left = ap length on.left in omega (arith, long, left)
+-- where none is left and one is due, too
+pub stopped_short : (p : Opb) (proof : List ℕ) (at : Position) (read left : List Numbered) (last : ℕ) (stop : Stop) → Reaches p read at → (lines_of proof).lines ≡ read ++ left → left ≡ []
+    → last ≡ (lines_of proof).last → StopsBy (IsTruncated at last) stop → StopsBy (IsStopped p proof) stop
+stopped_short p proof at read left last stop reached in_order none ends why = stops_so (IsTruncated at last) (IsStopped p proof) stop by why
+  where
+    by : (line : ℕ) (code : Code) → IsTruncated at last line code → IsStopped p proof line code
+    by line code short = record {
+      at = at;
+      read = read;
+      left = [];
+      in_order = in_order ∙ ap (λ ls. read ++ ls) none;
+      reached = reached;
+      stops = subst (λ n. IsTruncated at n line code) ends short;
+    }
+
+-- all lines were read
+pub all_read : (p : Opb) (all read left : List Numbered) (at : Position) → all ≡ read ++ left → left ≡ [] → Reaches p read at → Reaches p all at
+all_read p all read left at in_order none reached =
+    subst (λ ls. Reaches p ls at) (sym (in_order ∙ ap (λ ls. read ++ ls) none ∙ append-nil read)) reached
 
 -- the walk before the first line
-pub begins : (p : Opb) (proof : List ℕ) (names : List (List ℕ)) (left : List Numbered) (start : State) → names ≡ p.names → left ≡ (lines_of proof).lines → IsStart p start
-    → Reaches p proof (record { section = sections.Header; names = names; left = left; state = start; concluded = None })
-begins p proof names left start named all starts = record {
+pub begins : (p : Opb) (names : List (List ℕ)) (start : State) → names ≡ p.names → IsStart p start
+    → Reaches p [] (record { section = sections.Header; names = names; state = start; concluded = None })
+begins p names start named starts = record {
   start = start;
   starts = starts;
-  path = [];
-  walks = ap (λ n. at_header n left) named ∙ ap (λ ls. at_header p.names ls) all;
+  walks = ap at_header named;
 }
   where
-    at_header : List (List ℕ) → List Numbered → Position
-    at_header n ls = record { section = sections.Header; names = n; left = ls; state = start; concluded = None }
-
--- behind the end, what stands is denied
-pub denied_behind : (at : Position) (ws : List (List ℕ)) → at.section ≡ sections.After → DeniesLine readings.TextAfterEnd at.section at.names ws
-unfolding DeniesLine
-denied_behind at ws section = subst (λ q. DeniesLine readings.TextAfterEnd q at.names ws) (sym section) (by at.names ws)
-  where
-    by : (names words : List (List ℕ)) → DeniesLine readings.TextAfterEnd sections.After names words
-    by names words = refl
+    at_header : List (List ℕ) → Position
+    at_header n = record { section = sections.Header; names = n; state = start; concluded = None }

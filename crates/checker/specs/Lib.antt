@@ -4,3 +4,5 @@ pub mod Stopped
 pub mod StopsBy
 pub mod Walk
 pub mod WalkOf
+pub mod StreamStops
+pub mod Streamed

@@ -3,23 +3,25 @@
 //! The problem comes first since every line of a proof speaks of it: its names give literals their variables, and its
 //! constraints have the first ids. So a proof of a file that is no problem is never looked at.
 
-ghost use Rattle.std.specs.Prelude.{ℕ, List};
+ghost use Rattle.std.specs.Prelude.{◌≡◌, ℕ, List};
 ghost use Rattle.opb_read.specs.Faults.{Denies};
 ghost use Rattle.opb_read.specs.FaultLine.{IsFaultAt};
+ghost use Rattle.pb_text.specs.Devices.{SourceState};
+ghost use Rattle.checker.specs.Streamed.{IsStreamVerdictOf, verdict_of};
 ghost use Rattle.checker.specs.Verdicts.{IsVerdictOf};
+ghost use Rattle.checker.specs.declared.stream_verdict.StreamVerdict.TheVariants.{Judged};
 
 use super::judge::judge;
 use super::stop::Stop;
 use super::verdict::Verdict;
 use deferred::Deferred;
 use opb_read::{OpbCode, OpbFault, read};
-use propagate::ScanPropagator;
 use std::alloc::Global;
 use watch::WatchPropagator;
 
 /// What keeps the live constraints: a new one waits, by its id alone, until a question is asked; then it is entered
 /// into the lists of its literals. A proof that asks nothing enters nothing.
-type LiveConstraints = Deferred<ScanPropagator, WatchPropagator>;
+pub(crate) type LiveConstraints = Deferred<WatchPropagator>;
 
 /// Judges a proof (VeriPB 2.0, this product's profile) of a problem (the linear OPB format).
 ///
@@ -34,17 +36,28 @@ pub fn check(alloc: Global, opb: &[u8], proof: &[u8]) -> Verdict
     match read(alloc, opb) {
         Ok(problem) => match judge::<LiveConstraints>(alloc, &problem, proof) {
             Ok(accepted) => Verdict::Accepted(accepted),
-            Err(Stop::At(line, code)) => Verdict::Refused { line, code },
-            Err(Stop::NoMemory) => Verdict::NoMemory,
+            Err(stop) => stopped(stop),
         },
         Err(fault) => bad_problem(fault),
     }
 }
 
+/// The verdict where judging stops.
+pub(crate) fn stopped(stop: Stop) -> Verdict
+    ensures { result ≡ verdict_of stop }
+{
+    match stop {
+        Stop::At(line, code) => Verdict::Refused { line, code },
+        Stop::NoMemory => Verdict::NoMemory,
+    }
+}
+
 /// The verdict where the problem is not read.
-fn bad_problem(fault: OpbFault) -> Verdict
-    ensures { (text proof : List ℕ) → Denies fault.code text → IsFaultAt text fault.code fault.line
+pub(crate) fn bad_problem(fault: OpbFault) -> Verdict
+    ensures text { (text proof : List ℕ) → Denies fault.code text → IsFaultAt text fault.code fault.line
         → IsVerdictOf text proof result }
+    ensures stream { (text : List ℕ) (source : SourceState) → Denies fault.code text → IsFaultAt text fault.code fault.line
+        → IsStreamVerdictOf text source source (Judged result) }
 {
     match fault.code {
         OpbCode::OutOfMemory => Verdict::NoMemory,

@@ -12,6 +12,7 @@ use super::stop::Stop;
 use super::walk::Walk;
 use kernel::Accepted;
 use linear::Problem;
+use proof_text::ProofReader;
 use propagate::Propagator;
 use std::alloc::Global;
 
@@ -19,19 +20,15 @@ use std::alloc::Global;
 pub(crate) fn judge<'a, P: Propagator>(
     alloc: Global,
     problem: &'a Problem,
-    proof: &'a [u8],
+    proof: &[u8],
 ) -> Result<Accepted, Stop>
     ensures proved { IfOk result (λ accepted. IsProved problem.now proof.now accepted) }
     ensures stop { IfErr result (StopsBy (IsStopped problem.now proof.now)) }
 {
-    let mut walk = Walk::<P>::begin(alloc, problem, proof)?;
-    while !walk.is_over() {
-        walk.advance()?;
+    let mut walk = Walk::<P>::begin(alloc, problem)?;
+    let mut lines = ProofReader::new(proof);
+    while let Some(line) = lines.next() {
+        walk.take(line)?;
     }
-    walk.finish()?;
-    let Walk { concluded, .. } = walk;
-    match concluded {
-        Some(accepted) => Ok(accepted),
-        None => unreachable!(),
-    }
+    walk.finish(lines.end_number())
 }

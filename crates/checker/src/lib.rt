@@ -6,11 +6,16 @@ mod judge;
 pub mod laws;
 mod lines;
 mod stop;
+mod stream;
+mod stream_verdict;
+mod streamed;
 mod text;
 mod verdict;
 mod walk;
 
 pub use checking::check;
 pub use lines::{fault_text, write_value_line};
+pub use stream_verdict::StreamVerdict;
+pub use streamed::check_stream;
 pub use text::verdict_text;
 pub use verdict::{Code, Verdict, verdict_status};

@@ -33,11 +33,11 @@ get_joined w s q =
     fin.get-from_entries nat_cmp_total (fin.entries w ++ fin.entries s) q ∙ found_in_both (fin.entries w) (fin.entries s) q
     ∙ ap (λ (o : Found). first_of o (fin.find nat_cmp q (fin.entries s))) (sym (fin.get-entries w q)) ∙ ap (first_of (fin.get w q)) (sym (fin.get-entries s q))
 
-same : (m n : Content) → ((q : ℕ) → fin.get m q ≡ fin.get n q) → m ≡ n
+pub same : (m n : Content) → ((q : ℕ) → fin.get m q ≡ fin.get n q) → m ≡ n
 same m n h = fin.same_map nat_cmp_total fin.nat_cmp-IsAntisymmetric m n h
 
 -- whether one number is another
-here_or_not : (q id : ℕ) → ((q ≡ id) × (eq_by_cmp nat_cmp q id ≡ true)) ⊎ (eq_by_cmp nat_cmp q id ≡ false)
+pub here_or_not : (q id : ℕ) → ((q ≡ id) × (eq_by_cmp nat_cmp q id ≡ true)) ⊎ (eq_by_cmp nat_cmp q id ≡ false)
 here_or_not q id = elim (cases_eq q id) [
   | inl e ↦ inl (e, grind (arith, nat_tests))
   | inr n ↦ inr (grind (arith, nat_tests))

@@ -8,21 +8,22 @@ ghost use Rattle.std.specs.Prelude.{◌≡◌};
 ghost use Rattle.deferred.specs.Joined.{least_of};
 
 use super::settling::settle;
+use super::waiting::Waiting;
 use linear::Lit;
 use normal_form::Normal;
 use propagate::{Id, Ids, Propagator, Reach, Trace};
 use std::alloc::{AllocError, Global};
 use std::marker::Model;
 
-/// A propagator `P` that is given its constraints when a question is asked; until then `W` holds them. They are seen as one map.
+/// A propagator `P` that is given its constraints when a question is asked; until then they wait. They are seen as one map.
 #[derive(Drop)]
-pub struct Deferred<W: Propagator, P: Propagator> {
-    waiting: W,
+pub struct Deferred<P: Propagator> {
+    waiting: Waiting,
     settled: P,
     alloc: Global,
 }
 
-impl<W: Propagator, P: Propagator> Model for Deferred<W, P> {
+impl<P: Propagator> Model for Deferred<P> {
     ghost use Rattle.std.specs.Coded.{coded_ℕ};
     ghost use Rattle.std.specs.FinMap as map;
     ghost use Rattle.propagate.specs.Content.{Content};
@@ -33,9 +34,9 @@ impl<W: Propagator, P: Propagator> Model for Deferred<W, P> {
 
     ghost coded = { map.code coded_ℕ constraint_code };
 
-    ghost view = { λ d. joined (W.content d.waiting) (P.content d.settled) };
+    ghost view = { λ d. joined d.waiting (P.content d.settled) };
 
-    ghost invariant = { λ d. AreApart (W.content d.waiting) (P.content d.settled) };
+    ghost invariant = { λ d. AreApart d.waiting (P.content d.settled) };
 }
 
 /// The lesser of two ids, of which each may be missing.
@@ -48,12 +49,12 @@ fn earlier(one: Option<Id>, other: Option<Id>) -> Option<Id>
     }
 }
 
-impl<W: Propagator, P: Propagator> Propagator for Deferred<W, P> {
+impl<P: Propagator> Propagator for Deferred<P> {
     ghost content = { λ d. d };
 
     fn empty(alloc: Global) -> Self {
         Deferred {
-            waiting: W::empty(alloc),
+            waiting: Waiting::empty(alloc),
             settled: P::empty(alloc),
             alloc,
         }

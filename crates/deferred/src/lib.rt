@@ -1,7 +1,8 @@
-//! A propagator over two others: a constraint waits in the first, and is handed to the second only when a question is asked.
+//! A propagator over another: a constraint waits here, and is handed to the other only when a question is asked.
 #![tactic(auto)]
 
 mod deferred;
 mod settling;
+mod waiting;
 
 pub use deferred::Deferred;

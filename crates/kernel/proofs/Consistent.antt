@@ -1,4 +1,4 @@
--- A listing has no literal beside its opposite where each of its literals agrees with the table of its values, or stands beyond
+-- An assignment has no literal beside its opposite where each of its literals agrees with the table of its values, or stands beyond
 -- it without its opposite before.
 use Rattle.std.proofs.Common.{◌≡◌, ◌↔◌, ◌⊎◌, ℕ, zero, suc, ◌+◌, ◌<◌, ◌≤◌, inl, inr, Bool, true, false, not, ◌||◌, IsTrue, List, [], ◌∷◌, ◌++◌, Option, Some, None, length, get_or, take, refl, sym, ap, subst, ◌∙◌, arith}
 use Rattle.std.proofs.lemmas.Bool.{cases_lt, false≢true}
@@ -12,7 +12,7 @@ use Rattle.normal_form.proofs.SetSums.{only_is}
 use Rattle.propagate.specs.Ids.{IdSet, HasId}
 use Rattle.propagate.specs.Literals.{among, lists, IsConsistent}
 use Rattle.propagate.proofs.Gathered.{inserted_here, inserted_keeps, inserted_cases}
-use Rattle.propagate.proofs.Listings.{among_cases, among_head, among_left, among_right, among_tail, or_cases}
+use Rattle.propagate.proofs.Assignments.{among_cases, among_head, among_left, among_right, among_tail, or_cases}
 use Rattle.kernel.specs.Table.{GivesValue, IsTableOf, IsSideOf, AreSidesOf, Agrees}
 
 -- the literal of one more place is that literal
@@ -72,7 +72,7 @@ apart_by false P h = (λ _ p. false≢true (h.1 p), λ _. refl)
 
 -- each literal agrees with the table and those listed
 abbrev pub IsApart : List (Option Bool) → List Lit → Type 0
-IsApart table listing = (v : ℕ) (s : Bool) → among listing v s ≡ true → Agrees table listing v s
+IsApart table assigned = (v : ℕ) (s : Bool) → among assigned v s ≡ true → Agrees table assigned v s
 
 not_itself : (s : Bool) → not s ≡ s → ⊥
 not_itself true h = false≢true h
@@ -106,8 +106,8 @@ apart_more table before l apart agrees v s m = (inside (among_cases before (l �
 some_is : (x y : Bool) → ◌≡◌ {A = Option Bool} (Some x) (Some y) → x ≡ y
 some_is x y e = cc
 
-pub apart_consistent : (table : List (Option Bool)) (listing : List Lit) → IsApart table listing → IsConsistent listing
-apart_consistent table listing apart (l, m, n) = elim (cases_lt (l.var.0) (length table)) as (λ _. ⊥) [
+pub apart_consistent : (table : List (Option Bool)) (assigned : List Lit) → IsApart table assigned → IsConsistent assigned
+apart_consistent table assigned apart (l, m, n) = elim (cases_lt (l.var.0) (length table)) as (λ _. ⊥) [
   | inl inside ↦
       let one = (apart (l.var.0) l.negated m).0 inside in
       let other = (apart (l.var.0) (not l.negated) n).0 inside in
@@ -128,12 +128,12 @@ listed_at i xs d h =
     let l = get_or xs i d in
     among_take (i + 1) xs (l.var.0) l.negated (ap (λ (ys : List Lit). among ys (l.var.0) l.negated) (take_more xs i d h) ∙ among_right (take i xs) (l ∷ []) (l.var.0) l.negated (among_head l []))
 
--- a literal of a listing without opposites agrees
-pub consistent_agrees : (listing : List Lit) (table : List (Option Bool)) (i : ℕ) (l : Lit) → IsTableOf listing table → IsConsistent listing → lists listing l ≡ true → Agrees table (take i listing) (l.var.0) l.negated
-consistent_agrees listing table i l is consistent here =
-    (λ inside. by (get_or table (l.var.0) None) (is (l.var.0) inside), λ outside m. consistent (l, here, among_take i listing (l.var.0) (not l.negated) m))
+-- a literal of an assignment without opposites agrees
+pub consistent_agrees : (assigned : List Lit) (table : List (Option Bool)) (i : ℕ) (l : Lit) → IsTableOf assigned table → IsConsistent assigned → lists assigned l ≡ true → Agrees table (take i assigned) (l.var.0) l.negated
+consistent_agrees assigned table i l is consistent here =
+    (λ inside. by (get_or table (l.var.0) None) (is (l.var.0) inside), λ outside m. consistent (l, here, among_take i assigned (l.var.0) (not l.negated) m))
   where
-    at : (value s : Bool) → among listing (l.var.0) s ≡ true → among listing (l.var.0) (not value) ≡ true → (among listing (l.var.0) (not s) ≡ true → ⊥) → value ≡ not s
+    at : (value s : Bool) → among assigned (l.var.0) s ≡ true → among assigned (l.var.0) (not value) ≡ true → (among assigned (l.var.0) (not s) ≡ true → ⊥) → value ≡ not s
     at true true h m none = absurd (none m)
     at true false h m none = refl
     at false true h m none = refl
@@ -143,8 +143,8 @@ consistent_agrees listing table i l is consistent here =
     not_not true = refl
     not_not false = refl
 
-    by : (o : Option Bool) → GivesValue listing (l.var.0) o → o ≡ Some (not l.negated)
-    by None none = absurd (none (not l.negated) (ap (among listing (l.var.0)) (not_not l.negated) ∙ here))
+    by : (o : Option Bool) → GivesValue assigned (l.var.0) o → o ≡ Some (not l.negated)
+    by None none = absurd (none (not l.negated) (ap (among assigned (l.var.0)) (not_not l.negated) ∙ here))
     by (Some value) gives = ap (λ (b : Bool). Some b) (at value l.negated here gives (λ m. consistent (l, here, m)))
 
 -- beyond the table its opposite tells

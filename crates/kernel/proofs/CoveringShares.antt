@@ -8,7 +8,7 @@ use Rattle.normal_form.proofs.SetSums.{only_is}
 use Rattle.normal_form.proofs.SumsByVariable.{pivot, told}
 use Rattle.substitution.specs.Covering.{Covers, excess_at}
 use Rattle.propagate.specs.Chain.{IsRefuted}
-use Rattle.propagate.specs.Slack.{IsBroken}
+use Rattle.propagate.specs.Slack.{IsFalsified}
 use Rattle.std.proofs.lemmas.Int.{ints}
 use Rattle.kernel.specs.Covered.{HasContradiction}
 use Rattle.kernel.proofs.Showing.{any_left}
@@ -68,7 +68,7 @@ covering_shares e n k none covers few =
 -- with a contradiction among them constraints are refuted
 pub contradiction_refuted : (live more : List NormalConstraint) → HasContradiction live → IsRefuted (live ++ more)
 contradiction_refuted live more has =
-    ([], tt, any_left (IsBroken []) live more (has.0, has.1, has.2, has.3, broken has.1 has.4))
+    ([], tt, any_left (IsFalsified []) live more (has.0, has.1, has.2, has.3, falsified has.1 has.4))
   where
-    broken : (e : NormalConstraint) → total e.terms < e.degree → IsBroken [] e
-    broken e h = omega (arith, ints, h)
+    falsified : (e : NormalConstraint) → total e.terms < e.degree → IsFalsified [] e
+    falsified e h = omega (arith, ints, h)

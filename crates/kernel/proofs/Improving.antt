@@ -48,10 +48,10 @@ pub not_below : (o : Option ℤ) (v : ℤ) → (IfSome o (λ least. v <ℤ least
 not_below None v fails = absurd (fails tt)
 not_below (Some least) v fails = (least, refl, elim (less_or_not v least) as (λ _. least ≤ℤ v) [ inl less ↦ absurd (fails less) | inr h ↦ h ])
 
-pub assembled : (k : Held) (p : Opb) (s : State) (listing : List Lit) (g : List Bool) (ts us : List Term) (n : NormalConstraint) (v w : ℤ)
-    → p ≡ k.problem → s ≡ k.state → Some ts ≡ p.objective → us ≡ ts → Logs k.problem k.state listing g → v ≡ worth_of p g → w ≡ v
-    → IfSome s.least (λ least. w <ℤ least) → IsNormalOf (at_most us (w -ℤ pos 1)) n → HasRoom s → Improves k.problem k.state ts listing g n
-assembled k p s listing g ts us n v w problem state is same logs value kept less form room =
+pub assembled : (k : Held) (p : Opb) (s : State) (assigned : List Lit) (g : List Bool) (ts us : List Term) (n : NormalConstraint) (v w : ℤ)
+    → p ≡ k.problem → s ≡ k.state → Some ts ≡ p.objective → us ≡ ts → Logs k.problem k.state assigned g → v ≡ worth_of p g → w ≡ v
+    → IfSome s.least (λ least. w <ℤ least) → IsNormalOf (at_most us (w -ℤ pos 1)) n → HasRoom s → Improves k.problem k.state ts assigned g n
+assembled k p s assigned g ts us n v w problem state is same logs value kept less form room =
     let worth : w ≡ worth_of k.problem g = kept ∙ value ∙ ap (λ q. worth_of q g) problem in record {
       minimises = sym (is ∙ ap (λ (q : Opb). q.objective) problem);
       logs = logs;

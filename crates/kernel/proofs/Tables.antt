@@ -1,11 +1,11 @@
--- Tables of the values that a listing gives variables.
+-- Tables of the values that an assignment gives variables.
 use Rattle.std.proofs.Common.{◌≡◌, ℕ, ◌<◌, ◌≤◌, Bool, true, false, not, inl, inr, List, [], ◌∷◌, ◌++◌, map, Option, Some, None, MatchOption, length, get_or, set, refl, sym, ap, subst, ◌∙◌, arith}
 use Rattle.std.proofs.lemmas.Bool.{cases_eq, false≢true}
 use Rattle.std.proofs.lemmas.List.{length-set, length-map, get_or-set_same, get_or-set_other, get_or-map}
 use Rattle.linear.specs.declared.term.Lit.{Lit}
 use Rattle.normal_form.specs.Normal.{only}
 use Rattle.normal_form.proofs.SetSums.{only_is}
-use Rattle.propagate.proofs.Listings.{among_cases, among_head, among_left, among_right, or_cases}
+use Rattle.propagate.proofs.Assignments.{among_cases, among_head, among_left, among_right, or_cases}
 use Rattle.propagate.specs.Literals.{among}
 use Rattle.proof_rules.specs.Solution.{value_at}
 use Rattle.kernel.specs.Table.{GivesValue, IsTableOf, GivesAll, LeavesOut, HasGap}
@@ -47,14 +47,14 @@ noted_inside before table l inside h v below =
 pub noted_outside : (before : List Lit) (table : List (Option Bool)) (l : Lit) → length table ≤ l.var.0 → IsTableOf before table → IsTableOf (before ++ l ∷ []) table
 noted_outside before table l outside h v below = gives_other before l v (get_or table v None) (λ same. omega (arith, outside, below, same)) (h v below)
 
--- what a table of all literals says of the listing
-pub table_read : (count : ℕ) (listing : List Lit) (table : List (Option Bool)) (found : Option (List Bool)) → length table ≡ count → IsTableOf listing table
-    → MatchOption found (HasGap table) (λ g. map Some g ≡ table) → MatchOption found (LeavesOut count listing) (GivesAll count listing)
-table_read count listing table None long h (v, below, gap) = (v, omega (arith, below, long), subst (GivesValue listing v) gap (h v below))
-table_read count listing table (Some g) long h is =
+-- what a table of all literals says of the assignment
+pub table_read : (count : ℕ) (assigned : List Lit) (table : List (Option Bool)) (found : Option (List Bool)) → length table ≡ count → IsTableOf assigned table
+    → MatchOption found (HasGap table) (λ g. map Some g ≡ table) → MatchOption found (LeavesOut count assigned) (GivesAll count assigned)
+table_read count assigned table None long h (v, below, gap) = (v, omega (arith, below, long), subst (GivesValue assigned v) gap (h v below))
+table_read count assigned table (Some g) long h is =
     let same : length g ≡ length table = sym (length-map g (λ b. Some b)) ∙ ap length is in (
       same ∙ long,
       λ v below.
           let value : get_or table v None ≡ Some (value_at g v) = ap (λ t. get_or t v None) (sym is) ∙ get_or-map (λ b. Some b) g v false None below in
-          subst (GivesValue listing v) value (h v (omega (arith, below, same))),
+          subst (GivesValue assigned v) value (h v (omega (arith, below, same))),
     )

@@ -54,20 +54,20 @@ pub record Keeps (k : Held) (ids : ℕ) (objective : Option (List Term)) : Type 
 
 -- the id that a step gives its constraint, if it adds one
 abbrev pub given_id : Step → State → Option ℕ
-given_id (steps.Sol listing) s = None
+given_id (steps.Sol assigned) s = None
 given_id (steps.Del ids) s = None
 given_id (steps.Pol items) s = Some s.next
 given_id (steps.Rup c) s = Some s.next
 given_id (steps.Red c images) s = Some s.next
-given_id (steps.Soli listing) s = Some s.next
+given_id (steps.Soli assigned) s = Some s.next
 
 -- the relation of a constraint in a step is `>=`
 abbrev pub HasAtLeast : Step → Type 0
 HasAtLeast (steps.Rup c) = c.relation ≡ AtLeast
 HasAtLeast (steps.Red c images) = c.relation ≡ AtLeast
 HasAtLeast (steps.Pol items) = ⊤
-HasAtLeast (steps.Sol listing) = ⊤
-HasAtLeast (steps.Soli listing) = ⊤
+HasAtLeast (steps.Sol assigned) = ⊤
+HasAtLeast (steps.Soli assigned) = ⊤
 HasAtLeast (steps.Del ids) = ⊤
 
 -- a written constraint is not within the limits

@@ -113,8 +113,8 @@ impl<'a, P: Propagator> Kernel<'a, P> {
     {
         match hint {
             None => Ok(None),
-            Some(listing) => {
-                let solution = self.solution(listing.as_slice())?;
+            Some(assigned) => {
+                let solution = self.solution(assigned.as_slice())?;
                 Ok(Some(solution))
             }
         }

@@ -1,4 +1,4 @@
-//! Whether a listing has no literal beside its opposite, which is judged before anything follows from it. Of the variables of
+//! Whether an assignment has no literal beside its opposite, which is judged before anything follows from it. Of the variables of
 //! the file the table of their values tells, since every literal has to agree with it. Of those that only the proof has, which
 //! may have any number, those that are listed are kept in sets.
 
@@ -12,7 +12,7 @@ use linear::Lit;
 use propagate::Ids;
 use std::alloc::{AllocError, Global};
 
-/// The variables beyond a table that a listing has, by the sign of their literals.
+/// The variables beyond a table that an assignment has, by the sign of their literals.
 #[derive(Drop)]
 struct Beyond {
     plain: Ids,
@@ -52,20 +52,20 @@ fn agrees(table: &[Option<bool>], beyond: &mut Beyond, literal: Lit) -> Result<b
     beyond.note(literal)
 }
 
-/// Whether a listing has no literal beside its opposite, told by the table of the values that it gives.
+/// Whether an assignment has no literal beside its opposite, told by the table of the values that it gives.
 pub(crate) fn is_consistent(
     alloc: Global,
     table: &[Option<bool>],
-    listing: &[Lit],
+    assigned: &[Lit],
 ) -> Result<bool, AllocError>
-    requires { IsTableOf listing.now table.now }
-    ensures { IfOk result (λ yes. IsTrue yes ↔ IsConsistent listing.now) }
+    requires { IsTableOf assigned.now table.now }
+    ensures { IfOk result (λ yes. IsTrue yes ↔ IsConsistent assigned.now) }
 {
     let mut beyond = Beyond {
         plain: Ids::empty(alloc),
         negated: Ids::empty(alloc),
     };
-    for literal in listing {
+    for literal in assigned {
         if !agrees(table, &mut beyond, *literal)? {
             return Ok(false);
         }

@@ -186,24 +186,24 @@ impl<P: Propagator> Database<P> {
         self.constraints.refute(beside)
     }
 
-    /// What a listing extends to by propagation over the live constraints.
-    pub(crate) fn extend(&mut self, listing: &[Lit]) -> Result<Reach, AllocError>
+    /// What an assignment extends to by propagation over the live constraints.
+    pub(crate) fn extend(&mut self, assigned: &[Lit]) -> Result<Reach, AllocError>
         ensures same { self.new ≡ self.old }
-        ensures reach { IfOk result (IsReach (map.values self.old.live) listing.now) }
+        ensures reach { IfOk result (IsReach (map.values self.old.live) assigned.now) }
     {
-        self.constraints.extend(listing)
+        self.constraints.extend(assigned)
     }
 
-    /// A chain from a listing without opposites over the live constraints, with its reasons.
-    pub(crate) fn trace(&mut self, listing: &[Lit]) -> Result<Trace, AllocError>
-        requires { IsConsistent listing.now }
+    /// A chain from an assignment without opposites over the live constraints, with its reasons.
+    pub(crate) fn trace(&mut self, assigned: &[Lit]) -> Result<Trace, AllocError>
+        requires { IsConsistent assigned.now }
         ensures same { self.new ≡ self.old }
-        ensures trace { IfOk result (IsTrace self.old.live listing.now) }
+        ensures trace { IfOk result (IsTrace self.old.live assigned.now) }
     {
-        self.constraints.trace(listing)
+        self.constraints.trace(assigned)
     }
 
-    /// The same for a listing and one literal more, where what follows from the listing may be left out.
+    /// The same for an assignment and one literal more, where what follows from the assignment may be left out.
     pub(crate) fn trace_last(&mut self, before: &[Lit], last: Lit) -> Result<Trace, AllocError>
         requires { IsConsistent (before.now ++ last ∷ []) }
         ensures same { self.new ≡ self.old }

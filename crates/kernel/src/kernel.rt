@@ -111,8 +111,8 @@ impl<'a, P: Propagator> Kernel<'a, P> {
         match step {
             Step::Pol(items) => self.pol(items.as_slice()),
             Step::Rup(constraint) => self.rup(constraint),
-            Step::Sol(listing) => self.sol(listing.as_slice()),
-            Step::Soli(listing) => self.soli(listing.as_slice()),
+            Step::Sol(assigned) => self.sol(assigned.as_slice()),
+            Step::Soli(assigned) => self.soli(assigned.as_slice()),
             Step::Del(ids) => self.del(ids.as_slice()),
             Step::Red(constraint, witness) => self.red(constraint, witness),
         }

@@ -26,7 +26,7 @@ impl<'a, P: Propagator> Kernel<'a, P> {
         self.database.find(i128::from(id))
     }
 
-    /// What a listing extends to by propagation over the live constraints: `Conflict` exactly where it has a literal and its
+    /// What an assignment extends to by propagation over the live constraints: `Conflict` exactly where it has a literal and its
     /// opposite or a chain from it leads to negative slack, else exactly the given and forced literals, each once.
     pub fn extend(&mut self, given: &[Lit]) -> Result<Reach, AllocError>
         ensures same { self.new ≡ self.old }
@@ -35,7 +35,7 @@ impl<'a, P: Propagator> Kernel<'a, P> {
         self.database.extend(given)
     }
 
-    /// A chain from a listing without opposites over the live constraints, with its reasons, to a constraint with negative
+    /// A chain from an assignment without opposites over the live constraints, with its reasons, to a constraint with negative
     /// slack or to the end: a conflict is named exactly where `extend` answers one.
     pub fn trace(&mut self, given: &[Lit]) -> Result<Trace, AllocError>
         requires { IsConsistent given.now }
@@ -45,7 +45,7 @@ impl<'a, P: Propagator> Kernel<'a, P> {
         self.database.trace(given)
     }
 
-    /// The same for a listing and one literal more, where what follows from the listing alone may be left out. So whoever
+    /// The same for an assignment and one literal more, where what follows from the assignment alone may be left out. So whoever
     /// asks about one literal after another is told of each what it forces.
     pub fn trace_last(&mut self, before: &[Lit], last: Lit) -> Result<Trace, AllocError>
         requires { IsConsistent (before.now ++ last ∷ []) }

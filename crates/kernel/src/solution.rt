@@ -1,5 +1,5 @@
-//! `sol` and `soli`: solutions that a proof lists. A listing need not name all variables of the file: what is left out must
-//! follow by propagation over the live constraints. Whether the completed listing is a solution is judged by the file, and
+//! `sol` and `soli`: solutions that a proof lists. An assignment need not name all variables of the file: what is left out must
+//! follow by propagation over the live constraints. Whether the completed assignment is a solution is judged by the file, and
 //! never by the live constraints, which may ask for more, or for less.
 
 ghost use Rattle.std.specs.Prelude.{◌≡◌, None, Some, IfOk, IfErr, IsErrOf, OnOk, OnErr, length};
@@ -20,32 +20,32 @@ use propagate::{Propagator, Reach};
 
 impl<'a, P: Propagator> Kernel<'a, P> {
     /// Logs a solution.
-    pub(crate) fn sol(&mut self, listing: &[Lit]) -> Result<Applied, StepFault>
+    pub(crate) fn sol(&mut self, assigned: &[Lit]) -> Result<Applied, StepFault>
         ensures problem { self.new.problem ≡ self.old.problem }
-        ensures ok { OnOk result (LegalSol self.old.problem self.old.state listing.now self.new.state) }
+        ensures ok { OnOk result (LegalSol self.old.problem self.old.state assigned.now self.new.state) }
         ensures id { IfOk result (λ applied. applied.id ≡ None) }
-        ensures fault { IfErr result (λ f. OrMemory f (IsSolFault self.old.problem self.old.state listing.now f)) }
+        ensures fault { IfErr result (λ f. OrMemory f (IsSolFault self.old.problem self.old.state assigned.now f)) }
         ensures err { OnErr result (self.new ≡ self.old) }
     {
-        let solution = self.solution(listing)?;
+        let solution = self.solution(assigned)?;
         self.log.push(solution)?;
         Ok(Applied { id: None })
     }
 
     /// Logs a solution that is worth less than the improving ones before, and adds a constraint that asks for still less.
     /// That there is an objective is judged first, then the solution, then its value, then the ids.
-    pub(crate) fn soli(&mut self, listing: &[Lit]) -> Result<Applied, StepFault>
+    pub(crate) fn soli(&mut self, assigned: &[Lit]) -> Result<Applied, StepFault>
         ensures problem { self.new.problem ≡ self.old.problem }
-        ensures ok { OnOk result (LegalSoli self.old.problem self.old.state listing.now self.new.state) }
+        ensures ok { OnOk result (LegalSoli self.old.problem self.old.state assigned.now self.new.state) }
         ensures id { IfOk result (λ applied. applied.id ≡ Some self.old.state.next) }
-        ensures fault { IfErr result (λ f. OrMemory f (IsSoliFault self.old.problem self.old.state listing.now f)) }
+        ensures fault { IfErr result (λ f. OrMemory f (IsSoliFault self.old.problem self.old.state assigned.now f)) }
         ensures err { OnErr result (self.new ≡ self.old) }
     {
         let problem = self.source;
         let Some(objective) = problem.objective() else {
             return Err(StepFault::NoObjective);
         };
-        let solution = self.solution(listing)?;
+        let solution = self.solution(assigned)?;
         let value = problem.value(&solution);
         if !self.log.improves(value) {
             return Err(StepFault::NotImproving);
@@ -81,35 +81,35 @@ impl<'a, P: Propagator> Kernel<'a, P> {
         Ok(Applied { id: Some(id) })
     }
 
-    /// The solution that a listing gives: first the listing is judged, then its completion, then what it satisfies.
-    pub(crate) fn solution(&mut self, listing: &[Lit]) -> Result<Assignment, StepFault>
-        ensures logs { IfOk result (Logs self.old.problem self.old.state listing.now) }
-        ensures fault { IfErr result (λ f. OrMemory f (IsSolFault self.old.problem self.old.state listing.now f)) }
+    /// The solution that an assignment gives: first the assignment is judged, then its completion, then what it satisfies.
+    pub(crate) fn solution(&mut self, assigned: &[Lit]) -> Result<Assignment, StepFault>
+        ensures logs { IfOk result (Logs self.old.problem self.old.state assigned.now) }
+        ensures fault { IfErr result (λ f. OrMemory f (IsSolFault self.old.problem self.old.state assigned.now f)) }
         ensures same { self.new ≡ self.old }
     {
-        let solution = self.completion(listing)?;
+        let solution = self.completion(assigned)?;
         if !self.source.satisfied(&solution) {
             return Err(StepFault::SolutionFalse);
         }
         Ok(solution)
     }
 
-    /// The values that a listing gives the variables of the file, where it names all of them, and else those that it
+    /// The values that an assignment gives the variables of the file, where it names all of them, and else those that it
     /// and what follows from it over the live constraints give them.
-    fn completion(&mut self, listing: &[Lit]) -> Result<Assignment, StepFault>
-        ensures completes { IfOk result (Completes (constraints self.old.state) (length self.old.problem.names) listing.now) }
-        ensures fault { IfErr result (λ f. OrMemory f (IsSolFault self.old.problem self.old.state listing.now f)) }
+    fn completion(&mut self, assigned: &[Lit]) -> Result<Assignment, StepFault>
+        ensures completes { IfOk result (Completes (constraints self.old.state) (length self.old.problem.names) assigned.now) }
+        ensures fault { IfErr result (λ f. OrMemory f (IsSolFault self.old.problem self.old.state assigned.now f)) }
         ensures same { self.new ≡ self.old }
     {
         let count = self.source.names().len();
-        let table = table_of(self.allocator, count, listing)?;
-        if !is_consistent(self.allocator, table.as_slice(), listing)? {
+        let table = table_of(self.allocator, count, assigned)?;
+        if !is_consistent(self.allocator, table.as_slice(), assigned)? {
             return Err(StepFault::SolutionConflict);
         }
         if let Some(solution) = all_values(self.allocator, table.as_slice())? {
             return Ok(solution);
         }
-        let Reach::Closed(reached) = self.database.extend(listing)? else {
+        let Reach::Closed(reached) = self.database.extend(assigned)? else {
             return Err(StepFault::SolutionConflict);
         };
         match values(self.allocator, count, reached.as_slice())? {

@@ -1,4 +1,4 @@
-//! The values that a listing of literals gives the variables of a file, looked up by variable, so that a long listing costs
+//! The values that an assignment of literals gives the variables of a file, looked up by variable, so that a long assignment costs
 //! one walk.
 
 ghost use Rattle.std.specs.Prelude.{◌≡◌, ◌∷◌, ◌++◌, [], IfOk, List, MatchOption, Some, length, map};
@@ -8,30 +8,30 @@ ghost use Rattle.kernel.specs.Table.{IsTableOf, GivesAll, HasGap, LeavesOut};
 use linear::{Assignment, Lit};
 use std::alloc::{AllocError, Global};
 
-/// The values that a consistent listing gives the first `count` variables; `None` where it leaves one of them out.
+/// The values that a consistent assignment gives the first `count` variables; `None` where it leaves one of them out.
 pub(crate) fn values(
     alloc: Global,
     count: usize,
-    listing: &[Lit],
+    assigned: &[Lit],
 ) -> Result<Option<Assignment>, AllocError>
-    ensures { IfOk result (λ found. MatchOption found (LeavesOut count listing.now) (GivesAll count listing.now)) }
+    ensures { IfOk result (λ found. MatchOption found (LeavesOut count assigned.now) (GivesAll count assigned.now)) }
 {
-    let table = table_of(alloc, count, listing)?;
+    let table = table_of(alloc, count, assigned)?;
     all_values(alloc, table.as_slice())
 }
 
-/// The table of the values that a listing gives the first `count` variables. A variable that has both literals has the value of
+/// The table of the values that an assignment gives the first `count` variables. A variable that has both literals has the value of
 /// one of them.
 pub(crate) fn table_of(
     alloc: Global,
     count: usize,
-    listing: &[Lit],
+    assigned: &[Lit],
 ) -> Result<Vec<Option<bool>>, AllocError>
     ensures length { IfOk result (λ table. length table.items ≡ count) }
-    ensures table { IfOk result (λ table. IsTableOf listing.now table.items) }
+    ensures table { IfOk result (λ table. IsTableOf assigned.now table.items) }
 {
     let mut table = vec![in alloc; None; count]?;
-    for literal in listing {
+    for literal in assigned {
         note(&mut table, *literal);
     }
     Ok(table)

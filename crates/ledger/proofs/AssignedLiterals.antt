@@ -6,9 +6,9 @@ use Rattle.linear.specs.declared.term.Lit.{Lit}
 use Rattle.linear.specs.Literal.{opposite}
 use Rattle.propagate.specs.Literals.{IsConsistent, among, lists}
 use Rattle.propagate.proofs.Consistency.{only_here}
-use Rattle.propagate.proofs.Listings.{among_cases, among_head, among_left, among_right}
+use Rattle.propagate.proofs.Assignments.{among_cases, among_head, among_left, among_right}
 use Rattle.propagate.proofs.Occurrences.{same_literal}
-use Rattle.ledger.specs.Trails.{assigned}
+use Rattle.ledger.specs.Trails.{on_trail}
 use Rattle.ledger.proofs.Opening.{fewer}
 use Rattle.ledger.proofs.Positions.{listed_at}
 use Rattle.std.proofs.Math.ListN.{drop_of_length-le}
@@ -66,7 +66,7 @@ not_listed_before xs p at l places high true e =
     let here : s.index ≡ at = places s.index l inside (ap (λ (m : Lit). m.var.0) (sym (get_or-take p xs s.index l low) ∙ s.is l)) in
     absurd (omega (arith, here, low, high))
 
--- a beginning of a consistent listing is consistent
+-- a beginning of a consistent assignment is consistent
 pub consistent_before : (xs : List Lit) (p : ℕ) → IsConsistent xs → IsConsistent (take p xs)
 consistent_before xs p c (l, a, b) = c (l, among_all xs p (l.var.0) l.negated a, among_all xs p (l.var.0) (opposite l).negated b)
 
@@ -112,7 +112,7 @@ step p xs l rest e =
     record { longer = ap (λ (k : ℕ). take k xs) one ∙ s.0; left = ap (λ (k : ℕ). drop k xs) one ∙ s.1 }
 
 -- all that is assigned
-pub all_assigned : (xs : List Lit) (v p : ℕ) → assigned (take p xs, v, drop p xs) ≡ xs
+pub all_assigned : (xs : List Lit) (v p : ℕ) → on_trail (take p xs, v, drop p xs) ≡ xs
 all_assigned xs v p = take-append-drop p xs
 
 -- all of a list, and less
@@ -123,30 +123,30 @@ take_long h xs long = sym (append-nil (take h xs)) ∙ ap (λ (ys : List Lit). t
 abbrev Whole : Type 0
 Whole = List Lit × ℕ × List Lit
 
-pub last_counted : (a b : Whole) (l : Lit) → a.2 ≡ [] → b.2 ≡ [] → assigned a ≡ assigned b ++ l ∷ [] → a.0 ≡ b.0 ++ l ∷ []
+pub last_counted : (a b : Whole) (l : Lit) → a.2 ≡ [] → b.2 ≡ [] → on_trail a ≡ on_trail b ++ l ∷ [] → a.0 ≡ b.0 ++ l ∷ []
 last_counted a b l e f h =
     sym (append-nil a.0) ∙ ap (λ (ys : List Lit). a.0 ++ ys) (sym e) ∙ h ∙ ap (λ (ys : List Lit). (b.0 ++ ys) ++ l ∷ []) f ∙ ap (λ (ys : List Lit). ys ++ l ∷ []) (append-nil b.0)
 
-pub unset_first : (b : Whole) (l : Lit) → lists (assigned b) l ≡ false → lists b.0 l ≡ false
+pub unset_first : (b : Whole) (l : Lit) → lists (on_trail b) l ≡ false → lists b.0 l ≡ false
 unset_first b l h = fewer b.0 b.2 (l.var.0) l.negated (lists b.0 l) refl h
 
-pub taken_all : (a b : Whole) → b.0 ≡ a.0 → b.0 ≡ take (length (assigned b)) a.0
-taken_all a b e = e ∙ sym (take_long (length (assigned b)) a.0 (omega (arith, length-append b.0 b.2, ap (length {A = Lit}) e)))
+pub taken_all : (a b : Whole) → b.0 ≡ a.0 → b.0 ≡ take (length (on_trail b)) a.0
+taken_all a b e = e ∙ sym (take_long (length (on_trail b)) a.0 (omega (arith, length-append b.0 b.2, ap (length {A = Lit}) e)))
 
-pub taken_last : (a b : Whole) (l : Lit) → a.2 ≡ [] → b.2 ≡ [] → assigned a ≡ assigned b ++ l ∷ [] → b.0 ≡ take (length (assigned b)) a.0
+pub taken_last : (a b : Whole) (l : Lit) → a.2 ≡ [] → b.2 ≡ [] → on_trail a ≡ on_trail b ++ l ∷ [] → b.0 ≡ take (length (on_trail b)) a.0
 taken_last a b l e f h =
-    let many : length (assigned b) ≡ length b.0 = ap (λ (ys : List Lit). length (b.0 ++ ys)) f ∙ ap (length {A = Lit}) (append-nil b.0) in
+    let many : length (on_trail b) ≡ length b.0 = ap (λ (ys : List Lit). length (b.0 ++ ys)) f ∙ ap (length {A = Lit}) (append-nil b.0) in
     sym (ap (λ (k : ℕ). take k a.0) many ∙ ap (take (length b.0)) (last_counted a b l e f h) ∙ take-append-le (length b.0) b.0 (l ∷ []) (omega arith) ∙ take-length b.0)
 
 -- what is assigned is what was propagated where nothing is left
-pub whole_when : (a : Whole) → a.2 ≡ [] → a.0 ≡ assigned a
+pub whole_when : (a : Whole) → a.2 ≡ [] → a.0 ≡ on_trail a
 whole_when a e = sym (append-nil a.0) ∙ ap (λ (ys : List Lit). a.0 ++ ys) (sym e)
 
 nothing_more : (xs ys : List Lit) → xs ≡ xs ++ ys → ys ≡ []
 nothing_more xs [] e = refl
 nothing_more xs (y ∷ ys) e = absurd (omega (arith, ap (length {A = Lit}) e, length-append xs (y ∷ ys)))
 
-pub none_when : (a : Whole) → a.0 ≡ assigned a → a.2 ≡ []
+pub none_when : (a : Whole) → a.0 ≡ on_trail a → a.2 ≡ []
 none_when a e = nothing_more a.0 a.2 e
 
 -- the next literal is assigned, and what falls with it is open before
@@ -157,14 +157,14 @@ twice false = refl
 back : (xs : List Lit) (l : Lit) → lists xs (opposite (opposite l)) ≡ lists xs l
 back xs l = sym (ap (λ (b : Bool). lists xs (record { var = l.var; negated = b })) (twice l.negated))
 
-pub next_listed : (a : Whole) (l m : Lit) → a.2 ≡ l ∷ drop 1 a.2 → m ≡ opposite l → lists (assigned a) (opposite m) ≡ true
+pub next_listed : (a : Whole) (l m : Lit) → a.2 ≡ l ∷ drop 1 a.2 → m ≡ opposite l → lists (on_trail a) (opposite m) ≡ true
 next_listed a l m e o =
-    ap (λ (x : Lit). lists (assigned a) (opposite x)) o ∙ back (assigned a) l ∙ ap (λ (ys : List Lit). lists (a.0 ++ ys) l) e
+    ap (λ (x : Lit). lists (on_trail a) (opposite x)) o ∙ back (on_trail a) l ∙ ap (λ (ys : List Lit). lists (a.0 ++ ys) l) e
     ∙ among_right a.0 (l ∷ drop 1 a.2) (l.var.0) l.negated (among_head l (drop 1 a.2))
 
 pub next_open : (xs : List Lit) (l m : Lit) → m ≡ opposite l → lists xs l ≡ false → lists xs (opposite m) ≡ false
 next_open xs l m o unset = ap (λ (x : Lit). lists xs (opposite x)) o ∙ back xs l ∙ unset
 
 -- what is assigned stays
-pub same_assigned : (a b : Whole) (l : Lit) → a.2 ≡ l ∷ drop 1 a.2 → b ≡ (a.0 ++ l ∷ [], a.1, drop 1 a.2) → assigned b ≡ assigned a
-same_assigned a b l e f = ap assigned f ∙ append_assoc a.0 (l ∷ []) (drop 1 a.2) ∙ ap (λ (ys : List Lit). a.0 ++ ys) (sym e)
+pub same_assigned : (a b : Whole) (l : Lit) → a.2 ≡ l ∷ drop 1 a.2 → b ≡ (a.0 ++ l ∷ [], a.1, drop 1 a.2) → on_trail b ≡ on_trail a
+same_assigned a b l e f = ap on_trail f ∙ append_assoc a.0 (l ∷ []) (drop 1 a.2) ∙ ap (λ (ys : List Lit). a.0 ++ ys) (sym e)

@@ -34,12 +34,12 @@ earlier_or_last ns n k h = elim (cases_eq k (length ns)) [
 pub shown_more : (slots : List (Option NormalConstraint)) (n : NormalConstraint) → shown (slots ++ Some n ∷ []) ≡ shown slots ++ n ∷ []
 shown_more slots n = map_push constraint_in slots (Some n)
 
-counters_more : (ns : List NormalConstraint) (listing : List Lit) (counters : List ℕ) (n : NormalConstraint) (opened : ℕ) → AreCounters ns listing counters → opened ≡ open_sum listing n → AreCounters (ns ++ n ∷ []) listing (counters ++ opened ∷ [])
-counters_more ns listing counters n opened a is = record {
+counters_more : (ns : List NormalConstraint) (assigned : List Lit) (counters : List ℕ) (n : NormalConstraint) (opened : ℕ) → AreCounters ns assigned counters → opened ≡ open_sum assigned n → AreCounters (ns ++ n ∷ []) assigned (counters ++ opened ∷ [])
+counters_more ns assigned counters n opened a is = record {
   counted = omega (arith, a.counted, length-append ns (n ∷ []), length-append counters (opened ∷ []));
   open_sums = λ k h. elim (earlier_or_last ns n k h) [
-    | inl low ↦ get_or_append_left counters (opened ∷ []) 0 k (omega (arith, low, a.counted)) ∙ a.open_sums k low ∙ ap (open_sum listing) (sym (earlier_is ns n k low))
-    | inr e ↦ get_or_push counters opened 0 k (omega (arith, e, a.counted)) ∙ is ∙ ap (open_sum listing) (sym (last_is ns n k e))
+    | inl low ↦ get_or_append_left counters (opened ∷ []) 0 k (omega (arith, low, a.counted)) ∙ a.open_sums k low ∙ ap (open_sum assigned) (sym (earlier_is ns n k low))
+    | inr e ↦ get_or_push counters opened 0 k (omega (arith, e, a.counted)) ∙ is ∙ ap (open_sum assigned) (sym (last_is ns n k e))
   ];
 }
 
@@ -116,38 +116,38 @@ nothing_normal : IsNormal nothing
 nothing_normal = record { rises = tt; fits = record { sum = omega arith; degree = omega arith } }
 
 -- one constraint more
-pub attached : (slots : List (Option NormalConstraint)) (listing : List Lit) (variables : ℕ) (table after clauses behind : List (List Occurrence)) (counters limits : List ℕ) (pairs : List (Option Pair)) (n c w : NormalConstraint) (o : Option Pair) (place opened limit : ℕ)
-    → IsLedger slots listing variables table clauses counters limits pairs → IsPartOf n c w o → place ≡ length pairs → IsNormal c → IsNormal w → variable_bound c.terms ≤ variables → variable_bound w.terms ≤ variables
+pub attached : (slots : List (Option NormalConstraint)) (assigned : List Lit) (variables : ℕ) (table after clauses behind : List (List Occurrence)) (counters limits : List ℕ) (pairs : List (Option Pair)) (n c w : NormalConstraint) (o : Option Pair) (place opened limit : ℕ)
+    → IsLedger slots assigned variables table clauses counters limits pairs → IsPartOf n c w o → place ≡ length pairs → IsNormal c → IsNormal w → variable_bound c.terms ≤ variables → variable_bound w.terms ≤ variables
     → HasMore (entries_of table) after place c.terms → length after ≡ length table → HasMore (entries_of clauses) behind place w.terms → length behind ≡ length clauses
-    → opened ≡ open_sum listing c → ((l : Lit) → n.degree + coefficient_of n l ≤ limit)
-    → IsLedger (slots ++ Some n ∷ []) listing variables after behind (counters ++ opened ∷ []) (limits ++ limit ∷ []) (pairs ++ o ∷ [])
-attached slots listing variables table after clauses behind counters limits pairs n c w o place opened limit i part e normal_c normal_w within_c within_w more long more_w long_w is enough =
+    → opened ≡ open_sum assigned c → ((l : Lit) → n.degree + coefficient_of n l ≤ limit)
+    → IsLedger (slots ++ Some n ∷ []) assigned variables after behind (counters ++ opened ∷ []) (limits ++ limit ∷ []) (pairs ++ o ∷ [])
+attached slots assigned variables table after clauses behind counters limits pairs n c w o place opened limit i part e normal_c normal_w within_c within_w more long more_w long_w is enough =
     let x = i.slots_are in
     record {
       counted = i.counted ++ c ∷ [];
       watched = i.watched ++ w ∷ [];
       index = index_more i.counted variables place table after c i.index (omega (arith, e, x.count, x.pair_count)) more long;
       watched_index = index_more i.watched variables place clauses behind w i.watched_index (omega (arith, e, x.watched_count, x.pair_count)) more_w long_w;
-      counters_are = counters_more i.counted listing counters c opened i.counters_are is;
+      counters_are = counters_more i.counted assigned counters c opened i.counters_are is;
       known = record { normal = All-push IsNormal i.counted c i.known.normal normal_c; within = All-push (λ (m : NormalConstraint). variable_bound m.terms ≤ variables) i.counted c i.known.within within_c };
       watched_known = record { normal = All-push IsNormal i.watched w i.watched_known.normal normal_w; within = All-push (λ (m : NormalConstraint). variable_bound m.terms ≤ variables) i.watched w i.watched_known.within within_w };
       slots_are = parted_more slots i.counted i.watched pairs n c w o x part;
       limits_are = rw (shown_more slots n) (limits_more (shown slots) limits n limit i.limits_are enough);
     }
 
-pub attached_counted : (slots : List (Option NormalConstraint)) (listing : List Lit) (variables : ℕ) (table after clauses : List (List Occurrence)) (counters limits : List ℕ) (pairs : List (Option Pair)) (n : NormalConstraint) (place opened limit : ℕ)
-    → IsLedger slots listing variables table clauses counters limits pairs → place ≡ length pairs → IsNormal n → variable_bound n.terms ≤ variables
-    → HasMore (entries_of table) after place n.terms → length after ≡ length table → opened ≡ open_sum listing n → ((l : Lit) → n.degree + coefficient_of n l ≤ limit)
-    → IsLedger (slots ++ Some n ∷ []) listing variables after clauses (counters ++ opened ∷ []) (limits ++ limit ∷ []) (pairs ++ None ∷ [])
-attached_counted slots listing variables table after clauses counters limits pairs n place opened limit i e normal within more long is enough =
-    attached slots listing variables table after clauses clauses counters limits pairs n n nothing None place opened limit i (part_counted n) e normal nothing_normal within (omega arith) more long (none_more clauses place) refl is enough
+pub attached_counted : (slots : List (Option NormalConstraint)) (assigned : List Lit) (variables : ℕ) (table after clauses : List (List Occurrence)) (counters limits : List ℕ) (pairs : List (Option Pair)) (n : NormalConstraint) (place opened limit : ℕ)
+    → IsLedger slots assigned variables table clauses counters limits pairs → place ≡ length pairs → IsNormal n → variable_bound n.terms ≤ variables
+    → HasMore (entries_of table) after place n.terms → length after ≡ length table → opened ≡ open_sum assigned n → ((l : Lit) → n.degree + coefficient_of n l ≤ limit)
+    → IsLedger (slots ++ Some n ∷ []) assigned variables after clauses (counters ++ opened ∷ []) (limits ++ limit ∷ []) (pairs ++ None ∷ [])
+attached_counted slots assigned variables table after clauses counters limits pairs n place opened limit i e normal within more long is enough =
+    attached slots assigned variables table after clauses clauses counters limits pairs n n nothing None place opened limit i (part_counted n) e normal nothing_normal within (omega arith) more long (none_more clauses place) refl is enough
 
-pub attached_watched : (slots : List (Option NormalConstraint)) (listing : List Lit) (variables : ℕ) (table clauses behind : List (List Occurrence)) (counters limits : List ℕ) (pairs : List (Option Pair)) (n : NormalConstraint) (p : Pair) (place opened limit : ℕ)
-    → IsLedger slots listing variables table clauses counters limits pairs → place ≡ length pairs → IsNormal n → variable_bound n.terms ≤ variables
+pub attached_watched : (slots : List (Option NormalConstraint)) (assigned : List Lit) (variables : ℕ) (table clauses behind : List (List Occurrence)) (counters limits : List ℕ) (pairs : List (Option Pair)) (n : NormalConstraint) (p : Pair) (place opened limit : ℕ)
+    → IsLedger slots assigned variables table clauses counters limits pairs → place ≡ length pairs → IsNormal n → variable_bound n.terms ≤ variables
     → HasMore (entries_of clauses) behind place n.terms → length behind ≡ length clauses → opened ≡ 0 → ((l : Lit) → n.degree + coefficient_of n l ≤ limit)
-    → IsLedger (slots ++ Some n ∷ []) listing variables table behind (counters ++ opened ∷ []) (limits ++ limit ∷ []) (pairs ++ Some p ∷ [])
-attached_watched slots listing variables table clauses behind counters limits pairs n p place opened limit i e normal within more long is enough =
-    attached slots listing variables table table clauses behind counters limits pairs n nothing n (Some p) place opened limit i (part_watched n p) e nothing_normal normal (omega arith) within (none_more table place) refl more long is enough
+    → IsLedger (slots ++ Some n ∷ []) assigned variables table behind (counters ++ opened ∷ []) (limits ++ limit ∷ []) (pairs ++ Some p ∷ [])
+attached_watched slots assigned variables table clauses behind counters limits pairs n p place opened limit i e normal within more long is enough =
+    attached slots assigned variables table table clauses behind counters limits pairs n nothing n (Some p) place opened limit i (part_watched n p) e nothing_normal normal (omega arith) within (none_more table place) refl more long is enough
 
 -- the reasons stand beside one constraint more
 pub reasons_beside : (slots : List (Option NormalConstraint)) (n : NormalConstraint) (xs : List Lit) (rs : List (Option ℕ)) → AreReasons (shown slots) xs rs → AreReasons (shown (slots ++ Some n ∷ [])) xs rs
@@ -158,10 +158,10 @@ reasons_beside slots n xs rs a = rw (shown_more slots n) (reasons_moved (shown s
 index_same : (ns : List NormalConstraint) (variables place : ℕ) (table after : List (List Occurrence)) → IsIndex ns variables table → HasMore (entries_of table) after place [] → length after ≡ length table → IsIndex ns variables after
 index_same ns variables place table after i none long = record { size = omega (arith, long, i.size); entries = λ l. none l ∙ append-nil (entries_of table l) ∙ i.entries l }
 
-pub unchanged : (slots : List (Option NormalConstraint)) (listing : List Lit) (variables : ℕ) (table after clauses behind : List (List Occurrence)) (counters limits : List ℕ) (pairs : List (Option Pair)) (place : ℕ) → IsLedger slots listing variables table clauses counters limits pairs
+pub unchanged : (slots : List (Option NormalConstraint)) (assigned : List Lit) (variables : ℕ) (table after clauses behind : List (List Occurrence)) (counters limits : List ℕ) (pairs : List (Option Pair)) (place : ℕ) → IsLedger slots assigned variables table clauses counters limits pairs
     → HasMore (entries_of table) after place [] → length after ≡ length table → HasMore (entries_of clauses) behind place [] → length behind ≡ length clauses
-    → IsLedger slots listing variables after behind counters limits pairs
-unchanged slots listing variables table after clauses behind counters limits pairs place i none long none_w long_w = record {
+    → IsLedger slots assigned variables after behind counters limits pairs
+unchanged slots assigned variables table after clauses behind counters limits pairs place i none long none_w long_w = record {
   counted = i.counted;
   watched = i.watched;
   index = index_same i.counted variables place table after i.index none long;
@@ -180,10 +180,10 @@ index_wider ns variables more table after i long same = record { size = long; en
 known_wider : (ns : List NormalConstraint) (variables more : ℕ) → AreKnown ns variables → variables ≤ more → AreKnown ns more
 known_wider ns variables more a up = record { normal = a.normal; within = All-weaker (λ (m : NormalConstraint). variable_bound m.terms ≤ variables) (λ m. variable_bound m.terms ≤ more) (λ m h. omega (arith, h, up)) ns a.within }
 
-pub widened : (slots : List (Option NormalConstraint)) (listing : List Lit) (variables more : ℕ) (table after clauses behind : List (List Occurrence)) (counters limits : List ℕ) (pairs : List (Option Pair)) → IsLedger slots listing variables table clauses counters limits pairs → variables ≤ more
+pub widened : (slots : List (Option NormalConstraint)) (assigned : List Lit) (variables more : ℕ) (table after clauses behind : List (List Occurrence)) (counters limits : List ℕ) (pairs : List (Option Pair)) → IsLedger slots assigned variables table clauses counters limits pairs → variables ≤ more
     → 2 * more ≤ length after → ((k : ℕ) → get_or after k [] ≡ get_or table k []) → 2 * more ≤ length behind → ((k : ℕ) → get_or behind k [] ≡ get_or clauses k [])
-    → IsLedger slots listing more after behind counters limits pairs
-widened slots listing variables more table after clauses behind counters limits pairs i up long same long_w same_w = record {
+    → IsLedger slots assigned more after behind counters limits pairs
+widened slots assigned variables more table after clauses behind counters limits pairs i up long same long_w same_w = record {
   counted = i.counted;
   watched = i.watched;
   index = index_wider i.counted variables more table after i.index long same;
@@ -217,9 +217,9 @@ pub record WasBefore (rest : List (Option NormalConstraint)) (counted watched : 
   pub counts : HasMore (λ l. occurrences_of l 0 (take (length rest) counted)) table (length rest) n.terms
   pub watches : HasMore (λ l. occurrences_of l 0 (take (length rest) watched)) clauses (length rest) w.terms
 
-pub counted_before : (slots rest : List (Option NormalConstraint)) (listing : List Lit) (variables : ℕ) (table clauses : List (List Occurrence)) (counters limits : List ℕ) (pairs : List (Option Pair)) (n : NormalConstraint) (i : IsLedger slots listing variables table clauses counters limits pairs) → slots ≡ rest ++ Some n ∷ []
+pub counted_before : (slots rest : List (Option NormalConstraint)) (assigned : List Lit) (variables : ℕ) (table clauses : List (List Occurrence)) (counters limits : List ℕ) (pairs : List (Option Pair)) (n : NormalConstraint) (i : IsLedger slots assigned variables table clauses counters limits pairs) → slots ≡ rest ++ Some n ∷ []
     → get_or pairs (length rest) None ≡ None → WasBefore rest i.counted i.watched table clauses n nothing
-counted_before slots rest listing variables table clauses counters limits pairs n i e o =
+counted_before slots rest assigned variables table clauses counters limits pairs n i e o =
     let count = slot_count slots rest n e in
     let is = i.slots_are.counts (length rest) n (slot_last slots rest n e) o in
     record {
@@ -227,9 +227,9 @@ counted_before slots rest listing variables table clauses counters limits pairs 
       watches = index_before i.watched variables (length rest) clauses nothing i.watched_index (omega (arith, count, i.slots_are.watched_count)) is.1;
     }
 
-pub watched_before : (slots rest : List (Option NormalConstraint)) (listing : List Lit) (variables : ℕ) (table clauses : List (List Occurrence)) (counters limits : List ℕ) (pairs : List (Option Pair)) (n : NormalConstraint) (p : Pair) (i : IsLedger slots listing variables table clauses counters limits pairs) → slots ≡ rest ++ Some n ∷ []
+pub watched_before : (slots rest : List (Option NormalConstraint)) (assigned : List Lit) (variables : ℕ) (table clauses : List (List Occurrence)) (counters limits : List ℕ) (pairs : List (Option Pair)) (n : NormalConstraint) (p : Pair) (i : IsLedger slots assigned variables table clauses counters limits pairs) → slots ≡ rest ++ Some n ∷ []
     → get_or pairs (length rest) None ≡ Some p → WasBefore rest i.counted i.watched table clauses nothing n
-watched_before slots rest listing variables table clauses counters limits pairs n p i e o =
+watched_before slots rest assigned variables table clauses counters limits pairs n p i e o =
     let count = slot_count slots rest n e in
     let is = i.slots_are.watches (length rest) n p (slot_last slots rest n e) o in
     record {
@@ -237,10 +237,10 @@ watched_before slots rest listing variables table clauses counters limits pairs 
       watches = index_before i.watched variables (length rest) clauses n i.watched_index (omega (arith, count, i.slots_are.watched_count)) is.1;
     }
 
-pub last_known : (slots rest : List (Option NormalConstraint)) (listing : List Lit) (variables : ℕ) (table clauses : List (List Occurrence)) (counters limits : List ℕ) (pairs : List (Option Pair)) (n : NormalConstraint) → IsLedger slots listing variables table clauses counters limits pairs → slots ≡ rest ++ Some n ∷ []
+pub last_known : (slots rest : List (Option NormalConstraint)) (assigned : List Lit) (variables : ℕ) (table clauses : List (List Occurrence)) (counters limits : List ℕ) (pairs : List (Option Pair)) (n : NormalConstraint) → IsLedger slots assigned variables table clauses counters limits pairs → slots ≡ rest ++ Some n ∷ []
     → (2 * variable_bound n.terms ≤ length table) × (2 * variable_bound n.terms ≤ length clauses)
-last_known slots rest listing variables table clauses counters limits pairs n i e =
-    let below = variables_there slots listing variables table clauses counters limits pairs (length rest) n i (omega (arith, slot_count slots rest n e)) (slot_last slots rest n e) in
+last_known slots rest assigned variables table clauses counters limits pairs n i e =
+    let below = variables_there slots assigned variables table clauses counters limits pairs (length rest) n i (omega (arith, slot_count slots rest n e)) (slot_last slots rest n e) in
     (omega (arith, below, i.index.size), omega (arith, below, i.watched_index.size))
 
 fewer_shown : (slots rest : List (Option NormalConstraint)) (n : NormalConstraint) → slots ≡ rest ++ Some n ∷ [] → shown slots ≡ shown rest ++ n ∷ []
@@ -276,11 +276,11 @@ parted_fewer slots rest ns ws pairs n e x =
       ];
     }
 
-pub detached : (slots rest : List (Option NormalConstraint)) (listing : List Lit) (variables : ℕ) (table after clauses behind : List (List Occurrence)) (counters limits : List ℕ) (pairs : List (Option Pair)) (n : NormalConstraint) (i : IsLedger slots listing variables table clauses counters limits pairs) → slots ≡ rest ++ Some n ∷ []
+pub detached : (slots rest : List (Option NormalConstraint)) (assigned : List Lit) (variables : ℕ) (table after clauses behind : List (List Occurrence)) (counters limits : List ℕ) (pairs : List (Option Pair)) (n : NormalConstraint) (i : IsLedger slots assigned variables table clauses counters limits pairs) → slots ≡ rest ++ Some n ∷ []
     → length after ≡ length table → HasMore (λ l. occurrences_of l 0 (take (length rest) i.counted)) after (length rest) []
     → length behind ≡ length clauses → HasMore (λ l. occurrences_of l 0 (take (length rest) i.watched)) behind (length rest) []
-    → IsLedger rest listing variables after behind (take (length counters - 1) counters) (take (length limits - 1) limits) (take (length pairs - 1) pairs)
-detached slots rest listing variables table after clauses behind counters limits pairs n i e long none long_w none_w =
+    → IsLedger rest assigned variables after behind (take (length counters - 1) counters) (take (length limits - 1) limits) (take (length pairs - 1) pairs)
+detached slots rest assigned variables table after clauses behind counters limits pairs n i e long none long_w none_w =
     let m : ℕ = length rest in
     let ns : List NormalConstraint = i.counted in
     let count : length slots ≡ m + 1 = slot_count slots rest n e in
@@ -299,7 +299,7 @@ detached slots rest listing variables table after clauses behind counters limits
         counted = omega (arith, length-take-le (length counters - 1) counters (omega arith), counted, many);
         open_sums = λ k h.
             let low : k < m = omega (arith, h, many) in
-            get_or-take (length counters - 1) counters k 0 (omega (arith, low, counted)) ∙ i.counters_are.open_sums k (omega (arith, low, all)) ∙ ap (open_sum listing) (sym (get_or-take m ns k nothing low));
+            get_or-take (length counters - 1) counters k 0 (omega (arith, low, counted)) ∙ i.counters_are.open_sums k (omega (arith, low, all)) ∙ ap (open_sum assigned) (sym (get_or-take m ns k nothing low));
       };
       known = known_fewer ns variables m i.known;
       watched_known = known_fewer i.watched variables m i.watched_known;
@@ -344,9 +344,9 @@ parted_without slots place ns ws pairs low x = record {
   ];
 }
 
-pub taken_out : (slots : List (Option NormalConstraint)) (place : ℕ) (listing : List Lit) (variables : ℕ) (table clauses : List (List Occurrence)) (counters limits : List ℕ) (pairs : List (Option Pair)) → IsLedger slots listing variables table clauses counters limits pairs → place < length slots
-    → IsLedger (set slots place None) listing variables table clauses counters (set limits place 0) pairs
-taken_out slots place listing variables table clauses counters limits pairs i low =
+pub taken_out : (slots : List (Option NormalConstraint)) (place : ℕ) (assigned : List Lit) (variables : ℕ) (table clauses : List (List Occurrence)) (counters limits : List ℕ) (pairs : List (Option Pair)) → IsLedger slots assigned variables table clauses counters limits pairs → place < length slots
+    → IsLedger (set slots place None) assigned variables table clauses counters (set limits place 0) pairs
+taken_out slots place assigned variables table clauses counters limits pairs i low =
     let many : length limits ≡ length slots = i.limits_are.limited ∙ length-map slots constraint_in in
     record {
       counted = i.counted;
@@ -378,5 +378,5 @@ reasons_apart slots place xs rs a free = reasons_moved (shown slots) (shown (set
 ))
 
 -- the same ledger, with the same pairs
-pub with_pairs : (slots : List (Option NormalConstraint)) (listing : List Lit) (variables : ℕ) (table clauses : List (List Occurrence)) (counters limits : List ℕ) (pairs new : List (Option Pair)) → IsLedger slots listing variables table clauses counters limits pairs → new ≡ pairs → IsLedger slots listing variables table clauses counters limits new
-with_pairs slots listing variables table clauses counters limits pairs new i e = subst (λ (ps : List (Option Pair)). IsLedger slots listing variables table clauses counters limits ps) (sym e) i
+pub with_pairs : (slots : List (Option NormalConstraint)) (assigned : List Lit) (variables : ℕ) (table clauses : List (List Occurrence)) (counters limits : List ℕ) (pairs new : List (Option Pair)) → IsLedger slots assigned variables table clauses counters limits pairs → new ≡ pairs → IsLedger slots assigned variables table clauses counters limits new
+with_pairs slots assigned variables table clauses counters limits pairs new i e = subst (λ (ps : List (Option Pair)). IsLedger slots assigned variables table clauses counters limits ps) (sym e) i

@@ -9,7 +9,7 @@ use Rattle.normal_form.specs.Normal.{NormalConstraint, Rises}
 use Rattle.propagate.specs.Literals.{coefficient_of}
 use Rattle.propagate.specs.Passes.{literal_of}
 use Rattle.linear.specs.Literal.{opposite}
-use Rattle.propagate.proofs.Listings.{among_left}
+use Rattle.propagate.proofs.Assignments.{among_left}
 use Rattle.propagate.proofs.Occurrences.{own_coefficient, same_literal, stands}
 use Rattle.ledger.specs.declared.pair.Pair.{Pair}
 use Rattle.ledger.specs.Watched.{AreOthersFalse, IsClause, IsFalseBeside}
@@ -34,17 +34,17 @@ clause_from n rises all l some =
     omega (arith, all at.0 d at.1, own, same)
 
 -- where that is so of the literals of all terms, it is so of all literals
-pub others_false : (listing : List Lit) (p : Pair) (n : NormalConstraint) → ((k : ℕ) (d : NormalTerm) → k < length n.terms → IsFalseBeside listing p (literal_of (get_or n.terms k d))) → AreOthersFalse listing n p
-others_false listing p n all l some =
+pub others_false : (assigned : List Lit) (p : Pair) (n : NormalConstraint) → ((k : ℕ) (d : NormalTerm) → k < length n.terms → IsFalseBeside assigned p (literal_of (get_or n.terms k d))) → AreOthersFalse assigned n p
+others_false assigned p n all l some =
     let at = has_term n l some in
     let d : NormalTerm = record { coef = 0; var = l.var; negated = l.negated } in
-    subst (IsFalseBeside listing p) (at.2 d) (all at.0 d at.1)
+    subst (IsFalseBeside assigned p) (at.2 d) (all at.0 d at.1)
 
 -- one literal more that is made false, or is one of two
-pub next_false : (listing : List Lit) (p : Pair) (ts : List NormalTerm) (index : ℕ) → ((k : ℕ) (d : NormalTerm) → k < index → IsFalseBeside listing p (literal_of (get_or ts k d))) → ((d : NormalTerm) → IsFalseBeside listing p (literal_of (get_or ts index d)))
-    → (k : ℕ) (d : NormalTerm) → k < index + 1 → IsFalseBeside listing p (literal_of (get_or ts k d))
-next_false listing p ts index before now k d h = elim (cases_eq k index) [
-  | inl e ↦ subst (λ (j : ℕ). IsFalseBeside listing p (literal_of (get_or ts j d))) (sym e) (now d)
+pub next_false : (assigned : List Lit) (p : Pair) (ts : List NormalTerm) (index : ℕ) → ((k : ℕ) (d : NormalTerm) → k < index → IsFalseBeside assigned p (literal_of (get_or ts k d))) → ((d : NormalTerm) → IsFalseBeside assigned p (literal_of (get_or ts index d)))
+    → (k : ℕ) (d : NormalTerm) → k < index + 1 → IsFalseBeside assigned p (literal_of (get_or ts k d))
+next_false assigned p ts index before now k d h = elim (cases_eq k index) [
+  | inl e ↦ subst (λ (j : ℕ). IsFalseBeside assigned p (literal_of (get_or ts j d))) (sym e) (now d)
   | inr other ↦ before k d (omega (arith, h, other))
 ]
 

@@ -28,9 +28,9 @@ entries_below slots l os x =
     (All-append (λ (o : Occurrence). o.place < length slots) (occurrences_of l 0 x.0) (occurrences_of l 0 x.1) (places_from l 0 (length slots) x.0 (omega (arith, x.3.count))) (places_from l 0 (length slots) x.1 (omega (arith, x.3.watched_count))))
 
 -- a ledger's lists for a literal
-pub entries_are : (slots : Slots) (listing : List Lit) (variables : ℕ) (table clauses : List (List Occurrence)) (counters limits : List ℕ) (pairs : List (Option Pair)) (l : Lit) (number : ℕ) (os rest : List Occurrence) → IsLedger slots listing variables table clauses counters limits pairs
+pub entries_are : (slots : Slots) (assigned : List Lit) (variables : ℕ) (table clauses : List (List Occurrence)) (counters limits : List ℕ) (pairs : List (Option Pair)) (l : Lit) (number : ℕ) (os rest : List Occurrence) → IsLedger slots assigned variables table clauses counters limits pairs
     → number ≡ code l → os ≡ get_or table number [] → rest ≡ get_or clauses number [] → AreEntriesOf slots l (os ++ rest)
-entries_are slots listing variables table clauses counters limits pairs l number os rest e named is more = (
+entries_are slots assigned variables table clauses counters limits pairs l number os rest e named is more = (
   e.counted,
   e.watched,
   pairs,

@@ -26,18 +26,18 @@ row_of w l = get_or w.rows (code l) []
 pub code_apart : (l m : Lit) → (l ≡ m → ⊥) → code l ≡ code m → ⊥
 code_apart l m other e = let same = same_code l m e in other (same_literal l m same.0 same.1)
 
-handled_later : (listing : List Lit) (n : NormalConstraint) (p : Pair) (q q' : List ℕ) (k : ℕ) → ((k : ℕ) → Contains q k → Contains q' k) → IsHandled listing n p q k → IsHandled listing n p q' k
-handled_later listing n p q q' k kept (inl t) = inl t
-handled_later listing n p q q' k kept (inr (out, waits)) = inr (out, kept k waits)
+handled_later : (assigned : List Lit) (n : NormalConstraint) (p : Pair) (q q' : List ℕ) (k : ℕ) → ((k : ℕ) → Contains q k → Contains q' k) → IsHandled assigned n p q k → IsHandled assigned n p q' k
+handled_later assigned n p q q' k kept (inl t) = inl t
+handled_later assigned n p q q' k kept (inr (out, waits)) = inr (out, kept k waits)
 
 -- the entry stays, and its clause is handled
-pub stays : (slots : Slots) (listing : List Lit) (variables : ℕ) (fallen : Lit) (w : Watching) (q q' : List ℕ) (index place : ℕ) (n : NormalConstraint) (p : Pair) → IsFalling slots listing variables fallen w q index
-    → index < length (row_of w fallen) → place ≡ get_or (row_of w fallen) index place → ((k : ℕ) → Contains q k → Contains q' k) → IsAt slots w.pairs place n p → IsHandled listing n p q' place
-    → IsFalling slots listing variables fallen w q' (index + 1)
-stays slots listing variables fallen w q q' index place n p f low is kept at handled = record {
+pub stays : (slots : Slots) (assigned : List Lit) (variables : ℕ) (fallen : Lit) (w : Watching) (q q' : List ℕ) (index place : ℕ) (n : NormalConstraint) (p : Pair) → IsFalling slots assigned variables fallen w q index
+    → index < length (row_of w fallen) → place ≡ get_or (row_of w fallen) index place → ((k : ℕ) → Contains q k → Contains q' k) → IsAt slots w.pairs place n p → IsHandled assigned n p q' place
+    → IsFalling slots assigned variables fallen w q' (index + 1)
+stays slots assigned variables fallen w q q' index place n p f low is kept at handled = record {
   watched = f.watched;
   handled = λ k m r there pair one. elim (f.handled k m r there pair one) [
-    | inr done ↦ inr (handled_later listing m r q q' k kept done)
+    | inr done ↦ inr (handled_later assigned m r q q' k kept done)
     | inl ahead ↦ elim (cases_eq k place) [
       | inr other ↦ inl (ahead_next (row_of w fallen) index place k low is other ahead)
       | inl e ↦ inr (here k m r e there pair)
@@ -48,21 +48,21 @@ stays slots listing variables fallen w q q' index place n p f low is kept at han
     some_same : {X : Type 0} (x y : X) (o : Option X) → o ≡ Some x → o ≡ Some y → x ≡ y
     some_same x y o e f = cc
 
-    here : (k : ℕ) (m : NormalConstraint) (r : Pair) → k ≡ place → get_or slots k None ≡ Some m → get_or w.pairs k None ≡ Some r → IsHandled listing m r q' k
+    here : (k : ℕ) (m : NormalConstraint) (r : Pair) → k ≡ place → get_or slots k None ≡ Some m → get_or w.pairs k None ≡ Some r → IsHandled assigned m r q' k
     here k m r e there pair =
         let first : n ≡ m = some_same n m (get_or slots place None) at.0 (ap (λ (j : ℕ). get_or slots j None) (sym e) ∙ there) in
         let second : p ≡ r = some_same p r (get_or w.pairs place None) at.1 (ap (λ (j : ℕ). get_or w.pairs j None) (sym e) ∙ pair) in
-        subst (λ (x : NormalConstraint). IsHandled listing x r q' k) first (subst (λ (x : Pair). IsHandled listing n x q' k) second (subst (IsHandled listing n p q') (sym e) handled))
+        subst (λ (x : NormalConstraint). IsHandled assigned x r q' k) first (subst (λ (x : Pair). IsHandled assigned n x q' k) second (subst (IsHandled assigned n p q') (sym e) handled))
 
 -- the rows without the entry
 pub record IsDropped (w new : Watching) (fallen : Lit) (index place : ℕ) : Type 0 where
   pub rows : new.rows ≡ set w.rows (code fallen) (swap_remove (row_of w fallen) index place)
   pub pairs : new.pairs ≡ w.pairs
 
-watched_without : (slots : Slots) (listing : List Lit) (variables : ℕ) (fallen : Lit) (w : Watching) (index place : ℕ) → AreWatched slots listing variables w → code fallen < length w.rows
+watched_without : (slots : Slots) (assigned : List Lit) (variables : ℕ) (fallen : Lit) (w : Watching) (index place : ℕ) → AreWatched slots assigned variables w → code fallen < length w.rows
     → index < length (row_of w fallen) → place ≡ get_or (row_of w fallen) index place → ((n : NormalConstraint) (p : Pair) → IsAt slots w.pairs place n p → IsOneOf p fallen → ⊥)
-    → AreWatched slots listing variables (record { rows = set w.rows (code fallen) (swap_remove (row_of w fallen) index place); pairs = w.pairs })
-watched_without slots listing variables fallen w index place a number low is elsewhere = record {
+    → AreWatched slots assigned variables (record { rows = set w.rows (code fallen) (swap_remove (row_of w fallen) index place); pairs = w.pairs })
+watched_without slots assigned variables fallen w index place a number low is elsewhere = record {
   size = omega (arith, a.size, length-set w.rows (code fallen) (swap_remove (row_of w fallen) index place));
   within = a.within;
   each = λ k n p there pair.
@@ -76,15 +76,15 @@ watched_without slots listing variables fallen w index place a number low is els
       };
 }
 
-pub dropped : (slots : Slots) (listing : List Lit) (variables : ℕ) (fallen : Lit) (w new : Watching) (q : List ℕ) (index place : ℕ) → IsFalling slots listing variables fallen w q index → code fallen < length w.rows
+pub dropped : (slots : Slots) (assigned : List Lit) (variables : ℕ) (fallen : Lit) (w new : Watching) (q : List ℕ) (index place : ℕ) → IsFalling slots assigned variables fallen w q index → code fallen < length w.rows
     → index < length (row_of w fallen) → place ≡ get_or (row_of w fallen) index place → ((n : NormalConstraint) (p : Pair) → IsAt slots w.pairs place n p → IsOneOf p fallen → ⊥) → IsDropped w new fallen index place
-    → IsFalling slots listing variables fallen new q index
-dropped slots listing variables fallen w new q index place f number low is elsewhere d =
+    → IsFalling slots assigned variables fallen new q index
+dropped slots assigned variables fallen w new q index place f number low is elsewhere d =
     let row : List ℕ = swap_remove (row_of w fallen) index place in
     let after : Watching = record { rows = set w.rows (code fallen) row; pairs = w.pairs } in
     let same : after ≡ new = ap (λ (rows : List (List ℕ)). record { rows = rows; pairs = w.pairs }) (sym d.rows) ∙ ap {B = Watching} (λ (pairs : List (Option Pair)). record { rows = new.rows; pairs = pairs }) (sym d.pairs) in
-    subst (λ (x : Watching). IsFalling slots listing variables fallen x q index) same (record {
-      watched = watched_without slots listing variables fallen w index place f.watched number low is elsewhere;
+    subst (λ (x : Watching). IsFalling slots assigned variables fallen x q index) same (record {
+      watched = watched_without slots assigned variables fallen w index place f.watched number low is elsewhere;
       handled = λ k n p there pair one. elim (f.handled k n p there pair one) [
         | inr done ↦ inr done
         | inl ahead ↦
@@ -94,9 +94,9 @@ dropped slots listing variables fallen w new q index place f number low is elsew
     })
 
 -- an open literal was open before
-pub open_earlier : (listing : List Lit) (l : Lit) (h : ℕ) → IsOpen listing l → IsOpen (take h listing) l
-open_earlier listing l h o =
-    fewer (take h listing) (drop h listing) (l.var.0) (opposite l).negated (lists (take h listing) (opposite l)) refl (ap (λ (xs : List Lit). lists xs (opposite l)) (take-append-drop h listing) ∙ o)
+pub open_earlier : (assigned : List Lit) (l : Lit) (h : ℕ) → IsOpen assigned l → IsOpen (take h assigned) l
+open_earlier assigned l h o =
+    fewer (take h assigned) (drop h assigned) (l.var.0) (opposite l).negated (lists (take h assigned) (opposite l)) refl (ap (λ (xs : List Lit). lists xs (opposite l)) (take-append-drop h assigned) ∙ o)
 
 -- a literal of a constraint is of its variables
 pub variable_below : (n : NormalConstraint) (l : Lit) (variables : ℕ) → 0 < coefficient_of n l → variable_bound n.terms ≤ variables → l.var.0 < variables
@@ -126,10 +126,10 @@ either : (p : Pair) (l : Lit) (A : Lit → Type 0) → IsOneOf p l → A p.first
 either p l A (inl e) a b = subst A e a
 either p l A (inr e) a b = subst A e b
 
-pub rewatched : (slots : Slots) (listing : List Lit) (variables : ℕ) (fallen : Lit) (w new : Watching) (queue : List ℕ) (index place : ℕ) (n : NormalConstraint) (p q : Pair) → IsFalling slots listing variables fallen w queue index
-    → variable_bound n.terms ≤ variables → IsAt slots w.pairs place n p → IsMoved listing n p fallen q → IsRewatched w new place q
-    → IsFalling slots listing variables fallen new queue index
-rewatched slots listing variables fallen w new queue index place n p q f within at moves r =
+pub rewatched : (slots : Slots) (assigned : List Lit) (variables : ℕ) (fallen : Lit) (w new : Watching) (queue : List ℕ) (index place : ℕ) (n : NormalConstraint) (p q : Pair) → IsFalling slots assigned variables fallen w queue index
+    → variable_bound n.terms ≤ variables → IsAt slots w.pairs place n p → IsMoved assigned n p fallen q → IsRewatched w new place q
+    → IsFalling slots assigned variables fallen new queue index
+rewatched slots assigned variables fallen w new queue index place n p q f within at moves r =
     let low : place < length w.pairs = some_there w.pairs place p at.1 in
     let first_below : q.first.var.0 < variables = variable_below n q.first variables moves.of_it.first within in
     let second_below : q.second.var.0 < variables = variable_below n q.second variables moves.of_it.second within in
@@ -152,13 +152,13 @@ rewatched slots listing variables fallen w new queue index place n p q f within 
         each = λ k m s slot pair. elim (cases_eq k place) [
           | inl e ↦
               let same : n ≡ m = same_some n m (get_or slots place None) at.0 (ap (λ (j : ℕ). get_or slots j None) (sym e) ∙ slot) in
-              let it : IsWatched new.rows listing place n q = record {
+              let it : IsWatched new.rows assigned place n q = record {
                 of_it = moves.of_it;
                 first = put_there w.rows new.rows q.first place number r.rows;
                 second = kept q.second place (either p q.second (λ l. StandsIn w.rows l place) moves.stays was.first was.second);
-                tell = λ h. inl (open_earlier listing q.first h moves.first, open_earlier listing q.second h moves.second);
+                tell = λ h. inl (open_earlier assigned q.first h moves.first, open_earlier assigned q.second h moves.second);
               } in
-              subst (λ (x : ℕ). IsWatched new.rows listing x m s) (sym e) (subst (λ (x : Pair). IsWatched new.rows listing place m x) (sym (here k s e pair)) (subst (λ (x : NormalConstraint). IsWatched new.rows listing place x q) same it))
+              subst (λ (x : ℕ). IsWatched new.rows assigned x m s) (sym e) (subst (λ (x : Pair). IsWatched new.rows assigned place m x) (sym (here k s e pair)) (subst (λ (x : NormalConstraint). IsWatched new.rows assigned place x q) same it))
           | inr other ↦
               let i = f.watched.each k m s slot (there k s other pair) in
               record { of_it = i.of_it; first = kept s.first k i.first; second = kept s.second k i.second; tell = i.tell }
@@ -217,18 +217,18 @@ dropped_by w new fallen index place rows pairs is = record {
 }
 
 -- another literal watches the clause of an entry, and the entry is dropped
-pub moved_on : (slots : Slots) (listing : List Lit) (variables : ℕ) (fallen : Lit) (w mid new : Watching) (queue : List ℕ) (index place : ℕ) (n : NormalConstraint) (p q : Pair) → IsFalling slots listing variables fallen w queue index
-    → variable_bound n.terms ≤ variables → IsAt slots w.pairs place n p → IsMoved listing n p fallen q → IsRewatched w mid place q
+pub moved_on : (slots : Slots) (assigned : List Lit) (variables : ℕ) (fallen : Lit) (w mid new : Watching) (queue : List ℕ) (index place : ℕ) (n : NormalConstraint) (p q : Pair) → IsFalling slots assigned variables fallen w queue index
+    → variable_bound n.terms ≤ variables → IsAt slots w.pairs place n p → IsMoved assigned n p fallen q → IsRewatched w mid place q
     → code fallen < length w.rows → index < length (row_of w fallen) → place ≡ get_or (row_of w fallen) index place
     → new.rows ≡ set mid.rows (code fallen) (swap_remove (row_of mid fallen) index (get_or (row_of mid fallen) index 0)) → new.pairs ≡ mid.pairs
-    → IsFalling slots listing variables fallen new queue index
-moved_on slots listing variables fallen w mid new queue index place n p q f within at moves r number low is rows pairs =
+    → IsFalling slots assigned variables fallen new queue index
+moved_on slots assigned variables fallen w mid new queue index place n p q f within at moves r number low is rows pairs =
     let same_row : row_of mid fallen ≡ row_of w fallen =
     ap (λ (xs : List (List ℕ)). get_or xs (code fallen) []) r.rows ∙ row_other w.rows (code q.first) (get_or w.rows (code q.first) [] ++ place ∷ []) fallen (λ e. code_apart q.first fallen moves.not_first (sym e)) in
     let low_mid : index < length (row_of mid fallen) = omega (arith, low, ap (length {A = ℕ}) same_row) in
     let is_mid : place ≡ get_or (row_of mid fallen) index place = is ∙ ap (λ (xs : List ℕ). get_or xs index place) (sym same_row) in
     let entry : get_or (row_of mid fallen) index 0 ≡ place = get_or_default (row_of mid fallen) index 0 place low_mid ∙ sym is_mid in
-    dropped slots listing variables fallen mid new queue index place (rewatched slots listing variables fallen w mid queue index place n p q f within at moves r) (omega (arith, number, put_length w.rows mid.rows q.first place r.rows)) low_mid is_mid
+    dropped slots assigned variables fallen mid new queue index place (rewatched slots assigned variables fallen w mid queue index place n p q f within at moves r) (omega (arith, number, put_length w.rows mid.rows q.first place r.rows)) low_mid is_mid
     (λ m s found one.
     let now : get_or mid.pairs place None ≡ Some q = ap (λ (xs : List (Option Pair)). get_or xs place None) r.pairs ∙ get_or-set_same w.pairs place (Some q) None (some_there w.pairs place p at.1) in
     not_one (subst (λ (x : Pair). IsOneOf x fallen) (same_some s q (get_or mid.pairs place None) found.1 now) one))
@@ -239,8 +239,8 @@ moved_on slots listing variables fallen w mid new queue index place n p q f with
     not_one (inr e) = moves.not_second e
 
 -- at first all that a literal watches is ahead
-pub falls : (slots : Slots) (listing : List Lit) (variables : ℕ) (fallen : Lit) (w : Watching) (queue : List ℕ) → AreWatched slots listing variables w → IsFalling slots listing variables fallen w queue 0
-falls slots listing variables fallen w queue a = record {
+pub falls : (slots : Slots) (assigned : List Lit) (variables : ℕ) (fallen : Lit) (w : Watching) (queue : List ℕ) → AreWatched slots assigned variables w → IsFalling slots assigned variables fallen w queue 0
+falls slots assigned variables fallen w queue a = record {
   watched = a;
   handled = λ k n p there pair one.
       let i = a.each k n p there pair in

@@ -12,7 +12,7 @@ use Rattle.propagate.specs.Literals.{IsConsistent, coefficient_of, lists}
 use Rattle.propagate.specs.Passes.{literal_of}
 use Rattle.propagate.specs.Slack.{IsForced, not_false}
 use Rattle.propagate.specs.Walk.{IsQuiet}
-use Rattle.propagate.proofs.Listings.{among_head, among_right}
+use Rattle.propagate.proofs.Assignments.{among_head, among_right}
 use Rattle.ledger.specs.declared.pair.Pair.{Pair}
 use Rattle.ledger.specs.Falls.{IsBeside}
 use Rattle.ledger.specs.declared.hint.Hint.{Hint}
@@ -44,22 +44,22 @@ not_not true e = sym e
 not_not false e = refl
 
 -- where all other literals are made false, no more is open than the coefficient of the one that is left
-left_open : (listing : List Lit) (n : NormalConstraint) (l : Lit) → Rises 0 n.terms → ((m : Lit) → 0 < coefficient_of n m → (m ≡ l → ⊥) → lists listing (opposite m) ≡ true) → open_sum listing n ≤ coefficient_of n l
-left_open listing n l rises alone = within_terms (not_false listing) (only (l.var.0) l.negated) n.terms (λ k d low counts.
+left_open : (assigned : List Lit) (n : NormalConstraint) (l : Lit) → Rises 0 n.terms → ((m : Lit) → 0 < coefficient_of n m → (m ≡ l → ⊥) → lists assigned (opposite m) ≡ true) → open_sum assigned n ≤ coefficient_of n l
+left_open assigned n l rises alone = within_terms (not_false assigned) (only (l.var.0) l.negated) n.terms (λ k d low counts.
     let t : NormalTerm = get_or n.terms k d in
     elim (literal_cases (literal_of t) l) [
       | inl e ↦ only_same l (literal_of t) e
-      | inr other ↦ absurd (false≢true (sym (not_not (lists listing (opposite (literal_of t))) counts) ∙ alone (literal_of t) (occurs_at n k t rises low (get_or_default n.terms k d t low)) other))
+      | inr other ↦ absurd (false≢true (sym (not_not (lists assigned (opposite (literal_of t))) counts) ∙ alone (literal_of t) (occurs_at n k t rises low (get_or_default n.terms k d t low)) other))
     ])
 
-alone : (listing : List Lit) (n : NormalConstraint) (p : Pair) (l other : Lit) → IsBeside (Some p) l other → lists listing (opposite other) ≡ true → AreOthersFalse listing n p
-    → (m : Lit) → 0 < coefficient_of n m → (m ≡ l → ⊥) → lists listing (opposite m) ≡ true
-alone listing n p l other (inl (f, s)) fell out m some differs = elim (literal_cases m other) [
-  | inl e ↦ ap (λ (x : Lit). lists listing (opposite x)) e ∙ fell
+alone : (assigned : List Lit) (n : NormalConstraint) (p : Pair) (l other : Lit) → IsBeside (Some p) l other → lists assigned (opposite other) ≡ true → AreOthersFalse assigned n p
+    → (m : Lit) → 0 < coefficient_of n m → (m ≡ l → ⊥) → lists assigned (opposite m) ≡ true
+alone assigned n p l other (inl (f, s)) fell out m some differs = elim (literal_cases m other) [
+  | inl e ↦ ap (λ (x : Lit). lists assigned (opposite x)) e ∙ fell
   | inr apart ↦ out m some (λ e. differs (e ∙ f)) (λ e. apart (e ∙ s))
 ]
-alone listing n p l other (inr (f, s)) fell out m some differs = elim (literal_cases m other) [
-  | inl e ↦ ap (λ (x : Lit). lists listing (opposite x)) e ∙ fell
+alone assigned n p l other (inr (f, s)) fell out m some differs = elim (literal_cases m other) [
+  | inl e ↦ ap (λ (x : Lit). lists assigned (opposite x)) e ∙ fell
   | inr apart ↦ out m some (λ e. apart (e ∙ s)) (λ e. differs (e ∙ f))
 ]
 
@@ -67,29 +67,29 @@ occurs_beside : (n : NormalConstraint) (p : Pair) (l other : Lit) → IsPairOf n
 occurs_beside n p l other of_it (inl (f, s)) = subst (λ (x : Lit). 0 < coefficient_of n x) f of_it.first
 occurs_beside n p l other of_it (inr (f, s)) = subst (λ (x : Lit). 0 < coefficient_of n x) f of_it.second
 
-last_forced : (listing : List Lit) (n : NormalConstraint) (p : Pair) (l other : Lit) → Rises 0 n.terms → IsPairOf n p → Tell listing n p → IsBeside (Some p) l other → IsFree listing l → HasFallen listing other → IsForced listing l n
-last_forced listing n p l other rises of_it tell beside free fell =
-    let out = others_fallen listing n p l other tell beside free.0 fell.0 fell.1 in
+last_forced : (assigned : List Lit) (n : NormalConstraint) (p : Pair) (l other : Lit) → Rises 0 n.terms → IsPairOf n p → Tell assigned n p → IsBeside (Some p) l other → IsFree assigned l → HasFallen assigned other → IsForced assigned l n
+last_forced assigned n p l other rises of_it tell beside free fell =
+    let out = others_fallen assigned n p l other tell beside free.0 fell.0 fell.1 in
     record {
       unset = free.0;
       opposite_unset = free.1;
       occurs = occurs_beside n p l other of_it beside;
-      above = omega (arith, ints, of_it.asks, left_open listing n l rises (alone listing n p l other beside fell.1 out));
+      above = omega (arith, ints, of_it.asks, left_open assigned n l rises (alone assigned n p l other beside fell.1 out));
     }
 
 other_sign : (b : Bool) → b ≡ not b → ⊥
 other_sign true e = false≢true (sym e)
 other_sign false e = false≢true e
 
-last_quiet : (listing : List Lit) (n : NormalConstraint) (p : Pair) (l other : Lit) → IsPairOf n p → IsBeside (Some p) l other → IsFree listing l → IsQuiet (listing ++ l ∷ []) n
-last_quiet listing n p l other of_it beside free =
-    quiet_open (listing ++ l ∷ []) n p l of_it (occurs_beside n p l other of_it beside)
-    (open_after listing l l (lists (listing ++ l ∷ []) (opposite l)) free.1 (λ e. other_sign l.negated (ap (λ (x : Lit). x.negated) e)) refl)
-    (among_right listing (l ∷ []) (l.var.0) l.negated (among_head l []))
+last_quiet : (assigned : List Lit) (n : NormalConstraint) (p : Pair) (l other : Lit) → IsPairOf n p → IsBeside (Some p) l other → IsFree assigned l → IsQuiet (assigned ++ l ∷ []) n
+last_quiet assigned n p l other of_it beside free =
+    quiet_open (assigned ++ l ∷ []) n p l of_it (occurs_beside n p l other of_it beside)
+    (open_after assigned l l (lists (assigned ++ l ∷ []) (opposite l)) free.1 (λ e. other_sign l.negated (ap (λ (x : Lit). x.negated) e)) refl)
+    (among_right assigned (l ∷ []) (l.var.0) l.negated (among_head l []))
 
 -- what the two literals tell is so
-pub hint_holds : (listing : List Lit) (n : NormalConstraint) (p : Pair) (h : Hint) → IsConsistent listing → Rises 0 n.terms → IsPairOf n p → Tell listing n p → IsHintOf listing p h → IsHint listing n h
-hint_holds listing n p hints.Quiet c rises of_it tell (inl t) = quiet_one listing n p of_it c t
-hint_holds listing n p hints.Quiet c rises of_it tell (inr both) = quiet_two listing n p of_it both.0 both.1
-hint_holds listing n p (hints.Forces l) c rises of_it tell (other, beside, free, fell) = (last_forced listing n p l other rises of_it tell beside free fell, last_quiet listing n p l other of_it beside free)
-hint_holds listing n p hints.Unknown c rises of_it tell h = tt
+pub hint_holds : (assigned : List Lit) (n : NormalConstraint) (p : Pair) (h : Hint) → IsConsistent assigned → Rises 0 n.terms → IsPairOf n p → Tell assigned n p → IsHintOf assigned p h → IsHint assigned n h
+hint_holds assigned n p hints.Quiet c rises of_it tell (inl t) = quiet_one assigned n p of_it c t
+hint_holds assigned n p hints.Quiet c rises of_it tell (inr both) = quiet_two assigned n p of_it both.0 both.1
+hint_holds assigned n p (hints.Forces l) c rises of_it tell (other, beside, free, fell) = (last_forced assigned n p l other rises of_it tell beside free fell, last_quiet assigned n p l other of_it beside free)
+hint_holds assigned n p hints.Unknown c rises of_it tell h = tt

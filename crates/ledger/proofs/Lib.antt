@@ -21,4 +21,4 @@ pub mod WatchedPlaces
 pub mod WatchedQuiet
 pub mod LastLiteral
 pub mod TrailLiterals
-pub mod BrokenClauses
+pub mod FalsifiedClauses

@@ -10,7 +10,7 @@ use Rattle.linear.specs.Literal.{opposite}
 use Rattle.propagate.specs.Literals.{coefficient_of, among, lists}
 use Rattle.propagate.specs.Slack.{not_false}
 use Rattle.propagate.specs.Walk.{IsQuiet}
-use Rattle.propagate.proofs.Listings.{among_append, among_left}
+use Rattle.propagate.proofs.Assignments.{among_append, among_left}
 use Rattle.ledger.specs.Ledgers.{open_sum}
 
 -- a sum over a set is that over two parts of it
@@ -34,13 +34,13 @@ only_turned : (x v : ℕ) (n s : Bool) → only x (not n) v s ≡ only x n v (no
 only_turned x v n s = ap (λ (b : Bool). (v == x) && b) (turned n s)
 
 -- what stays open, and what the new literal makes false, is what was open
-pub open_less : (listing : List Lit) (l : Lit) (n : NormalConstraint) → lists listing l ≡ false → open_sum (listing ++ l ∷ []) n + coefficient_of n (opposite l) ≡ open_sum listing n
-open_less listing l n unset = sum_parts (not_false (listing ++ l ∷ [])) (only (l.var.0) (not l.negated)) (not_false listing)
+pub open_less : (assigned : List Lit) (l : Lit) (n : NormalConstraint) → lists assigned l ≡ false → open_sum (assigned ++ l ∷ []) n + coefficient_of n (opposite l) ≡ open_sum assigned n
+open_less assigned l n unset = sum_parts (not_false (assigned ++ l ∷ [])) (only (l.var.0) (not l.negated)) (not_false assigned)
     (λ v s c.
-    let b = among listing v (not s) in
+    let b = among assigned v (not s) in
     let o = only (l.var.0) l.negated v (not s) in
     let out : o ≡ true → b ≡ false = λ e. let same = only_is (l.var.0) v l.negated (not s) e in (cc) in
-    let one : cond (not (among (listing ++ l ∷ []) v (not s))) c 0 ≡ cond (not (b || (o || false))) c 0 = ap {B = ℕ} (λ (x : Bool). cond (not x) c 0) (among_append listing (l ∷ []) v (not s)) in
+    let one : cond (not (among (assigned ++ l ∷ []) v (not s))) c 0 ≡ cond (not (b || (o || false))) c 0 = ap {B = ℕ} (λ (x : Bool). cond (not x) c 0) (among_append assigned (l ∷ []) v (not s)) in
     let two : cond (only (l.var.0) (not l.negated) v s) c 0 ≡ cond o c 0 = ap {B = ℕ} (λ (x : Bool). cond x c 0) (only_turned (l.var.0) v l.negated s) in
     omega (arith, one, two, split_cases b o c out))
     n.terms
@@ -50,21 +50,21 @@ fewer xs ys v s false e h = e
 fewer xs ys v s true e h = absurd (false≢true (sym h ∙ among_left xs ys v s e))
 
 -- a constraint without the opposite of a new literal stays quiet
-pub still_quiet : (listing : List Lit) (l : Lit) (n : NormalConstraint) → lists listing l ≡ false → coefficient_of n (opposite l) ≡ 0 → IsQuiet listing n → IsQuiet (listing ++ l ∷ []) n
-still_quiet listing l n unset absent q =
-    let same : open_sum (listing ++ l ∷ []) n ≡ open_sum listing n = omega (arith, absent, open_less listing l n unset) in (
+pub still_quiet : (assigned : List Lit) (l : Lit) (n : NormalConstraint) → lists assigned l ≡ false → coefficient_of n (opposite l) ≡ 0 → IsQuiet assigned n → IsQuiet (assigned ++ l ∷ []) n
+still_quiet assigned l n unset absent q =
+    let same : open_sum (assigned ++ l ∷ []) n ≡ open_sum assigned n = omega (arith, absent, open_less assigned l n unset) in (
       λ b. q.0 (omega (arith, ints, b, same)),
       λ m f. q.1 m (record {
-        unset = fewer listing (l ∷ []) (m.var.0) m.negated (lists listing m) refl f.unset;
-        opposite_unset = fewer listing (l ∷ []) (m.var.0) (not m.negated) (lists listing (opposite m)) refl f.opposite_unset;
+        unset = fewer assigned (l ∷ []) (m.var.0) m.negated (lists assigned m) refl f.unset;
+        opposite_unset = fewer assigned (l ∷ []) (m.var.0) (not m.negated) (lists assigned (opposite m)) refl f.opposite_unset;
         occurs = f.occurs;
         above = omega (arith, ints, f.above, same);
       }),
     )
 
 -- a constraint whose counter has not fallen below its limit is quiet
-pub quiet_at_limit : (listing : List Lit) (n : NormalConstraint) (counter limit : ℕ) → counter ≡ open_sum listing n → ((l : Lit) → n.degree + coefficient_of n l ≤ limit) → limit ≤ counter → IsQuiet listing n
-quiet_at_limit listing n counter limit e enough h = (
+pub quiet_at_limit : (assigned : List Lit) (n : NormalConstraint) (counter limit : ℕ) → counter ≡ open_sum assigned n → ((l : Lit) → n.degree + coefficient_of n l ≤ limit) → limit ≤ counter → IsQuiet assigned n
+quiet_at_limit assigned n counter limit e enough h = (
   λ b. omega (arith, ints, b, e, h, enough (record { var = record { 0 = 0 }; negated = false })),
   λ m f. omega (arith, ints, f.above, e, h, enough m),
 )

@@ -9,12 +9,12 @@ use Rattle.normal_form.specs.Normal.{NormalConstraint, IsNormal, largest_sum, to
 use Rattle.normal_form.proofs.Sums.{sum_over_below}
 use Rattle.linear.specs.Literal.{opposite}
 use Rattle.propagate.specs.Literals.{coefficient_of, lists}
-use Rattle.propagate.specs.Slack.{not_false, IsBroken}
+use Rattle.propagate.specs.Slack.{not_false, IsFalsified}
 use Rattle.propagate.specs.Walk.{IsQuiet}
 use Rattle.ledger.specs.declared.occurrence.Occurrence.{Occurrence}
 use Rattle.linear.specs.Literal.{code}
 use Rattle.ledger.specs.Occurrences.{share_of, occurrences_of}
-use Rattle.ledger.specs.Trails.{assigned}
+use Rattle.ledger.specs.Trails.{on_trail}
 use Rattle.ledger.specs.Ledgers.{constraint_at, constraint_in, shown, nothing, open_sum, IsLedger, IsIndex, AreCounters, AreKnown, AreParted, AreLimits, AreReasons}
 use Rattle.ledger.specs.declared.pair.Pair.{Pair}
 use Rattle.ledger.specs.Falls.{IsAt}
@@ -55,8 +55,8 @@ shown_kind slots ns ws pairs k x = shown_by slots ns ws pairs k (get_or slots k 
 pub shown_clause : (slots : Slots) (pairs : List (Option Pair)) (k : ℕ) (w : IsWatchedThere slots pairs k) → constraint_at (shown slots) k ≡ w.clause
 shown_clause slots pairs k w = shown_at slots k ∙ ap constraint_in w.there.0
 
-pub quiet_nothing : (listing : List Lit) → IsQuiet listing nothing
-quiet_nothing listing = (λ b. omega (arith, ints, b), λ l f. omega (arith, f.occurs))
+pub quiet_nothing : (assigned : List Lit) → IsQuiet assigned nothing
+quiet_nothing assigned = (λ b. omega (arith, ints, b), λ l f. omega (arith, f.occurs))
 
 -- what the entries of a literal add up to at each place is its coefficient there
 abbrev pub AreEntries : List NormalConstraint → Lit → List Occurrence → Type 0
@@ -73,25 +73,25 @@ pub inside : (ns : List NormalConstraint) (count : ℕ) (table : List (List Occu
 inside ns count table l m number x o named h = omega (arith, named, ap code o, code_below (opposite l) count (length table) (omega (arith, h)) x.size)
 
 -- no counter goes below 0
-pub enough : (ns : List NormalConstraint) (listing : List Lit) (counters : List ℕ) (l : Lit) (os : List Occurrence) → AreCounters ns listing counters → AreEntries ns (opposite l) os → lists listing l ≡ false
+pub enough : (ns : List NormalConstraint) (assigned : List Lit) (counters : List ℕ) (l : Lit) (os : List Occurrence) → AreCounters ns assigned counters → AreEntries ns (opposite l) os → lists assigned l ≡ false
     → (k : ℕ) → k < length counters → share_of k os ≤ get_or counters k 0
-enough ns listing counters l os a x unset k h =
+enough ns assigned counters l os a x unset k h =
     let low : k < length ns = omega (arith, h, a.counted) in
-    omega (arith, x.1 k low, a.open_sums k low, open_less listing l (constraint_at ns k) unset)
+    omega (arith, x.1 k low, a.open_sums k low, open_less assigned l (constraint_at ns k) unset)
 
-pub counted : (ns : List NormalConstraint) (listing : List Lit) (before after : List ℕ) (l : Lit) (os : List Occurrence) → AreCounters ns listing before → AreEntries ns (opposite l) os → lists listing l ≡ false
+pub counted : (ns : List NormalConstraint) (assigned : List Lit) (before after : List ℕ) (l : Lit) (os : List Occurrence) → AreCounters ns assigned before → AreEntries ns (opposite l) os → lists assigned l ≡ false
     → length after ≡ length before → ((k : ℕ) → k < length before → get_or after k 0 + share_of k os ≡ get_or before k 0)
-    → AreCounters ns (listing ++ l ∷ []) after
-counted ns listing before after l os a x unset same lowered = record {
+    → AreCounters ns (assigned ++ l ∷ []) after
+counted ns assigned before after l os a x unset same lowered = record {
   counted = same ∙ a.counted;
-  open_sums = λ k low. omega (arith, lowered k (omega (arith, low, a.counted)), x.1 k low, a.open_sums k low, open_less listing l (constraint_at ns k) unset);
+  open_sums = λ k low. omega (arith, lowered k (omega (arith, low, a.counted)), x.1 k low, a.open_sums k low, open_less assigned l (constraint_at ns k) unset);
 }
 
 -- a counted constraint whose counter has not fallen below its limit is quiet
-pub quiet_counted : (slots : Slots) (ns : List NormalConstraint) (listing : List Lit) (counters limits : List ℕ) (k : ℕ) → constraint_at (shown slots) k ≡ constraint_at ns k → length slots ≡ length ns → AreCounters ns listing counters → AreLimits (shown slots) limits → k < length slots
-    → get_or limits k 0 ≤ get_or counters k 0 → IsQuiet listing (constraint_at (shown slots) k)
-quiet_counted slots ns listing counters limits k e many a b low far =
-    quiet_at_limit listing (constraint_at (shown slots) k) (get_or counters k 0) (get_or limits k 0) (a.open_sums k (omega (arith, low, many)) ∙ ap (open_sum listing) (sym e)) (λ m. b.enough k m (omega (arith, low, length-map slots constraint_in))) far
+pub quiet_counted : (slots : Slots) (ns : List NormalConstraint) (assigned : List Lit) (counters limits : List ℕ) (k : ℕ) → constraint_at (shown slots) k ≡ constraint_at ns k → length slots ≡ length ns → AreCounters ns assigned counters → AreLimits (shown slots) limits → k < length slots
+    → get_or limits k 0 ≤ get_or counters k 0 → IsQuiet assigned (constraint_at (shown slots) k)
+quiet_counted slots ns assigned counters limits k e many a b low far =
+    quiet_at_limit assigned (constraint_at (shown slots) k) (get_or counters k 0) (get_or limits k 0) (a.open_sums k (omega (arith, low, many)) ∙ ap (open_sum assigned) (sym e)) (λ m. b.enough k m (omega (arith, low, length-map slots constraint_in))) far
 
 pub nothing_there : (slots : List (Option NormalConstraint)) (k : ℕ) (l : Lit) → 0 < coefficient_of (constraint_at (shown slots) k) l → k < length slots
 nothing_there [] k l h = absurd (omega (arith, h))
@@ -99,29 +99,29 @@ nothing_there (o ∷ os) zero l h = omega arith
 nothing_there (o ∷ os) (suc k) l h = omega (arith, nothing_there os k l h)
 
 -- a place waits, or what is shown there is quiet, where that is so of what is counted and of what is watched
-pub each_kind : (slots : Slots) (ns ws : List NormalConstraint) (pairs : List (Option Pair)) (listing : List Lit) (counters limits queue : List ℕ) (l : Lit) (os : List Occurrence) → AreParted slots ns ws pairs → AreCounters ns listing counters → AreLimits (shown slots) limits → AreEntries ns l os
+pub each_kind : (slots : Slots) (ns ws : List NormalConstraint) (pairs : List (Option Pair)) (assigned : List Lit) (counters limits queue : List ℕ) (l : Lit) (os : List Occurrence) → AreParted slots ns ws pairs → AreCounters ns assigned counters → AreLimits (shown slots) limits → AreEntries ns l os
     → ((k : ℕ) → k < length ns → 0 < share_of k os → (get_or limits k 0 ≤ get_or counters k 0) ⊎ Contains queue k)
-    → ((k : ℕ) (n : NormalConstraint) (p : Pair) → IsAt slots pairs k n p → 0 < coefficient_of n l → IsQuiet listing n ⊎ Contains queue k)
-    → (k : ℕ) → 0 < coefficient_of (constraint_at (shown slots) k) l → IsQuiet listing (constraint_at (shown slots) k) ⊎ Contains queue k
-each_kind slots ns ws pairs listing counters limits queue l os x a b es counts watches k some =
+    → ((k : ℕ) (n : NormalConstraint) (p : Pair) → IsAt slots pairs k n p → 0 < coefficient_of n l → IsQuiet assigned n ⊎ Contains queue k)
+    → (k : ℕ) → 0 < coefficient_of (constraint_at (shown slots) k) l → IsQuiet assigned (constraint_at (shown slots) k) ⊎ Contains queue k
+each_kind slots ns ws pairs assigned counters limits queue l os x a b es counts watches k some =
     let low : k < length slots = nothing_there slots k l some in
     elim (shown_kind slots ns ws pairs k x) [
-      | inl e ↦ inl (subst (λ (n : NormalConstraint). IsQuiet listing n) (sym e) (quiet_nothing listing))
+      | inl e ↦ inl (subst (λ (n : NormalConstraint). IsQuiet assigned n) (sym e) (quiet_nothing assigned))
       | inr rest ↦ elim rest [
         | inl e ↦ elim (counts k (omega (arith, low, x.count)) (omega (arith, some, ap (λ (n : NormalConstraint). coefficient_of n l) e, es.1 k (omega (arith, low, x.count))))) [
-          | inl far ↦ inl (quiet_counted slots ns listing counters limits k e x.count a b low far)
+          | inl far ↦ inl (quiet_counted slots ns assigned counters limits k e x.count a b low far)
           | inr waits ↦ inr waits
         ]
         | inr w ↦
             let same : constraint_at (shown slots) k ≡ w.clause = shown_clause slots pairs k w in
             elim (watches k w.clause w.pair w.there (omega (arith, some, ap (λ (n : NormalConstraint). coefficient_of n l) same))) [
-              | inl quiet ↦ inl (subst (λ (n : NormalConstraint). IsQuiet listing n) (sym same) quiet)
+              | inl quiet ↦ inl (subst (λ (n : NormalConstraint). IsQuiet assigned n) (sym same) quiet)
               | inr waits ↦ inr waits
             ]
       ]
     ]
 
--- the ledger with other counters, of another listing, and other pairs at the same places
+-- the ledger with other counters, of another assignment, and other pairs at the same places
 kind_kept : (o o' : Option Pair) → is_some o' ≡ is_some o → o' ≡ None → o ≡ None
 kind_kept None o' e f = refl
 kind_kept (Some p) None e f = cc
@@ -141,9 +141,9 @@ parted_same slots ns ws pairs new x same = record {
   watches = λ k n q e f. let p = pair_kept (get_or pairs k None) (get_or new k None) q (same.kinds k) f in x.watches k n p.0 e p.1;
 }
 
-pub recounted : (slots : Slots) (listing new : List Lit) (variables same_variables : ℕ) (table clauses : List (List Occurrence)) (counters after limits : List ℕ) (pairs others : List (Option Pair)) (e : IsLedger slots listing variables table clauses counters limits pairs)
+pub recounted : (slots : Slots) (assigned new : List Lit) (variables same_variables : ℕ) (table clauses : List (List Occurrence)) (counters after limits : List ℕ) (pairs others : List (Option Pair)) (e : IsLedger slots assigned variables table clauses counters limits pairs)
     → same_variables ≡ variables → AreCounters e.counted new after → AreSameKinds pairs others → IsLedger slots new same_variables table clauses after limits others
-recounted slots listing new variables same_variables table clauses counters after limits pairs others e same a kinds = rw same (record {
+recounted slots assigned new variables same_variables table clauses counters after limits pairs others e same a kinds = rw same (record {
   counted = e.counted;
   watched = e.watched;
   index = e.index;
@@ -155,23 +155,23 @@ recounted slots listing new variables same_variables table clauses counters afte
   limits_are = e.limits_are;
 })
 
--- the counters with the last literal taken back
-pub counted_back : (ns : List NormalConstraint) (listing : List Lit) (before after : List ℕ) (l : Lit) (os : List Occurrence) → AreCounters ns (listing ++ l ∷ []) before → AreEntries ns (opposite l) os → lists listing l ≡ false
+-- the counters with the last literal backtracked
+pub counted_back : (ns : List NormalConstraint) (assigned : List Lit) (before after : List ℕ) (l : Lit) (os : List Occurrence) → AreCounters ns (assigned ++ l ∷ []) before → AreEntries ns (opposite l) os → lists assigned l ≡ false
     → length after ≡ length before → ((k : ℕ) → k < length before → get_or after k 0 ≡ get_or before k 0 + share_of k os)
-    → AreCounters ns listing after
-counted_back ns listing before after l os a x unset same raised = record {
+    → AreCounters ns assigned after
+counted_back ns assigned before after l os a x unset same raised = record {
   counted = same ∙ a.counted;
-  open_sums = λ k low. omega (arith, raised k (omega (arith, low, a.counted)), x.1 k low, a.open_sums k low, open_less listing l (constraint_at ns k) unset);
+  open_sums = λ k low. omega (arith, raised k (omega (arith, low, a.counted)), x.1 k low, a.open_sums k low, open_less assigned l (constraint_at ns k) unset);
 }
 
 -- no counter goes above the sum of all coefficients
-pub room : (ns : List NormalConstraint) (count : ℕ) (listing : List Lit) (counters : List ℕ) (l : Lit) (os : List Occurrence) → AreKnown ns count → AreCounters ns (listing ++ l ∷ []) counters → AreEntries ns (opposite l) os → lists listing l ≡ false
+pub room : (ns : List NormalConstraint) (count : ℕ) (assigned : List Lit) (counters : List ℕ) (l : Lit) (os : List Occurrence) → AreKnown ns count → AreCounters ns (assigned ++ l ∷ []) counters → AreEntries ns (opposite l) os → lists assigned l ≡ false
     → (k : ℕ) → k < length counters → get_or counters k 0 + share_of k os ≤ largest_sum
-room ns count listing counters l os known a x unset k h =
+room ns count assigned counters l os known a x unset k h =
     let low : k < length ns = omega (arith, h, a.counted) in
     let n : NormalConstraint = constraint_at ns k in
     let fits : total n.terms ≤ largest_sum = (All-get_or IsNormal ns k nothing low known.normal).fits.sum in
-    omega (arith, x.1 k low, a.open_sums k low, open_less listing l n unset, sum_over_below (not_false listing) n.terms, fits)
+    omega (arith, x.1 k low, a.open_sums k low, open_less assigned l n unset, sum_over_below (not_false assigned) n.terms, fits)
 
 -- the constraint that stands at a place
 pub some_at : (slots : List (Option NormalConstraint)) (place : ℕ) (o : Option NormalConstraint) (n : NormalConstraint) → place < length slots → o ≡ get_or slots place o → o ≡ Some n → get_or slots place None ≡ Some n
@@ -181,33 +181,33 @@ pub none_at : (slots : List (Option NormalConstraint)) (place : ℕ) (o : Option
 none_at slots place o h is e = get_or_default slots place None o h ∙ sym is ∙ e
 
 -- its counter is what is open in it, where it is counted
-pub counter_there : (slots : Slots) (listing : List Lit) (variables : ℕ) (table clauses : List (List Occurrence)) (counters limits : List ℕ) (pairs : List (Option Pair)) (place counter : ℕ) (n : NormalConstraint) → IsLedger slots listing variables table clauses counters limits pairs
-    → place < length slots → get_or slots place None ≡ Some n → get_or pairs place None ≡ None → counter ≡ get_or counters place counter → counter ≡ open_sum listing n
-counter_there slots listing variables table clauses counters limits pairs place counter n i h e f is =
+pub counter_there : (slots : Slots) (assigned : List Lit) (variables : ℕ) (table clauses : List (List Occurrence)) (counters limits : List ℕ) (pairs : List (Option Pair)) (place counter : ℕ) (n : NormalConstraint) → IsLedger slots assigned variables table clauses counters limits pairs
+    → place < length slots → get_or slots place None ≡ Some n → get_or pairs place None ≡ None → counter ≡ get_or counters place counter → counter ≡ open_sum assigned n
+counter_there slots assigned variables table clauses counters limits pairs place counter n i h e f is =
     let low : place < length i.counted = omega (arith, h, i.slots_are.count) in
-    is ∙ get_or_default counters place counter 0 (omega (arith, low, i.counters_are.counted)) ∙ i.counters_are.open_sums place low ∙ ap (open_sum listing) (i.slots_are.counts place n e f).0
+    is ∙ get_or_default counters place counter 0 (omega (arith, low, i.counters_are.counted)) ∙ i.counters_are.open_sums place low ∙ ap (open_sum assigned) (i.slots_are.counts place n e f).0
 
 -- its variables are known, and it is normal
-known_by : (slots : Slots) (listing : List Lit) (variables : ℕ) (table clauses : List (List Occurrence)) (counters limits : List ℕ) (pairs : List (Option Pair)) (place : ℕ) (n : NormalConstraint) (o : Option Pair) → IsLedger slots listing variables table clauses counters limits pairs
+known_by : (slots : Slots) (assigned : List Lit) (variables : ℕ) (table clauses : List (List Occurrence)) (counters limits : List ℕ) (pairs : List (Option Pair)) (place : ℕ) (n : NormalConstraint) (o : Option Pair) → IsLedger slots assigned variables table clauses counters limits pairs
     → place < length slots → get_or slots place None ≡ Some n → get_or pairs place None ≡ o → (variable_bound n.terms ≤ variables) × IsNormal n
-known_by slots listing variables table clauses counters limits pairs place n None i h e f =
+known_by slots assigned variables table clauses counters limits pairs place n None i h e f =
     let low : place < length i.counted = omega (arith, h, i.slots_are.count) in (
       rw ((i.slots_are.counts place n e f).0) at (All-get_or (λ (m : NormalConstraint). variable_bound m.terms ≤ variables) i.counted place nothing low i.known.within),
       rw ((i.slots_are.counts place n e f).0) at (All-get_or IsNormal i.counted place nothing low i.known.normal),
     )
-known_by slots listing variables table clauses counters limits pairs place n (Some p) i h e f =
+known_by slots assigned variables table clauses counters limits pairs place n (Some p) i h e f =
     let low : place < length i.watched = omega (arith, h, i.slots_are.watched_count) in (
       rw ((i.slots_are.watches place n p e f).1) at (All-get_or (λ (m : NormalConstraint). variable_bound m.terms ≤ variables) i.watched place nothing low i.watched_known.within),
       rw ((i.slots_are.watches place n p e f).1) at (All-get_or IsNormal i.watched place nothing low i.watched_known.normal),
     )
 
-pub variables_there : (slots : Slots) (listing : List Lit) (variables : ℕ) (table clauses : List (List Occurrence)) (counters limits : List ℕ) (pairs : List (Option Pair)) (place : ℕ) (n : NormalConstraint) → IsLedger slots listing variables table clauses counters limits pairs
+pub variables_there : (slots : Slots) (assigned : List Lit) (variables : ℕ) (table clauses : List (List Occurrence)) (counters limits : List ℕ) (pairs : List (Option Pair)) (place : ℕ) (n : NormalConstraint) → IsLedger slots assigned variables table clauses counters limits pairs
     → place < length slots → get_or slots place None ≡ Some n → variable_bound n.terms ≤ variables
-variables_there slots listing variables table clauses counters limits pairs place n i h e = (known_by slots listing variables table clauses counters limits pairs place n (get_or pairs place None) i h e refl).0
+variables_there slots assigned variables table clauses counters limits pairs place n i h e = (known_by slots assigned variables table clauses counters limits pairs place n (get_or pairs place None) i h e refl).0
 
-pub normal_there : (slots : Slots) (listing : List Lit) (variables : ℕ) (table clauses : List (List Occurrence)) (counters limits : List ℕ) (pairs : List (Option Pair)) (place : ℕ) (n : NormalConstraint) → IsLedger slots listing variables table clauses counters limits pairs
+pub normal_there : (slots : Slots) (assigned : List Lit) (variables : ℕ) (table clauses : List (List Occurrence)) (counters limits : List ℕ) (pairs : List (Option Pair)) (place : ℕ) (n : NormalConstraint) → IsLedger slots assigned variables table clauses counters limits pairs
     → place < length slots → get_or slots place None ≡ Some n → IsNormal n
-normal_there slots listing variables table clauses counters limits pairs place n i h e = (known_by slots listing variables table clauses counters limits pairs place n (get_or pairs place None) i h e refl).1
+normal_there slots assigned variables table clauses counters limits pairs place n i h e = (known_by slots assigned variables table clauses counters limits pairs place n (get_or pairs place None) i h e refl).1
 
 none_past : (slots : Slots) (k : ℕ) (n : NormalConstraint) → get_or slots k None ≡ Some n → k < length slots
 none_past slots k n e = elim (cases_lt k (length slots)) [
@@ -218,9 +218,9 @@ none_past slots k n e = elim (cases_lt k (length slots)) [
     none_some : None ≡ Some n → ⊥
     none_some f = cc
 
-pub all_within : (slots : Slots) (listing : List Lit) (variables : ℕ) (table clauses : List (List Occurrence)) (counters limits : List ℕ) (pairs : List (Option Pair)) → IsLedger slots listing variables table clauses counters limits pairs
+pub all_within : (slots : Slots) (assigned : List Lit) (variables : ℕ) (table clauses : List (List Occurrence)) (counters limits : List ℕ) (pairs : List (Option Pair)) → IsLedger slots assigned variables table clauses counters limits pairs
     → (k : ℕ) (n : NormalConstraint) → get_or slots k None ≡ Some n → variable_bound n.terms ≤ variables
-all_within slots listing variables table clauses counters limits pairs i k n e = variables_there slots listing variables table clauses counters limits pairs k n i (none_past slots k n e) e
+all_within slots assigned variables table clauses counters limits pairs i k n e = variables_there slots assigned variables table clauses counters limits pairs k n i (none_past slots k n e) e
 
 -- a ledger with nothing in it
 nowhere : IsLedger [] [] 0 [] [] [] [] []
@@ -243,21 +243,21 @@ no_reasons : AreReasons [] [] []
 no_reasons = record { as_many = refl; forced = λ k d h. absurd (omega (arith, h)) }
 
 pub empty : (slots : Slots) (trail : List Lit × ℕ × List Lit) (table clauses : List (List Occurrence)) (counters limits : List ℕ) (watchers : Watching) (reasons : List (Option ℕ)) (capacity : ℕ) → slots ≡ [] → trail ≡ ([], 0, []) → table ≡ [] → clauses ≡ [] → counters ≡ [] → limits ≡ [] → watchers ≡ record { rows = []; pairs = [] } → reasons ≡ []
-    → IsLedger slots trail.0 trail.1 table clauses counters limits watchers.pairs × AreReasons (shown slots) (assigned trail) reasons × (trail.1 ≤ capacity) × AreWatched slots trail.0 trail.1 watchers
+    → IsLedger slots trail.0 trail.1 table clauses counters limits watchers.pairs × AreReasons (shown slots) (on_trail trail) reasons × (trail.1 ≤ capacity) × AreWatched slots trail.0 trail.1 watchers
 empty slots trail table clauses counters limits watchers reasons capacity s t b d c l w r = rw (s, t, b, d, c, l, w, r) (nowhere, no_reasons, omega arith, nobody)
 
-pub queued_there : (slots same : List (Option NormalConstraint)) (listing new : List Lit) (queue : List ℕ) (l : Lit) → slots ≡ same → new ≡ listing ++ l ∷ []
-    → ((k : ℕ) → 0 < coefficient_of (constraint_at (shown slots) k) (opposite l) → IsQuiet (listing ++ l ∷ []) (constraint_at (shown slots) k) ⊎ Contains queue k)
+pub queued_there : (slots same : List (Option NormalConstraint)) (assigned new : List Lit) (queue : List ℕ) (l : Lit) → slots ≡ same → new ≡ assigned ++ l ∷ []
+    → ((k : ℕ) → 0 < coefficient_of (constraint_at (shown slots) k) (opposite l) → IsQuiet (assigned ++ l ∷ []) (constraint_at (shown slots) k) ⊎ Contains queue k)
     → (k : ℕ) → 0 < coefficient_of (constraint_at (shown same) k) (opposite l) → IsQuiet new (constraint_at (shown same) k) ⊎ Contains queue k
-queued_there slots same listing new queue l e f h =
+queued_there slots same assigned new queue l e f h =
     subst (λ (os : List (Option NormalConstraint)). (k : ℕ) → 0 < coefficient_of (constraint_at (shown os) k) (opposite l) → IsQuiet new (constraint_at (shown os) k) ⊎ Contains queue k) e
     (subst (λ (xs : List Lit). (k : ℕ) → 0 < coefficient_of (constraint_at (shown slots) k) (opposite l) → IsQuiet xs (constraint_at (shown slots) k) ⊎ Contains queue k) (sym f) h)
 
 -- what a counter has more than a degree is the slack
-pub slack_said : (r : Option ℕ) (listing : List Lit) (n m : NormalConstraint) (counter degree : ℕ) → SomeIff r (degree ≤ counter) (counter - degree) → counter ≡ open_sum listing n → degree ≡ n.degree → m ≡ n
-    → MatchOption r (IsBroken listing m) (λ s. open_sum listing m ≡ m.degree + s)
-slack_said None listing n m counter degree said is same e = elim (cases_lt counter degree) [
+pub slack_said : (r : Option ℕ) (assigned : List Lit) (n m : NormalConstraint) (counter degree : ℕ) → SomeIff r (degree ≤ counter) (counter - degree) → counter ≡ open_sum assigned n → degree ≡ n.degree → m ≡ n
+    → MatchOption r (IsFalsified assigned m) (λ s. open_sum assigned m ≡ m.degree + s)
+slack_said None assigned n m counter degree said is same e = elim (cases_lt counter degree) [
   | inr below ↦ absurd (said below)
-  | inl above ↦ omega (arith, ints, above, is, same, ap (open_sum listing) e, ap (λ (k : NormalConstraint). k.degree) e)
+  | inl above ↦ omega (arith, ints, above, is, same, ap (open_sum assigned) e, ap (λ (k : NormalConstraint). k.degree) e)
 ]
-slack_said (Some s) listing n m counter degree said is same e = omega (arith, said.0, said.1, is, same, ap (open_sum listing) e, ap (λ (k : NormalConstraint). k.degree) e)
+slack_said (Some s) assigned n m counter degree said is same e = omega (arith, said.0, said.1, is, same, ap (open_sum assigned) e, ap (λ (k : NormalConstraint). k.degree) e)

@@ -9,7 +9,7 @@ use Rattle.linear.specs.declared.term.Lit.{Lit}
 use Rattle.normal_form.specs.Normal.{only}
 use Rattle.propagate.specs.Literals.{among}
 use Rattle.propagate.specs.Values.{is_value, Agrees}
-use Rattle.propagate.proofs.Listings.{among_append, among_left, among_right, among_head}
+use Rattle.propagate.proofs.Assignments.{among_append, among_left, among_right, among_head}
 use Rattle.propagate.proofs.ValueTable.{agrees_push}
 use Rattle.ledger.specs.Trails.{IsFree, IsTrail}
 
@@ -28,17 +28,17 @@ no_value None h k = refl
 no_value (Some true) h k = absurd (false≢true (sym h))
 no_value (Some false) h k = absurd (false≢true (sym k))
 
-two_signs : (listing : List Lit) (values : List (Option Bool)) (v : ℕ) (s : Bool) → Agrees listing values → v < length values → among listing v s ≡ false → among listing v (not s) ≡ false → get_or values v None ≡ None
-two_signs listing values v true a h p q = no_value (get_or values v None) (sym (a.listed v false h) ∙ q) (sym (a.listed v true h) ∙ p)
-two_signs listing values v false a h p q = no_value (get_or values v None) (sym (a.listed v false h) ∙ p) (sym (a.listed v true h) ∙ q)
+two_signs : (assigned : List Lit) (values : List (Option Bool)) (v : ℕ) (s : Bool) → Agrees assigned values → v < length values → among assigned v s ≡ false → among assigned v (not s) ≡ false → get_or values v None ≡ None
+two_signs assigned values v true a h p q = no_value (get_or values v None) (sym (a.listed v false h) ∙ q) (sym (a.listed v true h) ∙ p)
+two_signs assigned values v false a h p q = no_value (get_or values v None) (sym (a.listed v false h) ∙ p) (sym (a.listed v true h) ∙ q)
 
-no_value_free : (listing : List Lit) (values : List (Option Bool)) (l : Lit) → Agrees listing values → l.var.0 < length values → IsFree listing l → get_or values (l.var.0) None ≡ None
-no_value_free listing values l a h f = two_signs listing values (l.var.0) l.negated a h f.0 f.1
+no_value_free : (assigned : List Lit) (values : List (Option Bool)) (l : Lit) → Agrees assigned values → l.var.0 < length values → IsFree assigned l → get_or values (l.var.0) None ≡ None
+no_value_free assigned values l a h f = two_signs assigned values (l.var.0) l.negated a h f.0 f.1
 
-pub room : (listing : List Lit) (values : List (Option Bool)) (l : Lit) → IsTrail listing values → l.var.0 < length values → IsFree listing l → length listing < length values
-room listing values l t h f =
+pub room : (assigned : List Lit) (values : List (Option Bool)) (l : Lit) → IsTrail assigned values → l.var.0 < length values → IsFree assigned l → length assigned < length values
+room assigned values l t h f =
     let v = l.var.0 in
-    omega (arith, t.few, marked_set values v (Some true) None h (no_value_free listing values l t.agrees h f), count_by-le-length is_some (set values v (Some true)), length-set values v (Some true))
+    omega (arith, t.few, marked_set values v (Some true) None h (no_value_free assigned values l t.agrees h f), count_by-le-length is_some (set values v (Some true)), length-set values v (Some true))
 
 take_whole : (xs : List Lit) → take (length xs) xs ≡ xs
 take_whole [] = refl
@@ -61,11 +61,11 @@ fresh_push xs l all f k d h = elim (cases_eq k (length xs)) [
       rw (t, g) (all k d low)
 ]
 
-pub pushed : (listing : List Lit) (values : List (Option Bool)) (l : Lit) → IsTrail listing values → l.var.0 < length values → IsFree listing l → IsTrail (listing ++ l ∷ []) (set values (l.var.0) (Some (not l.negated)))
-pushed listing values l t h f = record {
-  fresh = fresh_push listing l t.fresh f;
-  agrees = agrees_push listing values l t.agrees h f.0 f.1;
-  few = omega (arith, t.few, marked_set values (l.var.0) (Some (not l.negated)) None h (no_value_free listing values l t.agrees h f), length-append listing (l ∷ []));
+pub pushed : (assigned : List Lit) (values : List (Option Bool)) (l : Lit) → IsTrail assigned values → l.var.0 < length values → IsFree assigned l → IsTrail (assigned ++ l ∷ []) (set values (l.var.0) (Some (not l.negated)))
+pushed assigned values l t h f = record {
+  fresh = fresh_push assigned l t.fresh f;
+  agrees = agrees_push assigned values l t.agrees h f.0 f.1;
+  few = omega (arith, t.few, marked_set values (l.var.0) (Some (not l.negated)) None h (no_value_free assigned values l t.agrees h f), length-append assigned (l ∷ []));
 }
 
 fresh_pop : (xs : List Lit) (l : Lit) → ((k : ℕ) (d : Lit) → k < length (xs ++ l ∷ []) → IsFree (take k (xs ++ l ∷ [])) (get_or (xs ++ l ∷ []) k d)) → (k : ℕ) (d : Lit) → k < length xs → IsFree (take k xs) (get_or xs k d)
@@ -84,11 +84,11 @@ last_free xs l values t =
 pub last_below : (xs : List Lit) (l : Lit) (values : List (Option Bool)) → IsTrail (xs ++ l ∷ []) values → l.var.0 < length values
 last_below xs l values t = t.agrees.inside (l.var.0) l.negated (among_right xs (l ∷ []) (l.var.0) l.negated (among_head l []))
 
-either_sign : (listing : List Lit) (v : ℕ) (s t : Bool) → among listing v s ≡ false → among listing v (not s) ≡ false → among listing v t ≡ false
-either_sign listing v true true h k = h
-either_sign listing v true false h k = k
-either_sign listing v false true h k = k
-either_sign listing v false false h k = h
+either_sign : (assigned : List Lit) (v : ℕ) (s t : Bool) → among assigned v s ≡ false → among assigned v (not s) ≡ false → among assigned v t ≡ false
+either_sign assigned v true true h k = h
+either_sign assigned v true false h k = k
+either_sign assigned v false true h k = k
+either_sign assigned v false false h k = h
 
 none_value : (b : Bool) → false ≡ is_value b None
 none_value true = refl
@@ -128,18 +128,18 @@ value_of_none : (b : Bool) → is_value b None ≡ false
 value_of_none true = refl
 value_of_none false = refl
 
-not_inside : (listing : List Lit) (values : List (Option Bool)) (v : ℕ) (s b : Bool) → Agrees listing values → among listing v s ≡ b → length values ≤ v → b ≡ false
-not_inside listing values v s false a e h = refl
-not_inside listing values v s true a e h = absurd (omega (arith, a.inside v s e, h))
+not_inside : (assigned : List Lit) (values : List (Option Bool)) (v : ℕ) (s b : Bool) → Agrees assigned values → among assigned v s ≡ b → length values ≤ v → b ≡ false
+not_inside assigned values v s false a e h = refl
+not_inside assigned values v s true a e h = absurd (omega (arith, a.inside v s e, h))
 
-pub wider : (listing : List Lit) (values : List (Option Bool)) → IsTrail listing values → IsTrail listing (values ++ None ∷ [])
-wider listing values t = record {
+pub wider : (assigned : List Lit) (values : List (Option Bool)) → IsTrail assigned values → IsTrail assigned (values ++ None ∷ [])
+wider assigned values t = record {
   fresh = t.fresh;
   agrees = record {
     listed = λ v s h. elim (cases_eq v (length values)) [
       | inl e ↦
           let here : get_or (values ++ None ∷ []) v None ≡ None = get_or_push values None None v (sym e) in
-          not_inside listing values v s (among listing v s) t.agrees refl (omega (arith, e)) ∙ sym (ap (is_value (not s)) here ∙ value_of_none (not s))
+          not_inside assigned values v s (among assigned v s) t.agrees refl (omega (arith, e)) ∙ sym (ap (is_value (not s)) here ∙ value_of_none (not s))
       | inr n ↦
           let low : v < length values = omega (arith, h, n, length-append values (None ∷ [])) in
           t.agrees.listed v s low ∙ sym (ap (is_value (not s)) (get_or_append_left values (None ∷ []) None v low))

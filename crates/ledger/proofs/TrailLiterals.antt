@@ -6,7 +6,7 @@ use Rattle.std.proofs.Math.Seq.{take-length}
 use Rattle.linear.specs.declared.term.Lit.{Lit}
 use Rattle.propagate.specs.Literals.{IsConsistent, IsOnce}
 use Rattle.propagate.proofs.Consistency.{push_consistent}
-use Rattle.propagate.proofs.Listings.{once_push}
+use Rattle.propagate.proofs.Assignments.{once_push}
 use Rattle.ledger.specs.Trails.{IsFree, IsTrail}
 
 abbrev AreApart : List Lit → Type 0
@@ -29,5 +29,5 @@ apart_to xs fresh (suc k) h =
     let next : take (suc k) xs ≡ take k xs ++ get_or xs k any ∷ [] = ap (λ (j : ℕ). take j xs) one ∙ take_more xs k any low in
     subst AreApart (sym next) (apart_more (take k xs) (get_or xs k any) (apart_to xs fresh k (omega (arith, low))) (fresh k any low))
 
-pub apart : (listing : List Lit) (values : List (Option Bool)) → IsTrail listing values → IsOnce listing × IsConsistent listing
-apart listing values t = subst AreApart (take-length listing) (apart_to listing t.fresh (length listing) (omega arith))
+pub apart : (assigned : List Lit) (values : List (Option Bool)) → IsTrail assigned values → IsOnce assigned × IsConsistent assigned
+apart assigned values t = subst AreApart (take-length assigned) (apart_to assigned t.fresh (length assigned) (omega arith))

@@ -21,9 +21,9 @@ some_same x y o e f = cc
 
 -- what watches the clause of a new place: nothing, or two of its open literals, in whose rows the place stands
 abbrev pub IsNewWatch : List (List ℕ) → List Lit → ℕ → ℕ → NormalConstraint → Option Pair → Type 0
-IsNewWatch rows listing variables place n None = Unit {0}
-IsNewWatch rows listing variables place n (Some p) =
-    IsPairOf n p × IsPairWithin variables p × IsOpen listing p.first × IsOpen listing p.second × StandsIn rows p.first place × StandsIn rows p.second place
+IsNewWatch rows assigned variables place n None = Unit {0}
+IsNewWatch rows assigned variables place n (Some p) =
+    IsPairOf n p × IsPairWithin variables p × IsOpen assigned p.first × IsOpen assigned p.second × StandsIn rows p.first place × StandsIn rows p.second place
 
 pair_cases : (pairs : List (Option Pair)) (o : Option Pair) (p : Pair) (k : ℕ) → get_or (pairs ++ o ∷ []) k None ≡ Some p → ((k < length pairs) × (get_or pairs k None ≡ Some p)) ⊎ ((k ≡ length pairs) × (o ≡ Some p))
 pair_cases pairs o p k e = elim (cases_eq k (length pairs)) [
@@ -34,25 +34,25 @@ pair_cases pairs o p k e = elim (cases_eq k (length pairs)) [
   ]
 ]
 
-new_watch : (rows : List (List ℕ)) (listing : List Lit) (variables place : ℕ) (n : NormalConstraint) (o : Option Pair) (p : Pair) → IsNewWatch rows listing variables place n o → o ≡ Some p → IsWatched rows listing place n p × IsPairWithin variables p
-new_watch rows listing variables place n None p w e = absurd (none_is_not_some p e)
-new_watch rows listing variables place n (Some q) p w e =
-    subst (λ (r : Pair). IsWatched rows listing place n r × IsPairWithin variables r) (some_same q p (Some q) refl e) (
-      record { of_it = w.0; first = w.4; second = w.5; tell = λ h. inl (open_earlier listing q.first h w.2, open_earlier listing q.second h w.3) },
+new_watch : (rows : List (List ℕ)) (assigned : List Lit) (variables place : ℕ) (n : NormalConstraint) (o : Option Pair) (p : Pair) → IsNewWatch rows assigned variables place n o → o ≡ Some p → IsWatched rows assigned place n p × IsPairWithin variables p
+new_watch rows assigned variables place n None p w e = absurd (none_is_not_some p e)
+new_watch rows assigned variables place n (Some q) p w e =
+    subst (λ (r : Pair). IsWatched rows assigned place n r × IsPairWithin variables r) (some_same q p (Some q) refl e) (
+      record { of_it = w.0; first = w.4; second = w.5; tell = λ h. inl (open_earlier assigned q.first h w.2, open_earlier assigned q.second h w.3) },
       w.1,
     )
 
 -- one place more
-pub watched_more : (slots : Slots) (listing : List Lit) (variables : ℕ) (w new : Watching) (n : NormalConstraint) (o : Option Pair) → AreWatched slots listing variables w → length slots ≡ length w.pairs → new.pairs ≡ w.pairs ++ o ∷ [] → length w.rows ≤ length new.rows
-    → ((l : Lit) (k : ℕ) → StandsIn w.rows l k → StandsIn new.rows l k) → IsNewWatch new.rows listing variables (length w.pairs) n o
-    → AreWatched (slots ++ Some n ∷ []) listing variables new
-watched_more slots listing variables w new n o a many e long kept watch =
+pub watched_more : (slots : Slots) (assigned : List Lit) (variables : ℕ) (w new : Watching) (n : NormalConstraint) (o : Option Pair) → AreWatched slots assigned variables w → length slots ≡ length w.pairs → new.pairs ≡ w.pairs ++ o ∷ [] → length w.rows ≤ length new.rows
+    → ((l : Lit) (k : ℕ) → StandsIn w.rows l k → StandsIn new.rows l k) → IsNewWatch new.rows assigned variables (length w.pairs) n o
+    → AreWatched (slots ++ Some n ∷ []) assigned variables new
+watched_more slots assigned variables w new n o a many e long kept watch =
     let at : (k : ℕ) (p : Pair) → get_or new.pairs k None ≡ Some p → get_or (w.pairs ++ o ∷ []) k None ≡ Some p = λ k p f. ap (λ (xs : List (Option Pair)). get_or xs k None) (sym e) ∙ f in
     record {
       size = omega (arith, a.size, long);
       within = λ k p f. elim (pair_cases w.pairs o p k (at k p f)) [
         | inl before ↦ a.within k p before.1
-        | inr last ↦ (new_watch new.rows listing variables (length w.pairs) n o p watch last.1).1
+        | inr last ↦ (new_watch new.rows assigned variables (length w.pairs) n o p watch last.1).1
       ];
       each = λ k m p slot f. elim (place_cases slots n m k slot) [
         | inl before ↦ elim (pair_cases w.pairs o p k (at k p f)) [
@@ -64,14 +64,14 @@ watched_more slots listing variables w new n o a many e long kept watch =
         | inr end ↦ elim (pair_cases w.pairs o p k (at k p f)) [
           | inl there ↦ absurd (omega (arith, there.0, end.0, many))
           | inr last ↦
-              subst (λ (x : ℕ). IsWatched new.rows listing x m p) (sym last.0) (subst (λ (x : NormalConstraint). IsWatched new.rows listing (length w.pairs) x p) end.1 (new_watch new.rows listing variables (length w.pairs) n o p watch last.1).0)
+              subst (λ (x : ℕ). IsWatched new.rows assigned x m p) (sym last.0) (subst (λ (x : NormalConstraint). IsWatched new.rows assigned (length w.pairs) x p) end.1 (new_watch new.rows assigned variables (length w.pairs) n o p watch last.1).0)
         ]
       ];
     }
 
 -- the same, where rows have places more
-pub watched_kept : (slots : Slots) (listing : List Lit) (variables : ℕ) (w new : Watching) → AreWatched slots listing variables w → new.pairs ≡ w.pairs → length w.rows ≤ length new.rows → ((l : Lit) (k : ℕ) → StandsIn w.rows l k → StandsIn new.rows l k) → AreWatched slots listing variables new
-watched_kept slots listing variables w new a e long kept = record {
+pub watched_kept : (slots : Slots) (assigned : List Lit) (variables : ℕ) (w new : Watching) → AreWatched slots assigned variables w → new.pairs ≡ w.pairs → length w.rows ≤ length new.rows → ((l : Lit) (k : ℕ) → StandsIn w.rows l k → StandsIn new.rows l k) → AreWatched slots assigned variables new
+watched_kept slots assigned variables w new a e long kept = record {
   size = omega (arith, a.size, long);
   within = λ k p f. a.within k p (ap (λ (xs : List (Option Pair)). get_or xs k None) (sym e) ∙ f);
   each = λ k n p slot f.
@@ -80,8 +80,8 @@ watched_kept slots listing variables w new a e long kept = record {
 }
 
 -- more rows and variables
-pub watched_wider : (slots : Slots) (listing : List Lit) (variables more : ℕ) (w new : Watching) → AreWatched slots listing variables w → new.pairs ≡ w.pairs → variables ≤ more → 2 * more ≤ length new.rows → ((k : ℕ) → get_or new.rows k [] ≡ get_or w.rows k []) → AreWatched slots listing more new
-watched_wider slots listing variables more w new a e up long same = record {
+pub watched_wider : (slots : Slots) (assigned : List Lit) (variables more : ℕ) (w new : Watching) → AreWatched slots assigned variables w → new.pairs ≡ w.pairs → variables ≤ more → 2 * more ≤ length new.rows → ((k : ℕ) → get_or new.rows k [] ≡ get_or w.rows k []) → AreWatched slots assigned more new
+watched_wider slots assigned variables more w new a e up long same = record {
   size = long;
   within = λ k p f. let i = a.within k p (ap (λ (xs : List (Option Pair)). get_or xs k None) (sym e) ∙ f) in (omega (arith, i.0, up), omega (arith, i.1, up));
   each = λ k n p slot f.
@@ -93,8 +93,8 @@ watched_wider slots listing variables more w new a e up long same = record {
     stands l k s = subst (λ (xs : List ℕ). Contains xs k) (sym (same (code l))) s
 
 -- one place fewer
-pub watched_fewer : (slots rest : Slots) (listing : List Lit) (variables : ℕ) (w new : Watching) (n : NormalConstraint) → slots ≡ rest ++ Some n ∷ [] → length slots ≡ length w.pairs → new.pairs ≡ take (length w.pairs - 1) w.pairs → new.rows ≡ w.rows → AreWatched slots listing variables w → AreWatched rest listing variables new
-watched_fewer slots rest listing variables w new n e many pairs rows a =
+pub watched_fewer : (slots rest : Slots) (assigned : List Lit) (variables : ℕ) (w new : Watching) (n : NormalConstraint) → slots ≡ rest ++ Some n ∷ [] → length slots ≡ length w.pairs → new.pairs ≡ take (length w.pairs - 1) w.pairs → new.rows ≡ w.rows → AreWatched slots assigned variables w → AreWatched rest assigned variables new
+watched_fewer slots rest assigned variables w new n e many pairs rows a =
     let short : length (take (length w.pairs - 1) w.pairs) ≡ length w.pairs - 1 = length-take-le (length w.pairs - 1) w.pairs (omega arith) in
     let at : (k : ℕ) (p : Pair) → get_or new.pairs k None ≡ Some p → get_or w.pairs k None ≡ Some p = λ k p f.
     let g : get_or (take (length w.pairs - 1) w.pairs) k None ≡ Some p = ap (λ (xs : List (Option Pair)). get_or xs k None) (sym pairs) ∙ f in
@@ -105,12 +105,12 @@ watched_fewer slots rest listing variables w new n e many pairs rows a =
     record {
       size = omega (arith, a.size, ap (length {A = List ℕ}) rows);
       within = λ k p f. a.within k p (at k p f);
-      each = λ k m p slot f. subst (λ (xs : List (List ℕ)). IsWatched xs listing k m p) (sym rows) (a.each k m p (was k m slot) (at k p f));
+      each = λ k m p slot f. subst (λ (xs : List (List ℕ)). IsWatched xs assigned k m p) (sym rows) (a.each k m p (was k m slot) (at k p f));
     }
 
 -- a place from which the clause was taken
-pub watched_without : (slots : Slots) (place : ℕ) (listing : List Lit) (variables : ℕ) (w : Watching) → place < length slots → AreWatched slots listing variables w → AreWatched (set slots place None) listing variables w
-watched_without slots place listing variables w low a = record {
+pub watched_without : (slots : Slots) (place : ℕ) (assigned : List Lit) (variables : ℕ) (w : Watching) → place < length slots → AreWatched slots assigned variables w → AreWatched (set slots place None) assigned variables w
+watched_without slots place assigned variables w low a = record {
   size = a.size;
   within = a.within;
   each = λ k n p slot f. elim (cases_eq k place) [

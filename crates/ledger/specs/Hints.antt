@@ -15,13 +15,13 @@ use Rattle.ledger.specs.Watched.{IsOpen}
 
 -- a literal that is made false
 abbrev pub HasFallen : List Lit → Lit → Type 0
-HasFallen listing l = (lists listing l ≡ false) × (lists listing (opposite l) ≡ true)
+HasFallen assigned l = (lists assigned l ≡ false) × (lists assigned (opposite l) ≡ true)
 
 -- what two literals tell: quiet, where one is true or both are open; forced is the free one beside one that has fallen
 abbrev pub IsHintOf : List Lit → Pair → Hint → Type 0
-IsHintOf listing p hints.Quiet = IsOneTrue listing p ⊎ (IsOpen listing p.first × IsOpen listing p.second)
-IsHintOf listing p (hints.Forces l) = (other : Lit) × IsBeside (Some p) l other × IsFree listing l × HasFallen listing other
-IsHintOf listing p hints.Unknown = HasFallen listing p.first × HasFallen listing p.second
+IsHintOf assigned p hints.Quiet = IsOneTrue assigned p ⊎ (IsOpen assigned p.first × IsOpen assigned p.second)
+IsHintOf assigned p (hints.Forces l) = (other : Lit) × IsBeside (Some p) l other × IsFree assigned l × HasFallen assigned other
+IsHintOf assigned p hints.Unknown = HasFallen assigned p.first × HasFallen assigned p.second
 
 -- the literal that is forced is of the variables
 abbrev pub IsHintWithin : ℕ → Hint → Type 0
@@ -31,6 +31,6 @@ IsHintWithin variables hints.Unknown = Unit {0}
 
 -- what is so of a constraint then: with what it forces it is quiet
 abbrev pub IsHint : List Lit → NormalConstraint → Hint → Type 0
-IsHint listing n hints.Quiet = IsQuiet listing n
-IsHint listing n (hints.Forces l) = IsForced listing l n × IsQuiet (listing ++ l ∷ []) n
-IsHint listing n hints.Unknown = Unit {0}
+IsHint assigned n hints.Quiet = IsQuiet assigned n
+IsHint assigned n (hints.Forces l) = IsForced assigned l n × IsQuiet (assigned ++ l ∷ []) n
+IsHint assigned n hints.Unknown = Unit {0}

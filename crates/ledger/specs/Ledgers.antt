@@ -1,4 +1,4 @@
--- Constraints with the places of their literals and the counters of what a listing leaves open.
+-- Constraints with the places of their literals and the counters of what an assignment leaves open.
 use Rattle.std.specs.Prelude.{◌≡◌, ◌⊎◌, ◌++◌, ◌∷◌, ℕ, ◌+◌, ◌*◌, ◌<◌, ◌≤◌, false, List, [], Option, Some, None, All, MatchOption, Contains, length, map, take, slice_index_or}
 use Rattle.linear.specs.declared.term.Lit.{Lit}
 use Rattle.normal_form.specs.declared.term.NormalTerm.{NormalTerm}
@@ -6,7 +6,7 @@ use Rattle.normal_form.specs.Normal.{NormalConstraint, IsNormal, sum_over, varia
 use Rattle.linear.specs.Literal.{opposite}
 use Rattle.propagate.specs.Literals.{coefficient_of, lists}
 use Rattle.propagate.specs.Slack.{IsForced, not_false}
-use Rattle.propagate.specs.Walk.{IsBrokenAt, IsQuiet}
+use Rattle.propagate.specs.Walk.{IsFalsifiedAt, IsQuiet}
 use Rattle.ledger.specs.declared.occurrence.Occurrence.{Occurrence}
 use Rattle.ledger.specs.declared.pair.Pair.{Pair}
 use Rattle.ledger.specs.Occurrences.{entries_of, occurrences_of}
@@ -15,7 +15,7 @@ use Rattle.ledger.specs.Occurrences.{entries_of, occurrences_of}
 -- place of the constraint that forced each, none for a literal that was given, and how many variables there are
 pub record State : Type 0 where
   pub slots : List (Option NormalConstraint)
-  pub listing : List Lit
+  pub assigned : List Lit
   pub propagated : List Lit
   pub reasons : List (Option ℕ)
   pub variables : ℕ
@@ -39,12 +39,12 @@ constraint_at constraints place = slice_index_or constraints place nothing
 
 -- what the literals that are not made false add up to
 abbrev pub open_sum : List Lit → NormalConstraint → ℕ
-open_sum listing n = sum_over (not_false listing) n.terms
+open_sum assigned n = sum_over (not_false assigned) n.terms
 
 -- the constraint at a place has this slack
 abbrev pub HasSlack : List NormalConstraint → List Lit → ℕ → ℕ → Type 0
-HasSlack constraints listing place slack =
-    open_sum listing (constraint_at constraints place) ≡ (constraint_at constraints place).degree + slack
+HasSlack constraints assigned place slack =
+    open_sum assigned (constraint_at constraints place) ≡ (constraint_at constraints place).degree + slack
 
 -- the term at a place of a constraint
 abbrev pub term_at : List NormalConstraint → ℕ → ℕ → NormalTerm
@@ -56,9 +56,9 @@ pub record IsIndex (constraints : List NormalConstraint) (variables : ℕ) (tabl
   pub entries : (l : Lit) → entries_of table l ≡ occurrences_of l 0 constraints
 
 -- each counter is what is open in its constraint
-pub record AreCounters (constraints : List NormalConstraint) (listing : List Lit) (counters : List ℕ) : Type 0 where
+pub record AreCounters (constraints : List NormalConstraint) (assigned : List Lit) (counters : List ℕ) : Type 0 where
   pub counted : length counters ≡ length constraints
-  pub open_sums : (k : ℕ) → k < length constraints → slice_index_or counters k 0 ≡ open_sum listing (constraint_at constraints k)
+  pub open_sums : (k : ℕ) → k < length constraints → slice_index_or counters k 0 ≡ open_sum assigned (constraint_at constraints k)
 
 -- from its limit on, a constraint's open sum leaves it unbroken and forcing nothing
 pub record AreLimits (constraints : List NormalConstraint) (limits : List ℕ) : Type 0 where
@@ -81,12 +81,12 @@ pub record AreParted (slots : List (Option NormalConstraint)) (counted watched :
       → (constraint_at counted k ≡ nothing) × (constraint_at watched k ≡ n)
 
 -- what a ledger keeps. A constraint that was taken out stays indexed and counted, and its limit asks for nothing
-pub record IsLedger (slots : List (Option NormalConstraint)) (listing : List Lit) (variables : ℕ) (table clauses : List (List Occurrence)) (counters limits : List ℕ) (pairs : List (Option Pair)) : Type 0 where
+pub record IsLedger (slots : List (Option NormalConstraint)) (assigned : List Lit) (variables : ℕ) (table clauses : List (List Occurrence)) (counters limits : List ℕ) (pairs : List (Option Pair)) : Type 0 where
   pub counted : List NormalConstraint
   pub watched : List NormalConstraint
   pub index : IsIndex counted variables table
   pub watched_index : IsIndex watched variables clauses
-  pub counters_are : AreCounters counted listing counters
+  pub counters_are : AreCounters counted assigned counters
   pub known : AreKnown counted variables
   pub watched_known : AreKnown watched variables
   pub slots_are : AreParted slots counted watched pairs
@@ -94,13 +94,13 @@ pub record IsLedger (slots : List (Option NormalConstraint)) (listing : List Lit
 
 -- the constraint at the place of the reason forces the literal, where there is a reason
 abbrev pub IsReason : List NormalConstraint → List Lit → Lit → Option ℕ → Type 0
-IsReason constraints listing l None = Unit {0}
-IsReason constraints listing l (Some place) = (place < length constraints) × IsForced listing l (constraint_at constraints place)
+IsReason constraints assigned l None = Unit {0}
+IsReason constraints assigned l (Some place) = (place < length constraints) × IsForced assigned l (constraint_at constraints place)
 
 -- each literal has its reason under those before it
-pub record AreReasons (constraints : List NormalConstraint) (listing : List Lit) (reasons : List (Option ℕ)) : Type 0 where
-  pub as_many : length reasons ≡ length listing
-  pub forced : (k : ℕ) (d : Lit) → k < length listing → IsReason constraints (take k listing) (slice_index_or listing k d) (slice_index_or reasons k None)
+pub record AreReasons (constraints : List NormalConstraint) (assigned : List Lit) (reasons : List (Option ℕ)) : Type 0 where
+  pub as_many : length reasons ≡ length assigned
+  pub forced : (k : ℕ) (d : Lit) → k < length assigned → IsReason constraints (take k assigned) (slice_index_or assigned k d) (slice_index_or reasons k None)
 
 -- one literal more was propagated: each constraint with its opposite is quiet, or its place waits
 pub record IsPropagatedOn (constraints : List NormalConstraint) (before after : List Lit) (waiting : List ℕ) : Type 0 where
@@ -110,7 +110,7 @@ pub record IsPropagatedOn (constraints : List NormalConstraint) (before after : 
   pub queued : (k : ℕ) → 0 < coefficient_of (constraint_at constraints k) (opposite literal)
       → IsQuiet after (constraint_at constraints k) ⊎ Contains waiting k
 
--- one literal more was propagated, or a constraint is broken, whose place this is, and nothing was
+-- one literal more was propagated, or a constraint is falsified, whose place this is, and nothing was
 abbrev pub IsPropagation : State → State → List ℕ → Option ℕ → Type 0
-IsPropagation old new waiting broken = MatchOption broken (IsPropagatedOn (shown old.slots) old.propagated new.propagated waiting)
-    (λ k. (new.propagated ≡ old.propagated) × IsBrokenAt (shown old.slots) old.listing k)
+IsPropagation old new waiting falsified = MatchOption falsified (IsPropagatedOn (shown old.slots) old.propagated new.propagated waiting)
+    (λ k. (new.propagated ≡ old.propagated) × IsFalsifiedAt (shown old.slots) old.assigned k)

@@ -21,39 +21,39 @@ pub record IsPairOf (n : NormalConstraint) (p : Pair) : Type 0 where
 
 -- a literal that is not made false
 abbrev pub IsOpen : List Lit → Lit → Type 0
-IsOpen listing l = lists listing (opposite l) ≡ false
+IsOpen assigned l = lists assigned (opposite l) ≡ false
 
 -- a literal is one of two, or made false
 abbrev pub IsFalseBeside : List Lit → Pair → Lit → Type 0
-IsFalseBeside listing p l = (l ≡ p.first → ⊥) → (l ≡ p.second → ⊥) → lists listing (opposite l) ≡ true
+IsFalseBeside assigned p l = (l ≡ p.first → ⊥) → (l ≡ p.second → ⊥) → lists assigned (opposite l) ≡ true
 
 -- all literals of a constraint but two are made false
 abbrev pub AreOthersFalse : List Lit → NormalConstraint → Pair → Type 0
-AreOthersFalse listing n p = (l : Lit) → 0 < coefficient_of n l → IsFalseBeside listing p l
+AreOthersFalse assigned n p = (l : Lit) → 0 < coefficient_of n l → IsFalseBeside assigned p l
 
 -- an open literal of a constraint beside two
-pub record IsOpenBeside (listing : List Lit) (n : NormalConstraint) (p : Pair) (l : Lit) : Type 0 where
+pub record IsOpenBeside (assigned : List Lit) (n : NormalConstraint) (p : Pair) (l : Lit) : Type 0 where
   pub occurs : 0 < coefficient_of n l
-  pub unset : IsOpen listing l
+  pub unset : IsOpen assigned l
   pub not_first : l ≡ p.first → ⊥
   pub not_second : l ≡ p.second → ⊥
 
--- Two literals tell whether a clause is broken or forces: both are open, or one of them is true, or all others are false.
+-- Two literals tell whether a clause is falsified or forces: both are open, or one of them is true, or all others are false.
 abbrev pub Tell : List Lit → NormalConstraint → Pair → Type 0
-Tell listing n p = (IsOpen listing p.first × IsOpen listing p.second)
-    ⊎ ((lists listing p.first ≡ true) ⊎ (lists listing p.second ≡ true)) ⊎ AreOthersFalse listing n p
+Tell assigned n p = (IsOpen assigned p.first × IsOpen assigned p.second)
+    ⊎ ((lists assigned p.first ≡ true) ⊎ (lists assigned p.second ≡ true)) ⊎ AreOthersFalse assigned n p
 
 -- a place is in the row of a literal
 abbrev pub StandsIn : List (List ℕ) → Lit → ℕ → Type 0
 StandsIn rows l place = Contains (slice_index_or rows (code l) []) place
 
--- Either literal leads to the clause at a place. The two tell of it under each beginning of the listing: so nothing is to be
--- mended where literals are taken back.
-pub record IsWatched (rows : List (List ℕ)) (listing : List Lit) (place : ℕ) (n : NormalConstraint) (p : Pair) : Type 0 where
+-- Either literal leads to the clause at a place. The two tell of it under each beginning of the assignment: so nothing is to be
+-- mended where literals are backtracked.
+pub record IsWatched (rows : List (List ℕ)) (assigned : List Lit) (place : ℕ) (n : NormalConstraint) (p : Pair) : Type 0 where
   pub of_it : IsPairOf n p
   pub first : StandsIn rows p.first place
   pub second : StandsIn rows p.second place
-  pub tell : (h : ℕ) → Tell (take h listing) n p
+  pub tell : (h : ℕ) → Tell (take h assigned) n p
 
 -- rows of places by literal, among them places that are not watched any more, and the two literals of each place
 pub record Watching : Type 0 where
@@ -65,11 +65,11 @@ abbrev pub IsPairWithin : ℕ → Pair → Type 0
 IsPairWithin variables p = (p.first.var.0 < variables) × (p.second.var.0 < variables)
 
 -- the clauses at places with two literals are watched
-pub record AreWatched (slots : List (Option NormalConstraint)) (listing : List Lit) (variables : ℕ) (w : Watching) : Type 0 where
+pub record AreWatched (slots : List (Option NormalConstraint)) (assigned : List Lit) (variables : ℕ) (w : Watching) : Type 0 where
   pub size : 2 * variables ≤ length w.rows
   pub within : (k : ℕ) (p : Pair) → slice_index_or w.pairs k None ≡ Some p → IsPairWithin variables p
   pub each : (k : ℕ) (n : NormalConstraint) (p : Pair) → slice_index_or slots k None ≡ Some n → slice_index_or w.pairs k None ≡ Some p
-      → IsWatched w.rows listing k n p
+      → IsWatched w.rows assigned k n p
 
 -- the same places have two literals
 pub record AreSameKinds (before after : List (Option Pair)) : Type 0 where

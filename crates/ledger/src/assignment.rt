@@ -2,14 +2,14 @@
 //!
 //! All that a constraint forces is assigned at once, and propagated then, one literal after another. What clauses and counters
 //! tell is so of the literals that were propagated: each is as if the later ones were not there, so that any of them can be
-//! taken back alone. The later ones are looked at too, but only to see a conflict before others are propagated in vain.
+//! backtracked alone. The later ones are looked at too, but only to see a conflict before others are propagated in vain.
 
 ghost use Rattle.std.specs.Prelude.{◌≡◌, ◌↔◌, ◌<◌, ◌≤◌, ◌++◌, ◌∷◌, ◌⊎◌, [], ℕ, false, true};
 ghost use Rattle.std.specs.Prelude.{IfSome, IsTrue, MatchOption, OnOk, drop, length, slice_index_or};
 ghost use Rattle.linear.specs.declared.term.Lit.{Lit};
 ghost use Rattle.linear.specs.Literal.{opposite};
 ghost use Rattle.propagate.specs.Literals.{IsConsistent, IsOnce, lists};
-ghost use Rattle.ledger.specs.Trails.{assigned};
+ghost use Rattle.ledger.specs.Trails.{on_trail};
 
 use super::trail::Trail;
 use linear::Lit;
@@ -47,11 +47,11 @@ impl Assignment {
 
     /// What holds of every assignment, for a proof that needs it where nothing else of it is asked.
     pub(crate) fn reveal(&self)
-        ensures once { IsOnce (assigned self.now) }
+        ensures once { IsOnce (on_trail self.now) }
         ensures consistent { IsConsistent self.now.0 }
-        ensures all_consistent { IsConsistent (assigned self.now) }
-        ensures few { length (assigned self.now) ≤ self.now.1 }
-        ensures variables { (l : Lit) → lists (assigned self.now) l ≡ true → l.var.0 < self.now.1 }
+        ensures all_consistent { IsConsistent (on_trail self.now) }
+        ensures few { length (on_trail self.now) ≤ self.now.1 }
+        ensures variables { (l : Lit) → lists (on_trail self.now) l ≡ true → l.var.0 < self.now.1 }
     {
         self.trail.reveal();
     }
@@ -75,19 +75,19 @@ impl Assignment {
     }
 
     /// The literals that are assigned, in order: none twice, and none beside its opposite.
-    pub(crate) fn listing(&self) -> &[Lit]
-        ensures listing { result.now ≡ assigned self.now }
-        ensures once { IsOnce (assigned self.now) }
-        ensures consistent { IsConsistent (assigned self.now) }
-        ensures variables { (l : Lit) → lists (assigned self.now) l ≡ true → l.var.0 < self.now.1 }
+    pub(crate) fn assigned(&self) -> &[Lit]
+        ensures assigned { result.now ≡ on_trail self.now }
+        ensures once { IsOnce (on_trail self.now) }
+        ensures consistent { IsConsistent (on_trail self.now) }
+        ensures variables { (l : Lit) → lists (on_trail self.now) l ≡ true → l.var.0 < self.now.1 }
     {
-        self.trail.listing()
+        self.trail.assigned()
     }
 
     /// How many literals are assigned: no more than variables.
     pub(crate) fn len(&self) -> usize
-        ensures value { result ≡ length (assigned self.now) }
-        ensures few { length (assigned self.now) ≤ self.now.1 }
+        ensures value { result ≡ length (on_trail self.now) }
+        ensures few { length (on_trail self.now) ≤ self.now.1 }
     {
         self.trail.len()
     }
@@ -102,8 +102,8 @@ impl Assignment {
     /// Whether neither a literal nor its opposite is assigned.
     pub(crate) fn leaves_free(&self, literal: Lit) -> bool
         requires { literal.var.0 < self.now.1 }
-        ensures { IsTrue result ↔ (lists (assigned self.now) literal ≡ false)
-            × (lists (assigned self.now) (opposite literal) ≡ false) }
+        ensures { IsTrue result ↔ (lists (on_trail self.now) literal ≡ false)
+            × (lists (on_trail self.now) (opposite literal) ≡ false) }
     {
         self.trail.leaves_free(literal)
     }
@@ -111,7 +111,7 @@ impl Assignment {
     /// Whether a literal is assigned.
     pub(crate) fn assigns(&self, literal: Lit) -> bool
         requires { literal.var.0 < self.now.1 }
-        ensures { result ≡ lists (assigned self.now) literal }
+        ensures { result ≡ lists (on_trail self.now) literal }
     {
         self.trail.has(literal)
     }
@@ -127,8 +127,8 @@ impl Assignment {
     /// Where the literal of a variable stands, if one is assigned.
     pub(crate) fn position(&self, variable: usize) -> usize
         requires { variable < self.now.1 }
-        ensures { (k : ℕ) (d : Lit) → k < length (assigned self.now)
-            → (slice_index_or (assigned self.now) k d).var.0 ≡ variable → k ≡ result }
+        ensures { (k : ℕ) (d : Lit) → k < length (on_trail self.now)
+            → (slice_index_or (on_trail self.now) k d).var.0 ≡ variable → k ≡ result }
     {
         self.trail.position(variable)
     }
@@ -136,10 +136,10 @@ impl Assignment {
     /// Assigns a literal that is free. It is still to be propagated.
     pub(crate) fn push(&mut self, literal: Lit)
         requires variable { literal.var.0 < self.old.1 }
-        requires unset { lists (assigned self.old) literal ≡ false }
-        requires opposite_unset { lists (assigned self.old) (opposite literal) ≡ false }
+        requires unset { lists (on_trail self.old) literal ≡ false }
+        requires opposite_unset { lists (on_trail self.old) (opposite literal) ≡ false }
         ensures value { self.new ≡ (self.old.0, self.old.1, self.old.2 ++ literal ∷ []) }
-        ensures room { length (assigned self.old) < self.old.1 }
+        ensures room { length (on_trail self.old) < self.old.1 }
     {
         self.trail.push(literal);
     }
@@ -147,12 +147,12 @@ impl Assignment {
     /// Takes the last literal away.
     pub(crate) fn pop(&mut self) -> Option<Lit>
         ensures count { self.new.1 ≡ self.old.1 }
-        ensures value { MatchOption result ((assigned self.old ≡ []) × (self.new ≡ self.old))
-            (λ l. assigned self.old ≡ assigned self.new ++ l ∷ []) }
+        ensures value { MatchOption result ((on_trail self.old ≡ []) × (self.new ≡ self.old))
+            (λ l. on_trail self.old ≡ on_trail self.new ++ l ∷ []) }
         ensures pending { (self.old.2 ≡ [] → ⊥) → self.new.0 ≡ self.old.0 }
         ensures last { self.old.2 ≡ [] → self.new.2 ≡ [] }
-        ensures unset { IfSome result (λ l. lists (assigned self.new) l ≡ false) }
-        ensures opposite_unset { IfSome result (λ l. lists (assigned self.new) (opposite l) ≡ false) }
+        ensures unset { IfSome result (λ l. lists (on_trail self.new) l ≡ false) }
+        ensures opposite_unset { IfSome result (λ l. lists (on_trail self.new) (opposite l) ≡ false) }
         ensures variable { IfSome result (λ l. l.var.0 < self.old.1) }
     {
         let literal = self.trail.pop()?;
@@ -168,7 +168,7 @@ impl Assignment {
         ensures opposite_unset { lists self.now.0 (opposite result) ≡ false }
         ensures variable { result.var.0 < self.now.1 }
     {
-        self.trail.listing()[self.propagated]
+        self.trail.assigned()[self.propagated]
     }
 
     /// The next literal was propagated.

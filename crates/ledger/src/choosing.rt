@@ -4,7 +4,7 @@ ghost use Rattle.std.specs.Prelude.{◌≡◌, ◌<◌, ◌≤◌, ◌⊎◌, If
 ghost use Rattle.normal_form.specs.declared.term.NormalTerm.{NormalTerm};
 ghost use Rattle.normal_form.specs.Normal.{Rises, variable_bound};
 ghost use Rattle.propagate.specs.Passes.{literal_of};
-ghost use Rattle.ledger.specs.Trails.{assigned};
+ghost use Rattle.ledger.specs.Trails.{on_trail};
 ghost use Rattle.ledger.specs.Watched.{AreOthersFalse, IsClause, IsFalseBeside, IsOpen, IsOpenBeside, IsPairOf};
 
 use super::assignment::Assignment;
@@ -54,8 +54,8 @@ pub(crate) fn open_beside(constraint: &Normal, trail: &Assignment, others: Pair)
     ensures rises { Rises 0 constraint.now.terms }
     ensures value { MatchOption result (AreOthersFalse trail.now.0 constraint.now others)
         (IsOpenBeside trail.now.0 constraint.now others) }
-    ensures last { IfSome result (λ l. IsOpen (assigned trail.now) l
-        ⊎ AreOthersFalse (assigned trail.now) constraint.now others) }
+    ensures last { IfSome result (λ l. IsOpen (on_trail trail.now) l
+        ⊎ AreOthersFalse (on_trail trail.now) constraint.now others) }
 {
     let mut chosen = None;
     for index in 0..constraint.len() {

@@ -10,7 +10,7 @@ pub(crate) enum Finding {
     /// One of the two literals that watch it is true.
     Satisfied,
     /// All its literals are false, with those that are still to be propagated.
-    Broken,
+    Falsified,
     /// All its other literals are false but the second one that watches it, which is forced.
     Last,
     /// Another literal that is open watches it from now on, beside the one that stays.
@@ -22,6 +22,6 @@ pub(crate) enum Finding {
 pub(crate) enum Progress {
     /// With the entry at an index.
     At(usize),
-    /// Not at all, since the clause at a place is broken.
-    Broken(usize),
+    /// Not at all, since the clause at a place is falsified.
+    Falsified(usize),
 }

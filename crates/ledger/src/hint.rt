@@ -7,7 +7,7 @@ use super::assignment::Assignment;
 use super::pair::Pair;
 use linear::Lit;
 
-/// It is not broken and forces nothing, or it forces a literal, or they do not tell.
+/// It is not falsified and forces nothing, or it forces a literal, or they do not tell.
 #[derive(Clone, Copy, Debug)]
 pub enum Hint {
     Quiet,

@@ -3,7 +3,7 @@
 //!
 //! A literal is assigned first, and propagated later: what the counters and the clauses tell is so of the literals that were
 //! propagated, which are the first ones. To propagate a literal changes the counter of each counted constraint that has its opposite, and so
-//! does to take it back. Of clauses, those that its opposite watches are looked at, as far as to one that is broken; when a literal
+//! does to take it back. Of clauses, those that its opposite watches are looked at, as far as to one that is falsified; when a literal
 //! went, those that it watches itself are asked for by their two literals alone. A constraint that is taken out leaves its place and its entries behind: counted on, they cost little until the places are made anew, and searching the lists
 //! for them would cost more. What a place says then is nothing.
 //!
@@ -20,7 +20,7 @@ ghost use Rattle.linear.specs.Largest.{most_names};
 ghost use Rattle.normal_form.specs.Normal.{Rises, variable_bound};
 ghost use Rattle.linear.specs.Literal.{opposite};
 ghost use Rattle.propagate.specs.Literals.{IsConsistent, IsOnce, lists, coefficient_of};
-ghost use Rattle.propagate.specs.Slack.{IsBroken};
+ghost use Rattle.propagate.specs.Slack.{IsFalsified};
 ghost use Rattle.propagate.specs.Walk.{IsQuiet};
 ghost use Rattle.ledger.specs.Hints.{IsHint, IsHintWithin};
 ghost use Rattle.ledger.specs.Entered.{AreEntriesOf, all_of};
@@ -61,28 +61,28 @@ pub struct Ledger {
 impl Model for Ledger {
     ghost use Rattle.std.specs.Prelude.{◌≤◌, vec_capacity};
     ghost use Rattle.ledger.specs.Ledgers.{State, IsLedger, AreReasons, shown};
-    ghost use Rattle.ledger.specs.Trails.{assigned};
+    ghost use Rattle.ledger.specs.Trails.{on_trail};
     ghost use Rattle.ledger.specs.Watched.{AreWatched};
 
     ghost Value = { State };
 
     ghost view = { λ e. record {
       slots = e.slots.items;
-      listing = assigned e.trail;
+      assigned = on_trail e.trail;
       propagated = e.trail.0;
       reasons = e.reasons.items;
       variables = e.trail.1;
     } };
 
     ghost invariant = { λ e. IsLedger e.slots.items e.trail.0 e.trail.1 e.table e.clauses e.counters.items e.limits.items e.watchers.pairs
-        × AreReasons (shown e.slots.items) (assigned e.trail) e.reasons.items × (e.trail.1 ≤ vec_capacity e.reasons)
+        × AreReasons (shown e.slots.items) (on_trail e.trail) e.reasons.items × (e.trail.1 ≤ vec_capacity e.reasons)
         × AreWatched e.slots.items e.trail.0 e.trail.1 e.watchers };
 }
 
 impl Ledger {
     /// No constraint, and no variables.
     pub fn new(alloc: Global) -> Ledger
-        ensures { result ≡ record { slots = []; listing = []; propagated = []; reasons = []; variables = 0 } }
+        ensures { result ≡ record { slots = []; assigned = []; propagated = []; reasons = []; variables = 0 } }
     {
         Ledger {
             slots: Vec::new(alloc),
@@ -98,12 +98,12 @@ impl Ledger {
 
     /// What holds of every ledger, for a proof that needs it where nothing else of the ledger is asked.
     pub fn reveal(&self)
-        ensures reasons { AreReasons (shown self.now.slots) self.now.listing self.now.reasons }
-        ensures few { length self.now.listing ≤ self.now.variables }
-        ensures once { IsOnce self.now.listing }
-        ensures consistent { IsConsistent self.now.listing }
-        ensures variables { (l : Lit) → lists self.now.listing l ≡ true → l.var.0 < self.now.variables }
-        ensures propagated { (pending : List Lit) × (self.now.listing ≡ self.now.propagated ++ pending) }
+        ensures reasons { AreReasons (shown self.now.slots) self.now.assigned self.now.reasons }
+        ensures few { length self.now.assigned ≤ self.now.variables }
+        ensures once { IsOnce self.now.assigned }
+        ensures consistent { IsConsistent self.now.assigned }
+        ensures variables { (l : Lit) → lists self.now.assigned l ≡ true → l.var.0 < self.now.variables }
+        ensures propagated { (pending : List Lit) × (self.now.assigned ≡ self.now.propagated ++ pending) }
     {
         self.trail.reveal();
     }
@@ -111,10 +111,10 @@ impl Ledger {
     /// Takes a free literal as true, forced by the constraint of a place or given. It is still to be propagated.
     pub fn assign(&mut self, literal: Lit, reason: Option<usize>)
         requires variable { literal.var.0 < self.old.variables }
-        requires unset { lists self.old.listing literal ≡ false }
-        requires opposite_unset { lists self.old.listing (opposite literal) ≡ false }
-        requires reason { IsReason (shown self.old.slots) self.old.listing literal reason }
-        ensures { self.new ≡ record self.old { listing = self.old.listing ++ literal ∷ []; reasons = self.old.reasons ++ reason ∷ [] } }
+        requires unset { lists self.old.assigned literal ≡ false }
+        requires opposite_unset { lists self.old.assigned (opposite literal) ≡ false }
+        requires reason { IsReason (shown self.old.slots) self.old.assigned literal reason }
+        ensures { self.new ≡ record self.old { assigned = self.old.assigned ++ literal ∷ []; reasons = self.old.reasons ++ reason ∷ [] } }
     {
         self.trail.push(literal);
         self.reasons.push_reserved(reason);
@@ -122,15 +122,15 @@ impl Ledger {
 
     /// Whether all literals that are taken as true were propagated.
     pub fn is_propagated(&self) -> bool
-        ensures { IsTrue result ↔ (self.now.propagated ≡ self.now.listing) }
+        ensures { IsTrue result ↔ (self.now.propagated ≡ self.now.assigned) }
     {
         self.trail.is_propagated()
     }
 
-    /// Propagates the next literal: queues what may be broken or force something then. Where a clause is broken, whose place is
+    /// Propagates the next literal: queues what may be falsified or force something then. Where a clause is falsified, whose place is
     /// returned, or memory ends, the literal is still to be propagated.
     pub fn propagate_next(&mut self, queue: &mut Queue) -> Result<Option<usize>, AllocError>
-        requires pending { self.old.propagated ≡ self.old.listing → ⊥ }
+        requires pending { self.old.propagated ≡ self.old.assigned → ⊥ }
         requires queue { queue.old.1 ≡ length self.old.slots }
         ensures same { self.new ≡ record self.old { propagated = self.new.propagated } }
         ensures err { OnErr result (self.new.propagated ≡ self.old.propagated) }
@@ -139,11 +139,11 @@ impl Ledger {
         ensures end { IfOk result (IsPropagation self.old self.new queue.new.0) }
     {
         let fallen = self.trail.next().opposite();
-        let broken = self
+        let falsified = self
             .watchers
             .fall(self.slots.as_slice(), &self.trail, fallen, queue)?;
-        if broken.is_some() {
-            return Ok(broken);
+        if falsified.is_some() {
+            return Ok(falsified);
         }
         self.trail.advance();
         self.trail.reveal();
@@ -158,16 +158,16 @@ impl Ledger {
     }
 
     /// Takes the last literal back, if there is one.
-    pub fn take_back(&mut self) -> Option<Lit>
+    pub fn unassign_last(&mut self) -> Option<Lit>
         ensures slots { self.new.slots ≡ self.old.slots }
         ensures variables { self.new.variables ≡ self.old.variables }
-        ensures listing { MatchOption result ((self.old.listing ≡ []) × (self.new.listing ≡ []))
-            (λ l. self.old.listing ≡ self.new.listing ++ l ∷ []) }
-        ensures propagated { self.new.propagated ≡ take (length self.new.listing) self.old.propagated }
-        ensures unset { IfSome result (λ l. lists self.new.listing l ≡ false) }
-        ensures opposite_unset { IfSome result (λ l. IsOpen self.new.listing l) }
+        ensures assigned { MatchOption result ((self.old.assigned ≡ []) × (self.new.assigned ≡ []))
+            (λ l. self.old.assigned ≡ self.new.assigned ++ l ∷ []) }
+        ensures propagated { self.new.propagated ≡ take (length self.new.assigned) self.old.propagated }
+        ensures unset { IfSome result (λ l. lists self.new.assigned l ≡ false) }
+        ensures opposite_unset { IfSome result (λ l. IsOpen self.new.assigned l) }
         ensures variable { IfSome result (λ l. l.var.0 < self.old.variables) }
-        ensures reasons { self.new.reasons ≡ take (length self.new.listing) self.old.reasons }
+        ensures reasons { self.new.reasons ≡ take (length self.new.assigned) self.old.reasons }
     {
         let counted = self.trail.is_propagated();
         let literal = self.trail.pop()?;
@@ -181,7 +181,7 @@ impl Ledger {
         Some(literal)
     }
 
-    /// Queues the constraints with a literal, which is not made false, that may be broken or force something.
+    /// Queues the constraints with a literal, which is not made false, that may be falsified or force something.
     pub fn queue_places(&self, literal: Lit, queue: &mut Queue)
         requires variable { literal.var.0 < self.now.variables }
         requires unfallen { IsOpen self.now.propagated literal }
@@ -229,10 +229,10 @@ impl Ledger {
     }
 
     /// What the literals of the constraint at a place that are not made false have more than its degree, or `None`
-    /// where it is broken.
+    /// where it is falsified.
     pub fn slack(&self, place: usize) -> Option<u128>
         requires { place < length self.now.slots }
-        ensures { MatchOption result (IsBroken self.now.propagated (constraint_at (shown self.now.slots) place))
+        ensures { MatchOption result (IsFalsified self.now.propagated (constraint_at (shown self.now.slots) place))
             (HasSlack (shown self.now.slots) self.now.propagated place) }
     {
         match &self.slots[place] {
@@ -271,21 +271,21 @@ impl Ledger {
 
     /// How many literals are taken as true: no more than variables.
     pub fn len(&self) -> usize
-        ensures value { result ≡ length self.now.listing }
-        ensures few { length self.now.listing ≤ self.now.variables }
-        ensures reasons { AreReasons (shown self.now.slots) self.now.listing self.now.reasons }
+        ensures value { result ≡ length self.now.assigned }
+        ensures few { length self.now.assigned ≤ self.now.variables }
+        ensures reasons { AreReasons (shown self.now.slots) self.now.assigned self.now.reasons }
     {
         self.trail.len()
     }
 
     /// The literals that are taken as true, in order: none twice, and none beside its opposite.
     pub fn literals(&self) -> &[Lit]
-        ensures listing { result.now ≡ self.now.listing }
-        ensures once { IsOnce self.now.listing }
-        ensures consistent { IsConsistent self.now.listing }
-        ensures variables { (l : Lit) → lists self.now.listing l ≡ true → l.var.0 < self.now.variables }
+        ensures assigned { result.now ≡ self.now.assigned }
+        ensures once { IsOnce self.now.assigned }
+        ensures consistent { IsConsistent self.now.assigned }
+        ensures variables { (l : Lit) → lists self.now.assigned l ≡ true → l.var.0 < self.now.variables }
     {
-        self.trail.listing()
+        self.trail.assigned()
     }
 
     /// How many variables there is room for.
@@ -298,7 +298,7 @@ impl Ledger {
     /// Whether a literal is taken as true.
     pub fn has(&self, literal: Lit) -> bool
         requires { literal.var.0 < self.now.variables }
-        ensures { result ≡ lists self.now.listing literal }
+        ensures { result ≡ lists self.now.assigned literal }
     {
         self.trail.assigns(literal)
     }
@@ -306,8 +306,8 @@ impl Ledger {
     /// Whether neither a literal nor its opposite is taken as true.
     pub fn leaves_free(&self, literal: Lit) -> bool
         requires { literal.var.0 < self.now.variables }
-        ensures { IsTrue result ↔ (lists self.now.listing literal ≡ false)
-            × (lists self.now.listing (opposite literal) ≡ false) }
+        ensures { IsTrue result ↔ (lists self.now.assigned literal ≡ false)
+            × (lists self.now.assigned (opposite literal) ≡ false) }
     {
         self.trail.leaves_free(literal)
     }
@@ -315,15 +315,15 @@ impl Ledger {
     /// Where the literal of a variable stands on the trail, if one is there.
     pub fn position(&self, variable: usize) -> usize
         requires { variable < self.now.variables }
-        ensures { (k : ℕ) (d : Lit) → k < length self.now.listing
-            → (slice_index_or self.now.listing k d).var.0 ≡ variable → k ≡ result }
+        ensures { (k : ℕ) (d : Lit) → k < length self.now.assigned
+            → (slice_index_or self.now.assigned k d).var.0 ≡ variable → k ≡ result }
     {
         self.trail.position(variable)
     }
 
     /// The place of the constraint that forced the literal at an index of the trail.
     pub fn reason(&self, index: usize) -> Option<usize>
-        requires { index < length self.now.listing }
+        requires { index < length self.now.assigned }
         ensures { result ≡ slice_index_or self.now.reasons index None }
     {
         self.reasons[index]
@@ -352,7 +352,7 @@ impl Ledger {
     /// Takes the constraint of a place out, if there is one, where it is no literal's reason. The place stays.
     pub fn take_out(&mut self, place: usize) -> Option<Normal>
         requires place { place < length self.old.slots }
-        requires reasons { (k : ℕ) → k < length self.old.listing → slice_index_or self.old.reasons k None ≡ Some place
+        requires reasons { (k : ℕ) → k < length self.old.assigned → slice_index_or self.old.reasons k None ≡ Some place
             → ⊥ }
         ensures value { result ≡ slice_index_or self.old.slots place None }
         ensures slots { self.new ≡ record self.old { slots = slice_set self.old.slots place None } }
@@ -372,7 +372,7 @@ impl Ledger {
     pub fn widen(&mut self, alloc: Global, variables: usize) -> Result<(), AllocError>
         requires { variables ≤ most_names }
         ensures slots { self.new.slots ≡ self.old.slots }
-        ensures listing { self.new.listing ≡ self.old.listing }
+        ensures assigned { self.new.assigned ≡ self.old.assigned }
         ensures propagated { self.new.propagated ≡ self.old.propagated }
         ensures reasons { self.new.reasons ≡ self.old.reasons }
         ensures more { self.old.variables ≤ self.new.variables }
@@ -435,7 +435,7 @@ impl Ledger {
     /// Takes the constraint of the last place off, and the place.
     pub fn detach(&mut self)
         requires live { IsSome (slice_index_or self.old.slots (length self.old.slots - 1) None) }
-        requires reasons { (k place : ℕ) → k < length self.old.listing
+        requires reasons { (k place : ℕ) → k < length self.old.assigned
             → slice_index_or self.old.reasons k None ≡ Some place → place + 1 < length self.old.slots }
         ensures { self.new ≡ record self.old { slots = take (length self.old.slots - 1) self.old.slots } }
     {

@@ -1,7 +1,7 @@
 //! Counters of constraints, lowered and raised along a list of occurrences.
 //!
 //! A counter is the open sum of its constraint: what the literals that are not made false add up to. It is a number
-//! from 0 on, so no sign is kept; and whether a constraint may be broken or force something is one comparison with a
+//! from 0 on, so no sign is kept; and whether a constraint may be falsified or force something is one comparison with a
 //! limit that is made when it comes in, its degree and its largest coefficient.
 
 ghost use Rattle.std.specs.Prelude.{◌≡◌, ◌↔◌, ◌+◌, ◌<◌, ◌≤◌, ◌⊎◌, ℕ, All, Contains, IsTrue, length, slice_index_or};
@@ -24,7 +24,7 @@ fn falls_short(slots: &[Option<Normal>], place: usize, number: u128) -> bool
 }
 
 /// Queues a place whose counter was lowered, where it is below a limit, and before all others where its constraint is
-/// broken then.
+/// falsified then.
 fn add_lowered(
     slots: &[Option<Normal>],
     queue: &mut Queue,

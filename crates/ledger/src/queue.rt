@@ -1,9 +1,9 @@
 //! Places of constraints that are still to be looked at.
 //!
 //! There is room for all places at once, so that a place is added without memory. A walk may still run out of memory as a literal
-//! comes; what it did until then is taken back without any, by the same steps backwards.
+//! comes; what it did until then is backtracked without any, by the same steps backwards.
 //!
-//! A place that is known to be broken comes before all others, also where it waits already: a walk ends there, and what
+//! A place that is known to be falsified comes before all others, also where it waits already: a walk ends there, and what
 //! else waits is not forced in vain.
 
 ghost use Rattle.std.specs.Prelude.{◌≡◌, ◌+◌, ◌<◌, ◌≤◌, ◌∷◌, [], ℕ, IfSome, OnOk, OnErr, MatchOption, Contains, length};

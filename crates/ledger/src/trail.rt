@@ -15,10 +15,10 @@ use linear::Lit;
 use std::alloc::{AllocError, Global};
 use std::marker::Model;
 
-/// A listing of literals of the variables below a number, no variable twice. It has room for all.
+/// An assignment of literals of the variables below a number, no variable twice. It has room for all.
 #[derive(Debug, Drop)]
 pub struct Trail {
-    listing: Vec<Lit>,
+    assigned: Vec<Lit>,
     values: Vec<Option<bool>>,
     /// Where the literal of each variable stands, where it has one.
     positions: Vec<usize>,
@@ -31,11 +31,11 @@ impl Model for Trail {
 
     ghost Value = { List Lit × ℕ };
 
-    ghost view = { λ t. (t.listing.items, length t.values.items) };
+    ghost view = { λ t. (t.assigned.items, length t.values.items) };
 
-    ghost invariant = { λ t. IsTrail t.listing.items t.values.items
-        × (length t.values.items ≤ vec_capacity t.listing) × (length t.positions.items ≡ length t.values.items)
-        × ArePositions t.listing.items t.positions.items };
+    ghost invariant = { λ t. IsTrail t.assigned.items t.values.items
+        × (length t.values.items ≤ vec_capacity t.assigned) × (length t.positions.items ≡ length t.values.items)
+        × ArePositions t.assigned.items t.positions.items };
 }
 
 impl Trail {
@@ -44,7 +44,7 @@ impl Trail {
         ensures { result ≡ ([], 0) }
     {
         Trail {
-            listing: Vec::new(alloc),
+            assigned: Vec::new(alloc),
             values: Vec::new(alloc),
             positions: Vec::new(alloc),
         }
@@ -57,7 +57,7 @@ impl Trail {
         ensures few { length self.now.0 ≤ self.now.1 }
         ensures variables { (l : Lit) → lists self.now.0 l ≡ true → l.var.0 < self.now.1 }
     {
-        let _ = &self.listing;
+        let _ = &self.assigned;
     }
 
     /// Makes room for one variable more.
@@ -65,8 +65,8 @@ impl Trail {
         ensures ok { OnOk result (self.new ≡ (self.old.0, self.old.1 + 1)) }
         ensures err { OnErr result (self.new ≡ self.old) }
     {
-        let more = self.values.len() + 1 - self.listing.len();
-        self.listing.reserve(more)?;
+        let more = self.values.len() + 1 - self.assigned.len();
+        self.assigned.reserve(more)?;
         self.positions.reserve(1)?;
         self.values.push(None)?;
         self.positions.push_reserved(0);
@@ -82,7 +82,7 @@ impl Trail {
 
     /// Makes room for the variables below a number.
     pub fn widen(&mut self, count: usize) -> Result<(), AllocError>
-        ensures listing { self.new.0 ≡ self.old.0 }
+        ensures assigned { self.new.0 ≡ self.old.0 }
         ensures more { self.old.1 ≤ self.new.1 }
         ensures most { (self.new.1 ≡ self.old.1) ⊎ (self.new.1 ≤ count) }
         ensures ok { OnOk result (count ≤ self.new.1) }
@@ -94,14 +94,14 @@ impl Trail {
     }
 
     /// The literals, in the order in which they were listed: none twice, and none beside its opposite.
-    pub(crate) fn listing(&self) -> &[Lit]
-        ensures listing { result.now ≡ self.now.0 }
+    pub(crate) fn assigned(&self) -> &[Lit]
+        ensures assigned { result.now ≡ self.now.0 }
         ensures once { IsOnce self.now.0 }
         ensures consistent { IsConsistent self.now.0 }
         ensures variables { (l : Lit) → lists self.now.0 l ≡ true → l.var.0 < self.now.1 }
         ensures fresh { (k : ℕ) (d : Lit) → k < length self.now.0 → IsFree (take k self.now.0) (slice_index_or self.now.0 k d) }
     {
-        self.listing.as_slice()
+        self.assigned.as_slice()
     }
 
     /// How many literals there are: no more than variables.
@@ -109,7 +109,7 @@ impl Trail {
         ensures value { result ≡ length self.now.0 }
         ensures few { length self.now.0 ≤ self.now.1 }
     {
-        self.listing.len()
+        self.assigned.len()
     }
 
     /// Whether neither a literal nor its opposite is listed.
@@ -148,8 +148,8 @@ impl Trail {
         ensures value { self.new ≡ (self.old.0 ++ literal ∷ [], self.old.1) }
         ensures room { length self.old.0 < self.old.1 }
     {
-        self.positions[literal.var.0 as usize] = self.listing.len();
-        self.listing.push_reserved(literal);
+        self.positions[literal.var.0 as usize] = self.assigned.len();
+        self.assigned.push_reserved(literal);
         self.values[literal.var.0 as usize] = Some(!literal.negated);
     }
 
@@ -162,7 +162,7 @@ impl Trail {
         ensures opposite_unset { IfSome result (λ l. lists self.new.0 (opposite l) ≡ false) }
         ensures variable { IfSome result (λ l. l.var.0 < self.old.1) }
     {
-        let literal = self.listing.pop()?;
+        let literal = self.assigned.pop()?;
         self.values[literal.var.0 as usize] = None;
         Some(literal)
     }

@@ -1,11 +1,11 @@
 //! Clauses, each watched by two of its literals.
 //!
-//! A clause is broken, or forces a literal, only where all its literals but one are false. So it is looked at when one of two open
+//! A clause is falsified, or forces a literal, only where all its literals but one are false. So it is looked at when one of two open
 //! literals falls, and then another open one is sought to watch it (Moskewicz, Madigan, Zhao, Zhang and Malik: Chaff, 2001): a
-//! literal that stands in many clauses costs those that it watches. Where literals are taken back nothing is mended. A row may have
+//! literal that stands in many clauses costs those that it watches. Where literals are backtracked nothing is mended. A row may have
 //! places that its literal does not watch any more: they are dropped when it falls.
 //!
-//! A row is gone through only as far as to the first clause that is broken, since a walk ends there: the literal then counts as one that
+//! A row is gone through only as far as to the first clause that is falsified, since a walk ends there: the literal then counts as one that
 //! was not propagated, and what its row would tell is not asked for before it is propagated anew. For that all literals
 //! that are assigned are asked, also those behind it: so of many copies of a clause whose literals all fall at once one is looked at.
 
@@ -16,7 +16,7 @@ ghost use Rattle.linear.specs.declared.term.Lit.{Lit};
 ghost use Rattle.normal_form.specs.Normal.{NormalConstraint, variable_bound};
 ghost use Rattle.linear.specs.Literal.{opposite};
 ghost use Rattle.propagate.specs.Literals.{lists};
-ghost use Rattle.ledger.specs.Trails.{assigned};
+ghost use Rattle.ledger.specs.Trails.{on_trail};
 ghost use Rattle.ledger.specs.declared.pair.Pair.{Pair};
 ghost use Rattle.ledger.specs.Falls.{IsBeside, IsFalling, IsFound, IsNearer, IsOneOf, IsPassed, IsRowEnd};
 ghost use Rattle.linear.specs.Literal.{code};
@@ -158,7 +158,7 @@ impl Watchers {
             → variable_bound n.terms ≤ trail.now.1 }
         requires unset { lists trail.now.0 fallen ≡ false }
         requires unfallen { IsOpen trail.now.0 fallen }
-        requires falls { lists (assigned trail.now) (opposite fallen) ≡ true }
+        requires falls { lists (on_trail trail.now) (opposite fallen) ≡ true }
         ensures { IsFound slots.now trail.now self.now.pairs place fallen result }
     {
         let Some(other) = self.beside(place, fallen) else {
@@ -178,14 +178,14 @@ impl Watchers {
         match open_beside(clause, trail, others) {
             Some(literal) => {
                 if fell && trail.assigns(literal.opposite()) {
-                    return Finding::Broken;
+                    return Finding::Falsified;
                 }
                 Finding::Moved(Pair {
                     first: literal,
                     second: other,
                 })
             }
-            None if fell => Finding::Broken,
+            None if fell => Finding::Falsified,
             None => Finding::Last,
         }
     }
@@ -217,7 +217,7 @@ impl Watchers {
         requires variable { fallen.var.0 < trail.now.1 }
         requires unset { lists trail.now.0 fallen ≡ false }
         requires unfallen { IsOpen trail.now.0 fallen }
-        requires falls { lists (assigned trail.now) (opposite fallen) ≡ true }
+        requires falls { lists (on_trail trail.now) (opposite fallen) ≡ true }
         requires index { index < length (slice_index_or self.old.rows (code fallen) []) }
         requires count { queue.old.1 ≡ length self.old.pairs }
         ensures passed { IfOk result (IsPassed slots.now trail.now fallen self.new queue.new.0) }
@@ -231,7 +231,7 @@ impl Watchers {
         let place = self.rows.row(fallen.code())[index];
         match self.look(slots, trail, fallen, place) {
             Finding::Satisfied => Ok(Progress::At(index + 1)),
-            Finding::Broken => Ok(Progress::Broken(place)),
+            Finding::Falsified => Ok(Progress::Falsified(place)),
             Finding::Last => {
                 queue.add(place);
                 Ok(Progress::At(index + 1))
@@ -249,7 +249,7 @@ impl Watchers {
         }
     }
 
-    /// A literal falls: what it watches is watched by another open literal from then on, or waits. Where a clause is broken, whose
+    /// A literal falls: what it watches is watched by another open literal from then on, or waits. Where a clause is falsified, whose
     /// place is returned, or memory ends, some of it.
     pub(crate) fn fall(
         &mut self,
@@ -264,7 +264,7 @@ impl Watchers {
         requires variable { fallen.var.0 < trail.now.1 }
         requires unset { lists trail.now.0 fallen ≡ false }
         requires unfallen { IsOpen trail.now.0 fallen }
-        requires falls { lists (assigned trail.now) (opposite fallen) ≡ true }
+        requires falls { lists (on_trail trail.now) (opposite fallen) ≡ true }
         requires count { queue.old.1 ≡ length self.old.pairs }
         ensures watched { AreWatched slots.now trail.now.0 trail.now.1 self.new }
         ensures end { IfOk result (IsRowEnd slots.now trail.now fallen self.new queue.new.0) }
@@ -276,7 +276,7 @@ impl Watchers {
         while index < self.rows.row(fallen.code()).len() {
             match self.pass(slots, trail, fallen, index, queue)? {
                 Progress::At(next) => index = next,
-                Progress::Broken(place) => return Ok(Some(place)),
+                Progress::Falsified(place) => return Ok(Some(place)),
             }
         }
         Ok(None)

@@ -142,13 +142,13 @@ optimum_least l p (v, least_is, is) values best =
 -- what a log improved to
 
 unimproved : (p : Opb) (s t : State) (step : Step) → p.objective ≡ None → Legal p s step t → improvement step t ≡ []
-unimproved p s t (kinds.Soli listing) none (objective, g, n, improves, is) =
+unimproved p s t (kinds.Soli assigned) none (objective, g, n, improves, is) =
     let clash : None ≡ Some objective = sym none ∙ improves.minimises in
     absurd (cc)
 unimproved p s t (kinds.Pol items) none legal = refl
 unimproved p s t (kinds.Rup c) none legal = refl
 unimproved p s t (kinds.Red c images) none legal = refl
-unimproved p s t (kinds.Sol listing) none legal = refl
+unimproved p s t (kinds.Sol assigned) none legal = refl
 unimproved p s t (kinds.Del ids) none legal = refl
 
 nothing_improves : (p : Opb) (s t : State) (all : List Step) (values : List ℤ) → p.objective ≡ None → LeadsImproving p s all t values → values ≡ []

@@ -7,3 +7,4 @@ pub mod FirstToken
 pub mod TokensExist
 pub mod TokensUnique
 pub mod Spans
+pub mod Portions

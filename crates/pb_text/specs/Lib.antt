@@ -9,3 +9,4 @@ pub mod Cursor
 pub mod Span
 pub mod TokensOf
 pub mod Ahead
+pub mod Devices

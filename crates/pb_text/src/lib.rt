@@ -4,6 +4,8 @@
 //! name is can never differ between a problem and its proof. Nothing is copied and no memory is taken: a token is a slice of
 //! its text. What the tokens of a text are is said twice, as a fold that computes and in the words of the formats, and a law
 //! says that both are one (`one_list_of_tokens`).
+//!
+//! Bytes come from sources and go to sinks, piece by piece, so that a proof larger than the memory can be read and written.
 #![tactic(auto)]
 
 pub mod cases;
@@ -12,7 +14,11 @@ mod cursor;
 mod kind;
 pub mod laws;
 mod lookahead;
+mod mem_sink;
+mod mem_source;
 mod number;
+mod sink;
+mod source;
 mod spot;
 mod token;
 mod tokens;
@@ -20,6 +26,10 @@ mod tokens;
 pub use kind::{Kind, Symbol};
 pub use laws::{kinds_of_words, one_list_of_tokens, tokens_in_order, tokens_stand_in_text};
 pub use lookahead::Lookahead;
+pub use mem_sink::MemSink;
+pub use mem_source::{MemSource, Portion};
 pub use number::{LARGEST_NUMBER, NumFault, integer};
+pub use sink::Sink;
+pub use source::{DeviceFault, Source};
 pub use token::{Literal, Token, as_literal};
 pub use tokens::{Tokens, end_line};

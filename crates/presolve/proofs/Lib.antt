@@ -8,3 +8,4 @@ pub mod Symmetry
 pub mod NetSums
 pub mod Pairing
 pub mod Alike
+pub mod Weighing

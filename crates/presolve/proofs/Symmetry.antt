@@ -1,5 +1,5 @@
 -- Two variables may change places where each constraint that has one of them becomes one of the file.
-use Rattle.std.proofs.Common.{◌≡◌, ℕ, suc, ◌<◌, ◌⊎◌, inl, inr, ◌==◌, if◌then◌else◌, Bool, true, false, List, [], ◌∷◌, length, get_or, All, Contains, IsTrue, refl, sym, ap, subst, ◌∙◌, arith}
+use Rattle.std.proofs.Common.{◌≡◌, ℕ, zero, suc, ◌+◌, ◌<◌, ◌≤◌, ◌⊎◌, inl, inr, ◌==◌, if◌then◌else◌, Bool, true, false, List, [], ◌∷◌, length, get_or, All, Contains, IsTrue, refl, sym, ap, subst, ◌∙◌, arith}
 use Rattle.std.specs.Prelude.{◌↔◌}
 use Rattle.std.specs.Global.{Vec}
 use Rattle.std.specs.List.{list_any}
@@ -10,7 +10,7 @@ use Rattle.linear.specs.declared.constraint.Relation.{Relation}
 use Rattle.linear.specs.declared.constraint.Relation.TheVariants as relations
 use Rattle.linear.specs.declared.constraint.Signed.{Signed}
 use Rattle.normal_form.specs.declared.term.NormalTerm.{NormalTerm}
-use Rattle.normal_form.specs.Normal.{NormalConstraint, Rises, coefficient, only, sum_over}
+use Rattle.normal_form.specs.Normal.{NormalConstraint, Rises, coefficient, only, same_sign, sum_over}
 use Rattle.normal_form.proofs.OneList.{one_constraint}
 use Rattle.presolve.specs.Forms.{AreKeysOf, ArePlacesOf, HasExchange, HasExchangeAt, HasTerm, constraint_of, constraints_of, places_at}
 use Rattle.presolve.specs.Standing.{IsFormAs}
@@ -24,7 +24,7 @@ form_rises relations.Equal c n (inl f) = f.rises
 form_rises relations.Equal c n (inr f) = f.rises
 
 -- the key at a place is among the constraints
-key_in : (keys : List Form) (i : ℕ) (d : Form) → i < length keys → Contains (constraints_of keys) (constraint_of (get_or keys i d))
+pub key_in : (keys : List Form) (i : ℕ) (d : Form) → i < length keys → Contains (constraints_of keys) (constraint_of (get_or keys i d))
 key_in keys i d h =
     let n = constraint_of (get_or keys i d) in
     (i, omega (arith, h, length-map keys constraint_of), get_or-map constraint_of keys i d n h)
@@ -39,7 +39,7 @@ some_form [] i h = absurd (omega (arith, h))
 some_form (k ∷ ks) i h = k
 
 -- a constraint among those of keys rises, where they do
-member_rises : (keys : List Form) (m : NormalConstraint) → All (λ k. Rises 0 k.terms.items) keys → Contains (constraints_of keys) m → Rises 0 m.terms
+pub member_rises : (keys : List Form) (m : NormalConstraint) → All (λ k. Rises 0 k.terms.items) keys → Contains (constraints_of keys) m → Rises 0 m.terms
 member_rises keys m rises c =
     let inside : c.0 < length keys = omega (arith, c.1, length-map keys constraint_of) in
     let k : Form = some_form keys c.0 inside in
@@ -54,6 +54,58 @@ exchange_found same tells keys x y n image answer rises is up found_by =
     one : (has : HasExchange x y (constraints_of keys) n) → has.0 ≡ constraint_of image
     one has =
         one_constraint has.0 (constraint_of image) (member_rises keys has.0 rises has.1) up (λ v s. has.2.coefficients v s ∙ sym (is.coefficients v s)) (has.2.degree ∙ sym is.degree)
+
+-- a term that stands among others that rise is the only one of its variable
+pub none_before : (low v : ℕ) (s : Bool) (ts : List NormalTerm) → Rises low ts → v < low → sum_over (only v s) ts ≡ 0
+none_before low v s [] r h = refl
+none_before low v s (t ∷ ts) r h =
+    let rest = none_before (t.var.0 + 1) v s ts r.2 (omega (arith, r.0, h)) in
+    let here : (t.var.0 == v) ≡ false = grind (arith, nat_tests, r.0, h) in
+    grind (arith, rest, here)
+
+low_at : (low : ℕ) (ts : List NormalTerm) (i : ℕ) (d : NormalTerm) → Rises low ts → i < length ts → low ≤ (get_or ts i d).var.0
+low_at low (t ∷ ts) zero d r h = r.0
+low_at low (t ∷ ts) (suc i) d r h = omega (arith, r.0, low_at (t.var.0 + 1) ts i d r.2 (omega (arith, h)))
+low_at low [] i d r h = absurd (omega (arith, h))
+
+only_term : (low : ℕ) (ts : List NormalTerm) (t : NormalTerm) (i : ℕ) (d : NormalTerm) (s : Bool) → Rises low ts → i < length ts → get_or ts i d ≡ t
+    → sum_over (only (t.var.0) s) ts ≡ (if same_sign s t.negated then t.coef else 0)
+only_term low [] t i d s r h e = absurd (omega (arith, h))
+only_term low (u ∷ us) t zero d s r h e =
+    subst (λ (x : NormalTerm). sum_over (only (x.var.0) s) (u ∷ us) ≡ (if same_sign s x.negated then x.coef else 0)) e
+    (let rest = none_before (u.var.0 + 1) (u.var.0) s us r.2 (omega arith) in
+    let here : (u.var.0 == u.var.0) ≡ true = grind (arith, nat_tests) in
+    grind (arith, rest, here))
+only_term low (u ∷ us) t (suc i) d s r h e =
+    let rest = only_term (u.var.0 + 1) us t i d s r.2 (omega (arith, h)) e in
+    let above : u.var.0 + 1 ≤ t.var.0 = subst (λ (x : NormalTerm). u.var.0 + 1 ≤ x.var.0) e (low_at (u.var.0 + 1) us i d r.2 (omega (arith, h))) in
+    let here : (u.var.0 == t.var.0) ≡ false = grind (arith, nat_tests, above) in
+    grind (arith, rest, here)
+
+-- terms that are alike
+pub alike_terms : (x y : ℕ) (n : NormalConstraint) (t u : NormalTerm) → Rises 0 n.terms → Contains n.terms t × (t.var.0 ≡ x) → Contains n.terms u × (u.var.0 ≡ y)
+    → t.coef ≡ u.coef → t.negated ≡ u.negated → IsExchange x y n n
+alike_terms x y n t u rises first second coefs signs = record { coefficients = λ v s. by v s (v == x) (v == y) refl refl; degree = refl }
+  where
+    same : (s : Bool) → coefficient n x s ≡ coefficient n y s
+    same s =
+        ap (λ v. coefficient n v s) (sym first.1)
+        ∙ only_term 0 n.terms t first.0.0 t s rises first.0.1 (get_or_default n.terms first.0.0 t t first.0.1 ∙ first.0.2)
+        ∙ ap (λ c. if same_sign s t.negated then c else 0) coefs
+        ∙ ap (λ m. if same_sign s m then u.coef else 0) signs
+        ∙ sym (only_term 0 n.terms u second.0.0 u s rises second.0.1 second.0.2)
+        ∙ ap (λ v. coefficient n v s) second.1
+
+    by : (v : ℕ) (s p q : Bool) → p ≡ (v == x) → q ≡ (v == y) → coefficient n v s ≡ coefficient n (if p then y else if q then x else v) s
+    by v s true q e f = ap (λ k. coefficient n k s) (number v x e) ∙ same s
+      where
+        number : (a b : ℕ) → true ≡ (a == b) → a ≡ b
+        number a b t = grind (arith, nat_tests)
+    by v s false true e f = ap (λ k. coefficient n k s) (number v y f) ∙ sym (same s)
+      where
+        number : (a b : ℕ) → true ≡ (a == b) → a ≡ b
+        number a b t = grind (arith, nat_tests)
+    by v s false false e f = refl
 
 -- a variable has a term, or its literals have no coefficient
 has_or_none : (v : ℕ) (ts : List NormalTerm) → HasTerm v ts ⊎ ((s : Bool) → sum_over (only v s) ts ≡ 0)

@@ -5,6 +5,7 @@ use Rattle.linear.specs.declared.constraint.Signed.{Signed}
 use Rattle.normal_form.specs.declared.term.NormalTerm.{NormalTerm}
 use Rattle.normal_form.specs.Normal.{NormalConstraint, Rises}
 use Rattle.presolve.specs.Swapping.{IsExchange, IsFormIn, exchanged}
+use Rattle.presolve.specs.Weights.{greatest}
 use Rattle.presolve.specs.declared.form.Form.{Form}
 use Rattle.presolve.specs.declared.file_forms.FileForms.{FileForms}
 
@@ -65,7 +66,9 @@ HasExchange x y constraints n = (m : NormalConstraint) × Contains constraints m
 abbrev pub HasExchangeAt : ℕ → ℕ → List Form → ℕ → Type 0
 HasExchangeAt x y keys i = (d : Form) → HasExchange x y (constraints_of keys) (constraint_of (slice_index_or keys i d))
 
--- each key is a list of terms that rises, and it is noted where it stands
+-- each key is a list of terms that rises, it is noted where it stands, and each variable is weighed
 pub record IsIndexed (forms : FileForms) : Type 0 where
   pub rises : All (λ k. Rises 0 k.terms.items) forms.keys.keys
   pub places : ArePlacesOf forms.keys.keys (length forms.places.items) forms.places.items
+  pub weighed : length forms.weights.items ≡ length forms.places.items
+  pub weights : (v : ℕ) → v < length forms.places.items → slice_index_or forms.weights.items v 0 ≡ greatest forms.keys.keys v

@@ -5,3 +5,4 @@ pub mod Cases
 pub mod Swapping
 pub mod Forms
 pub mod Pairs
+pub mod Weights

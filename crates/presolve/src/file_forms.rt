@@ -14,16 +14,19 @@ ghost use Rattle.presolve.specs.declared.form.Form.{Form};
 ghost use Rattle.linear.specs.declared.constraint.Signed.{Signed};
 
 use super::form::Form;
+use super::weights::weights_of;
 use indexmap::IndexSet;
 use linear::{Problem, Relation, Signed, Var};
 use normal_form::{CutFault, Normal, NormalTerm, both, normalize};
 use std::alloc::{AllocError, Global};
 
-/// The normal constraints of a file, none twice, and for each variable the places of those that have it.
+/// The normal constraints of a file, none twice, and for each variable the places of those that have it, and its greatest
+/// weight in them.
 #[derive(Drop)]
 pub(crate) struct FileForms {
     keys: IndexSet<Form>,
     places: Vec<Vec<usize>>,
+    weights: Vec<u64>,
 }
 
 /// Adds a normal constraint, if it is not there.
@@ -119,8 +122,14 @@ impl FileForms {
         ensures memory { OnErr result (IsErrOf result CutFault.OutOfMemory) }
     {
         let keys = keys_of(alloc, problem)?;
-        let places = places_of(alloc, keys.as_slice(), problem.names().len())?;
-        Ok(FileForms { keys, places })
+        let count = problem.names().len();
+        let places = places_of(alloc, keys.as_slice(), count)?;
+        let weights = weights_of(alloc, keys.as_slice(), count)?;
+        Ok(FileForms {
+            keys,
+            places,
+            weights,
+        })
     }
 
     /// Whether the constraint at a place becomes one of the file where two variables change places.
@@ -129,7 +138,11 @@ impl FileForms {
         requires indexed { IsIndexed self.now }
         ensures { (d : Form) → IfOk result (λ yes. IsTrue yes ↔ HasExchange (x.0) (y.0) (constraints_of self.now.keys.keys) (constraint_of (slice_index_or self.now.keys.keys place d))) }
     {
-        let image = self.keys.as_slice()[place].exchange(alloc, x, y)?;
+        let form = &self.keys.as_slice()[place];
+        if form.has_alike(x, y) {
+            return Ok(true);
+        }
+        let image = form.exchange(alloc, x, y)?;
         Ok(self.keys.contains(&image))
     }
 
@@ -148,13 +161,16 @@ impl FileForms {
     }
 
     /// Whether each constraint becomes one of the file where two variables change places. A constraint that has neither
-    /// stays as it is.
+    /// stays as it is, and where the variables' weights differ none has to be looked at.
     pub(crate) fn is_symmetric(&self, alloc: Global, x: Var, y: Var) -> Result<bool, AllocError>
         requires first { x.0 < length self.now.places.items }
         requires second { y.0 < length self.now.places.items }
         requires indexed { IsIndexed self.now }
         ensures { (constraints : List Signed) → AreKeysOf constraints self.now.keys.keys → IfOk result (λ yes. IsTrue yes ↔ IsSymmetric constraints (x.0) (y.0)) }
     {
+        if self.weights[x.0 as usize] != self.weights[y.0 as usize] {
+            return Ok(false);
+        }
         Ok(self.all_exchange(alloc, x, x, y)? && self.all_exchange(alloc, y, x, y)?)
     }
 }

@@ -1,6 +1,6 @@
 //! Normal constraints as keys of a set, so that one is found among those of a file without a look at all of them.
 
-ghost use Rattle.std.specs.Prelude.{◌≡◌, IfOk};
+ghost use Rattle.std.specs.Prelude.{◌≡◌, Contains, IfOk, IfSome, IsTrue};
 ghost use Rattle.normal_form.specs.Normal.{Rises};
 ghost use Rattle.presolve.specs.Forms.{constraint_of, terms_exchanged};
 ghost use Rattle.presolve.specs.Swapping.{IsExchange, exchanged};
@@ -13,7 +13,7 @@ use std::alloc::{AllocError, Global};
 #[derive(Debug, Drop, PartialEq, Eq, Hash)]
 pub(crate) struct Form {
     pub(crate) terms: Vec<NormalTerm>,
-    degree: u128,
+    pub(crate) degree: u128,
 }
 
 /// The terms of a normal constraint.
@@ -61,6 +61,40 @@ fn exchange(
 }
 
 impl Form {
+    /// The term of a variable, sought by halving, since terms rise.
+    fn term_of(&self, variable: Var) -> Option<NormalTerm>
+        ensures { IfSome result (λ t. Contains self.now.terms.items t × (t.var.0 ≡ variable.0)) }
+    {
+        let mut low = 0;
+        let mut high = self.terms.len();
+        while low < high {
+            let middle = low + (high - low) / 2;
+            if self.terms[middle].var.0 < variable.0 {
+                low = middle + 1;
+            } else {
+                high = middle;
+            }
+        }
+        let term = *self.terms.get(low)?;
+        if term.var == variable {
+            Some(term)
+        } else {
+            None
+        }
+    }
+
+    /// Whether two variables have terms that are alike: then it stays as it is where they change places, and nothing has to be
+    /// copied to see that.
+    pub(crate) fn has_alike(&self, x: Var, y: Var) -> bool
+        requires { Rises 0 self.now.terms.items }
+        ensures { IsTrue result → IsExchange (x.0) (y.0) (constraint_of self.now) (constraint_of self.now) }
+    {
+        let (Some(one), Some(other)) = (self.term_of(x), self.term_of(y)) else {
+            return false;
+        };
+        one.coef == other.coef && one.negated == other.negated
+    }
+
     /// A normal constraint as a key.
     pub(crate) fn of(alloc: Global, normal: &Normal) -> Result<Form, AllocError>
         ensures { IfOk result (λ form. constraint_of form ≡ normal.now) }

@@ -12,6 +12,7 @@ mod fixing;
 mod form;
 mod swapping;
 mod uses;
+mod weights;
 
 pub use fixing::fixable;
 pub use swapping::{Swap, swappable};

@@ -118,7 +118,7 @@ best_solves p logged (Some g) all (before, behind, is, less, no_more) =
 -- a hint is one more solution
 hint_preserves : (p : Opb) (s t : State) (hint : Option (List Lit)) → IsPreserved p s → AreNormal s → TakesHint p s hint t → IsPreserved p t × AreNormal t
 hint_preserves p s t None kept normal is = (subst (IsPreserved p) (sym is) kept, subst AreNormal (sym is) normal)
-hint_preserves p s t (Some listing) kept normal legal = (sol_preserves p s t listing kept legal, sol_normal p s t listing normal legal)
+hint_preserves p s t (Some assigned) kept normal legal = (sol_preserves p s t assigned kept legal, sol_normal p s t assigned normal legal)
 
 pub justified_claim : (p : Opb) (s : State) (c : Conclusion) (best : Option (List Bool)) → IsPreserved p s → AreNormal s → IsJustified p s c best → Claim p c best
 justified_claim p s c best kept normal (t, hint, holds, is_best) =

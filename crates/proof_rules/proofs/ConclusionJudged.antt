@@ -135,17 +135,17 @@ sat_judged s = elim (empty_decided s.logged) as (λ _. Or (s.logged ≢ []) (IsS
 abbrev HintJudged : Opb → State → Option (List Lit) → Type 0
 HintJudged p s hint = Or ((t : State) × TakesHint p s hint t) (IsHintFault p s hint)
 
-hint_from : (p : Opb) (s : State) (listing : List Lit) → LogJudged p s listing → HintJudged p s (Some listing)
-hint_from p s listing (inl (g, logs)) = inl (with_solution g s, (g, logs, refl))
-hint_from p s listing (inr fault) = inr fault
+hint_from : (p : Opb) (s : State) (assigned : List Lit) → LogJudged p s assigned → HintJudged p s (Some assigned)
+hint_from p s assigned (inl (g, logs)) = inl (with_solution g s, (g, logs, refl))
+hint_from p s assigned (inr fault) = inr fault
 
 hint_judged : (p : Opb) (s : State) (hint : Option (List Lit)) → HintJudged p s hint
 hint_judged p s None = inl (s, refl)
-hint_judged p s (Some listing) = hint_from p s listing (log_judged p s listing)
+hint_judged p s (Some assigned) = hint_from p s assigned (log_judged p s assigned)
 
 pub one_hint : (p : Opb) (s : State) (hint : Option (List Lit)) (t u : State) → TakesHint p s hint t → TakesHint p s hint u → t ≡ u
 one_hint p s None t u is also = is ∙ sym also
-one_hint p s (Some listing) t u (g, logs, is) (h, also, same) = is ∙ ap (λ b. with_solution b s) (one_log p s listing g h logs also) ∙ sym same
+one_hint p s (Some assigned) t u (g, logs, is) (h, also, same) = is ∙ ap (λ b. with_solution b s) (one_log p s assigned g h logs also) ∙ sym same
 
 -- what is judged behind a hint, in the one state that it leads to
 behind_hint : (p : Opb) (s t : State) (hint : Option (List Lit)) (condition : State → Type 0) → TakesHint p s hint t → condition t → judging.IsBehindHint p s hint condition
@@ -171,7 +171,7 @@ BehindObjective p s objective lower upper hint f = IsHintFault p s hint f ⊎ ju
 
 no_hint_fault : (p : Opb) (s : State) (hint : Option (List Lit)) → IsHintFault p s hint faults.NoObjective → ⊥
 no_hint_fault p s None h = h
-no_hint_fault p s (Some listing) h = h
+no_hint_fault p s (Some assigned) h = h
 
 no_lower_fault : (s : State) (objective : List Term) (lower : Lower) → IsLowerFault s objective lower faults.NoObjective → ⊥
 no_lower_fault s objective lowers.MinusInf h = h

@@ -67,14 +67,14 @@ red_never p s t c images f (inr (n, m, admitted, room, negated, goal)) (k, j, ad
     goal_never p s (constraints s ++ j ∷ []) images k f r.each_live r.itself r.objective
     (subst (λ z. IsGoalFault p s (constraints s ++ z ∷ []) images k f) other (subst (λ z. IsGoalFault p s (constraints s ++ m ∷ []) images z f) same goal))
 
-pub sol_never : (p : Opb) (s : State) (listing : List Lit) (g : List Bool) (f : StepFault) → IsSolFault p s listing f → Logs p s listing g → ⊥
-sol_never p s listing g faults.SolutionConflict (inl not) logs = not logs.completes.consistent
-sol_never p s listing g faults.SolutionConflict (inr (consistent, not_all, leads)) logs =
+pub sol_never : (p : Opb) (s : State) (assigned : List Lit) (g : List Bool) (f : StepFault) → IsSolFault p s assigned f → Logs p s assigned g → ⊥
+sol_never p s assigned g faults.SolutionConflict (inl not) logs = not logs.completes.consistent
+sol_never p s assigned g faults.SolutionConflict (inr (consistent, not_all, leads)) logs =
     elim (logs.completes.completed) as (λ _. ⊥) [ inl h ↦ not_all h.0 | inr h ↦ h.1 leads ]
-sol_never p s listing g faults.SolutionPartial (consistent, no_conflict, (v, below, none)) logs =
-    gap_never (constraints s) (length p.names) listing v below none g logs.completes
-sol_never p s listing g faults.SolutionFalse (some, breaks) logs = breaks g logs.completes logs.satisfies
-sol_never p s listing g _ h logs = h
+sol_never p s assigned g faults.SolutionPartial (consistent, no_conflict, (v, below, none)) logs =
+    gap_never (constraints s) (length p.names) assigned v below none g logs.completes
+sol_never p s assigned g faults.SolutionFalse (some, breaks) logs = breaks g logs.completes logs.satisfies
+sol_never p s assigned g _ h logs = h
 
 pub less_never : (x y : ℤ) → x <ℤ y → y ≤ℤ x → ⊥
 less_never x y h k = omega (arith, ints, h, k)
@@ -82,13 +82,13 @@ less_never x y h k = omega (arith, ints, h, k)
 pub none_some : {A : Type 0} (o : Option A) (x : A) → o ≡ None → o ≡ Some x → ⊥
 none_some o x h k = let same : None ≡ Some x = sym h ∙ k in absurd (cc)
 
-soli_never : (p : Opb) (s t : State) (listing : List Lit) (f : StepFault) → IsSoliFault p s listing f → LegalSoli p s listing t → ⊥
-soli_never p s t listing faults.NoObjective none (objective, g, n, better, is) = none_some p.objective objective none better.minimises
-soli_never p s t listing faults.NotImproving (some, log, not) (objective, g, n, better, is) =
+soli_never : (p : Opb) (s t : State) (assigned : List Lit) (f : StepFault) → IsSoliFault p s assigned f → LegalSoli p s assigned t → ⊥
+soli_never p s t assigned faults.NoObjective none (objective, g, n, better, is) = none_some p.objective objective none better.minimises
+soli_never p s t assigned faults.NotImproving (some, log, not) (objective, g, n, better, is) =
     let worse = not g better.logs in
     less_never (worth_of p g) worse.0 (subst (λ o. IfSome o (λ least. worth_of p g <ℤ least)) worse.1 better.better) worse.2
-soli_never p s t listing faults.TooManyIds (some, log, full) (objective, g, n, better, is) = full better.room
-soli_never p s t listing f h (objective, g, n, better, is) = sol_never p s listing g f h.1 better.logs
+soli_never p s t assigned faults.TooManyIds (some, log, full) (objective, g, n, better, is) = full better.room
+soli_never p s t assigned f h (objective, g, n, better, is) = sol_never p s assigned g f h.1 better.logs
 
 is_some_never : {A : Type 0} (o : Option A) → o ≡ None → IsSome o → ⊥
 is_some_never o h k = subst (λ x. IsSome x → ⊥) (sym h) (λ n. false≢true n) k
@@ -117,8 +117,8 @@ pub step_never : (p : Opb) (s : State) (step : Step) (f : StepFault) (t : State)
 step_never p s (steps.Pol written) f t h legal = pol_never s t written f h legal
 step_never p s (steps.Rup c) f t h legal = rup_never s t c f h legal
 step_never p s (steps.Red c images) f t h legal = red_never p s t c images f h legal
-step_never p s (steps.Sol listing) f t h (g, logs, is) = sol_never p s listing g f h logs
-step_never p s (steps.Soli listing) f t h legal = soli_never p s t listing f h legal
+step_never p s (steps.Sol assigned) f t h (g, logs, is) = sol_never p s assigned g f h logs
+step_never p s (steps.Soli assigned) f t h legal = soli_never p s t assigned f h legal
 step_never p s (steps.Del ids) f t h legal = del_never p s t ids f h legal
 
 pub unsat_never : (s : State) (f : StepFault) → IsUnsatFault s f → IsExhausted s → ⊥
@@ -153,7 +153,7 @@ sat_never s _ h some = h
 
 pub hint_never : (p : Opb) (s t : State) (hint : Option (List Lit)) (f : StepFault) → IsHintFault p s hint f → TakesHint p s hint t → ⊥
 hint_never p s t None f h takes = h
-hint_never p s t (Some listing) f h (g, logs, is) = sol_never p s listing g f h logs
+hint_never p s t (Some assigned) f h (g, logs, is) = sol_never p s assigned g f h logs
 
 pub one_objective : (o : Option (List Term)) (x y : List Term) → o ≡ Some x → o ≡ Some y → x ≡ y
 one_objective o x y h k = let same : Some x ≡ Some y = sym h ∙ k in cc

@@ -144,7 +144,7 @@ pub numbered_step : (p : Opb) (s : State) (step : Step) (t : State) → AreNumbe
 numbered_step p s (steps.Pol items) t h (n, value, adds) = added s t n h adds
 numbered_step p s (steps.Rup c) t h (n, admitted, shown, adds) = added s t n h adds
 numbered_step p s (steps.Red c images) t h (n, m, admitted, redundant, adds) = added s t n h adds
-numbered_step p s (steps.Sol listing) t h (g, logs, is) = subst (λ u. AreNumbered u.live u.next) (sym is) h
-numbered_step p s (steps.Soli listing) t h (objective, g, n, improves, is) =
+numbered_step p s (steps.Sol assigned) t h (g, logs, is) = subst (λ u. AreNumbered u.live u.next) (sym is) h
+numbered_step p s (steps.Soli assigned) t h (objective, g, n, improves, is) =
     subst (λ u. AreNumbered u.live u.next) (sym is) (numbered_more s.live s.next n h improves.room)
 numbered_step p s (steps.Del ids) t h legal = deleted p s t ids h legal

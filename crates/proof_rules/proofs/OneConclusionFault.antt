@@ -71,7 +71,7 @@ sat_is s _ h = absurd h
 
 one_hint_fault : (p : Opb) (s : State) (hint : Option (List Lit)) (f g : StepFault) → IsHintFault p s hint f → IsHintFault p s hint g → f ≡ g
 one_hint_fault p s None f g h k = absurd h
-one_hint_fault p s (Some listing) f g h k = one_sol_fault p s listing f g h k
+one_hint_fault p s (Some assigned) f g h k = one_sol_fault p s assigned f g h k
 
 -- a fault of the hint, or one behind it
 one_hinted : (p : Opb) (s : State) (hint : Option (List Lit)) (IsFault : State → StepFault → Type 0) (f g : StepFault)

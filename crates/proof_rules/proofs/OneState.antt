@@ -22,10 +22,10 @@ use Rattle.proof_rules.proofs.SolJudged.{one_log}
 one_addition : (s t u : State) (n m : NormalConstraint) → n ≡ m → Adds n s t → Adds m s u → t ≡ u
 one_addition s t u n m same adds also = adds.1 ∙ ap (λ k. with_constraint k s) same ∙ sym also.1
 
-one_improvement : (p : Opb) (s t u : State) (listing : List Lit) → LegalSoli p s listing t → LegalSoli p s listing u → t ≡ u
-one_improvement p s t u listing (objective, g, n, better, is) (other, h, m, also, is') =
+one_improvement : (p : Opb) (s t u : State) (assigned : List Lit) → LegalSoli p s assigned t → LegalSoli p s assigned u → t ≡ u
+one_improvement p s t u assigned (objective, g, n, better, is) (other, h, m, also, is') =
     let objectives : objective ≡ other = one_objective p.objective objective other better.minimises also.minimises in
-    let solutions : g ≡ h = one_log p s listing g h better.logs also.logs in
+    let solutions : g ≡ h = one_log p s assigned g h better.logs also.logs in
     let form : IsNormalOf (at_most objective (worth_of p g -ℤ pos 1)) m =
     subst (λ b. IsNormalOf (at_most objective (worth_of p b -ℤ pos 1)) m) (sym solutions)
     (subst (λ o. IsNormalOf (at_most o (worth_of p h -ℤ pos 1)) m) (sym objectives) also.form) in
@@ -36,8 +36,8 @@ pub one_state : (p : Opb) (s t u : State) (step : Step) → Legal p s step t →
 one_state p s t u (steps.Pol written) (n, polish, adds) (m, polish', also) = one_addition s t u n m (one_polish (constraint_of s) written n m polish polish') adds also
 one_state p s t u (steps.Rup c) (n, admitted, shown, adds) (m, admitted', shown', also) = one_addition s t u n m (one_admitted c n m admitted admitted') adds also
 one_state p s t u (steps.Red c images) (n, k, admitted, r, adds) (m, j, admitted', r', also) = one_addition s t u n m (one_admitted c n m admitted admitted') adds also
-one_state p s t u (steps.Sol listing) (g, logs, is) (h, also, is') = is ∙ ap (λ b. with_solution b s) (one_log p s listing g h logs also) ∙ sym is'
-one_state p s t u (steps.Soli listing) legal also = one_improvement p s t u listing legal also
+one_state p s t u (steps.Sol assigned) (g, logs, is) (h, also, is') = is ∙ ap (λ b. with_solution b s) (one_log p s assigned g h logs also) ∙ sym is'
+one_state p s t u (steps.Soli assigned) legal also = one_improvement p s t u assigned legal also
 one_state p s t u (steps.Del ids) legal also = one_deletion p s t u ids legal also
 
 -- the best of logged solutions

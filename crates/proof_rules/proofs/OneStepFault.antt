@@ -122,79 +122,79 @@ one_red_fault p s c images f g (inr h) (inr k) = one_open_goal p s c images f g 
 -- sol
 
 abbrev Conflicts : Opb → State → List Lit → Type 0
-Conflicts p s listing = IsSolFault p s listing faults.SolutionConflict
+Conflicts p s assigned = IsSolFault p s assigned faults.SolutionConflict
 
 abbrev Completed : Opb → State → List Lit → Type 0
-Completed p s listing = (g : List Bool) × Completes (constraints s) (length p.names) listing g
+Completed p s assigned = (g : List Bool) × Completes (constraints s) (length p.names) assigned g
 
 abbrev IsPartial : Opb → State → List Lit → Type 0
-IsPartial p s listing = IsSolFault p s listing faults.SolutionPartial
+IsPartial p s assigned = IsSolFault p s assigned faults.SolutionPartial
 
-sol_is : (p : Opb) (s : State) (listing : List Lit) (f : StepFault) → IsSolFault p s listing f
-    → Case f faults.SolutionConflict (Conflicts p s listing) ⊎ (Case f faults.SolutionPartial (IsPartial p s listing) ⊎ Case f faults.SolutionFalse (Completed p s listing))
-sol_is p s listing faults.SolutionConflict h = inl (refl, h)
-sol_is p s listing faults.SolutionPartial h = inr (inl (refl, h))
-sol_is p s listing faults.SolutionFalse h = inr (inr (refl, h.0))
-sol_is p s listing _ h = absurd h
+sol_is : (p : Opb) (s : State) (assigned : List Lit) (f : StepFault) → IsSolFault p s assigned f
+    → Case f faults.SolutionConflict (Conflicts p s assigned) ⊎ (Case f faults.SolutionPartial (IsPartial p s assigned) ⊎ Case f faults.SolutionFalse (Completed p s assigned))
+sol_is p s assigned faults.SolutionConflict h = inl (refl, h)
+sol_is p s assigned faults.SolutionPartial h = inr (inl (refl, h))
+sol_is p s assigned faults.SolutionFalse h = inr (inr (refl, h.0))
+sol_is p s assigned _ h = absurd h
 
-conflict_partial : (p : Opb) (s : State) (listing : List Lit) → Conflicts p s listing → IsPartial p s listing → ⊥
-conflict_partial p s listing (inl not) partial = not partial.0
-conflict_partial p s listing (inr (consistent, not_all, leads)) partial = partial.1 leads
+conflict_partial : (p : Opb) (s : State) (assigned : List Lit) → Conflicts p s assigned → IsPartial p s assigned → ⊥
+conflict_partial p s assigned (inl not) partial = not partial.0
+conflict_partial p s assigned (inr (consistent, not_all, leads)) partial = partial.1 leads
 
-conflict_completed : (p : Opb) (s : State) (listing : List Lit) → Conflicts p s listing → Completed p s listing → ⊥
-conflict_completed p s listing (inl not) (g, c) = not c.consistent
-conflict_completed p s listing (inr (consistent, not_all, leads)) (g, c) = elim (c.completed) as (λ _. ⊥) [ inl h ↦ not_all h.0 | inr h ↦ h.1 leads ]
+conflict_completed : (p : Opb) (s : State) (assigned : List Lit) → Conflicts p s assigned → Completed p s assigned → ⊥
+conflict_completed p s assigned (inl not) (g, c) = not c.consistent
+conflict_completed p s assigned (inr (consistent, not_all, leads)) (g, c) = elim (c.completed) as (λ _. ⊥) [ inl h ↦ not_all h.0 | inr h ↦ h.1 leads ]
 
-partial_completed : (p : Opb) (s : State) (listing : List Lit) → IsPartial p s listing → Completed p s listing → ⊥
-partial_completed p s listing (consistent, free, (v, below, none)) (g, c) = gap_never (constraints s) (length p.names) listing v below none g c
+partial_completed : (p : Opb) (s : State) (assigned : List Lit) → IsPartial p s assigned → Completed p s assigned → ⊥
+partial_completed p s assigned (consistent, free, (v, below, none)) (g, c) = gap_never (constraints s) (length p.names) assigned v below none g c
 
-pub one_sol_fault : (p : Opb) (s : State) (listing : List Lit) (f g : StepFault) → IsSolFault p s listing f → IsSolFault p s listing g → f ≡ g
-one_sol_fault p s listing f g h k =
-    one_of_three f g faults.SolutionConflict faults.SolutionPartial faults.SolutionFalse (Conflicts p s listing) (IsPartial p s listing) (Completed p s listing)
-    (conflict_partial p s listing) (conflict_completed p s listing) (partial_completed p s listing) (sol_is p s listing f h) (sol_is p s listing g k)
+pub one_sol_fault : (p : Opb) (s : State) (assigned : List Lit) (f g : StepFault) → IsSolFault p s assigned f → IsSolFault p s assigned g → f ≡ g
+one_sol_fault p s assigned f g h k =
+    one_of_three f g faults.SolutionConflict faults.SolutionPartial faults.SolutionFalse (Conflicts p s assigned) (IsPartial p s assigned) (Completed p s assigned)
+    (conflict_partial p s assigned) (conflict_completed p s assigned) (partial_completed p s assigned) (sol_is p s assigned f h) (sol_is p s assigned g k)
 
 -- soli
 
 abbrev NotBetter : Opb → State → List Lit → Type 0
-NotBetter p s listing = ((g : List Bool) × Logs p s listing g) × ((g : List Bool) → Logs p s listing g → IsNotBetter p s g)
+NotBetter p s assigned = ((g : List Bool) × Logs p s assigned g) × ((g : List Bool) → Logs p s assigned g → IsNotBetter p s g)
 
 abbrev Better : Opb → State → List Lit → Type 0
-Better p s listing = (g : List Bool) × Logs p s listing g × IfSome s.least (λ least. worth_of p g <ℤ least)
+Better p s assigned = (g : List Bool) × Logs p s assigned g × IfSome s.least (λ least. worth_of p g <ℤ least)
 
-not_better : (p : Opb) (s : State) (listing : List Lit) → NotBetter p s listing → Better p s listing → ⊥
-not_better p s listing (some, all) (g, logs, better) =
+not_better : (p : Opb) (s : State) (assigned : List Lit) → NotBetter p s assigned → Better p s assigned → ⊥
+not_better p s assigned (some, all) (g, logs, better) =
     let worse = all g logs in
     less_never (worth_of p g) worse.0 (subst (λ o. IfSome o (λ least. worth_of p g <ℤ least)) worse.1 better) worse.2
 
 abbrev SoliCase : Opb → State → List Lit → StepFault → Type 0
-SoliCase p s listing f = IsSolFault p s listing f ⊎ (Case f faults.NotImproving (NotBetter p s listing) ⊎ Case f faults.TooManyIds (Better p s listing))
+SoliCase p s assigned f = IsSolFault p s assigned f ⊎ (Case f faults.NotImproving (NotBetter p s assigned) ⊎ Case f faults.TooManyIds (Better p s assigned))
 
-soli_is : (p : Opb) (s : State) (listing : List Lit) (f : StepFault) → IsSoliFault p s listing f → Case f faults.NoObjective (p.objective ≡ None) ⊎ ((p.objective ≢ None) × SoliCase p s listing f)
-soli_is p s listing faults.NoObjective h = inl (refl, h)
-soli_is p s listing faults.NotImproving h = inr (h.0, inr (inl (refl, (h.1, h.2))))
-soli_is p s listing faults.TooManyIds h = inr (h.0, inr (inr (refl, h.1)))
-soli_is p s listing _ h = inr (h.0, inl h.1)
+soli_is : (p : Opb) (s : State) (assigned : List Lit) (f : StepFault) → IsSoliFault p s assigned f → Case f faults.NoObjective (p.objective ≡ None) ⊎ ((p.objective ≢ None) × SoliCase p s assigned f)
+soli_is p s assigned faults.NoObjective h = inl (refl, h)
+soli_is p s assigned faults.NotImproving h = inr (h.0, inr (inl (refl, (h.1, h.2))))
+soli_is p s assigned faults.TooManyIds h = inr (h.0, inr (inr (refl, h.1)))
+soli_is p s assigned _ h = inr (h.0, inl h.1)
 
-solved : (p : Opb) (s : State) (listing : List Lit) (f : StepFault) → Case f faults.NotImproving (NotBetter p s listing) ⊎ Case f faults.TooManyIds (Better p s listing) → (g : List Bool) × Logs p s listing g
-solved p s listing f (inl h) = h.1.0
-solved p s listing f (inr h) = (h.1.0, h.1.1)
+solved : (p : Opb) (s : State) (assigned : List Lit) (f : StepFault) → Case f faults.NotImproving (NotBetter p s assigned) ⊎ Case f faults.TooManyIds (Better p s assigned) → (g : List Bool) × Logs p s assigned g
+solved p s assigned f (inl h) = h.1.0
+solved p s assigned f (inr h) = (h.1.0, h.1.1)
 
-one_soli_case : (p : Opb) (s : State) (listing : List Lit) (f g : StepFault) → SoliCase p s listing f → SoliCase p s listing g → f ≡ g
-one_soli_case p s listing f g (inl h) (inl k) = one_sol_fault p s listing f g h k
-one_soli_case p s listing f g (inl h) (inr k) = let some = solved p s listing g k in absurd (sol_never p s listing some.0 f h some.1)
-one_soli_case p s listing f g (inr h) (inl k) = let some = solved p s listing f h in absurd (sol_never p s listing some.0 g k some.1)
-one_soli_case p s listing f g (inr h) (inr k) =
-    one_of_two f g faults.NotImproving faults.TooManyIds (NotBetter p s listing) (Better p s listing) (not_better p s listing) h k
+one_soli_case : (p : Opb) (s : State) (assigned : List Lit) (f g : StepFault) → SoliCase p s assigned f → SoliCase p s assigned g → f ≡ g
+one_soli_case p s assigned f g (inl h) (inl k) = one_sol_fault p s assigned f g h k
+one_soli_case p s assigned f g (inl h) (inr k) = let some = solved p s assigned g k in absurd (sol_never p s assigned some.0 f h some.1)
+one_soli_case p s assigned f g (inr h) (inl k) = let some = solved p s assigned f h in absurd (sol_never p s assigned some.0 g k some.1)
+one_soli_case p s assigned f g (inr h) (inr k) =
+    one_of_two f g faults.NotImproving faults.TooManyIds (NotBetter p s assigned) (Better p s assigned) (not_better p s assigned) h k
 
-one_behind_objective : (p : Opb) (s : State) (listing : List Lit) (f g : StepFault) → Case f faults.NoObjective (p.objective ≡ None) ⊎ ((p.objective ≢ None) × SoliCase p s listing f)
-    → Case g faults.NoObjective (p.objective ≡ None) ⊎ ((p.objective ≢ None) × SoliCase p s listing g) → f ≡ g
-one_behind_objective p s listing f g (inl h) (inl k) = h.0 ∙ sym k.0
-one_behind_objective p s listing f g (inl h) (inr k) = absurd (k.0 h.1)
-one_behind_objective p s listing f g (inr h) (inl k) = absurd (h.0 k.1)
-one_behind_objective p s listing f g (inr h) (inr k) = one_soli_case p s listing f g h.1 k.1
+one_behind_objective : (p : Opb) (s : State) (assigned : List Lit) (f g : StepFault) → Case f faults.NoObjective (p.objective ≡ None) ⊎ ((p.objective ≢ None) × SoliCase p s assigned f)
+    → Case g faults.NoObjective (p.objective ≡ None) ⊎ ((p.objective ≢ None) × SoliCase p s assigned g) → f ≡ g
+one_behind_objective p s assigned f g (inl h) (inl k) = h.0 ∙ sym k.0
+one_behind_objective p s assigned f g (inl h) (inr k) = absurd (k.0 h.1)
+one_behind_objective p s assigned f g (inr h) (inl k) = absurd (h.0 k.1)
+one_behind_objective p s assigned f g (inr h) (inr k) = one_soli_case p s assigned f g h.1 k.1
 
-pub one_soli_fault : (p : Opb) (s : State) (listing : List Lit) (f g : StepFault) → IsSoliFault p s listing f → IsSoliFault p s listing g → f ≡ g
-one_soli_fault p s listing f g h k = one_behind_objective p s listing f g (soli_is p s listing f h) (soli_is p s listing g k)
+pub one_soli_fault : (p : Opb) (s : State) (assigned : List Lit) (f g : StepFault) → IsSoliFault p s assigned f → IsSoliFault p s assigned g → f ≡ g
+one_soli_fault p s assigned f g h k = one_behind_objective p s assigned f g (soli_is p s assigned f h) (soli_is p s assigned g k)
 
 -- del
 
@@ -237,6 +237,6 @@ pub one_step_fault : (p : Opb) (s : State) (step : Step) (f g : StepFault) → I
 one_step_fault p s (steps.Pol written) f g h k = one_pol_fault s written f g h k
 one_step_fault p s (steps.Rup c) f g h k = one_rup_fault s c f g h k
 one_step_fault p s (steps.Red c images) f g h k = one_red_fault p s c images f g h k
-one_step_fault p s (steps.Sol listing) f g h k = one_sol_fault p s listing f g h k
-one_step_fault p s (steps.Soli listing) f g h k = one_soli_fault p s listing f g h k
+one_step_fault p s (steps.Sol assigned) f g h k = one_sol_fault p s assigned f g h k
+one_step_fault p s (steps.Soli assigned) f g h k = one_soli_fault p s assigned f g h k
 one_step_fault p s (steps.Del ids) f g h k = one_del_fault p s ids f g h k

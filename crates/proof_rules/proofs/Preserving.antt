@@ -115,18 +115,18 @@ red_preserves p s t c images kept normal (n, m, admitted, r, adds) = added p s t
 pub red_normal : (p : Opb) (s t : State) (c : Signed) (images : Images) → AreNormal s → LegalRed p s c images t → AreNormal t
 red_normal p s t c images normal (n, m, admitted, r, adds) = normal_more s t n normal admitted.form.rises adds.1
 
-solution_of : (p : Opb) (s : State) (listing : List Lit) (g : List Bool) → Logs p s listing g → IsSolution p g
-solution_of p s listing g logs = record { long = logs.completes.long; satisfies = logs.satisfies }
+solution_of : (p : Opb) (s : State) (assigned : List Lit) (g : List Bool) → Logs p s assigned g → IsSolution p g
+solution_of p s assigned g logs = record { long = logs.completes.long; satisfies = logs.satisfies }
 
-pub sol_preserves : (p : Opb) (s t : State) (listing : List Lit) → IsPreserved p s → LegalSol p s listing t → IsPreserved p t
-sol_preserves p s t listing kept (g, logs, is) = subst (IsPreserved p) (sym is) (record {
+pub sol_preserves : (p : Opb) (s t : State) (assigned : List Lit) → IsPreserved p s → LegalSol p s assigned t → IsPreserved p t
+sol_preserves p s t assigned kept (g, logs, is) = subst (IsPreserved p) (sym is) (record {
   answer = λ a satisfies below. let b = kept.answer a satisfies below in (b.0, record { meets = b.1.meets; value = b.1.value });
-  logged = All-push (IsSolution p) s.logged g kept.logged (solution_of p s listing g logs);
+  logged = All-push (IsSolution p) s.logged g kept.logged (solution_of p s assigned g logs);
   least = IfSome_then s.least kept.least (λ least some. any_before (λ h. worth_of p h ≡ least) s.logged g some);
 })
 
-pub sol_normal : (p : Opb) (s t : State) (listing : List Lit) → AreNormal s → LegalSol p s listing t → AreNormal t
-sol_normal p s t listing normal (g, logs, is) = subst AreNormal (sym is) normal
+pub sol_normal : (p : Opb) (s t : State) (assigned : List Lit) → AreNormal s → LegalSol p s assigned t → AreNormal t
+sol_normal p s t assigned normal (g, logs, is) = subst AreNormal (sym is) normal
 
 -- a value below a bound makes objective <= bound - 1 hold
 improved : (p : Opb) (objective : List Term) (n : NormalConstraint) (bound : ℤ) (b : Valuation) → p.objective ≡ Some objective
@@ -142,18 +142,18 @@ between x y z h k = omega (arith, ints, h, k)
 less_then : (x y z : ℤ) → x <ℤ y → y <ℤ z → x <ℤ z
 less_then x y z h k = omega (arith, ints, h, k)
 
-pub soli_preserves : (p : Opb) (s t : State) (listing : List Lit) → IsPreserved p s → LegalSoli p s listing t → IsPreserved p t
-soli_preserves p s t listing kept (objective, g, n, better, is) = subst (IsPreserved p) (sym is) (record {
+pub soli_preserves : (p : Opb) (s t : State) (assigned : List Lit) → IsPreserved p s → LegalSoli p s assigned t → IsPreserved p t
+soli_preserves p s t assigned kept (objective, g, n, better, is) = subst (IsPreserved p) (sym is) (record {
   answer = λ a satisfies below.
       let b = kept.answer a satisfies (IfSome_then s.least better.better (λ least h. less_then (value_of a p) (worth_of p g) least below h)) in
       let holds = improved p objective n (worth_of p g) b.0 better.minimises better.form (between (value_of b.0 p) (value_of a p) (worth_of p g) b.1.value below) in
       (b.0, record { meets = All-insert (Holds b.0) s.live s.next n holds b.1.meets; value = b.1.value });
-  logged = All-push (IsSolution p) s.logged g kept.logged (solution_of p s listing g better.logs);
+  logged = All-push (IsSolution p) s.logged g kept.logged (solution_of p s assigned g better.logs);
   least = Any-push (λ h. worth_of p h ≡ worth_of p g) s.logged g refl;
 })
 
-pub soli_normal : (p : Opb) (s t : State) (listing : List Lit) → AreNormal s → LegalSoli p s listing t → AreNormal t
-soli_normal p s t listing normal (objective, g, n, better, is) =
+pub soli_normal : (p : Opb) (s t : State) (assigned : List Lit) → AreNormal s → LegalSoli p s assigned t → AreNormal t
+soli_normal p s t assigned normal (objective, g, n, better, is) =
     subst AreNormal (sym is) (All-insert (λ e. Rises 0 e.terms) s.live s.next n better.form.rises normal)
 
 gone_preserves : (p : Opb) (s : State) (id : ℕ) → IsPreserved p s → IsPreserved p (without id s)
@@ -179,16 +179,16 @@ pub step_preserves : (p : Opb) (s : State) (step : Step) (t : State) → IsPrese
 step_preserves p s (steps.Pol items) t kept normal legal = pol_preserves p s t items kept legal
 step_preserves p s (steps.Rup c) t kept normal legal = rup_preserves p s t c kept normal legal
 step_preserves p s (steps.Red c images) t kept normal legal = red_preserves p s t c images kept normal legal
-step_preserves p s (steps.Sol listing) t kept normal legal = sol_preserves p s t listing kept legal
-step_preserves p s (steps.Soli listing) t kept normal legal = soli_preserves p s t listing kept legal
+step_preserves p s (steps.Sol assigned) t kept normal legal = sol_preserves p s t assigned kept legal
+step_preserves p s (steps.Soli assigned) t kept normal legal = soli_preserves p s t assigned kept legal
 step_preserves p s (steps.Del ids) t kept normal legal = del_preserves p s t ids kept legal
 
 pub step_normal : (p : Opb) (s : State) (step : Step) (t : State) → AreNormal s → Legal p s step t → AreNormal t
 step_normal p s (steps.Pol items) t normal legal = pol_normal s t items normal legal
 step_normal p s (steps.Rup c) t normal legal = rup_normal s t c normal legal
 step_normal p s (steps.Red c images) t normal legal = red_normal p s t c images normal legal
-step_normal p s (steps.Sol listing) t normal legal = sol_normal p s t listing normal legal
-step_normal p s (steps.Soli listing) t normal legal = soli_normal p s t listing normal legal
+step_normal p s (steps.Sol assigned) t normal legal = sol_normal p s t assigned normal legal
+step_normal p s (steps.Soli assigned) t normal legal = soli_normal p s t assigned normal legal
 step_normal p s (steps.Del ids) t normal legal = del_normal p s t ids normal legal
 
 pub steps_preserve : (p : Opb) (s : State) (proof : List Step) (t : State) → IsPreserved p s → AreNormal s → Leads p s proof t → IsPreserved p t × AreNormal t

@@ -1,4 +1,4 @@
--- Deciding on small states what a listing is completed to, that it is at fault, and what is shown.
+-- Deciding on small states what an assignment is completed to, that it is at fault, and what is shown.
 use Rattle.std.proofs.Common.{◌≡◌, ℕ, zero, suc, ◌-◌, ◌<◌, ◌≤◌, ℤ, pos, ◌<ℤ◌, ◌≤ℤ◌, IfSome, IsSome, Option, Some, None, cond, inl, inr, Bool, true, false, List, [], ◌∷◌, map, refl, sym, ap, subst, ◌∙◌, arith}
 use Rattle.std.specs.List.{list_any}
 use Rattle.std.specs.Ordering.{nat_cmp, eq_by_cmp}
@@ -22,7 +22,7 @@ use Rattle.propagate.specs.Cases.{x, not_x, unit, unit_not}
 use Rattle.propagate.specs.Chain.{LeadsToConflict, IsReached}
 use Rattle.linear.specs.Literal.{opposite}
 use Rattle.propagate.specs.Literals.{lists, IsConsistent}
-use Rattle.propagate.specs.Passes.{Settled, outcome}
+use Rattle.propagate.specs.Passes.{Fixpoint, outcome}
 use Rattle.propagate.proofs.AnyOf.{any_here}
 use Rattle.propagate.proofs.Consistency.{push_consistent}
 use Rattle.propagate.proofs.SmallContent.{Entries, placed, entries_placed}
@@ -60,41 +60,41 @@ of_two P first second zero below = first
 of_two P first second (suc zero) below = second
 of_two P first second (suc (suc v)) below = absurd (omega (arith, below))
 
--- a listing that names both of two variables
-pub both_named : (live : List NormalConstraint) (listing : List Lit) (b d : Bool) → IsConsistent listing → lists listing (literal_for 0 b) ≡ true → lists listing (literal_for 1 d) ≡ true
-    → Completes live 2 listing (b ∷ d ∷ [])
-both_named live listing b d consistent first second = record {
+-- an assignment that names both of two variables
+pub both_named : (live : List NormalConstraint) (assigned : List Lit) (b d : Bool) → IsConsistent assigned → lists assigned (literal_for 0 b) ≡ true → lists assigned (literal_for 1 d) ≡ true
+    → Completes live 2 assigned (b ∷ d ∷ [])
+both_named live assigned b d consistent first second = record {
   consistent = consistent;
   long = refl;
   completed = inl (
-    of_two (λ v. (value : Bool) × (lists listing (literal_for v value) ≡ true)) (b, first) (d, second),
-    of_two (λ v. lists listing (literal_for v (value_at (b ∷ d ∷ []) v)) ≡ true) first second,
+    of_two (λ v. (value : Bool) × (lists assigned (literal_for v value) ≡ true)) (b, first) (d, second),
+    of_two (λ v. lists assigned (literal_for v (value_at (b ∷ d ∷ []) v)) ≡ true) first second,
   );
 }
 
--- a listing that leaves a variable unnamed, whose chains the slow search finds to end with both of two variables
-pub both_reached : (steps : ℕ) (live : List NormalConstraint) (listing closed : List Lit) (b d : Bool) → IsConsistent listing → (NamesAll 2 listing → ⊥)
-    → outcome steps live listing ≡ Settled closed → lists closed (literal_for 0 b) ≡ true → lists closed (literal_for 1 d) ≡ true → Completes live 2 listing (b ∷ d ∷ [])
-both_reached steps live listing closed b d consistent unnamed settled first second =
-    let closure = closure_met steps live listing closed settled in
+-- an assignment that leaves a variable unnamed, whose chains the slow search finds to end with both of two variables
+pub both_reached : (steps : ℕ) (live : List NormalConstraint) (assigned closed : List Lit) (b d : Bool) → IsConsistent assigned → (NamesAll 2 assigned → ⊥)
+    → outcome steps live assigned ≡ Fixpoint closed → lists closed (literal_for 0 b) ≡ true → lists closed (literal_for 1 d) ≡ true → Completes live 2 assigned (b ∷ d ∷ [])
+both_reached steps live assigned closed b d consistent unnamed fixpoint first second =
+    let closure = closure_met steps live assigned closed fixpoint in
     record {
       consistent = consistent;
       long = refl;
       completed = inr (
         unnamed,
-        no_conflict_met steps live listing closed settled,
-        of_two (λ v. IsReached live listing (literal_for v (value_at (b ∷ d ∷ []) v))) ((closure (literal_for 0 b)).0 first) ((closure (literal_for 1 d)).0 second),
+        no_conflict_met steps live assigned closed fixpoint,
+        of_two (λ v. IsReached live assigned (literal_for v (value_at (b ∷ d ∷ []) v))) ((closure (literal_for 0 b)).0 first) ((closure (literal_for 1 d)).0 second),
       );
     }
 
--- a listing that does not name a variable, and of two variables one that does not name x1
-pub unnamed : (count v : ℕ) (listing : List Lit) → v < count → ((b : Bool) → lists listing (literal_for v b) ≡ false) → NamesAll count listing → ⊥
-unnamed count v listing below none all = let h = all v below in false≢true (sym (none h.0) ∙ h.1)
+-- an assignment that does not name a variable, and of two variables one that does not name x1
+pub unnamed : (count v : ℕ) (assigned : List Lit) → v < count → ((b : Bool) → lists assigned (literal_for v b) ≡ false) → NamesAll count assigned → ⊥
+unnamed count v assigned below none all = let h = all v below in false≢true (sym (none h.0) ∙ h.1)
 
-pub second_unnamed : (listing : List Lit) → ((b : Bool) → lists listing (literal_for 1 b) ≡ false) → NamesAll 2 listing → ⊥
-second_unnamed listing none = unnamed 2 1 listing (omega arith) none
+pub second_unnamed : (assigned : List Lit) → ((b : Bool) → lists assigned (literal_for 1 b) ≡ false) → NamesAll 2 assigned → ⊥
+second_unnamed assigned none = unnamed 2 1 assigned (omega arith) none
 
--- on the file `1 x0 1 x1 >= 1` the listing `~x0` is completed by x1, and satisfies it
+-- on the file `1 x0 1 x1 >= 1` the assignment `~x0` is completed by x1, and satisfies it
 pub second_satisfies : Satisfies (valuation_of second_alone) cover_file
 second_satisfies = All-cons (Meets (valuation_of second_alone)) cover_written [] (omega (arith, ints)) (All-nil (Meets (valuation_of second_alone)))
 
@@ -103,7 +103,7 @@ second_completes =
     subst (λ live. Completes live 2 (not_x 0 ∷ []) second_alone) (sym (live_of (cover ∷ [])))
     (both_reached 4 (cover ∷ []) (not_x 0 ∷ []) (not_x 0 ∷ x 1 ∷ []) false true (one_consistent (not_x 0)) (second_unnamed (not_x 0 ∷ []) (λ b. refl)) refl refl refl)
 
--- the listing `~x0 ~x1` names both variables, and does not satisfy it
+-- the assignment `~x0 ~x1` names both variables, and does not satisfy it
 abbrev neither : List Bool
 neither = false ∷ false ∷ []
 
@@ -121,7 +121,7 @@ neither_breaks = (
       (one_completion (constraints (state_of (cover ∷ []))) 2 (not_x 0 ∷ not_x 1 ∷ []) g neither also neither_completes) satisfies),
 )
 
--- the solution of both satisfies that file, and the listing `x0 x1` logs it, whatever is live
+-- the solution of both satisfies that file, and the assignment `x0 x1` logs it, whatever is live
 pub both_satisfies : Satisfies (valuation_of both) cover_file
 both_satisfies = All-cons (Meets (valuation_of both)) cover_written [] (omega (arith, ints)) (All-nil (Meets (valuation_of both)))
 
@@ -176,9 +176,9 @@ abbrev pub at_least_neither : ℕ → NormalConstraint
 at_least_neither k = normal (negated 1 0 ∷ negated 1 1 ∷ []) k
 
 pub bound_open : (k j : ℕ) (least : Option ℤ) (logged : List (List Bool)) → IfSome least (λ z. pos k ≤ℤ z) → k ≡ at_least_zero (raised (pos k) min_both (at_least_both k).terms)
-    → k ≤ largest_sum → j ≡ 3 - k → outcome 2 (cover ∷ at_least_neither j ∷ []) [] ≡ Settled [] → list_any (covering (at_least_both k)) (cover ∷ []) ≡ false
+    → k ≤ largest_sum → j ≡ 3 - k → outcome 2 (cover ∷ at_least_neither j ∷ []) [] ≡ Fixpoint [] → list_any (covering (at_least_both k)) (cover ∷ []) ≡ false
     → IsBoundFault (cover_state least logged) min_both (pos k) LowerNotShown
-bound_open k j least logged below degree fits turned settled uncovered = (
+bound_open k j least logged below degree fits turned fixpoint uncovered = (
   below,
   (
     at_least_both k,
@@ -186,7 +186,7 @@ bound_open k j least logged below degree fits turned settled uncovered = (
     record { sum = omega arith; degree = fits },
     subst (λ live. IsShown live (at_least_both k) → ⊥) (sym (live_of (cover ∷ [])))
         (not_shown 2 (cover ∷ []) (at_least_both k) (at_least_neither j) []
-        (record { rises = (omega arith, omega arith, (omega arith, omega arith, tt)); terms = refl; degree = turned }) settled uncovered),
+        (record { rises = (omega arith, omega arith, (omega arith, omega arith, tt)); terms = refl; degree = turned }) fixpoint uncovered),
   ),
 )
 
@@ -226,26 +226,26 @@ second_deletable = record {
 pub derived_gone : fin.get (without 2 derived_state).live 2 ≡ None
 derived_gone = found_without derived_state 2 2
 
--- a listing whose chains the slow search finds to end without a variable
+-- an assignment whose chains the slow search finds to end without a variable
 abbrev pub LeavesOpen : ℕ → List NormalConstraint → List Lit → Type 0
-LeavesOpen count live listing =
-    IsConsistent listing × (LeadsToConflict live listing → ⊥) × ((v : ℕ) × (v < count) × ((value : Bool) → IsReached live listing (literal_for v value) → ⊥))
+LeavesOpen count live assigned =
+    IsConsistent assigned × (LeadsToConflict live assigned → ⊥) × ((v : ℕ) × (v < count) × ((value : Bool) → IsReached live assigned (literal_for v value) → ⊥))
 
-pub leaves_open : (steps : ℕ) (live ns : List NormalConstraint) (listing closed : List Lit) (count v : ℕ) → live ≡ ns → IsConsistent listing → outcome steps ns listing ≡ Settled closed
-    → v < count → ((b : Bool) → lists closed (literal_for v b) ≡ false) → LeavesOpen count live listing
-leaves_open steps live ns listing closed count v is consistent settled below none =
-    subst (λ l. LeavesOpen count l listing) (sym is) (
+pub leaves_open : (steps : ℕ) (live ns : List NormalConstraint) (assigned closed : List Lit) (count v : ℕ) → live ≡ ns → IsConsistent assigned → outcome steps ns assigned ≡ Fixpoint closed
+    → v < count → ((b : Bool) → lists closed (literal_for v b) ≡ false) → LeavesOpen count live assigned
+leaves_open steps live ns assigned closed count v is consistent fixpoint below none =
+    subst (λ l. LeavesOpen count l assigned) (sym is) (
       consistent,
-      no_conflict_met steps ns listing closed settled,
-      (v, below, λ b reached. false≢true (sym (none b) ∙ (closure_met steps ns listing closed settled (literal_for v b)).1 reached)),
+      no_conflict_met steps ns assigned closed fixpoint,
+      (v, below, λ b reached. false≢true (sym (none b) ∙ (closure_met steps ns assigned closed fixpoint (literal_for v b)).1 reached)),
     )
 
--- on that file the listing `x0` leaves x1 open, whatever is logged
+-- on that file the assignment `x0` leaves x1 open, whatever is logged
 pub first_leaves_open : LeavesOpen 2 (constraints (state_of (cover ∷ []))) (x 0 ∷ [])
 first_leaves_open =
     leaves_open 4 (constraints (state_of (cover ∷ []))) (cover ∷ []) (x 0 ∷ []) (x 0 ∷ []) 2 1 (live_of (cover ∷ [])) (one_consistent (x 0)) refl (omega arith) (λ b. refl)
 
--- beside `1 x0 1 ~x1 >= 1` the listing `~x0` leads to a conflict
+-- beside `1 x0 1 ~x1 >= 1` the assignment `~x0` leads to a conflict
 pub derived_conflict : LeadsToConflict (constraints derived_state) (not_x 0 ∷ [])
 derived_conflict =
     subst (λ live. LeadsToConflict live (not_x 0 ∷ [])) (sym (live_of (cover ∷ not_second_alone ∷ [])))

@@ -27,29 +27,29 @@ satisfies_decided a p = all_decided (Meets a) (λ c. relates_decided c.relation 
 
 -- an assignment that is logged, or a fault
 abbrev pub LogJudged : Opb → State → List Lit → Type 0
-LogJudged p s listing = ((g : List Bool) × Logs p s listing g) ⊎ ((f : StepFault) × IsSolFault p s listing f)
+LogJudged p s assigned = ((g : List Bool) × Logs p s assigned g) ⊎ ((f : StepFault) × IsSolFault p s assigned f)
 
-true_or_false : (p : Opb) (s : State) (listing : List Lit) (g : List Bool) → Completes (constraints s) (length p.names) listing g → Decided (Satisfies (valuation_of g) p) → LogJudged p s listing
-true_or_false p s listing g c (inl satisfies) = inl (g, record { completes = c; satisfies = satisfies })
-true_or_false p s listing g c (inr not) =
-    inr (faults.SolutionFalse, ((g, c), λ h d satisfies. not (subst (λ b. Satisfies (valuation_of b) p) (one_completion (constraints s) (length p.names) listing h g d c) satisfies)))
+true_or_false : (p : Opb) (s : State) (assigned : List Lit) (g : List Bool) → Completes (constraints s) (length p.names) assigned g → Decided (Satisfies (valuation_of g) p) → LogJudged p s assigned
+true_or_false p s assigned g c (inl satisfies) = inl (g, record { completes = c; satisfies = satisfies })
+true_or_false p s assigned g c (inr not) =
+    inr (faults.SolutionFalse, ((g, c), λ h d satisfies. not (subst (λ b. Satisfies (valuation_of b) p) (one_completion (constraints s) (length p.names) assigned h g d c) satisfies)))
 
-from_completion : (p : Opb) (s : State) (listing : List Lit) → Completion p s listing → LogJudged p s listing
-from_completion p s listing (inl (g, c)) = true_or_false p s listing g c (satisfies_decided (valuation_of g) p)
-from_completion p s listing (inr fault) = inr fault
+from_completion : (p : Opb) (s : State) (assigned : List Lit) → Completion p s assigned → LogJudged p s assigned
+from_completion p s assigned (inl (g, c)) = true_or_false p s assigned g c (satisfies_decided (valuation_of g) p)
+from_completion p s assigned (inr fault) = inr fault
 
-pub log_judged : (p : Opb) (s : State) (listing : List Lit) → LogJudged p s listing
-log_judged p s listing = from_completion p s listing (completion_judged p s listing)
+pub log_judged : (p : Opb) (s : State) (assigned : List Lit) → LogJudged p s assigned
+log_judged p s assigned = from_completion p s assigned (completion_judged p s assigned)
 
-pub one_log : (p : Opb) (s : State) (listing : List Lit) (g h : List Bool) → Logs p s listing g → Logs p s listing h → g ≡ h
-one_log p s listing g h c d = one_completion (constraints s) (length p.names) listing g h c.completes d.completes
+pub one_log : (p : Opb) (s : State) (assigned : List Lit) (g h : List Bool) → Logs p s assigned g → Logs p s assigned h → g ≡ h
+one_log p s assigned g h c d = one_completion (constraints s) (length p.names) assigned g h c.completes d.completes
 
-sol_from : (p : Opb) (s : State) (listing : List Lit) → LogJudged p s listing → Judged (LegalSol p s listing) (IsSolFault p s listing)
-sol_from p s listing (inl (g, logs)) = inl (with_solution g s, (g, logs, refl))
-sol_from p s listing (inr fault) = inr fault
+sol_from : (p : Opb) (s : State) (assigned : List Lit) → LogJudged p s assigned → Judged (LegalSol p s assigned) (IsSolFault p s assigned)
+sol_from p s assigned (inl (g, logs)) = inl (with_solution g s, (g, logs, refl))
+sol_from p s assigned (inr fault) = inr fault
 
-pub sol_judged : (p : Opb) (s : State) (listing : List Lit) → Judged (LegalSol p s listing) (IsSolFault p s listing)
-sol_judged p s listing = sol_from p s listing (log_judged p s listing)
+pub sol_judged : (p : Opb) (s : State) (assigned : List Lit) → Judged (LegalSol p s assigned) (IsSolFault p s assigned)
+sol_judged p s assigned = sol_from p s assigned (log_judged p s assigned)
 
 -- better than the least value so far, or not
 better_or_not : (p : Opb) (s : State) (g : List Bool) (o : Option ℤ) → s.least ≡ o → IfSome s.least (λ least. worth_of p g <ℤ least) ⊎ IsNotBetter p s g
@@ -63,38 +63,38 @@ is_there : (p : Opb) (objective : List Term) → p.objective ≡ Some objective 
 is_there p objective is none = let same : None ≡ Some objective = sym none ∙ is in absurd (cc)
 
 abbrev SoliJudged : Opb → State → List Lit → Type 0
-SoliJudged p s listing = Judged (LegalSoli p s listing) (IsSoliFault p s listing)
+SoliJudged p s assigned = Judged (LegalSoli p s assigned) (IsSoliFault p s assigned)
 
-room_or_full : (p : Opb) (s : State) (objective : List Term) (listing : List Lit) (g : List Bool) → p.objective ≡ Some objective → Logs p s listing g
-    → IfSome s.least (λ least. worth_of p g <ℤ least) → Decided (HasRoom s) → SoliJudged p s listing
-room_or_full p s objective listing g is logs better (inl room) =
+room_or_full : (p : Opb) (s : State) (objective : List Term) (assigned : List Lit) (g : List Bool) → p.objective ≡ Some objective → Logs p s assigned g
+    → IfSome s.least (λ least. worth_of p g <ℤ least) → Decided (HasRoom s) → SoliJudged p s assigned
+room_or_full p s objective assigned g is logs better (inl room) =
     let c = at_most objective (worth_of p g -ℤ pos 1) in
     inl (
       with_improvement p g (form c) s,
       (objective, g, form c, record { minimises = is; logs = logs; better = better; form = form_is c; room = room }, refl),
     )
-room_or_full p s objective listing g is logs better (inr full) = inr (faults.TooManyIds, (is_there p objective is, (g, logs, better), full))
+room_or_full p s objective assigned g is logs better (inr full) = inr (faults.TooManyIds, (is_there p objective is, (g, logs, better), full))
 
-logged_better : (p : Opb) (s : State) (objective : List Term) (listing : List Lit) (g : List Bool) → p.objective ≡ Some objective → Logs p s listing g
-    → IfSome s.least (λ least. worth_of p g <ℤ least) ⊎ IsNotBetter p s g → SoliJudged p s listing
-logged_better p s objective listing g is logs (inl better) = room_or_full p s objective listing g is logs better (room_decided s)
-logged_better p s objective listing g is logs (inr not) =
-    inr (faults.NotImproving, (is_there p objective is, (g, logs), λ h also. subst (IsNotBetter p s) (one_log p s listing g h logs also) not))
+logged_better : (p : Opb) (s : State) (objective : List Term) (assigned : List Lit) (g : List Bool) → p.objective ≡ Some objective → Logs p s assigned g
+    → IfSome s.least (λ least. worth_of p g <ℤ least) ⊎ IsNotBetter p s g → SoliJudged p s assigned
+logged_better p s objective assigned g is logs (inl better) = room_or_full p s objective assigned g is logs better (room_decided s)
+logged_better p s objective assigned g is logs (inr not) =
+    inr (faults.NotImproving, (is_there p objective is, (g, logs), λ h also. subst (IsNotBetter p s) (one_log p s assigned g h logs also) not))
 
 -- a fault of the solution is one of the improving solution
-soli_fault : (p : Opb) (s : State) (listing : List Lit) (f : StepFault) → p.objective ≢ None → IsSolFault p s listing f → IsSoliFault p s listing f
-soli_fault p s listing faults.NoObjective some h = absurd h
-soli_fault p s listing faults.NotImproving some h = absurd h
-soli_fault p s listing faults.TooManyIds some h = absurd h
-soli_fault p s listing _ some h = (some, h)
+soli_fault : (p : Opb) (s : State) (assigned : List Lit) (f : StepFault) → p.objective ≢ None → IsSolFault p s assigned f → IsSoliFault p s assigned f
+soli_fault p s assigned faults.NoObjective some h = absurd h
+soli_fault p s assigned faults.NotImproving some h = absurd h
+soli_fault p s assigned faults.TooManyIds some h = absurd h
+soli_fault p s assigned _ some h = (some, h)
 
-soli_from : (p : Opb) (s : State) (objective : List Term) (listing : List Lit) → p.objective ≡ Some objective → LogJudged p s listing → SoliJudged p s listing
-soli_from p s objective listing is (inl (g, logs)) = logged_better p s objective listing g is logs (better_or_not p s g s.least refl)
-soli_from p s objective listing is (inr (f, h)) = inr (f, soli_fault p s listing f (is_there p objective is) h)
+soli_from : (p : Opb) (s : State) (objective : List Term) (assigned : List Lit) → p.objective ≡ Some objective → LogJudged p s assigned → SoliJudged p s assigned
+soli_from p s objective assigned is (inl (g, logs)) = logged_better p s objective assigned g is logs (better_or_not p s g s.least refl)
+soli_from p s objective assigned is (inr (f, h)) = inr (f, soli_fault p s assigned f (is_there p objective is) h)
 
-with_objective : (p : Opb) (s : State) (listing : List Lit) (o : Option (List Term)) → p.objective ≡ o → SoliJudged p s listing
-with_objective p s listing None is = inr (faults.NoObjective, is)
-with_objective p s listing (Some objective) is = soli_from p s objective listing is (log_judged p s listing)
+with_objective : (p : Opb) (s : State) (assigned : List Lit) (o : Option (List Term)) → p.objective ≡ o → SoliJudged p s assigned
+with_objective p s assigned None is = inr (faults.NoObjective, is)
+with_objective p s assigned (Some objective) is = soli_from p s objective assigned is (log_judged p s assigned)
 
-pub soli_judged : (p : Opb) (s : State) (listing : List Lit) → Judged (LegalSoli p s listing) (IsSoliFault p s listing)
-soli_judged p s listing = with_objective p s listing p.objective refl
+pub soli_judged : (p : Opb) (s : State) (assigned : List Lit) → Judged (LegalSoli p s assigned) (IsSoliFault p s assigned)
+soli_judged p s assigned = with_objective p s assigned p.objective refl

@@ -19,8 +19,8 @@ pub step_judged : (p : Opb) (s : State) (step : Step) → AreNormal s → Judged
 step_judged p s (steps.Pol written) normal = pol_judged s written normal
 step_judged p s (steps.Rup c) normal = rup_judged s c
 step_judged p s (steps.Red c images) normal = red_judged p s c images
-step_judged p s (steps.Sol listing) normal = sol_judged p s listing
-step_judged p s (steps.Soli listing) normal = soli_judged p s listing
+step_judged p s (steps.Sol assigned) normal = sol_judged p s assigned
+step_judged p s (steps.Soli assigned) normal = soli_judged p s assigned
 step_judged p s (steps.Del ids) normal = del_judged p s ids
 
 -- without a fault it is legal

@@ -133,30 +133,30 @@ IsOpenGoal p s c images f =
 abbrev pub IsRedFault : Opb → State → Signed → Images → StepFault → Type 0
 IsRedFault p s c images f = IsAdmissionFault s c f ⊎ IsOpenGoal p s c images f
 
--- sol: the listing; then its completion, where some variable of the file may be reached with neither sign; then what
+-- sol: the assignment; then its completion, where some variable of the file may be reached with neither sign; then what
 -- the completion satisfies
 abbrev pub IsSolFault : Opb → State → List Lit → StepFault → Type 0
-IsSolFault p s listing faults.SolutionConflict =
-    (IsConsistent listing → ⊥) ⊎ (IsConsistent listing × (NamesAll (length p.names) listing → ⊥) × LeadsToConflict (constraints s) listing)
-IsSolFault p s listing faults.SolutionPartial =
-    IsConsistent listing × (LeadsToConflict (constraints s) listing → ⊥)
-    × ((v : ℕ) × (v < length p.names) × ((value : Bool) → IsReached (constraints s) listing (literal_for v value) → ⊥))
-IsSolFault p s listing faults.SolutionFalse =
-    ((g : List Bool) × Completes (constraints s) (length p.names) listing g)
-    × ((g : List Bool) → Completes (constraints s) (length p.names) listing g → Satisfies (valuation_of g) p → ⊥)
-IsSolFault p s listing _ = ⊥
+IsSolFault p s assigned faults.SolutionConflict =
+    (IsConsistent assigned → ⊥) ⊎ (IsConsistent assigned × (NamesAll (length p.names) assigned → ⊥) × LeadsToConflict (constraints s) assigned)
+IsSolFault p s assigned faults.SolutionPartial =
+    IsConsistent assigned × (LeadsToConflict (constraints s) assigned → ⊥)
+    × ((v : ℕ) × (v < length p.names) × ((value : Bool) → IsReached (constraints s) assigned (literal_for v value) → ⊥))
+IsSolFault p s assigned faults.SolutionFalse =
+    ((g : List Bool) × Completes (constraints s) (length p.names) assigned g)
+    × ((g : List Bool) → Completes (constraints s) (length p.names) assigned g → Satisfies (valuation_of g) p → ⊥)
+IsSolFault p s assigned _ = ⊥
 
 -- what a logged solution is worth is not below the least so far
 abbrev pub IsNotBetter : Opb → State → List Bool → Type 0
 IsNotBetter p s g = (least : ℤ) × (s.least ≡ Some least) × (least ≤ℤ worth_of p g)
 
 abbrev pub IsSoliFault : Opb → State → List Lit → StepFault → Type 0
-IsSoliFault p s listing faults.NoObjective = p.objective ≡ None
-IsSoliFault p s listing faults.NotImproving =
-    (p.objective ≢ None) × ((g : List Bool) × Logs p s listing g) × ((g : List Bool) → Logs p s listing g → IsNotBetter p s g)
-IsSoliFault p s listing faults.TooManyIds =
-    (p.objective ≢ None) × ((g : List Bool) × Logs p s listing g × IfSome s.least (λ least. worth_of p g <ℤ least)) × (HasRoom s → ⊥)
-IsSoliFault p s listing f = (p.objective ≢ None) × IsSolFault p s listing f
+IsSoliFault p s assigned faults.NoObjective = p.objective ≡ None
+IsSoliFault p s assigned faults.NotImproving =
+    (p.objective ≢ None) × ((g : List Bool) × Logs p s assigned g) × ((g : List Bool) → Logs p s assigned g → IsNotBetter p s g)
+IsSoliFault p s assigned faults.TooManyIds =
+    (p.objective ≢ None) × ((g : List Bool) × Logs p s assigned g × IfSome s.least (λ least. worth_of p g <ℤ least)) × (HasRoom s → ⊥)
+IsSoliFault p s assigned f = (p.objective ≢ None) × IsSolFault p s assigned f
 
 -- an id that is not live, or that is not to be deleted
 abbrev pub IsUndeletable : Opb → State → ℕ → StepFault → Type 0
@@ -174,8 +174,8 @@ abbrev pub IsStepFault : Opb → State → Step → StepFault → Type 0
 IsStepFault p s (steps.Pol written) f = IsPolFault s written f
 IsStepFault p s (steps.Rup c) f = IsRupFault s c f
 IsStepFault p s (steps.Red c images) f = IsRedFault p s c images f
-IsStepFault p s (steps.Sol listing) f = IsSolFault p s listing f
-IsStepFault p s (steps.Soli listing) f = IsSoliFault p s listing f
+IsStepFault p s (steps.Sol assigned) f = IsSolFault p s assigned f
+IsStepFault p s (steps.Soli assigned) f = IsSoliFault p s assigned f
 IsStepFault p s (steps.Del ids) f = IsDelFault p s ids f
 
 -- UNSAT: something is logged, then `0 >= 1` is not shown
@@ -215,7 +215,7 @@ IsSatFault s _ = ⊥
 -- a hint is judged as one more solution
 abbrev pub IsHintFault : Opb → State → Option (List Lit) → StepFault → Type 0
 IsHintFault p s None f = ⊥
-IsHintFault p s (Some listing) f = IsSolFault p s listing f
+IsHintFault p s (Some assigned) f = IsSolFault p s assigned f
 
 -- the hint, then what is judged behind it
 abbrev pub IsBehindHint : Opb → State → Option (List Lit) → (State → Type 0) → Type 0

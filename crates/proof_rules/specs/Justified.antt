@@ -63,7 +63,7 @@ hint_of _ = None
 -- a hint is one more solution, logged first
 abbrev pub TakesHint : Opb → State → Option (List Lit) → State → Type 0
 TakesHint p old None new = new ≡ old
-TakesHint p old (Some listing) new = LegalSol p old listing new
+TakesHint p old (Some assigned) new = LegalSol p old assigned new
 
 -- `best` is the logged solution of the least value, the earliest among equals; there is none where nothing is logged
 abbrev pub IsBest : Opb → List (List Bool) → Option (List Bool) → Type 0

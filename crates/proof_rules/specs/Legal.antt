@@ -65,16 +65,16 @@ abbrev pub LegalRed : Opb → State → Signed → Images → State → Type 0
 LegalRed p old c images new =
     (n : NormalConstraint) × (m : NormalConstraint) × IsAdmitted c n × Redundant p (constraints old) images n m × Adds n old new
 
--- sol: a listing whose completion satisfies the problem is logged
-pub record Logs (p : Opb) (old : State) (listing : List Lit) (g : List Bool) : Type 0 where
-  pub completes : Completes (constraints old) (length p.names) listing g
+-- sol: an assignment whose completion satisfies the problem is logged
+pub record Logs (p : Opb) (old : State) (assigned : List Lit) (g : List Bool) : Type 0 where
+  pub completes : Completes (constraints old) (length p.names) assigned g
   pub satisfies : Satisfies (valuation_of g) p
 
 abbrev pub with_solution : List Bool → State → State
 with_solution g s = record s { logged = s.logged ++ g ∷ [] }
 
 abbrev pub LegalSol : Opb → State → List Lit → State → Type 0
-LegalSol p old listing new = (g : List Bool) × Logs p old listing g × (new ≡ with_solution g old)
+LegalSol p old assigned new = (g : List Bool) × Logs p old assigned g × (new ≡ with_solution g old)
 
 -- the value of an assignment of the file's variables
 abbrev pub worth_of : Opb → List Bool → ℤ
@@ -83,9 +83,9 @@ worth_of p g = value_of (valuation_of g) p
 -- soli: a solution that is better than the improving ones before is logged, and a constraint is added that asks for
 -- still better ones. No limit is asked of that constraint: where the problem is within the limits of a file, its
 -- coefficients add up to at most 2^82, and its degree is at most 1 above their sum; a constraint may have 2^120.
-pub record Improves (p : Opb) (old : State) (objective : List Term) (listing : List Lit) (g : List Bool) (n : NormalConstraint) : Type 0 where
+pub record Improves (p : Opb) (old : State) (objective : List Term) (assigned : List Lit) (g : List Bool) (n : NormalConstraint) : Type 0 where
   pub minimises : p.objective ≡ Some objective
-  pub logs : Logs p old listing g
+  pub logs : Logs p old assigned g
   pub better : IfSome old.least (λ least. worth_of p g <ℤ least)
   pub form : IsNormalOf (at_most objective (worth_of p g -ℤ pos 1)) n
   pub room : HasRoom old
@@ -97,8 +97,8 @@ with_improvement p g n s = record (with_constraint n (with_solution g s)) {
 }
 
 abbrev pub LegalSoli : Opb → State → List Lit → State → Type 0
-LegalSoli p old listing new =
-    (objective : List Term) × (g : List Bool) × (n : NormalConstraint) × Improves p old objective listing g n × (new ≡ with_improvement p g n old)
+LegalSoli p old assigned new =
+    (objective : List Term) × (g : List Bool) × (n : NormalConstraint) × Improves p old objective assigned g n × (new ≡ with_improvement p g n old)
 
 -- a live constraint that is neither the file's nor one that an improving solution added
 pub record IsDeletable (p : Opb) (s : State) (id : ℕ) : Type 0 where
@@ -119,8 +119,8 @@ abbrev pub Legal : Opb → State → Step → State → Type 0
 Legal p old (steps.Pol items) new = LegalPol old items new
 Legal p old (steps.Rup c) new = LegalRup old c new
 Legal p old (steps.Red c images) new = LegalRed p old c images new
-Legal p old (steps.Sol listing) new = LegalSol p old listing new
-Legal p old (steps.Soli listing) new = LegalSoli p old listing new
+Legal p old (steps.Sol assigned) new = LegalSol p old assigned new
+Legal p old (steps.Soli assigned) new = LegalSoli p old assigned new
 Legal p old (steps.Del ids) new = LegalDel p old ids new
 
 -- steps lead, one after another, from one state to another

@@ -37,7 +37,7 @@ pub enum StepFault {
     /// After propagation a variable of the file is unset.
     #[error("solution partial")]
     SolutionPartial,
-    /// The listing holds a literal and its opposite, or its completion meets a conflict.
+    /// The assignment holds a literal and its opposite, or its completion meets a conflict.
     #[error("solution conflict")]
     SolutionConflict,
     /// The value of an improving solution is not below the least one so far.

@@ -62,14 +62,14 @@ pub fn red_preserves()
 
 /// A solution is logged only where it satisfies the problem, and changes no live constraint.
 pub fn sol_preserves()
-    ensures answer { (p : Opb) → (s t : State) → (listing : List Lit) → IsPreserved p s → LegalSol p s listing t → IsPreserved p t }
-    ensures normal { (p : Opb) → (s t : State) → (listing : List Lit) → AreNormal s → LegalSol p s listing t → AreNormal t }
+    ensures answer { (p : Opb) → (s t : State) → (assigned : List Lit) → IsPreserved p s → LegalSol p s assigned t → IsPreserved p t }
+    ensures normal { (p : Opb) → (s t : State) → (assigned : List Lit) → AreNormal s → LegalSol p s assigned t → AreNormal t }
 {}
 
 /// After an improving solution only better assignments are asked for, and these meet what it adds.
 pub fn soli_preserves()
-    ensures answer { (p : Opb) → (s t : State) → (listing : List Lit) → IsPreserved p s → LegalSoli p s listing t → IsPreserved p t }
-    ensures normal { (p : Opb) → (s t : State) → (listing : List Lit) → AreNormal s → LegalSoli p s listing t → AreNormal t }
+    ensures answer { (p : Opb) → (s t : State) → (assigned : List Lit) → IsPreserved p s → LegalSoli p s assigned t → IsPreserved p t }
+    ensures normal { (p : Opb) → (s t : State) → (assigned : List Lit) → AreNormal s → LegalSoli p s assigned t → AreNormal t }
 {}
 
 /// An answer meets what is left after a deletion.

@@ -24,16 +24,16 @@ pub fn earliest_of_the_least_is_best()
     ensures nothing { IsBest least_cover [] None }
 {}
 
-/// On the file `1 x0 1 x1 >= 1` the listing `~x0` is completed by x1 and logged. It leaves the value that an improving
+/// On the file `1 x0 1 x1 >= 1` the assignment `~x0` is completed by x1 and logged. It leaves the value that an improving
 /// solution must beat as it is.
-pub fn listing_is_completed()
+pub fn assigned_is_completed()
     ensures logged { LegalSol cover_file (cover_state None []) (not_x 0 ∷ []) (cover_state None (second_alone ∷ [])) }
     ensures least_stays { LegalSol least_cover (cover_state (Some (pos 2)) (both ∷ [])) (not_x 0 ∷ []) (cover_state (Some (pos 2)) (both ∷ second_alone ∷ [])) }
 {}
 
 /// There `x0` leaves x1 open, `x0 ~x0` contradicts itself, and `~x0 ~x1` names all variables, so that it is judged as it
 /// stands: it does not satisfy the file. With an objective `soli` refuses the first two as `sol` does.
-pub fn listing_at_fault()
+pub fn assigned_at_fault()
     ensures open { IsSolFault cover_file (cover_state None []) (x 0 ∷ []) SolutionPartial }
     ensures contradictory { IsSolFault cover_file (cover_state None []) (x 0 ∷ not_x 0 ∷ []) SolutionConflict }
     ensures breaks { IsSolFault cover_file (cover_state None []) (not_x 0 ∷ not_x 1 ∷ []) SolutionFalse }
@@ -43,7 +43,7 @@ pub fn listing_at_fault()
 {}
 
 /// A solution is judged by the file and not by the live constraints: `~x0 x1` is legal where `1 x0 1 ~x1 >= 1` was derived.
-/// The listing `~x0` is not, since the chains that complete it lead to a conflict.
+/// The assignment `~x0` is not, since the chains that complete it lead to a conflict.
 pub fn solution_judged_by_the_file()
     ensures named { LegalSol cover_file derived_state (not_x 0 ∷ x 1 ∷ []) (record derived_state { logged = second_alone ∷ [] }) }
     ensures completed { IsSolFault cover_file derived_state (not_x 0 ∷ []) SolutionConflict }
@@ -72,8 +72,8 @@ pub fn false_and_not_improving()
         (x 0 ∷ not_x 1 ∷ []) SolutionFalse → ⊥ }
 {}
 
-/// Beside `1 x0 1 x1 >= 1` and `1 x0 1 ~x1 >= 1`, with x2 in the objective alone, the listing `~x0` leads to a conflict and
-/// leaves x2 open: the conflict is judged first. The listing `~x1` forces x0 and leaves x2 open, without a conflict.
+/// Beside `1 x0 1 x1 >= 1` and `1 x0 1 ~x1 >= 1`, with x2 in the objective alone, the assignment `~x0` leads to a conflict and
+/// leaves x2 open: the conflict is judged first. The assignment `~x1` forces x0 and leaves x2 open, without a conflict.
 pub fn conflict_before_what_is_open()
     ensures conflict { IsSolFault least_of_three derived_state (not_x 0 ∷ []) SolutionConflict }
     ensures not_open { IsSolFault least_of_three derived_state (not_x 0 ∷ []) SolutionPartial → ⊥ }
@@ -81,8 +81,8 @@ pub fn conflict_before_what_is_open()
     ensures not_conflict { IsSolFault least_of_three derived_state (not_x 1 ∷ []) SolutionConflict → ⊥ }
 {}
 
-/// A listing may name a variable beyond the file's two, as x5. No value of it is logged, and `x0 x5` leaves x1 open. But a
-/// listing may not contradict itself there either, though it names all variables of the file.
+/// An assignment may name a variable beyond the file's two, as x5. No value of it is logged, and `x0 x5` leaves x1 open. But a
+/// assignment may not contradict itself there either, though it names all variables of the file.
 pub fn variable_beyond_the_file()
     ensures named { LegalSol cover_file (cover_state None []) (x 0 ∷ x 1 ∷ x 5 ∷ []) (cover_state None (both ∷ [])) }
     ensures completed { LegalSol cover_file (cover_state None []) (not_x 0 ∷ x 5 ∷ []) (cover_state None (second_alone ∷ [])) }

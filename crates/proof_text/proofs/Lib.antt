@@ -1,4 +1,6 @@
 pub mod LinesParted
+pub mod LinesJoined
+pub mod LinesBuffered
 pub mod ClosingSemicolon
 pub mod FirstSemicolon
 pub mod NamesNumbered

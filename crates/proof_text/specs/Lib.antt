@@ -9,6 +9,7 @@ pub mod Steps
 pub mod Conclusions
 pub mod Frame
 pub mod Spells
+pub mod Sections
 pub mod Faults
 pub mod Writable
 pub mod ProofSpells
@@ -16,6 +17,7 @@ pub mod ProofSpells
 pub mod Cases
 -- what private functions keep and promise one another
 pub mod LinesAhead
+pub mod Buffered
 pub mod NamesMet
 pub mod PartsRead
 pub mod PartsDenied

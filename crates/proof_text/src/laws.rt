@@ -5,12 +5,12 @@
 //! by construction (an integer before `*` belongs to it, names and images alternate, no space or closing `;` changes
 //! a line), and here that is a theorem about the definitions alone, whatever the code does.
 
-ghost use Rattle.std.specs.Prelude.{◌≡◌, ℕ, ℤ, List};
+ghost use Rattle.std.specs.Prelude.{◌≡◌, ◌+◌, ◌∷◌, ◌++◌, ℕ, ℤ, List};
 ghost use Rattle.proof_steps.specs.declared.step.Step.{Step};
 ghost use Rattle.proof_steps.specs.declared.conclusion.Conclusion.{Conclusion};
 ghost use Rattle.proof_text.specs.declared.line.Line.{Line};
 ghost use Rattle.proof_text.specs.declared.line.Section.{Section};
-ghost use Rattle.proof_text.specs.Lines.{Numbered};
+ghost use Rattle.proof_text.specs.Lines.{Numbered, breaks, counting_from};
 ghost use Rattle.proof_text.specs.Spells.{IsLine};
 ghost use Rattle.proof_text.specs.ProofSpells.{AreSteps, SpellsProof};
 
@@ -31,4 +31,11 @@ pub fn one_proof()
     ensures { (text : List ℕ) → (file : List (List ℕ)) → (count other : ℤ) → (steps others : List Step) → (c d : Conclusion)
         → SpellsProof text file count steps c → SpellsProof text file other others d
         → (count ≡ other) × (steps ≡ others) × (c ≡ d) }
+{}
+
+/// The lines of two texts with an LF between them are those of the one and then those of the other, numbered on: so a text
+/// may be read in pieces, however it is cut.
+pub fn lines_of_two_texts()
+    ensures { (number : ℕ) → (a b : List ℕ)
+        → counting_from number (a ++ 10 ∷ b) ≡ counting_from number a ++ counting_from (number + 1 + breaks a) b }
 {}

@@ -53,7 +53,7 @@ fn is_blank(line: &[u8]) -> bool
 
 /// Whether a line counts. No token is cut for that: a line has one where it is neither blank nor a comment.
 #[tactic(auto, using(crate::proofs::LinesParted::counts_where))]
-fn counts(line: &[u8]) -> bool
+pub(crate) fn counts(line: &[u8]) -> bool
     requires { has_no_break line.now ≡ true }
     ensures { result ≡ lines.counts line.now }
 {

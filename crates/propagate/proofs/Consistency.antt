@@ -1,4 +1,4 @@
--- A chain from a consistent listing does not contradict itself.
+-- A chain from a consistent assignment does not contradict itself.
 use Rattle.std.proofs.Common.{◌≡◌, ℕ, Bool, true, false, not, List, [], ◌∷◌, ◌++◌, refl, sym, ap, subst, ◌∙◌, inl, inr, append_assoc}
 use Rattle.std.proofs.lemmas.Bool.{false≢true}
 use Rattle.std.proofs.lemmas.List.{append-nil}
@@ -8,7 +8,7 @@ use Rattle.linear.specs.Literal.{opposite}
 use Rattle.propagate.specs.Literals.{among, lists, IsConsistent}
 use Rattle.propagate.specs.Chain.{IsChain, IsClosure}
 use Rattle.normal_form.proofs.SetSums.{only_is}
-use Rattle.propagate.proofs.Listings.{among_cases, or_cases}
+use Rattle.propagate.proofs.Assignments.{among_cases, or_cases}
 
 pub only_here : (l : Lit) (v : ℕ) (s : Bool) → among (l ∷ []) v s ≡ true → (v ≡ l.var.0) × (s ≡ l.negated)
 only_here l v s h = elim (or_cases (only (l.var.0) l.negated v s) false h) [

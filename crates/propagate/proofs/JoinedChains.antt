@@ -5,13 +5,13 @@ use Rattle.std.proofs.lemmas.List.{append-nil}
 use Rattle.linear.specs.declared.term.Lit.{Lit}
 use Rattle.normal_form.specs.Normal.{NormalConstraint, only}
 use Rattle.propagate.specs.Literals.{among, lists}
-use Rattle.propagate.specs.Slack.{IsBroken, IsForced}
+use Rattle.propagate.specs.Slack.{IsFalsified, IsForced}
 use Rattle.propagate.specs.Chain.{IsForcedByOne, IsChain, LeadsToConflict, IsReached}
 use Rattle.propagate.specs.Biting.{Bites}
 use Rattle.normal_form.proofs.SetSums.{Within}
-use Rattle.propagate.proofs.Listings.{among_left, among_right, among_cases, among_head, among_tail, among_pushed, or_cases}
+use Rattle.propagate.proofs.Assignments.{among_left, among_right, among_cases, among_head, among_tail, among_pushed, or_cases}
 use Rattle.normal_form.proofs.SetSums.{only_is}
-use Rattle.propagate.proofs.Chains.{another, along, broken_more, forced_more}
+use Rattle.propagate.proofs.Chains.{another, along, falsified_more, forced_more}
 use Rattle.propagate.proofs.ChainEnds.{given_within}
 
 -- a chain with one more forced literal at its end
@@ -22,7 +22,7 @@ chain_push ns given (m ∷ ms) l c f =
 
 -- a chain from what is given that has what two such chains have
 abbrev Joins : List NormalConstraint → List Lit → List Lit → List Lit → List Lit → Type 0
-Joins ns given xs listing zs = IsChain ns given zs × Within (among (given ++ xs)) (among (given ++ zs)) × Within (among listing) (among (given ++ zs))
+Joins ns given xs assigned zs = IsChain ns given zs × Within (among (given ++ xs)) (among (given ++ zs)) × Within (among assigned) (among (given ++ zs))
 
 longer : (given xs : List Lit) (l : Lit) → Within (among (given ++ xs)) (among (given ++ (xs ++ l ∷ [])))
 longer given xs l v s h = subst (λ (zs : List Lit). among zs v s ≡ true) (append_assoc given xs (l ∷ [])) (among_left (given ++ xs) (l ∷ []) v s h)
@@ -42,11 +42,11 @@ joined ns given none (l ∷ ls) base xs c h d =
           let inside : Within (among base) (among (given ++ (xs ++ l ∷ []))) = λ v s e. longer given xs l v s (h v s e) in
           let r = joined ns given none ls (base ++ l ∷ []) (xs ++ l ∷ []) pushed (among_pushed (among (given ++ (xs ++ l ∷ []))) base l inside (pushed_last given xs l)) d.1 in
           (r.0, (r.1.0, λ v s e. r.1.1 v s (longer given xs l v s e), along ((base ++ l ∷ []) ++ ls) (base ++ l ∷ ls) (append_assoc base (l ∷ []) ls) (among (given ++ r.0)) r.1.2))
-      | inr (inr b) ↦ absurd (none (xs, c, another (IsForced base l) (IsBroken (given ++ xs)) ns d.0 (λ _. b)))
+      | inr (inr b) ↦ absurd (none (xs, c, another (IsForced base l) (IsFalsified (given ++ xs)) ns d.0 (λ _. b)))
     ]
 
 abbrev Gathers : List NormalConstraint → List Lit → List Lit → List Lit → Type 0
-Gathers ns given listing zs = IsChain ns given zs × Within (among listing) (among (given ++ zs))
+Gathers ns given assigned zs = IsChain ns given zs × Within (among assigned) (among (given ++ zs))
 
 with_head : (l : Lit) (ls : List Lit) (set : ℕ → Bool → Bool) → set (l.var.0) l.negated ≡ true → Within (among ls) set → Within (among (l ∷ ls)) set
 with_head l ls set here h v s e = elim (or_cases (only (l.var.0) l.negated v s) (among ls v s) e) [
@@ -82,7 +82,7 @@ never_bites ns n here b =
       | inr m ↦ (under.closure (literal v s)).1 (inr (g.0, g.1.0, m))
     ] in
     elim under.bites [
-      | inl broken ↦ under.no_conflict (g.0, g.1.0, (here.0, n, here.1, here.2, broken_more n closed (given ++ g.0) g.1.1 broken))
+      | inl falsified ↦ under.no_conflict (g.0, g.1.0, (here.0, n, here.1, here.2, falsified_more n closed (given ++ g.0) g.1.1 falsified))
       | inr f ↦ elim (forced_more n closed (given ++ g.0) f.0 g.1.1 f.1) [
         | inl m ↦ let e = back (f.0.var.0) f.0.negated m in let u = f.1.unset in absurd (false≢true (cc))
         | inr (inl again) ↦
@@ -90,6 +90,6 @@ never_bites ns n here b =
             let e = (under.closure f.0).1 (inr (g.0 ++ f.0 ∷ [], pushed, among_right g.0 (f.0 ∷ []) (f.0.var.0) f.0.negated (among_head f.0 []))) in
             let u = f.1.unset in
             absurd (false≢true (cc))
-        | inr (inr broken) ↦ under.no_conflict (g.0, g.1.0, (here.0, n, here.1, here.2, broken))
+        | inr (inr falsified) ↦ under.no_conflict (g.0, g.1.0, (here.0, n, here.1, here.2, falsified))
       ]
     ]

@@ -1,4 +1,4 @@
--- What chains lead to, with a chain kept, with other constraints, and from a listing that others reach.
+-- What chains lead to, with a chain kept, with other constraints, and from an assignment that others reach.
 use Rattle.std.proofs.Common.{◌≡◌, ◌↔◌, ◌<◌, true, List, [], ◌∷◌, ◌++◌, Contains, refl, sym, subst, inl, inr, append_assoc, arith}
 use Rattle.std.proofs.lemmas.Int.{ints}
 use Rattle.std.proofs.lemmas.List.{append-nil}
@@ -9,7 +9,7 @@ use Rattle.propagate.specs.Literals.{coefficient_of, among, lists}
 use Rattle.propagate.specs.Slack.{not_false, IsForced}
 use Rattle.propagate.specs.Chain.{IsConflict, IsChain, LeadsToConflict, IsRefuted, IsReached}
 use Rattle.normal_form.proofs.SetSums.{Within}
-use Rattle.propagate.proofs.Listings.{among_left, among_right, among_cases, among_head}
+use Rattle.propagate.proofs.Assignments.{among_left, among_right, among_cases, among_head}
 use Rattle.propagate.proofs.Chains.{chain_stays, no_conflict_from, chain_of_more, conflict_of_more}
 use Rattle.propagate.proofs.ChainEnds.{given_within, by_set}
 use Rattle.propagate.proofs.Closure.{more_literals}
@@ -27,7 +27,7 @@ conflict_kept ns given chain c = (
   λ r. more_literals ns given (given ++ chain) (λ l h. among_left given chain (l.var.0) l.negated h) r,
 )
 
--- what the longer listing reaches, and what the shorter one does
+-- what the longer assignment reaches, and what the shorter one does
 reached_back : (ns : List NormalConstraint) (given chain : List Lit) → IsChain ns given chain → (l : Lit) → IsReached ns (given ++ chain) l → IsReached ns given l
 reached_back ns given chain c l (inl h) = elim (among_cases given chain (l.var.0) l.negated h) [
   | inl m ↦ inl m
@@ -64,11 +64,11 @@ same_conflicts ns ms h given = (conflict_of_more ns ms (λ n. (h n).0) given, co
 pub same_reached : (ns ms : List NormalConstraint) → ((n : NormalConstraint) → Contains ns n ↔ Contains ms n) → (given : List Lit) → (l : Lit) → IsReached ns given l ↔ IsReached ms given l
 same_reached ns ms h given l = (reached_of_more ns ms (λ n. (h n).0) given l, reached_of_more ms ns (λ n. (h n).1) given l)
 
--- constraints that reach a whole listing are refuted where fewer lead from it to a conflict
-pub reached_refutes : (fewer more : List NormalConstraint) → ((n : NormalConstraint) → Contains fewer n → Contains more n) → (listing : List Lit) → ((l : Lit) → lists listing l ≡ true → IsReached more [] l) → LeadsToConflict fewer listing → IsRefuted more
-reached_refutes fewer more h listing reached r = elim (one_end_or_conflict more []) [
+-- constraints that reach a whole assignment are refuted where fewer lead from it to a conflict
+pub reached_refutes : (fewer more : List NormalConstraint) → ((n : NormalConstraint) → Contains fewer n → Contains more n) → (assigned : List Lit) → ((l : Lit) → lists assigned l ≡ true → IsReached more [] l) → LeadsToConflict fewer assigned → IsRefuted more
+reached_refutes fewer more h assigned reached r = elim (one_end_or_conflict more []) [
   | inl refuted ↦ refuted
-  | inr e ↦ absurd (no_conflict_from more listing e.0 e.1 (by_set listing e.0 (λ l k. (e.2 l).1 (reached l k))) (conflict_of_more fewer more h listing r))
+  | inr e ↦ absurd (no_conflict_from more assigned e.0 e.1 (by_set assigned e.0 (λ l k. (e.2 l).1 (reached l k))) (conflict_of_more fewer more h assigned r))
 ]
 
 all_open : (n : NormalConstraint) → sum_over (not_false []) n.terms ≡ total n.terms
@@ -78,8 +78,8 @@ all_open n = refl
 pub asked_forced : (n : NormalConstraint) (l : Lit) → n.degree ≡ total n.terms → 0 < coefficient_of n l → IsForced [] l n
 asked_forced n l e h = record { unset = refl; opposite_unset = refl; occurs = h; above = omega (arith, ints, e, h, all_open n) }
 
-pub asked_refutes : (ns : List NormalConstraint) (listing : List Lit) (all : NormalConstraint) → all.degree ≡ total all.terms → ((l : Lit) → lists listing l ≡ true → 0 < coefficient_of all l) → LeadsToConflict ns listing → IsRefuted (ns ++ all ∷ [])
-asked_refutes ns listing all e h r =
+pub asked_refutes : (ns : List NormalConstraint) (assigned : List Lit) (all : NormalConstraint) → all.degree ≡ total all.terms → ((l : Lit) → lists assigned l ≡ true → 0 < coefficient_of all l) → LeadsToConflict ns assigned → IsRefuted (ns ++ all ∷ [])
+asked_refutes ns assigned all e h r =
     let there = Contains-push ns all in
-    reached_refutes ns (ns ++ all ∷ []) (λ n c. Contains-append_left ns (all ∷ []) n c) listing
+    reached_refutes ns (ns ++ all ∷ []) (λ n c. Contains-append_left ns (all ∷ []) n c) assigned
     (λ l k. inr (l ∷ [], ((there.0, all, there.1, there.2, asked_forced all l e (h l k)), tt), among_head l [])) r

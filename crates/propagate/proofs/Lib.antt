@@ -1,4 +1,4 @@
-pub mod Listings
+pub mod Assignments
 pub mod AnyOf
 pub mod Chains
 pub mod ChainEnds
@@ -14,7 +14,7 @@ pub mod Occurrences
 pub mod SeenLists
 pub mod ReasonedChains
 pub mod WalkEnds
-pub mod SameListings
+pub mod SameAssignments
 pub mod TracesById
 pub mod KeptChains
 pub mod Visits

@@ -1,4 +1,4 @@
--- The least number above all variables of a listing, literal by literal.
+-- The least number above all variables of an assignment, literal by literal.
 use Rattle.std.proofs.Common.{◌≡◌, ℕ, ◌+◌, ◌<◌, max, All, List, length, get_or, take, refl, ap, ◌∙◌, arith}
 use Rattle.std.proofs.lemmas.List.{take_more}
 use Rattle.std.proofs.lemmas.List.Recursion.{max_push, max_bounds}

@@ -49,7 +49,7 @@ stands (t ∷ ts) v s h = elim (tested (only v s (t.var.0) t.negated) t.coef (su
 
 -- a term whose literal is forced where the slack is this
 abbrev pub TermForces : List Lit → ℕ → NormalTerm → Type 0
-TermForces listing slack t = CanForce listing slack t.coef (literal_of t)
+TermForces assigned slack t = CanForce assigned slack t.coef (literal_of t)
 
 literal : ℕ → Bool → Lit
 literal v s = record { var = record { 0 = v }; negated = s }
@@ -62,8 +62,8 @@ same_literal l m v s =
     one ∙ two
 
 -- what a term that can force forces, and that nothing else is forced
-pub forced_at : (listing : List Lit) (n : NormalConstraint) (slack : ℕ) (i : ℕ) (t : NormalTerm) → Rises 0 n.terms → i < length n.terms → t ≡ get_or n.terms i t → sum_over (not_false listing) n.terms ≡ n.degree + slack → TermForces listing slack t → IsForced listing (literal_of t) n
-forced_at listing n slack i t r h is e can =
+pub forced_at : (assigned : List Lit) (n : NormalConstraint) (slack : ℕ) (i : ℕ) (t : NormalTerm) → Rises 0 n.terms → i < length n.terms → t ≡ get_or n.terms i t → sum_over (not_false assigned) n.terms ≡ n.degree + slack → TermForces assigned slack t → IsForced assigned (literal_of t) n
+forced_at assigned n slack i t r h is e can =
     let own : coefficient_of n (literal_of t) ≡ t.coef =
     ap (λ (u : NormalTerm). coefficient_of n (literal_of u)) is ∙ own_coefficient 0 n.terms i t r h ∙ sym (ap (λ (u : NormalTerm). u.coef) is) in
     record {
@@ -73,8 +73,8 @@ forced_at listing n slack i t r h is e can =
       above = omega (arith, ints, own, can.0, e);
     }
 
-pub nothing_forced : (listing : List Lit) (n : NormalConstraint) (slack : ℕ) → Rises 0 n.terms → sum_over (not_false listing) n.terms ≡ n.degree + slack → ((k : ℕ) (d : NormalTerm) → k < length n.terms → TermForces listing slack (get_or n.terms k d) → ⊥) → (l : Lit) → IsForced listing l n → ⊥
-nothing_forced listing n slack r e none l f =
+pub nothing_forced : (assigned : List Lit) (n : NormalConstraint) (slack : ℕ) → Rises 0 n.terms → sum_over (not_false assigned) n.terms ≡ n.degree + slack → ((k : ℕ) (d : NormalTerm) → k < length n.terms → TermForces assigned slack (get_or n.terms k d) → ⊥) → (l : Lit) → IsForced assigned l n → ⊥
+nothing_forced assigned n slack r e none l f =
     let at = stands n.terms (l.var.0) l.negated f.occurs in
     let d : NormalTerm = record { coef = 0; var = l.var; negated = l.negated } in
     let t = get_or n.terms at.0 d in
@@ -83,8 +83,8 @@ nothing_forced listing n slack r e none l f =
     let its : coefficient_of n (literal_of t) ≡ coefficient_of n l = ap (coefficient_of n) same in
     none at.0 d at.1.0 (
       omega (arith, ints, own, its, f.above, e),
-      ap (lists listing) same ∙ f.unset,
-      ap (λ (m : Lit). lists listing (opposite m)) same ∙ f.opposite_unset,
+      ap (lists assigned) same ∙ f.unset,
+      ap (λ (m : Lit). lists assigned (opposite m)) same ∙ f.opposite_unset,
     )
 
 -- a constraint has a literal exactly where a term is of it

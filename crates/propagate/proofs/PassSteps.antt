@@ -12,16 +12,16 @@ use Rattle.propagate.proofs.SearchEnds.{unset_below, bound_of}
 use Rattle.propagate.proofs.SeenLists.{more_seen}
 
 -- what one constraint forces is a chain with its reasons
-reasoned_by : (ns : List NormalConstraint) (place : ℕ) (n : NormalConstraint) → StandsAt ns place n → (listing : List Lit) (ss : List Forced) → AreForcedBy n place listing ss → IsReasonedChain ns listing ss
-reasoned_by ns place n at listing [] c = tt
-reasoned_by ns place n at listing (s ∷ ss) c =
-    ((n, subst (λ (p : ℕ). StandsAt ns p n) (sym c.0) at, c.1), reasoned_by ns place n at (listing ++ s.literal ∷ []) ss c.2)
+reasoned_by : (ns : List NormalConstraint) (place : ℕ) (n : NormalConstraint) → StandsAt ns place n → (assigned : List Lit) (ss : List Forced) → AreForcedBy n place assigned ss → IsReasonedChain ns assigned ss
+reasoned_by ns place n at assigned [] c = tt
+reasoned_by ns place n at assigned (s ∷ ss) c =
+    ((n, subst (λ (p : ℕ). StandsAt ns p n) (sym c.0) at, c.1), reasoned_by ns place n at (assigned ++ s.literal ∷ []) ss c.2)
 
-pub goes_by : (ns : List NormalConstraint) (place : ℕ) (n : NormalConstraint) (listing later : List Lit) (steps more : List Forced) → StandsAt ns place n → GoesOnBy n place listing steps later more → GoesOn ns listing steps later more
-goes_by ns place n listing later steps more at g = (g.0, reasoned_by ns place n at listing g.0 g.1, g.2, g.3)
+pub goes_by : (ns : List NormalConstraint) (place : ℕ) (n : NormalConstraint) (assigned later : List Lit) (steps more : List Forced) → StandsAt ns place n → GoesOnBy n place assigned steps later more → GoesOn ns assigned steps later more
+goes_by ns place n assigned later steps more at g = (g.0, reasoned_by ns place n at assigned g.0 g.1, g.2, g.3)
 
-pub stays : (ns : List NormalConstraint) (listing : List Lit) (steps : List Forced) → GoesOn ns listing steps listing steps
-stays ns listing steps = ([], tt, sym (append-nil listing), sym (append-nil steps))
+pub stays : (ns : List NormalConstraint) (assigned : List Lit) (steps : List Forced) → GoesOn ns assigned steps assigned steps
+stays ns assigned steps = ([], tt, sym (append-nil assigned), sym (append-nil steps))
 
 literals_append : (xs ys : List Forced) → literals_of (xs ++ ys) ≡ literals_of xs ++ literals_of ys
 literals_append [] ys = refl
@@ -32,8 +32,8 @@ reasoned_append ns given [] ys c d = subst (λ (ls : List Lit). IsReasonedChain 
 reasoned_append ns given (x ∷ xs) ys c d =
     (c.0, reasoned_append ns (given ++ x.literal ∷ []) xs ys c.1 (subst (λ (ls : List Lit). IsReasonedChain ns ls ys) (sym (append_assoc given (x.literal ∷ []) (literals_of xs))) d))
 
-joined_listing : (a b c : List Lit) (xs ys : List Forced) → b ≡ a ++ literals_of xs → c ≡ b ++ literals_of ys → c ≡ a ++ literals_of (xs ++ ys)
-joined_listing a b c xs ys e f =
+joined_assigned : (a b c : List Lit) (xs ys : List Forced) → b ≡ a ++ literals_of xs → c ≡ b ++ literals_of ys → c ≡ a ++ literals_of (xs ++ ys)
+joined_assigned a b c xs ys e f =
     f ∙ ap (λ (ls : List Lit). ls ++ literals_of ys) e ∙ append_assoc a (literals_of xs) (literals_of ys) ∙ ap (λ (ls : List Lit). a ++ ls) (sym (literals_append xs ys))
 
 -- two pieces of a walk are one
@@ -41,7 +41,7 @@ pub goes_both : (ns : List NormalConstraint) (a b c : List Lit) (s t u : List Fo
 goes_both ns a b c s t u g h = (
   g.0 ++ h.0,
   reasoned_append ns a g.0 h.0 g.1 (subst (λ (ls : List Lit). IsReasonedChain ns ls h.0) g.2 h.1),
-  joined_listing a b c g.0 h.0 g.2 h.2,
+  joined_assigned a b c g.0 h.0 g.2 h.2,
   h.3 ∙ ap (λ (ss : List Forced). ss ++ h.0) g.3 ∙ append_assoc s g.0 h.0,
 )
 
@@ -52,7 +52,7 @@ nothing : (xs : List Forced) → length xs ≡ 0 → xs ≡ []
 nothing [] h = refl
 nothing (x ∷ xs) h = absurd (omega (arith, h))
 
--- a listing that is as long as before is the same
+-- an assignment that is as long as before is the same
 pub goes_same : (ns : List NormalConstraint) (a b : List Lit) (s t : List Forced) → GoesOn ns a s b t → length b ≡ length a → b ≡ a
 goes_same ns a b s t g h =
     let none = nothing g.0 (omega (arith, longer ns a b s t g, h)) in
@@ -86,17 +86,17 @@ goes_fewer ns a b s t g h =
     by_length (suc count) e same one = omega (arith, e, same, chain_fewer ns a g.0 g.1)
 
 -- the end of a pass
-pub ends_broken_off : (broken : Option ℕ) (L S : Type 0) (B : ℕ → Type 0) → is_some broken ≡ true → MatchOption broken (L → S) B → MatchOption broken S B
-ends_broken_off None L S B h e = absurd (false≢true h)
-ends_broken_off (Some place) L S B h e = e
+pub ends_falsified_off : (falsified : Option ℕ) (L S : Type 0) (B : ℕ → Type 0) → is_some falsified ≡ true → MatchOption falsified (L → S) B → MatchOption falsified S B
+ends_falsified_off None L S B h e = absurd (false≢true h)
+ends_falsified_off (Some place) L S B h e = e
 
-pub ends_settled : (broken : Option ℕ) (L S : Type 0) (B : ℕ → Type 0) → is_some broken ≡ false → MatchOption broken (L → S) B → L → S
-ends_settled None L S B h e l = e l
-ends_settled (Some place) L S B h e l = absurd (false≢true (sym h))
+pub ends_fixpoint : (falsified : Option ℕ) (L S : Type 0) (B : ℕ → Type 0) → is_some falsified ≡ false → MatchOption falsified (L → S) B → L → S
+ends_fixpoint None L S B h e l = e l
+ends_fixpoint (Some place) L S B h e l = absurd (false≢true (sym h))
 
 -- a walk from the start, one pass longer
 pub walk_on : (ns : List NormalConstraint) (start b c : List Lit) (t u : List Forced) → IsReasonedChain ns start t → b ≡ start ++ literals_of t → GoesOn ns b t c u → IsReasonedChain ns start u × (c ≡ start ++ literals_of u)
 walk_on ns start b c t u chain e g = (
   subst (λ (ss : List Forced). IsReasonedChain ns start ss) (sym g.3) (reasoned_append ns start t g.0 chain (subst (λ (ls : List Lit). IsReasonedChain ns ls g.0) e g.1)),
-  joined_listing start b c t g.0 e g.2 ∙ ap (λ (ss : List Forced). start ++ literals_of ss) (sym g.3),
+  joined_assigned start b c t g.0 e g.2 ∙ ap (λ (ss : List Forced). start ++ literals_of ss) (sym g.3),
 )

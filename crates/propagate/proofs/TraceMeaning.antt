@@ -6,8 +6,8 @@ use Rattle.linear.specs.declared.term.Lit.{Lit}
 use Rattle.normal_form.specs.Normal.{NormalConstraint}
 use Rattle.propagate.specs.declared.trace.Trace.{Trace}
 use Rattle.propagate.specs.Chain.{IsChain, LeadsToConflict}
-use Rattle.propagate.specs.Content.{Content, IsBrokenIn, AreForcedIn, traced, IsEnd, IsTrace}
-use Rattle.propagate.specs.Slack.{IsBroken, IsForced}
+use Rattle.propagate.specs.Content.{Content, IsFalsifiedIn, AreForcedIn, traced, IsEnd, IsTrace}
+use Rattle.propagate.specs.Slack.{IsFalsified, IsForced}
 use Rattle.propagate.proofs.AnyOf.{any_here, any_there}
 use Rattle.propagate.proofs.Entries.{Entries, values_of}
 
@@ -31,11 +31,11 @@ chain_traced content given (p ∷ ps) c =
 
 pub conflict_traced : (content : Content) (given : List Lit) (t : Trace) (id : ℕ) → IsTrace content given t → t.conflict ≡ Some id → LeadsToConflict (fin.values content) given
 conflict_traced content given t id h is =
-    let listing = given ++ traced t.forced in
-    let broken : IsBrokenIn content listing id = subst (λ (o : Option ℕ). MatchOption o (IsEnd content given listing) (IsBrokenIn content listing)) is h.end in
-    (traced t.forced, chain_traced content given t.forced h.chain, got_there (IsBroken listing) content id broken.0 broken.1 broken.2)
+    let assigned = given ++ traced t.forced in
+    let falsified : IsFalsifiedIn content assigned id = subst (λ (o : Option ℕ). MatchOption o (IsEnd content given assigned) (IsFalsifiedIn content assigned)) is h.end in
+    (traced t.forced, chain_traced content given t.forced h.chain, got_there (IsFalsified assigned) content id falsified.0 falsified.1 falsified.2)
 
 pub end_traced : (content : Content) (given : List Lit) (t : Trace) → IsTrace content given t → t.conflict ≡ None → IsEnd content given (given ++ traced t.forced)
 end_traced content given t h is =
-    let listing = given ++ traced t.forced in
-    subst (λ (o : Option ℕ). MatchOption o (IsEnd content given listing) (IsBrokenIn content listing)) is h.end
+    let assigned = given ++ traced t.forced in
+    subst (λ (o : Option ℕ). MatchOption o (IsEnd content given assigned) (IsFalsifiedIn content assigned)) is h.end

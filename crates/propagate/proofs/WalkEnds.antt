@@ -1,4 +1,4 @@
--- Listings with the same literals extend to the same, and a walk from a trail tells what it extends to.
+-- Assignments with the same literals extend to the same, and a walk from a trail tells what it extends to.
 use Rattle.std.proofs.Common.{◌≡◌, ℕ, zero, suc, ◌+◌, ◌<◌, Bool, true, false, not, ◌||◌, List, [], ◌∷◌, ◌++◌, Option, None, Some, MatchOption, IfSome, IfOk, Result, Ok, Err, map, length, get_or, take, arith, refl, sym, ap, subst, ◌∙◌, inl, inr}
 use Rattle.std.proofs.lemmas.Bool.{false≢true}
 use Rattle.std.proofs.lemmas.List.{take_more}
@@ -13,10 +13,10 @@ use Rattle.propagate.specs.Reach.{IsReach}
 use Rattle.propagate.specs.declared.forced.Forced.{Forced}
 use Rattle.linear.specs.Literal.{opposite}
 use Rattle.propagate.specs.Literals.{among, lists, Contradicts, IsConsistent, IsOnce, SameLiterals}
-use Rattle.propagate.specs.Chain.{IsConflict, LeadsToConflict, IsSettled, IsReached, IsClosure, IsImpossible}
-use Rattle.propagate.specs.Walk.{IsBrokenAt, IsReasonedChain, literals_of}
+use Rattle.propagate.specs.Chain.{IsConflict, LeadsToConflict, IsFixpoint, IsReached, IsClosure, IsImpossible}
+use Rattle.propagate.specs.Walk.{IsFalsifiedAt, IsReasonedChain, literals_of}
 use Rattle.normal_form.proofs.SetSums.{Within}
-use Rattle.propagate.proofs.Listings.{among_append, among_right, among_head, among_tail, or_cases}
+use Rattle.propagate.proofs.Assignments.{among_append, among_right, among_head, among_tail, or_cases}
 use Rattle.propagate.proofs.Consistency.{only_here, at_literal, push_consistent}
 use Rattle.propagate.proofs.Chains.{chain_stays, no_conflict_from}
 use Rattle.propagate.proofs.ChainEnds.{given_within}
@@ -58,19 +58,19 @@ same_closure ns xs ys closed same none f l = (
   λ r. (f l).1 (also_reached ns ys xs (turned xs ys same) (λ c. none (same_conflict ns xs ys same c)) l r),
 )
 
--- a walk that ends in a broken constraint
-pub walk_conflict : (ns : List NormalConstraint) (given listing : List Lit) (steps : List Forced) (place : ℕ) → IsReasonedChain ns given steps → listing ≡ given ++ literals_of steps → IsBrokenAt ns listing place → LeadsToConflict ns given
-walk_conflict ns given listing steps place c e b =
-    (literals_of steps, chain_of ns given steps c, subst (λ (ls : List Lit). IsConflict ns ls) e (conflict_at ns listing place b))
+-- a walk that ends in a falsified constraint
+pub walk_conflict : (ns : List NormalConstraint) (given assigned : List Lit) (steps : List Forced) (place : ℕ) → IsReasonedChain ns given steps → assigned ≡ given ++ literals_of steps → IsFalsifiedAt ns assigned place → LeadsToConflict ns given
+walk_conflict ns given assigned steps place c e b =
+    (literals_of steps, chain_of ns given steps c, subst (λ (ls : List Lit). IsConflict ns ls) e (conflict_at ns assigned place b))
 
 -- and one that ends quietly
-pub walk_closure : (ns : List NormalConstraint) (given listing : List Lit) (steps : List Forced) → IsReasonedChain ns given steps → listing ≡ given ++ literals_of steps → IsSettled ns listing → IsClosure ns given listing
-walk_closure ns given listing steps c e q = closure_by ns given listing (literals_of steps) (chain_of ns given steps c, e, q)
+pub walk_closure : (ns : List NormalConstraint) (given assigned : List Lit) (steps : List Forced) → IsReasonedChain ns given steps → assigned ≡ given ++ literals_of steps → IsFixpoint ns assigned → IsClosure ns given assigned
+walk_closure ns given assigned steps c e q = closure_by ns given assigned (literals_of steps) (chain_of ns given steps c, e, q)
 
-pub walk_free : (ns : List NormalConstraint) (given listing : List Lit) (steps : List Forced) → IsConsistent given → listing ≡ given ++ literals_of steps → IsSettled ns listing → IsImpossible ns given → ⊥
-walk_free ns given listing steps h e q (inl c) = h c
-walk_free ns given listing steps h e q (inr r) =
-    no_conflict_from ns given listing q (λ v s k. subst (λ (ls : List Lit). among ls v s ≡ true) (sym e) (given_within given (literals_of steps) v s k)) r
+pub walk_free : (ns : List NormalConstraint) (given assigned : List Lit) (steps : List Forced) → IsConsistent given → assigned ≡ given ++ literals_of steps → IsFixpoint ns assigned → IsImpossible ns given → ⊥
+walk_free ns given assigned steps h e q (inl c) = h c
+walk_free ns given assigned steps h e q (inr r) =
+    no_conflict_from ns given assigned q (λ v s k. subst (λ (ls : List Lit). among ls v s ≡ true) (sym e) (given_within given (literals_of steps) v s k)) r
 
 or_listed : (b d : Bool) → (d ≡ true → b ≡ true) → b ≡ (b || d)
 or_listed true d h = refl
@@ -99,36 +99,36 @@ among_at (x ∷ xs) zero d h = among_head x xs
 among_at (x ∷ xs) (suc i) d h = among_tail x xs ((get_or xs i d).var.0) (get_or xs i d).negated (among_at xs i d (omega (arith, h)))
 
 -- the opposite of a listed literal is among those before it
-pub contradicts_at : (listing xs : List Lit) (i : ℕ) (d : Lit) → SameLiterals xs (take i listing) → i < length listing → lists xs (opposite (get_or listing i d)) ≡ true → Contradicts listing
-contradicts_at listing xs i d same h e =
-    let l = get_or listing i d in
-    (l, among_at listing i d h, among_take listing i (l.var.0) (not l.negated) (sym (same (l.var.0) (not l.negated)) ∙ e))
+pub contradicts_at : (assigned xs : List Lit) (i : ℕ) (d : Lit) → SameLiterals xs (take i assigned) → i < length assigned → lists xs (opposite (get_or assigned i d)) ≡ true → Contradicts assigned
+contradicts_at assigned xs i d same h e =
+    let l = get_or assigned i d in
+    (l, among_at assigned i d h, among_take assigned i (l.var.0) (not l.negated) (sym (same (l.var.0) (not l.negated)) ∙ e))
 
 -- one literal more is admitted
-pub same_more : (listing old new : List Lit) (i : ℕ) (d : Lit) → i < length listing → SameLiterals old (take i listing) → SameLiterals new (old ++ get_or listing i d ∷ []) → SameLiterals new (take (i + 1) listing)
-same_more listing old new i d h same pushed v s =
-    let l = get_or listing i d in
+pub same_more : (assigned old new : List Lit) (i : ℕ) (d : Lit) → i < length assigned → SameLiterals old (take i assigned) → SameLiterals new (old ++ get_or assigned i d ∷ []) → SameLiterals new (take (i + 1) assigned)
+same_more assigned old new i d h same pushed v s =
+    let l = get_or assigned i d in
     pushed v s ∙ among_append old (l ∷ []) v s ∙ ap (λ (b : Bool). b || among (l ∷ []) v s) (same v s)
-    ∙ sym (among_append (take i listing) (l ∷ []) v s) ∙ ap (λ (xs : List Lit). among xs v s) (sym (take_more listing i d h))
+    ∙ sym (among_append (take i assigned) (l ∷ []) v s) ∙ ap (λ (xs : List Lit). among xs v s) (sym (take_more assigned i d h))
 
-pub consistent_more : (listing old : List Lit) (i : ℕ) (d : Lit) → i < length listing → SameLiterals old (take i listing) → lists old (opposite (get_or listing i d)) ≡ false → IsConsistent (take i listing) → IsConsistent (take (i + 1) listing)
-consistent_more listing old i d h same free consistent =
-    let l = get_or listing i d in
-    subst (λ (xs : List Lit). IsConsistent xs) (sym (take_more listing i d h))
-    (push_consistent (take i listing) l consistent (sym (same (l.var.0) (not l.negated)) ∙ free))
+pub consistent_more : (assigned old : List Lit) (i : ℕ) (d : Lit) → i < length assigned → SameLiterals old (take i assigned) → lists old (opposite (get_or assigned i d)) ≡ false → IsConsistent (take i assigned) → IsConsistent (take (i + 1) assigned)
+consistent_more assigned old i d h same free consistent =
+    let l = get_or assigned i d in
+    subst (λ (xs : List Lit). IsConsistent xs) (sym (take_more assigned i d h))
+    (push_consistent (take i assigned) l consistent (sym (same (l.var.0) (not l.negated)) ∙ free))
 
 pub same_consistent : (xs ys : List Lit) → SameLiterals xs ys → IsConsistent ys → IsConsistent xs
 same_consistent xs ys same h c = h (same_contradicts xs ys same c)
 
 -- what a walk's end tells
-pub ends_broken : (ns : List NormalConstraint) (given listing : List Lit) (steps : List Forced) (broken : Option ℕ) (place : ℕ) → IsReasonedChain ns given steps → listing ≡ given ++ literals_of steps → MatchOption broken (IsSettled ns listing) (IsBrokenAt ns listing) → broken ≡ Some place → IsImpossible ns given
-ends_broken ns given listing steps broken place c e end is =
-    inr (walk_conflict ns given listing steps place c e (subst (λ (o : Option ℕ). MatchOption o (IsSettled ns listing) (IsBrokenAt ns listing)) is end))
+pub ends_falsified : (ns : List NormalConstraint) (given assigned : List Lit) (steps : List Forced) (falsified : Option ℕ) (place : ℕ) → IsReasonedChain ns given steps → assigned ≡ given ++ literals_of steps → MatchOption falsified (IsFixpoint ns assigned) (IsFalsifiedAt ns assigned) → falsified ≡ Some place → IsImpossible ns given
+ends_falsified ns given assigned steps falsified place c e end is =
+    inr (walk_conflict ns given assigned steps place c e (subst (λ (o : Option ℕ). MatchOption o (IsFixpoint ns assigned) (IsFalsifiedAt ns assigned)) is end))
 
-pub ends_quiet : (ns : List NormalConstraint) (given listing closed : List Lit) (steps : List Forced) (broken : Option ℕ) → IsConsistent given → IsReasonedChain ns given steps → listing ≡ given ++ literals_of steps → MatchOption broken (IsSettled ns listing) (IsBrokenAt ns listing) → broken ≡ None → closed ≡ listing → IsOnce closed → (IsImpossible ns given → ⊥) × IsClosure ns given closed × IsOnce closed
-ends_quiet ns given listing closed steps broken h c e end is same once =
-    let q : IsSettled ns listing = subst (λ (o : Option ℕ). MatchOption o (IsSettled ns listing) (IsBrokenAt ns listing)) is end in
-    (walk_free ns given listing steps h e q, subst (λ (ls : List Lit). IsClosure ns given ls) (sym same) (walk_closure ns given listing steps c e q), once)
+pub ends_quiet : (ns : List NormalConstraint) (given assigned closed : List Lit) (steps : List Forced) (falsified : Option ℕ) → IsConsistent given → IsReasonedChain ns given steps → assigned ≡ given ++ literals_of steps → MatchOption falsified (IsFixpoint ns assigned) (IsFalsifiedAt ns assigned) → falsified ≡ None → closed ≡ assigned → IsOnce closed → (IsImpossible ns given → ⊥) × IsClosure ns given closed × IsOnce closed
+ends_quiet ns given assigned closed steps falsified h c e end is same once =
+    let q : IsFixpoint ns assigned = subst (λ (o : Option ℕ). MatchOption o (IsFixpoint ns assigned) (IsFalsifiedAt ns assigned)) is end in
+    (walk_free ns given assigned steps h e q, subst (λ (ls : List Lit). IsClosure ns given ls) (sym same) (walk_closure ns given assigned steps c e q), once)
 
 pub same_reach : (ns : List NormalConstraint) (xs ys : List Lit) → SameLiterals xs ys → (r : Reach) → IsReach ns xs r → IsReach ns ys r
 same_reach ns xs ys same Conflict h = same_impossible ns xs ys same h
@@ -141,19 +141,19 @@ same_reach ns xs ys same (Closed closed) h = (
 pub start_same : (made : Option (List Lit × ℕ)) (start : List Lit × ℕ) (ys : List Lit) → IfSome made (λ t. SameLiterals t.0 ys) → made ≡ Some start → SameLiterals start.0 ys
 start_same made start ys h e = subst (λ (o : Option (List Lit × ℕ)). IfSome o (λ t. SameLiterals t.0 ys)) e h
 
--- a walk from a listing with the literals of what is given makes a trace
-pub trace_made : {E : Type 0} (ns : List NormalConstraint) (ids : List ℕ) (given start listing : List Lit) (steps : List Forced) (broken : Option ℕ) (result : Result Trace E)
-    → SameLiterals start given → IsReasonedChain ns start steps → listing ≡ start ++ literals_of steps → MatchOption broken (IsSettled ns listing) (IsBrokenAt ns listing)
-    → IfOk result (λ t. t.forced ≡ map (named ids) steps) → IfOk result (λ t. t.conflict ≡ option_map (λ place. get_or ids place 0) broken)
+-- a walk from an assignment with the literals of what is given makes a trace
+pub trace_made : {E : Type 0} (ns : List NormalConstraint) (ids : List ℕ) (given start assigned : List Lit) (steps : List Forced) (falsified : Option ℕ) (result : Result Trace E)
+    → SameLiterals start given → IsReasonedChain ns start steps → assigned ≡ start ++ literals_of steps → MatchOption falsified (IsFixpoint ns assigned) (IsFalsifiedAt ns assigned)
+    → IfOk result (λ t. t.forced ≡ map (named ids) steps) → IfOk result (λ t. t.conflict ≡ option_map (λ place. get_or ids place 0) falsified)
     → IfOk result (IsTraceByPlaces ns ids given)
-trace_made ns ids given start listing steps broken (Err e) same c is end forced conflict = tt
-trace_made ns ids given start listing steps broken (Ok t) same c is end forced conflict = record {
+trace_made ns ids given start assigned steps falsified (Err e) same c is end forced conflict = tt
+trace_made ns ids given start assigned steps falsified (Ok t) same c is end forced conflict = record {
   start = start;
   same = same;
   steps = steps;
-  broken = broken;
+  falsified = falsified;
   chain = c;
-  end = subst (λ (ls : List Lit). MatchOption broken (IsSettled ns ls) (IsBrokenAt ns ls)) is end;
+  end = subst (λ (ls : List Lit). MatchOption falsified (IsFixpoint ns ls) (IsFalsifiedAt ns ls)) is end;
   forced = forced;
   conflict = conflict;
 }

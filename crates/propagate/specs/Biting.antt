@@ -3,7 +3,7 @@ use Rattle.std.specs.Prelude.{◌⊎◌, List}
 use Rattle.linear.specs.declared.term.Lit.{Lit}
 use Rattle.normal_form.specs.Normal.{NormalConstraint}
 use Rattle.propagate.specs.Literals.{IsConsistent}
-use Rattle.propagate.specs.Slack.{IsBroken, IsForced}
+use Rattle.propagate.specs.Slack.{IsFalsified, IsForced}
 use Rattle.propagate.specs.Chain.{LeadsToConflict, IsClosure}
 
 -- under these literals and all that chains from them force, without a conflict, the constraint has negative slack
@@ -12,7 +12,7 @@ pub record BitesUnder (constraints : List NormalConstraint) (n : NormalConstrain
   pub consistent : IsConsistent given
   pub no_conflict : LeadsToConflict constraints given → ⊥
   pub closure : IsClosure constraints given closed
-  pub bites : IsBroken closed n ⊎ ((l : Lit) × IsForced closed l n)
+  pub bites : IsFalsified closed n ⊎ ((l : Lit) × IsForced closed l n)
 
 -- the constraint adds to what propagation over the others shows
 abbrev pub Bites : List NormalConstraint → NormalConstraint → Type 0

@@ -9,15 +9,15 @@ use Rattle.std.specs.Prelude.{◌≡◌, true, ◌↔◌, ◌⊎◌, List, [], �
 use Rattle.linear.specs.declared.term.Lit.{Lit}
 use Rattle.normal_form.specs.Normal.{NormalConstraint}
 use Rattle.propagate.specs.Literals.{lists, Contradicts}
-use Rattle.propagate.specs.Slack.{IsBroken, IsForced}
+use Rattle.propagate.specs.Slack.{IsFalsified, IsForced}
 
 -- some constraint forces the literal
 abbrev pub IsForcedByOne : List NormalConstraint → List Lit → Lit → Type 0
-IsForcedByOne constraints listing l = Any (IsForced listing l) constraints
+IsForcedByOne constraints assigned l = Any (IsForced assigned l) constraints
 
 -- some constraint has negative slack
 abbrev pub IsConflict : List NormalConstraint → List Lit → Type 0
-IsConflict constraints listing = Any (IsBroken listing) constraints
+IsConflict constraints assigned = Any (IsFalsified assigned) constraints
 
 -- literals, each forced in some constraint under what is given and those before it
 abbrev pub IsChain : List NormalConstraint → List Lit → List Lit → Type 0
@@ -37,20 +37,20 @@ pub record IsWholeChain (constraints : List NormalConstraint) (given chain : Lis
   pub chain_is : IsChain constraints given chain
   pub ends : (l : Lit) → IsForcedByOne constraints (given ++ chain) l → ⊥
 
--- a listing from which nothing more is forced, and in which no constraint has negative slack
-pub record IsSettled (constraints : List NormalConstraint) (listing : List Lit) : Type 0 where
-  pub nothing_forced : (l : Lit) → IsForcedByOne constraints listing l → ⊥
-  pub no_conflict : IsConflict constraints listing → ⊥
+-- an assignment from which nothing more is forced, and in which no constraint has negative slack
+pub record IsFixpoint (constraints : List NormalConstraint) (assigned : List Lit) : Type 0 where
+  pub nothing_forced : (l : Lit) → IsForcedByOne constraints assigned l → ⊥
+  pub no_conflict : IsConflict constraints assigned → ⊥
 
 -- a literal that is given, or that stands in a chain from what is given
 abbrev pub IsReached : List NormalConstraint → List Lit → Lit → Type 0
 IsReached constraints given l =
     (lists given l ≡ true) ⊎ ((chain : List Lit) × IsChain constraints given chain × (lists chain l ≡ true))
 
--- a listing of exactly the literals that are given or forced
+-- an assignment of exactly the literals that are given or forced
 abbrev pub IsClosure : List NormalConstraint → List Lit → List Lit → Type 0
 IsClosure constraints given closed = (l : Lit) → (lists closed l ≡ true) ↔ IsReached constraints given l
 
--- no listing of these literals is to be had: it has a literal and its opposite, or a chain from it leads to a conflict
+-- no assignment of these literals is to be had: it has a literal and its opposite, or a chain from it leads to a conflict
 abbrev pub IsImpossible : List NormalConstraint → List Lit → Type 0
 IsImpossible constraints given = Contradicts given ⊎ LeadsToConflict constraints given

@@ -7,7 +7,7 @@ use Rattle.normal_form.specs.Normal.{NormalConstraint}
 use Rattle.propagate.specs.declared.trace.Trace.{Trace}
 use Rattle.propagate.specs.Ids.{IdSet, HasId}
 use Rattle.propagate.specs.Literals.{coefficient_of}
-use Rattle.propagate.specs.Slack.{IsBroken, IsForced}
+use Rattle.propagate.specs.Slack.{IsFalsified, IsForced}
 use Rattle.propagate.specs.Chain.{LeadsToConflict, IsClosure}
 
 -- constraints by their ids
@@ -30,11 +30,11 @@ AddsOccurrences content l before ids = (id : ℕ) → HasId ids id ↔ (HasId be
 
 -- the constraint of the id forces the literal
 abbrev pub IsForcedIn : Content → List Lit → Lit → ℕ → Type 0
-IsForcedIn content listing l id = (n : NormalConstraint) × (fin.get content id ≡ Some n) × IsForced listing l n
+IsForcedIn content assigned l id = (n : NormalConstraint) × (fin.get content id ≡ Some n) × IsForced assigned l n
 
 -- the constraint of the id has negative slack
-abbrev pub IsBrokenIn : Content → List Lit → ℕ → Type 0
-IsBrokenIn content listing id = (n : NormalConstraint) × (fin.get content id ≡ Some n) × IsBroken listing n
+abbrev pub IsFalsifiedIn : Content → List Lit → ℕ → Type 0
+IsFalsifiedIn content assigned id = (n : NormalConstraint) × (fin.get content id ≡ Some n) × IsFalsified assigned n
 
 -- each literal is forced in the constraint of its id under what is given and those before it
 abbrev pub AreForcedIn : Content → List Lit → List (Lit × ℕ) → Type 0
@@ -46,14 +46,14 @@ abbrev pub traced : List (Lit × ℕ) → List Lit
 traced = map (λ p. p.0)
 
 -- the chain comes to an end: no chain leads to a conflict, and what is given or forced is all there
-pub record IsEnd (content : Content) (given listing : List Lit) : Type 0 where
+pub record IsEnd (content : Content) (given assigned : List Lit) : Type 0 where
   pub no_conflict : LeadsToConflict (fin.values content) given → ⊥
-  pub closure : IsClosure (fin.values content) given listing
+  pub closure : IsClosure (fin.values content) given assigned
 
 -- a chain from what is given, with its reasons; then a constraint that has negative slack, or else the end
 pub record IsTrace (content : Content) (given : List Lit) (t : Trace) : Type 0 where
   pub chain : AreForcedIn content given t.forced
-  pub end : MatchOption t.conflict (IsEnd content given (given ++ traced t.forced)) (IsBrokenIn content (given ++ traced t.forced))
+  pub end : MatchOption t.conflict (IsEnd content given (given ++ traced t.forced)) (IsFalsifiedIn content (given ++ traced t.forced))
 
 -- a trace of literals and one more behind them, which may leave out what a chain from those before the last one has
 pub record IsTraceOfLast (content : Content) (before : List Lit) (last : Lit) (t : Trace) : Type 0 where

@@ -1,4 +1,4 @@
--- Listings of literals that are taken as true.
+-- Assignments of literals that are taken as true.
 use Rattle.std.specs.Prelude.{ℕ, ◌+◌, ◌≡◌, max, Bool, true, false, ◌||◌, List, [], ◌∷◌}
 use Rattle.linear.specs.declared.term.Lit.{Lit}
 use Rattle.linear.specs.Literal.{opposite}
@@ -9,34 +9,34 @@ use Rattle.normal_form.specs.Normal.{Literals, NormalConstraint, only, coefficie
 abbrev pub coefficient_of : NormalConstraint → Lit → ℕ
 coefficient_of n l = coefficient n (l.var.0) l.negated
 
--- the least number above all variables of a listing
+-- the least number above all variables of an assignment
 abbrev pub literal_bound : List Lit → ℕ
 literal_bound [] = 0
 literal_bound (l ∷ ls) = max (l.var.0 + 1) (literal_bound ls)
 
--- the literals of a listing, as a set
+-- the literals of an assignment, as a set
 abbrev pub among : List Lit → Literals
 among [] v s = false
 among (l ∷ ls) v s = only (l.var.0) l.negated v s || among ls v s
 
--- whether a listing has a literal
+-- whether an assignment has a literal
 abbrev pub lists : List Lit → Lit → Bool
-lists listing l = among listing (l.var.0) l.negated
+lists assigned l = among assigned (l.var.0) l.negated
 
--- a listing that has a literal and its opposite
+-- an assignment that has a literal and its opposite
 abbrev pub Contradicts : List Lit → Type 0
-Contradicts listing = (l : Lit) × (lists listing l ≡ true) × (lists listing (opposite l) ≡ true)
+Contradicts assigned = (l : Lit) × (lists assigned l ≡ true) × (lists assigned (opposite l) ≡ true)
 
--- a listing that does not
+-- an assignment that does not
 abbrev pub IsConsistent : List Lit → Type 0
-IsConsistent listing = Contradicts listing → ⊥
+IsConsistent assigned = Contradicts assigned → ⊥
 
--- no literal stands in the listing twice
+-- no literal stands in the assignment twice
 abbrev pub IsOnce : List Lit → Type 0
 IsOnce [] = Unit {0}
 IsOnce (l ∷ ls) = (lists ls l ≡ false) × IsOnce ls
 
--- two listings have the same literals
+-- two assignments have the same literals
 abbrev pub SameLiterals : List Lit → List Lit → Type 0
 SameLiterals xs ys = (v : ℕ) (s : Bool) → among xs v s ≡ among ys v s
 

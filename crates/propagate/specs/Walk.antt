@@ -5,19 +5,19 @@ use Rattle.normal_form.specs.Normal.{NormalConstraint}
 use Rattle.propagate.specs.declared.forced.Forced.{Forced}
 use Rattle.linear.specs.Literal.{opposite}
 use Rattle.propagate.specs.Literals.{lists}
-use Rattle.propagate.specs.Slack.{IsBroken, IsForced}
+use Rattle.propagate.specs.Slack.{IsFalsified, IsForced}
 
 -- the constraint at a place is this one
 abbrev pub StandsAt : List NormalConstraint → ℕ → NormalConstraint → Type 0
 StandsAt constraints place n = (place < length constraints) × (slice_index_or constraints place n ≡ n)
 
--- the constraint at a place is broken
-abbrev pub IsBrokenAt : List NormalConstraint → List Lit → ℕ → Type 0
-IsBrokenAt constraints listing place = (n : NormalConstraint) × StandsAt constraints place n × IsBroken listing n
+-- the constraint at a place is falsified
+abbrev pub IsFalsifiedAt : List NormalConstraint → List Lit → ℕ → Type 0
+IsFalsifiedAt constraints assigned place = (n : NormalConstraint) × StandsAt constraints place n × IsFalsified assigned n
 
 -- the constraint at the place of the reason forces the literal
 abbrev pub IsForcedStep : List NormalConstraint → List Lit → Forced → Type 0
-IsForcedStep constraints listing step = (n : NormalConstraint) × StandsAt constraints step.reason n × IsForced listing step.literal n
+IsForcedStep constraints assigned step = (n : NormalConstraint) × StandsAt constraints step.reason n × IsForced assigned step.literal n
 
 -- each literal is forced in the constraint of its reason under what is given and those before it
 abbrev pub IsReasonedChain : List NormalConstraint → List Lit → List Forced → Type 0
@@ -28,25 +28,25 @@ IsReasonedChain constraints given (s ∷ ss) = IsForcedStep constraints given s 
 abbrev pub literals_of : List Forced → List Lit
 literals_of = map (λ s. s.literal)
 
--- a constraint that is not broken and forces nothing
+-- a constraint that is not falsified and forces nothing
 abbrev pub IsQuiet : List Lit → NormalConstraint → Type 0
-IsQuiet listing n = (IsBroken listing n → ⊥) × ((l : Lit) → IsForced listing l n → ⊥)
+IsQuiet assigned n = (IsFalsified assigned n → ⊥) × ((l : Lit) → IsForced assigned l n → ⊥)
 
 -- a literal with this coefficient is forced where the slack is this: it is unset, and the coefficient is above the slack
 abbrev pub CanForce : List Lit → ℕ → ℕ → Lit → Type 0
-CanForce listing slack coef l = (slack < coef) × (lists listing l ≡ false) × (lists listing (opposite l) ≡ false)
+CanForce assigned slack coef l = (slack < coef) × (lists assigned l ≡ false) × (lists assigned (opposite l) ≡ false)
 
--- a walk has gone on: by steps with their reasons, which stand at the end of listing and steps
+-- a walk has gone on: by steps with their reasons, which stand at the end of assignment and steps
 abbrev pub GoesOn : List NormalConstraint → List Lit → List Forced → List Lit → List Forced → Type 0
-GoesOn constraints listing steps later more =
-    (added : List Forced) × IsReasonedChain constraints listing added × (later ≡ listing ++ literals_of added) × (more ≡ steps ++ added)
+GoesOn constraints assigned steps later more =
+    (added : List Forced) × IsReasonedChain constraints assigned added × (later ≡ assigned ++ literals_of added) × (more ≡ steps ++ added)
 
--- one constraint, which stands at this place, forces each literal under the listing and those before it
+-- one constraint, which stands at this place, forces each literal under the assignment and those before it
 abbrev pub AreForcedBy : NormalConstraint → ℕ → List Lit → List Forced → Type 0
-AreForcedBy n place listing [] = Unit {0}
-AreForcedBy n place listing (s ∷ ss) = (s.reason ≡ place) × IsForced listing s.literal n × AreForcedBy n place (listing ++ s.literal ∷ []) ss
+AreForcedBy n place assigned [] = Unit {0}
+AreForcedBy n place assigned (s ∷ ss) = (s.reason ≡ place) × IsForced assigned s.literal n × AreForcedBy n place (assigned ++ s.literal ∷ []) ss
 
 -- a walk has gone on by what one constraint forces
 abbrev pub GoesOnBy : NormalConstraint → ℕ → List Lit → List Forced → List Lit → List Forced → Type 0
-GoesOnBy n place listing steps later more =
-    (added : List Forced) × AreForcedBy n place listing added × (later ≡ listing ++ literals_of added) × (more ≡ steps ++ added)
+GoesOnBy n place assigned steps later more =
+    (added : List Forced) × AreForcedBy n place assigned added × (later ≡ assigned ++ literals_of added) × (more ≡ steps ++ added)

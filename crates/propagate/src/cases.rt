@@ -6,7 +6,7 @@ ghost use Rattle.normal_form.specs.Cases.{plain, negated, normal};
 ghost use Rattle.propagate.specs.Cases.{x, not_x, unit, unit_not, four_clauses, one_of_two, weighted, pigeons, two_ids, two_of_three, two_of_three_negated, improving_moved};
 ghost use Rattle.propagate.specs.Chain.{IsForcedByOne, IsChain, IsRefuted, IsClosure, IsImpossible, LeadsToConflict};
 ghost use Rattle.propagate.specs.Content.{IsLeastAbove, IsTrace};
-ghost use Rattle.propagate.specs.Slack.{slack, IsBroken};
+ghost use Rattle.propagate.specs.Slack.{slack, IsFalsified};
 
 /// `1 ~x2 1 x3 >= 1 ; 1 ~x1 1 x2 >= 1 ; 1 x1 >= 1 ; 1 ~x3 >= 1`: the first two force something only after the
 /// third, so one pass over the four in order does not do.
@@ -40,8 +40,8 @@ pub fn cases_of_one_variable()
     ensures { IsRefuted (one_of_two ∷ normal (negated 1 1 ∷ plain 1 2 ∷ []) 1 ∷ unit_not 2 ∷ []) }
 {}
 
-/// `1 x1 1 x2 >= 1` forces x2 under `~x1`, and nothing under `x1`. No listing has both.
-pub fn listing_continued()
+/// `1 x1 1 x2 >= 1` forces x2 under `~x1`, and nothing under `x1`. No assignment has both.
+pub fn assigned_continued()
     ensures false_given { IsClosure (one_of_two ∷ []) (not_x 1 ∷ []) (not_x 1 ∷ x 2 ∷ []) }
     ensures true_given { IsClosure (one_of_two ∷ []) (x 1 ∷ []) (x 1 ∷ []) }
     ensures both_given { IsImpossible (one_of_two ∷ []) (x 1 ∷ not_x 1 ∷ []) }
@@ -53,14 +53,14 @@ pub fn other_literal_open()
     ensures { IsRefuted (one_of_two ∷ unit 1 ∷ unit_not 2 ∷ []) → ⊥ }
 {}
 
-/// `1 ~x1 1 x2 >= 2` beside `1 x1 1 ~x2 >= 2`: both literals are forced, and the other is broken.
+/// `1 ~x1 1 x2 >= 2` beside `1 x1 1 ~x2 >= 2`: both literals are forced, and the other is falsified.
 pub fn opposites_refuted()
     ensures { IsRefuted (normal (negated 1 1 ∷ plain 1 2 ∷ []) 2 ∷ normal (plain 1 1 ∷ negated 1 2 ∷ []) 2 ∷ []) }
 {}
 
-/// `1 ~x1 >= 2`, the negation of `1 x1 >= 0`, is broken at once.
+/// `1 ~x1 >= 2`, the negation of `1 x1 >= 0`, is falsified at once.
 pub fn degree_zero_negated()
-    ensures { IsBroken [] (normal (negated 1 1 ∷ []) 2) }
+    ensures { IsFalsified [] (normal (negated 1 1 ∷ []) 2) }
 {}
 
 /// `1 ~x2 1 ~x3 1 ~x4 1 ~x5 >= 3` is not shown from `1 x1 1 ~x5 >= 1`, `1 ~x1 1 ~x2 1 ~x3 1 ~x4 >= 3` and
@@ -80,14 +80,14 @@ pub fn least_above()
     ensures left { IsLeastAbove two_ids 4 None → ⊥ }
 {}
 
-/// Under `x1` the second of these forces `~x2`, and there the chain ends. Under `~x1` the first forces x2, and the second is broken; or
-/// the second forces `~x2`, and the first is broken.
+/// Under `x1` the second of these forces `~x2`, and there the chain ends. Under `~x1` the first forces x2, and the second is falsified; or
+/// the second forces `~x2`, and the first is falsified.
 pub fn traced_by_ids()
     ensures end { IsTrace two_ids (x 1 ∷ []) (record { forced = (not_x 2, 5) ∷ []; conflict = None }) }
     ensures conflict { IsTrace two_ids (not_x 1 ∷ []) (record { forced = (x 2, 2) ∷ []; conflict = Some 5 }) }
     ensures other_conflict { IsTrace two_ids (not_x 1 ∷ []) (record { forced = (not_x 2, 5) ∷ []; conflict = Some 2 }) }
     ensures too_early { IsTrace two_ids (x 1 ∷ []) (record { forced = []; conflict = None }) → ⊥ }
     ensures other_reason { IsTrace two_ids (not_x 1 ∷ []) (record { forced = (x 2, 5) ∷ []; conflict = Some 5 }) → ⊥ }
-    ensures not_broken { IsTrace two_ids (x 1 ∷ []) (record { forced = (not_x 2, 5) ∷ []; conflict = Some 2 }) → ⊥ }
+    ensures not_falsified { IsTrace two_ids (x 1 ∷ []) (record { forced = (not_x 2, 5) ∷ []; conflict = Some 2 }) → ⊥ }
     ensures conflict_left_out { IsTrace two_ids (not_x 1 ∷ []) (record { forced = (x 2, 2) ∷ []; conflict = None }) → ⊥ }
 {}

@@ -7,12 +7,12 @@ ghost use Rattle.linear.specs.Valuation.{Valuation};
 ghost use Rattle.normal_form.specs.Negation.{IsNegation};
 ghost use Rattle.normal_form.specs.Normal.{NormalConstraint, Holds, Rises, total};
 ghost use Rattle.propagate.specs.Biting.{Bites};
-ghost use Rattle.propagate.specs.Chain.{IsConflict, IsChain, LeadsToConflict, IsRefuted, IsWholeChain, IsSettled, IsReached, IsClosure};
+ghost use Rattle.propagate.specs.Chain.{IsConflict, IsChain, LeadsToConflict, IsRefuted, IsWholeChain, IsFixpoint, IsReached, IsClosure};
 ghost use Rattle.propagate.specs.Content.{Content, IsEnd, IsTrace, IsTraceOfLast, traced};
 ghost use Rattle.propagate.specs.declared.trace.Trace.{Trace};
 ghost use Rattle.propagate.specs.Literals.{coefficient_of, IsConsistent, MakesTrue, lists};
-ghost use Rattle.propagate.specs.Passes.{outcome, Conflict, Settled};
-ghost use Rattle.propagate.specs.Slack.{IsBroken};
+ghost use Rattle.propagate.specs.Passes.{outcome, Conflict, Fixpoint};
+ghost use Rattle.propagate.specs.Slack.{IsFalsified};
 
 /// An assignment that meets all constraints and makes the given literals true makes every literal of a chain
 /// true.
@@ -57,16 +57,16 @@ pub fn chain_kept()
         → (LeadsToConflict constraints given → ⊥) → (l : Lit) → IsReached constraints (given ++ chain) l ↔ IsReached constraints given l }
 {}
 
-/// Constraints that reach from nothing every literal of a listing are refuted where fewer lead from it to a conflict. So
-/// a listing that leads to a conflict refutes the constraints with one that asks for all its literals, which is the
+/// Constraints that reach from nothing every literal of an assignment are refuted where fewer lead from it to a conflict. So
+/// an assignment that leads to a conflict refutes the constraints with one that asks for all its literals, which is the
 /// negation of the clause that one of them is false.
 pub fn conflict_refutes()
     ensures reached { (fewer more : List NormalConstraint) → ((n : NormalConstraint) → Contains fewer n → Contains more n)
-        → (listing : List Lit) → ((l : Lit) → lists listing l ≡ true → IsReached more [] l)
-        → LeadsToConflict fewer listing → IsRefuted more }
-    ensures asked { (constraints : List NormalConstraint) → (listing : List Lit) → (all : NormalConstraint)
-        → all.degree ≡ total all.terms → ((l : Lit) → lists listing l ≡ true → 0 < coefficient_of all l)
-        → LeadsToConflict constraints listing → IsRefuted (constraints ++ all ∷ []) }
+        → (assigned : List Lit) → ((l : Lit) → lists assigned l ≡ true → IsReached more [] l)
+        → LeadsToConflict fewer assigned → IsRefuted more }
+    ensures asked { (constraints : List NormalConstraint) → (assigned : List Lit) → (all : NormalConstraint)
+        → all.degree ≡ total all.terms → ((l : Lit) → lists assigned l ≡ true → 0 < coefficient_of all l)
+        → LeadsToConflict constraints assigned → IsRefuted (constraints ++ all ∷ []) }
 {}
 
 /// A trace is a chain; it names a conflict where a chain leads to one and nowhere else, and without a conflict what is
@@ -82,14 +82,14 @@ pub fn trace_meaning()
         → t.conflict ≡ None → IsClosure (fin.values content) given (given ++ traced t.forced) }
 {}
 
-/// What a trace of a listing and one literal more leaves out is known to whoever knows what follows from the listing: it
-/// names a conflict where a chain leads to one and nowhere else, and without a conflict what followed from the listing,
+/// What a trace of an assignment and one literal more leaves out is known to whoever knows what follows from the assignment: it
+/// names a conflict where a chain leads to one and nowhere else, and without a conflict what followed from the assignment,
 /// with the last literal and those that are traced, is what follows from all.
 pub fn last_traced()
     ensures conflict { (content : Content) → (before : List Lit) → (last : Lit) → (t : Trace) → (id : ℕ) → IsTraceOfLast content before last t
         → t.conflict ≡ Some id → LeadsToConflict (fin.values content) (before ++ last ∷ []) }
-    ensures end { (content : Content) → (before listing : List Lit) → (last : Lit) → (t : Trace) → IsEnd content before listing
-        → IsTraceOfLast content before last t → t.conflict ≡ None → IsEnd content (before ++ last ∷ []) (listing ++ last ∷ traced t.forced) }
+    ensures end { (content : Content) → (before assigned : List Lit) → (last : Lit) → (t : Trace) → IsEnd content before assigned
+        → IsTraceOfLast content before last t → t.conflict ≡ None → IsEnd content (before ++ last ∷ []) (assigned ++ last ∷ traced t.forced) }
 {}
 
 /// Two chains that cannot go on lead to a conflict both, or have the same literals with what is given: in which
@@ -101,22 +101,22 @@ pub fn one_end()
         ⊎ ((l : Lit) → lists (given ++ chain) l ≡ lists (given ++ other) l) }
 {}
 
-/// No chain from literals of a settled listing leaves the listing, and none leads to a conflict.
-pub fn settled_end()
-    ensures stays { (constraints : List NormalConstraint) → (settled given chain : List Lit) → IsSettled constraints settled
-        → ((l : Lit) → lists given l ≡ true → lists settled l ≡ true) → IsChain constraints given chain
-        → (l : Lit) → lists chain l ≡ true → lists settled l ≡ true }
-    ensures no_conflict { (constraints : List NormalConstraint) → (settled given : List Lit) → IsSettled constraints settled
-        → ((l : Lit) → lists given l ≡ true → lists settled l ≡ true) → LeadsToConflict constraints given → ⊥ }
+/// No chain from literals of a fixpoint leaves the assignment, and none leads to a conflict.
+pub fn fixpoint_end()
+    ensures stays { (constraints : List NormalConstraint) → (fixpoint given chain : List Lit) → IsFixpoint constraints fixpoint
+        → ((l : Lit) → lists given l ≡ true → lists fixpoint l ≡ true) → IsChain constraints given chain
+        → (l : Lit) → lists chain l ≡ true → lists fixpoint l ≡ true }
+    ensures no_conflict { (constraints : List NormalConstraint) → (fixpoint given : List Lit) → IsFixpoint constraints fixpoint
+        → ((l : Lit) → lists given l ≡ true → lists fixpoint l ≡ true) → LeadsToConflict constraints given → ⊥ }
 {}
 
-/// A chain from a consistent listing never has a literal whose opposite is there.
+/// A chain from a consistent assignment never has a literal whose opposite is there.
 pub fn chain_consistent()
     ensures { (constraints : List NormalConstraint) → (given chain : List Lit) → IsConsistent given
         → IsChain constraints given chain → IsConsistent (given ++ chain) }
 {}
 
-/// From each listing a chain leads to a conflict, or there is a listing of exactly what is given or forced; the
+/// From each assignment a chain leads to a conflict, or there is an assignment of exactly what is given or forced; the
 /// latter is the same set of literals however it is found.
 pub fn one_outcome()
     ensures ends { (constraints : List NormalConstraint) → (given : List Lit) → LeadsToConflict constraints given
@@ -125,10 +125,10 @@ pub fn one_outcome()
         → IsClosure constraints given other → (l : Lit) → lists closed l ≡ lists other l }
 {}
 
-/// Where no chain leads to a conflict, the listing of what is given or forced is settled.
-pub fn closure_settled()
+/// Where no chain leads to a conflict, the assignment of what is given or forced is a fixpoint.
+pub fn closure_fixpoint()
     ensures { (constraints : List NormalConstraint) → (given closed : List Lit) → IsClosure constraints given closed
-        → (LeadsToConflict constraints given → ⊥) → IsSettled constraints closed }
+        → (LeadsToConflict constraints given → ⊥) → IsFixpoint constraints closed }
 {}
 
 /// More literals lead to every conflict that fewer lead to.
@@ -140,7 +140,7 @@ pub fn more_literals()
 
 /// The negation of a constraint of degree 0 has negative slack at once, so it is refuted whatever stands beside it.
 pub fn degree_zero()
-    ensures broken { (n m : NormalConstraint) → Rises 0 n.terms → n.degree ≡ 0 → IsNegation n m → IsBroken [] m }
+    ensures falsified { (n m : NormalConstraint) → Rises 0 n.terms → n.degree ≡ 0 → IsNegation n m → IsFalsified [] m }
     ensures refuted { (n m : NormalConstraint) → Rises 0 n.terms → n.degree ≡ 0 → IsNegation n m
         → (constraints : List NormalConstraint) → Contains constraints m → IsRefuted constraints }
 {}
@@ -151,13 +151,13 @@ pub fn copy_never_bites()
         → Bites constraints n → ⊥ }
 {}
 
-/// What the slow search comes to is so: a conflict is one that a chain leads to, and a settled listing is exactly
+/// What the slow search comes to is so: a conflict is one that a chain leads to, and a fixpoint is exactly
 /// what chains reach, none of which leads to a conflict.
 pub fn search_is_right()
     ensures conflict { (steps : ℕ) → (constraints : List NormalConstraint) → (given : List Lit)
         → outcome steps constraints given ≡ Conflict → LeadsToConflict constraints given }
     ensures closure { (steps : ℕ) → (constraints : List NormalConstraint) → (given closed : List Lit)
-        → outcome steps constraints given ≡ Settled closed → IsClosure constraints given closed }
+        → outcome steps constraints given ≡ Fixpoint closed → IsClosure constraints given closed }
     ensures no_conflict { (steps : ℕ) → (constraints : List NormalConstraint) → (given closed : List Lit)
-        → outcome steps constraints given ≡ Settled closed → LeadsToConflict constraints given → ⊥ }
+        → outcome steps constraints given ≡ Fixpoint closed → LeadsToConflict constraints given → ⊥ }
 {}

@@ -2,11 +2,11 @@
 //! they lead to a conflict.
 #![tactic(auto)]
 
+mod assigned;
 pub mod cases;
 mod forced;
 mod ids;
 pub mod laws;
-mod listing;
 mod pass;
 mod propagator;
 mod reach;
@@ -17,8 +17,8 @@ mod trace;
 mod trail;
 mod walk;
 
+pub use assigned::{literal_count, with_last};
 pub use ids::Ids;
-pub use listing::{literal_count, with_last};
 pub use propagator::{Id, Propagator};
 pub use reach::Reach;
 pub use scan_propagator::ScanPropagator;

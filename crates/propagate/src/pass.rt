@@ -1,16 +1,16 @@
-//! One pass over all constraints: what each forces is listed, until one is broken.
+//! One pass over all constraints: what each forces is listed, until one is falsified.
 //!
 //! A constraint's slack does not change by the literals that it forces itself, since no opposite of them stands in it. So
-//! all that it forces is listed at once, with its slack computed once; listing one literal and beginning anew would read a
+//! all that it forces is listed at once, with its slack computed once; assignment one literal and beginning anew would read a
 //! long constraint as often as it has literals.
 
 ghost use Rattle.std.specs.Prelude.{◌≡◌, ◌+◌, ◌<◌, ◌≤◌, ◌↔◌, ◌++◌, ◌∷◌, [], false, true, All, IfOk, IsTrue, MatchOption, OnOk, length, map};
 ghost use Rattle.normal_form.specs.Normal.{sum_over, variable_bound};
-ghost use Rattle.propagate.specs.Chain.{IsSettled};
+ghost use Rattle.propagate.specs.Chain.{IsFixpoint};
 ghost use Rattle.linear.specs.Literal.{opposite};
 ghost use Rattle.propagate.specs.Literals.{lists};
-ghost use Rattle.propagate.specs.Slack.{IsBroken, not_false};
-ghost use Rattle.propagate.specs.Walk.{GoesOn, GoesOnBy, IsBrokenAt, IsQuiet, CanForce};
+ghost use Rattle.propagate.specs.Slack.{IsFalsified, not_false};
+ghost use Rattle.propagate.specs.Walk.{GoesOn, GoesOnBy, IsFalsifiedAt, IsQuiet, CanForce};
 
 use super::forced::Forced;
 use super::slack::slack;
@@ -85,7 +85,7 @@ fn list_all(
     Ok(())
 }
 
-/// Lists all that a constraint, which stands at this place, forces, unless it is broken. Answers whether it is.
+/// Lists all that a constraint, which stands at this place, forces, unless it is falsified. Answers whether it is.
 fn visit(
     constraint: &Normal,
     place: usize,
@@ -95,8 +95,8 @@ fn visit(
     requires { variable_bound constraint.now.terms ≤ trail.old.1 }
     ensures count { OnOk result (trail.new.1 ≡ trail.old.1) }
     ensures goes_on { OnOk result (GoesOnBy constraint.now place trail.old.0 steps.old.items trail.new.0 steps.new.items) }
-    ensures broken { IfOk result (λ broken. broken ≡ true → IsBroken trail.new.0 constraint.now) }
-    ensures quiet { IfOk result (λ broken. broken ≡ false → IsQuiet trail.new.0 constraint.now) }
+    ensures falsified { IfOk result (λ falsified. falsified ≡ true → IsFalsified trail.new.0 constraint.now) }
+    ensures quiet { IfOk result (λ falsified. falsified ≡ false → IsQuiet trail.new.0 constraint.now) }
 {
     match slack(constraint, trail) {
         Some(slack) => {
@@ -107,7 +107,7 @@ fn visit(
     }
 }
 
-/// Passes over the constraints, and stops at one that is broken. Where the listing is as long as before, nothing is
+/// Passes over the constraints, and stops at one that is falsified. Where the assignment is as long as before, nothing is
 /// forced.
 pub(crate) fn pass(
     constraints: &[&Normal],
@@ -117,9 +117,9 @@ pub(crate) fn pass(
     requires { All (λ n. variable_bound n.now.terms ≤ trail.old.1) constraints.now }
     ensures count { OnOk result (trail.new.1 ≡ trail.old.1) }
     ensures goes_on { OnOk result (GoesOn (map (λ n. n.now) constraints.now) trail.old.0 steps.old.items trail.new.0 steps.new.items) }
-    ensures end { IfOk result (λ broken. MatchOption broken
-        (length trail.new.0 ≡ length trail.old.0 → IsSettled (map (λ n. n.now) constraints.now) trail.new.0)
-        (IsBrokenAt (map (λ n. n.now) constraints.now) trail.new.0)) }
+    ensures end { IfOk result (λ falsified. MatchOption falsified
+        (length trail.new.0 ≡ length trail.old.0 → IsFixpoint (map (λ n. n.now) constraints.now) trail.new.0)
+        (IsFalsifiedAt (map (λ n. n.now) constraints.now) trail.new.0)) }
 {
     for place in 0..constraints.len() {
         if visit(constraints[place], place, trail, steps)? {

@@ -67,21 +67,21 @@ pub trait Propagator: Drop {
         ensures content { content self.new ≡ content self.old }
         ensures value { IfOk result (λ yes. IsTrue yes ↔ IsRefuted (map.values (content self.old) ++ extras.now)) };
 
-    /// What a listing extends to: `Conflict` exactly where it has a literal and its opposite or a chain from it leads to
+    /// What an assignment extends to: `Conflict` exactly where it has a literal and its opposite or a chain from it leads to
     /// negative slack, else exactly the given and forced literals, each once.
     fn extend(&mut self, given: &[Lit]) -> Result<Reach, AllocError>
         ensures content { content self.new ≡ content self.old }
         ensures value { IfOk result (IsReach (map.values (content self.old)) given.now) };
 
-    /// A chain from a listing without opposites, with its reasons, to a constraint with negative slack or to the end:
+    /// A chain from an assignment without opposites, with its reasons, to a constraint with negative slack or to the end:
     /// a conflict is named exactly where `extend` answers one.
     fn trace(&mut self, given: &[Lit]) -> Result<Trace, AllocError>
         requires { IsConsistent given.now }
         ensures content { content self.new ≡ content self.old }
         ensures value { IfOk result (IsTrace (content self.old) given.now) };
 
-    /// The same for a listing and one literal more, where what follows from the listing alone may be left out: so where the
-    /// literals of the listing were asked about before, a propagator that keeps what it found tells what the last one
+    /// The same for an assignment and one literal more, where what follows from the assignment alone may be left out: so where the
+    /// literals of the assignment were asked about before, a propagator that keeps what it found tells what the last one
     /// forces, and no more. A search that decides one literal after another asks this.
     fn trace_last(&mut self, before: &[Lit], last: Lit) -> Result<Trace, AllocError>
         requires { IsConsistent (before.now ++ last ∷ []) }

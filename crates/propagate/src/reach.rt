@@ -1,11 +1,11 @@
-//! What a listing of literals extends to by propagation. A solution that a VeriPB proof logs may name some of the
-//! variables only: the others must follow by propagation, and then the listing's extension is the solution.
+//! What an assignment of literals extends to by propagation. A solution that a VeriPB proof logs may name some of the
+//! variables only: the others must follow by propagation, and then the assignment's extension is the solution.
 
 ghost use Rattle.std.specs.Prelude.{◌<◌, ◌≤◌, All, IfOk, map};
 ghost use Rattle.normal_form.specs.Normal.{variable_bound};
 ghost use Rattle.propagate.specs.Literals.{IsConsistent};
 
-use super::listing::literal_count;
+use super::assigned::literal_count;
 use super::refutation::variable_count;
 use super::trail::Trail;
 use super::walk::{Walk, complete};
@@ -13,7 +13,7 @@ use linear::{Lit, Seq};
 use normal_form::Normal;
 use std::alloc::{AllocError, Global};
 
-/// A conflict: the listing has a literal and its opposite, or a chain from it leads to a constraint with negative
+/// A conflict: the assignment has a literal and its opposite, or a chain from it leads to a constraint with negative
 /// slack. Else all literals that are given or forced.
 #[derive(Debug, Drop)]
 pub enum Reach {
@@ -33,15 +33,15 @@ impl Reach {
         let Walk {
             trail,
             steps: _,
-            broken,
+            falsified,
         } = complete(alloc, constraints, start)?;
-        match broken {
+        match falsified {
             Some(_) => Ok(Reach::Conflict),
-            None => Ok(Reach::Closed(trail.into_listing())),
+            None => Ok(Reach::Closed(trail.into_assigned())),
         }
     }
 
-    /// What a listing extends to: `Conflict` exactly where it has a literal and its opposite or a chain from it
+    /// What an assignment extends to: `Conflict` exactly where it has a literal and its opposite or a chain from it
     /// leads to negative slack, else `Closed` with exactly the given and forced literals.
     pub(crate) fn of(
         alloc: Global,

@@ -28,5 +28,5 @@ pub(crate) fn refuted(alloc: Global, constraints: &[&Normal]) -> Result<bool, Al
 {
     let nothing = Trail::new(alloc, variable_count(constraints))?;
     let walk = complete(alloc, constraints, nothing)?;
-    Ok(walk.broken.is_some())
+    Ok(walk.falsified.is_some())
 }

@@ -11,8 +11,8 @@ ghost use Rattle.std.specs.List.Sorted.{IsStrictlySortedBy};
 ghost use Rattle.std.specs.Ordering.{nat_cmp};
 ghost use Rattle.propagate.specs.Literals.{coefficient_of};
 
+use super::assigned::with_last;
 use super::ids::Ids;
-use super::listing::with_last;
 use super::propagator::{Id, Propagator};
 use super::reach::Reach;
 use super::refutation::refuted;

@@ -6,7 +6,7 @@
 
 ghost use Rattle.std.specs.Prelude.{◌≡◌, ◌+◌, ◌<◌, ◌≤◌, MatchOption, length, take};
 ghost use Rattle.normal_form.specs.Normal.{sum_over, variable_bound};
-ghost use Rattle.propagate.specs.Slack.{IsBroken, not_false};
+ghost use Rattle.propagate.specs.Slack.{IsFalsified, not_false};
 
 use super::trail::Trail;
 use normal_form::Normal;
@@ -41,7 +41,7 @@ fn open_sum(constraint: &Normal, trail: &Trail) -> u128
 /// The slack of a constraint whose variables the trail has, or `None` where it is negative.
 pub(crate) fn slack(constraint: &Normal, trail: &Trail) -> Option<u128>
     requires { variable_bound constraint.now.terms ≤ trail.now.1 }
-    ensures { MatchOption result (IsBroken trail.now.0 constraint.now)
+    ensures { MatchOption result (IsFalsified trail.now.0 constraint.now)
         (λ slack. sum_over (not_false trail.now.0) constraint.now.terms ≡ constraint.now.degree + slack) }
 {
     open_sum(constraint, trail).checked_sub(constraint.degree())

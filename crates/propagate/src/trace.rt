@@ -1,12 +1,12 @@
-//! What a listing forces, step by step and with reasons: what a solver that learns from conflicts asks for.
+//! What an assignment forces, step by step and with reasons: what a solver that learns from conflicts asks for.
 
 ghost use Rattle.std.specs.Prelude.{◌≡◌, ◌<◌, All, IfOk, IfSome, length, map, slice_index_or};
 ghost use Rattle.std.specs.Option.{option_map};
 ghost use Rattle.propagate.specs.Literals.{IsConsistent};
 ghost use Rattle.propagate.specs.TraceByPlaces.{named};
 
+use super::assigned::literal_count;
 use super::forced::Forced;
-use super::listing::literal_count;
 use super::propagator::Id;
 use super::refutation::variable_count;
 use super::trail::Trail;
@@ -15,7 +15,7 @@ use linear::{Lit, Seq};
 use normal_form::Normal;
 use std::alloc::{AllocError, Global};
 
-/// Each literal that is forced, with the id of a constraint that forces it under the listing and the literals before
+/// Each literal that is forced, with the id of a constraint that forces it under the assignment and the literals before
 /// it; and the id of a constraint that then has negative slack, if there is one.
 #[derive(Debug, Drop)]
 pub struct Trace {
@@ -41,22 +41,22 @@ impl Trace {
     /// What a walk says, with ids for the places of constraints.
     fn from_walk(alloc: Global, walk: Walk, ids: &[Id]) -> Result<Trace, AllocError>
         requires steps { All (λ s. s.reason < length ids.now) walk.steps.items }
-        requires broken { IfSome walk.broken (λ place. place < length ids.now) }
+        requires falsified { IfSome walk.falsified (λ place. place < length ids.now) }
         ensures forced { IfOk result (λ t. t.forced ≡ map (named ids.now) walk.steps.items) }
-        ensures conflict { IfOk result (λ t. t.conflict ≡ option_map (λ place. slice_index_or ids.now place 0) walk.broken) }
+        ensures conflict { IfOk result (λ t. t.conflict ≡ option_map (λ place. slice_index_or ids.now place 0) walk.falsified) }
     {
         let Walk {
             trail: _,
             steps,
-            broken,
+            falsified,
         } = walk;
         Ok(Trace {
             forced: Seq::from_vec(with_ids(alloc, steps.as_slice(), ids)?),
-            conflict: broken.map(|place| ids[place]),
+            conflict: falsified.map(|place| ids[place]),
         })
     }
 
-    /// The trace of a listing over constraints, which have these ids.
+    /// The trace of an assignment over constraints, which have these ids.
     pub(crate) fn of(
         alloc: Global,
         constraints: &[&Normal],

@@ -12,10 +12,10 @@ use linear::{Lit, Seq};
 use std::alloc::{AllocError, Global};
 use std::marker::Model;
 
-/// A consistent listing of literals of the variables below a number.
+/// A consistent assignment of literals of the variables below a number.
 #[derive(Debug, Drop)]
 pub(crate) struct Trail {
-    listing: Vec<Lit>,
+    assigned: Vec<Lit>,
     values: Vec<Option<bool>>,
 }
 
@@ -27,9 +27,9 @@ impl Model for Trail {
 
     ghost Value = { List Lit × ℕ };
 
-    ghost view = { λ t. (t.listing.items, length t.values.items) };
+    ghost view = { λ t. (t.assigned.items, length t.values.items) };
 
-    ghost invariant = { λ t. Agrees t.listing.items t.values.items × IsOnce t.listing.items };
+    ghost invariant = { λ t. Agrees t.assigned.items t.values.items × IsOnce t.assigned.items };
 }
 
 impl Trail {
@@ -38,7 +38,7 @@ impl Trail {
         ensures { IfOk result (λ t. t ≡ ([], count)) }
     {
         Ok(Trail {
-            listing: Vec::new(alloc),
+            assigned: Vec::new(alloc),
             values: vec![in alloc; None; count]?,
         })
     }
@@ -47,7 +47,7 @@ impl Trail {
     pub(crate) fn len(&self) -> usize
         ensures { result ≡ length self.now.0 }
     {
-        self.listing.len()
+        self.assigned.len()
     }
 
     /// Whether a literal is listed.
@@ -78,25 +78,25 @@ impl Trail {
         ensures ok { OnOk result (self.new ≡ (self.old.0 ++ literal ∷ [], self.old.1)) }
         ensures err { OnErr result (self.new ≡ self.old) }
     {
-        self.listing.push(literal)?;
+        self.assigned.push(literal)?;
         self.values[literal.var.0 as usize] = Some(!literal.negated);
         Ok(())
     }
 
-    /// The trail of a listing, or `None` where the listing has a literal and its opposite.
+    /// The trail of an assignment, or `None` where the assignment has a literal and its opposite.
     pub(crate) fn of(
         alloc: Global,
         count: usize,
-        listing: &[Lit],
+        assigned: &[Lit],
     ) -> Result<Option<Self>, AllocError>
-        requires { All (λ l. l.var.0 < count) listing.now }
-        ensures none { IfOk result (λ made. made ≡ None → Contradicts listing.now) }
+        requires { All (λ l. l.var.0 < count) assigned.now }
+        ensures none { IfOk result (λ made. made ≡ None → Contradicts assigned.now) }
         ensures count { IfOk result (λ made. IfSome made (λ t. t.1 ≡ count)) }
-        ensures same { IfOk result (λ made. IfSome made (λ t. SameLiterals t.0 listing.now)) }
+        ensures same { IfOk result (λ made. IfSome made (λ t. SameLiterals t.0 assigned.now)) }
         ensures consistent { IfOk result (λ made. IfSome made (λ t. IsConsistent t.0)) }
     {
         let mut trail = Trail::new(alloc, count)?;
-        for literal in listing {
+        for literal in assigned {
             if !trail.admit(*literal)? {
                 return Ok(None);
             }
@@ -120,11 +120,14 @@ impl Trail {
     }
 
     /// The literals, in the order in which they were listed.
-    pub(crate) fn into_listing(self) -> Seq<Lit>
-        ensures listing { result ≡ self.0 }
+    pub(crate) fn into_assigned(self) -> Seq<Lit>
+        ensures assigned { result ≡ self.0 }
         ensures once { IsOnce result }
     {
-        let Trail { listing, values: _ } = self;
-        Seq::from_vec(listing)
+        let Trail {
+            assigned,
+            values: _,
+        } = self;
+        Seq::from_vec(assigned)
     }
 }

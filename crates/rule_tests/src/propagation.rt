@@ -85,7 +85,7 @@ fn weights(rt: HostRuntime) {
 }
 
 #[test]
-fn listings(rt: HostRuntime) {
+fn assignments(rt: HostRuntime) {
     let alloc = rt.alloc();
     let mut live = ScanPropagator::empty(alloc);
     put(alloc, &mut live, 1, &[(1, X, 1), (1, X, 2)], 1).expect(&rt, "a constraint");
@@ -114,7 +114,7 @@ fn traces(rt: HostRuntime) {
     let chain = [(x(1), 8), (x(2), 3), (x(3), 1)];
     let trace = live.trace(&[]).expect(&rt, "memory");
     assert!(&rt; is_trace(&trace, chain.as_slice(), None));
-    // 1 ~x1 1 ~x4 >= 2 is broken as soon as x1 is listed
+    // 1 ~x1 1 ~x4 >= 2 is falsified as soon as x1 is listed
     put(alloc, &mut live, 9, &[(1, NOT, 1), (1, NOT, 4)], 2).expect(&rt, "a constraint");
     let trace = live.trace(&[]).expect(&rt, "memory");
     assert!(&rt; is_trace(&trace, &[(x(1), 8)], Some(9)));

@@ -16,9 +16,9 @@ use Rattle.linear.specs.Literal.{opposite}
 use Rattle.propagate.specs.Literals.{among, lists, IsConsistent}
 use Rattle.propagate.specs.Reach.{IsReach}
 use Rattle.propagate.specs.declared.reach.Reach.TheVariants as reaches
-use Rattle.propagate.specs.Slack.{IsBroken, IsForced, not_false}
+use Rattle.propagate.specs.Slack.{IsFalsified, IsForced, not_false}
 use Rattle.propagate.proofs.Consistency.{only_here}
-use Rattle.propagate.proofs.Listings.{among_cases, among_head, among_left, among_right}
+use Rattle.propagate.proofs.Assignments.{among_cases, among_head, among_left, among_right}
 use Rattle.search.specs.Clause.{negated_clause}
 use Rattle.search.proofs.Clauses.{clause_degree, clause_has, clause_lacks}
 
@@ -89,7 +89,7 @@ none_left before closed d n form within holds v s free other =
 
 bites_by : (before closed : List Lit) (d : Lit) (n : NormalConstraint) → IsConsistent (before ++ d ∷ []) → IsNormalOf (negated_clause (before ++ d ∷ [])) n
     → ((l : Lit) → lists before l ≡ true → lists closed l ≡ true) → lists closed (opposite d) ≡ false
-    → (b : Bool) → lists closed d ≡ b → IsBroken closed n ⊎ ((l : Lit) × IsForced closed l n)
+    → (b : Bool) → lists closed d ≡ b → IsFalsified closed n ⊎ ((l : Lit) × IsForced closed l n)
 bites_by before closed d n consistent form within unset true holds =
     let degree = clause_degree (before ++ d ∷ []) n consistent form in
     let few = at_most_other (not_false closed) nothing n.terms (none_left before closed d n form within holds) in
@@ -149,9 +149,9 @@ learned_bites live n items closed d c consistent some within is clause reach uns
     (m, form_is c, clause_bites live before closed d m (subst IsConsistent split (take_consistent n items consistent)) formed reach.0 reach.1 unset)
 
 -- what forces something under a closure bites
-pub settled_bites : (live : List NormalConstraint) (given closed : List Lit) (n : NormalConstraint) → IsReach live given (reaches.Closed closed)
-    → (IsBroken closed n ⊎ ((l : Lit) × IsForced closed l n)) → Bites live n
-settled_bites live given closed n reach bites = (
+pub fixpoint_bites : (live : List NormalConstraint) (given closed : List Lit) (n : NormalConstraint) → IsReach live given (reaches.Closed closed)
+    → (IsFalsified closed n ⊎ ((l : Lit) × IsForced closed l n)) → Bites live n
+fixpoint_bites live given closed n reach bites = (
   given,
   closed,
   record {

@@ -8,7 +8,7 @@ use Rattle.linear.specs.declared.term.Lit.{Lit}
 use Rattle.normal_form.specs.Normal.{same_sign}
 use Rattle.propagate.specs.Literals.{among, lists}
 use Rattle.propagate.proofs.Consistency.{only_here}
-use Rattle.propagate.proofs.Listings.{among_cases, among_head, among_left, among_right}
+use Rattle.propagate.proofs.Assignments.{among_cases, among_head, among_left, among_right}
 use Rattle.propagate.proofs.SearchEnds.{fewer_unset, unset_below}
 use Rattle.search.specs.declared.brancher.Value.{Value}
 use Rattle.search.specs.declared.brancher.Value.TheVariants.{True, False, Free}
@@ -29,10 +29,10 @@ equal_number n = grind (arith, nat_tests)
 
 -- what the table has as free is not listed
 abbrev pub LeavesFree : List Lit → List Value → Type 0
-LeavesFree listing values = (v : ℕ) → IsFree values v → (s : Bool) → among listing v s ≡ false
+LeavesFree assigned values = (v : ℕ) → IsFree values v → (s : Bool) → among assigned v s ≡ false
 
-listed_last : (listing : List Lit) (l : Lit) (v : ℕ) → v ≡ l.var.0 → among (listing ++ l ∷ []) v l.negated ≡ true
-listed_last listing l v same = among_right listing (l ∷ []) v l.negated (ap (λ n. among (l ∷ []) n l.negated) same ∙ itself l)
+listed_last : (assigned : List Lit) (l : Lit) (v : ℕ) → v ≡ l.var.0 → among (assigned ++ l ∷ []) v l.negated ≡ true
+listed_last assigned l v same = among_right assigned (l ∷ []) v l.negated (ap (λ n. among (l ∷ []) n l.negated) same ∙ itself l)
   where
     itself : (l : Lit) → among (l ∷ []) (l.var.0) l.negated ≡ true
     itself l = ap (λ b. b || false) (ap (λ b. b && same_sign l.negated l.negated) (equal_number (l.var.0)) ∙ own_sign l.negated)
@@ -42,43 +42,43 @@ listed_last listing l v same = among_right listing (l ∷ []) v l.negated (ap (�
         own_sign false = refl
 
 -- by the literal that comes last
-given_last : (b : Bool) (listing : List Lit) (v : ℕ) → among listing v b ≡ true → IsValueUnder listing v (cond b False True)
-given_last true listing v h = h
-given_last false listing v h = h
+given_last : (b : Bool) (assigned : List Lit) (v : ℕ) → among assigned v b ≡ true → IsValueUnder assigned v (cond b False True)
+given_last true assigned v h = h
+given_last false assigned v h = h
 
 -- by those before, where the last literal is of another variable
-kept : (value : Value) (listing : List Lit) (l : Lit) (v : ℕ) → v ≢ l.var.0 → IsValueUnder listing v value → IsValueUnder (listing ++ l ∷ []) v value
-kept True listing l v other h = among_left listing (l ∷ []) v false h
-kept False listing l v other h = among_left listing (l ∷ []) v true h
-kept Free listing l v other h = (still false h.0, still true h.1)
+kept : (value : Value) (assigned : List Lit) (l : Lit) (v : ℕ) → v ≢ l.var.0 → IsValueUnder assigned v value → IsValueUnder (assigned ++ l ∷ []) v value
+kept True assigned l v other h = among_left assigned (l ∷ []) v false h
+kept False assigned l v other h = among_left assigned (l ∷ []) v true h
+kept Free assigned l v other h = (still false h.0, still true h.1)
   where
-    still : (s : Bool) → among listing v s ≡ false → among (listing ++ l ∷ []) v s ≡ false
-    still s absent = is_none (among (listing ++ l ∷ []) v s) (λ e. elim (among_cases listing (l ∷ []) v s e) [
+    still : (s : Bool) → among assigned v s ≡ false → among (assigned ++ l ∷ []) v s ≡ false
+    still s absent = is_none (among (assigned ++ l ∷ []) v s) (λ e. elim (among_cases assigned (l ∷ []) v s e) [
       | inl a ↦ false≢true (sym absent ∙ a)
       | inr a ↦ other (only_here l v s a).0
     ])
 
 -- one more literal
-pub values_more : (listing : List Lit) (l : Lit) (values : List Value) → AreValuesUnder listing values → AreValuesUnder (listing ++ l ∷ []) (set values (l.var.0) (value_given l))
-values_more listing l values are v within =
+pub values_more : (assigned : List Lit) (l : Lit) (values : List Value) → AreValuesUnder assigned values → AreValuesUnder (assigned ++ l ∷ []) (set values (l.var.0) (value_given l))
+values_more assigned l values are v within =
     let x : ℕ = l.var.0 in
     let inside : v < length values = subst (λ n. v < n) (length-set values x (value_given l)) within in
-    elim (cases_eq v x) as (λ _. IsValueUnder (listing ++ l ∷ []) v (get_or (set values x (value_given l)) v Free)) [
+    elim (cases_eq v x) as (λ _. IsValueUnder (assigned ++ l ∷ []) v (get_or (set values x (value_given l)) v Free)) [
       | inl same ↦
-          subst (IsValueUnder (listing ++ l ∷ []) v) (sym (ap (λ n. get_or (set values x (value_given l)) n Free) same ∙ get_or-set_same values x (value_given l) Free (subst (λ n. n < length values) same inside)))
-          (given_last l.negated (listing ++ l ∷ []) v (listed_last listing l v same))
+          subst (IsValueUnder (assigned ++ l ∷ []) v) (sym (ap (λ n. get_or (set values x (value_given l)) n Free) same ∙ get_or-set_same values x (value_given l) Free (subst (λ n. n < length values) same inside)))
+          (given_last l.negated (assigned ++ l ∷ []) v (listed_last assigned l v same))
       | inr other ↦
-          subst (IsValueUnder (listing ++ l ∷ []) v) (sym (get_or-set_other values x v (value_given l) Free other)) (kept (get_or values v Free) listing l v other (are v inside))
+          subst (IsValueUnder (assigned ++ l ∷ []) v) (sym (get_or-set_other values x v (value_given l) Free other)) (kept (get_or values v Free) assigned l v other (are v inside))
     ]
 
 -- what a table of what is listed has as free is not listed
-pub values_leave_free : (listing : List Lit) (values : List Value) → AreValuesUnder listing values → LeavesFree listing values
-values_leave_free listing values are v free s = elim (cases_lt v (length values)) as (λ _. among listing v s ≡ false) [
-  | inl inside ↦ neither s (subst (IsValueUnder listing v) (get_or_default values v Free True inside ∙ free) (are v inside))
+pub values_leave_free : (assigned : List Lit) (values : List Value) → AreValuesUnder assigned values → LeavesFree assigned values
+values_leave_free assigned values are v free s = elim (cases_lt v (length values)) as (λ _. among assigned v s ≡ false) [
+  | inl inside ↦ neither s (subst (IsValueUnder assigned v) (get_or_default values v Free True inside ∙ free) (are v inside))
   | inr outside ↦ absurd (behind values v (omega (arith, outside)) free)
 ]
   where
-    neither : (s : Bool) → IsValueUnder listing v Free → among listing v s ≡ false
+    neither : (s : Bool) → IsValueUnder assigned v Free → among assigned v s ≡ false
     neither true h = h.1
     neither false h = h.0
 
@@ -97,25 +97,25 @@ different x l h e =
     let test : (eqb (x.var.0) (x.var.0) && beq x.negated x.negated) ≡ false = subst (λ (y : Lit). (eqb (x.var.0) (y.var.0) && beq x.negated (y.negated)) ≡ false) (sym e) h in
     false≢true (sym test ∙ ap (λ b. b && beq x.negated x.negated) (equal_number (x.var.0)) ∙ equal_sign x.negated)
 
-pub unlisted_more : (listing : List Lit) (x l : Lit) → lists listing l ≡ false → (x ≡ l → ⊥) → lists (listing ++ x ∷ []) l ≡ false
-unlisted_more listing x l h other = is_none (lists (listing ++ x ∷ []) l) (λ e. elim (among_cases listing (x ∷ []) (l.var.0) l.negated e) [
+pub unlisted_more : (assigned : List Lit) (x l : Lit) → lists assigned l ≡ false → (x ≡ l → ⊥) → lists (assigned ++ x ∷ []) l ≡ false
+unlisted_more assigned x l h other = is_none (lists (assigned ++ x ∷ []) l) (λ e. elim (among_cases assigned (x ∷ []) (l.var.0) l.negated e) [
   | inl a ↦ false≢true (sym h ∙ a)
   | inr a ↦ let here = only_here x (l.var.0) l.negated a in other (same_literal x l (sym here.0) (sym here.1))
 ])
 
-same_count : (count : ℕ) (listing : List Lit) → unlisted_below count listing ≡ unset_below count listing
-same_count zero listing = refl
-same_count (suc v) listing = ap (λ n. n + unlisted_one v listing) (same_count v listing)
+same_count : (count : ℕ) (assigned : List Lit) → unlisted_below count assigned ≡ unset_below count assigned
+same_count zero assigned = refl
+same_count (suc v) assigned = ap (λ n. n + unlisted_one v assigned) (same_count v assigned)
   where
     unlisted_one : ℕ → List Lit → ℕ
-    unlisted_one v listing = Rattle.std.proofs.Common.cond (among listing v false || among listing v true) 0 1
+    unlisted_one v assigned = Rattle.std.proofs.Common.cond (among assigned v false || among assigned v true) 0 1
 
 -- a free literal is one more that is listed
-pub fewer : (count : ℕ) (listing : List Lit) (values : List Value) (l : Lit) → LeavesFree listing values → IsFree values (l.var.0) → l.var.0 < count
-    → unlisted_below count (listing ++ l ∷ []) < unlisted_below count listing
-fewer count listing values l leaves free inside =
-    let less = fewer_unset count listing l inside (leaves (l.var.0) free l.negated) (leaves (l.var.0) free (not l.negated)) in
-    omega (arith, less, same_count count listing, same_count count (listing ++ l ∷ []))
+pub fewer : (count : ℕ) (assigned : List Lit) (values : List Value) (l : Lit) → LeavesFree assigned values → IsFree values (l.var.0) → l.var.0 < count
+    → unlisted_below count (assigned ++ l ∷ []) < unlisted_below count assigned
+fewer count assigned values l leaves free inside =
+    let less = fewer_unset count assigned l inside (leaves (l.var.0) free l.negated) (leaves (l.var.0) free (not l.negated)) in
+    omega (arith, less, same_count count assigned, same_count count (assigned ++ l ∷ []))
 
 -- what is noted of more literals leaves fewer variables free
 pub leaves_first : (first more : List Lit) (values : List Value) → LeavesFree (first ++ more) values → LeavesFree first values

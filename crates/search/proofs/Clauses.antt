@@ -16,7 +16,7 @@ use Rattle.normal_form.proofs.SetSums.{only_itself}
 use Rattle.propagate.specs.Chain.{LeadsToConflict}
 use Rattle.propagate.specs.Literals.{coefficient_of, among, lists, IsConsistent}
 use Rattle.propagate.proofs.KeptChains.{asked_refutes}
-use Rattle.propagate.proofs.Listings.{among_head, among_tail}
+use Rattle.propagate.proofs.Assignments.{among_head, among_tail}
 use Rattle.proof_rules.specs.Legal.{LegalRup}
 use Rattle.proof_rules.specs.Shown.{IsShown}
 use Rattle.proof_rules.specs.State.{State, HasRoom, constraints, with_constraint}

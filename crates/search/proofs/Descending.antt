@@ -11,23 +11,23 @@ use Rattle.propagate.proofs.TraceMeaning.{conflict_traced, end_traced}
 
 -- how a descent stands: what stands is all that follows, or there is a conflict
 abbrev pub Stands : Content → List Lit → List Lit → Option ℕ → Type 0
-Stands content given standing broken = MatchOption broken (IsEnd content given standing) (λ id. LeadsToConflict (fin.values content) given)
+Stands content given standing falsified = MatchOption falsified (IsEnd content given standing) (λ id. LeadsToConflict (fin.values content) given)
 
 pub all_noted : (content : Content) (given standing : List Lit) (t : Trace) → IsTrace content given t → (t.conflict ≡ None → standing ≡ given ++ traced t.forced) → Stands content given standing t.conflict
 all_noted content given standing t h noted = by t.conflict refl
   where
-    by : (broken : Option ℕ) → t.conflict ≡ broken → Stands content given standing broken
+    by : (falsified : Option ℕ) → t.conflict ≡ falsified → Stands content given standing falsified
     by None is = subst (IsEnd content given) (sym (noted is)) (end_traced content given t h is)
     by (Some id) is = conflict_traced content given t id h is
 
-pub last_noted : (content : Content) (before listing standing : List Lit) (last : Lit) (t : Trace) → IsEnd content before listing → IsTraceOfLast content before last t → (t.conflict ≡ None → standing ≡ listing ++ last ∷ traced t.forced)
+pub last_noted : (content : Content) (before assigned standing : List Lit) (last : Lit) (t : Trace) → IsEnd content before assigned → IsTraceOfLast content before last t → (t.conflict ≡ None → standing ≡ assigned ++ last ∷ traced t.forced)
     → Stands content (before ++ last ∷ []) standing t.conflict
-last_noted content before listing standing last t below h noted = by t.conflict refl
+last_noted content before assigned standing last t below h noted = by t.conflict refl
   where
-    by : (broken : Option ℕ) → t.conflict ≡ broken → Stands content (before ++ last ∷ []) standing broken
-    by None is = subst (IsEnd content (before ++ last ∷ [])) (sym (noted is)) (end_of_last content before listing last t below h is)
+    by : (falsified : Option ℕ) → t.conflict ≡ falsified → Stands content (before ++ last ∷ []) standing falsified
+    by None is = subst (IsEnd content (before ++ last ∷ [])) (sym (noted is)) (end_of_last content before assigned last t below h is)
     by (Some id) is = conflict_of_last content before last t id h is
 
 -- the test of a conflict, where it says that there is one
-pub named : (broken : Option ℕ) (none : Bool) → is_some broken ≡ not none → none ≡ false → broken ≡ None → ⊥
-named broken none test is empty = false≢true (sym (ap is_some empty) ∙ test ∙ ap not is)
+pub named : (falsified : Option ℕ) (none : Bool) → is_some falsified ≡ not none → none ≡ false → falsified ≡ None → ⊥
+named falsified none test is empty = false≢true (sym (ap is_some empty) ∙ test ∙ ap not is)

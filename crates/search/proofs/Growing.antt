@@ -41,16 +41,16 @@ pub no_improvement : (step : Step) (t : State) (values : List ℤ) → ImprovesN
 no_improvement (kinds.Pol items) t values h = append-nil values
 no_improvement (kinds.Rup c) t values h = append-nil values
 no_improvement (kinds.Red c images) t values h = append-nil values
-no_improvement (kinds.Sol listing) t values h = append-nil values
-no_improvement (kinds.Soli listing) t values h = absurd h
+no_improvement (kinds.Sol assigned) t values h = append-nil values
+no_improvement (kinds.Soli assigned) t values h = absurd h
 no_improvement (kinds.Del ids) t values h = append-nil values
 
 pub biting_other : (s : State) (step : Step) → StepBites s step → ImprovesNothing step
 biting_other s (kinds.Pol items) h = tt
 biting_other s (kinds.Rup c) h = tt
 biting_other s (kinds.Red c images) h = absurd h
-biting_other s (kinds.Sol listing) h = absurd h
-biting_other s (kinds.Soli listing) h = absurd h
+biting_other s (kinds.Sol assigned) h = absurd h
+biting_other s (kinds.Soli assigned) h = absurd h
 biting_other s (kinds.Del ids) h = absurd h
 
 -- `NONE` is always justified

@@ -30,8 +30,8 @@ one_step : (p : Opb) (s t : State) (step : Step) → Legal p s step t → OneSte
 one_step p s t (kinds.Pol items) (m, written, adds) = inl (refl, ap (λ (u : State). u.least) adds.1)
 one_step p s t (kinds.Rup c) (m, admitted, shown, adds) = inl (refl, ap (λ (u : State). u.least) adds.1)
 one_step p s t (kinds.Red c images) (m, k, admitted, redundant, adds) = inl (refl, ap (λ (u : State). u.least) adds.1)
-one_step p s t (kinds.Sol listing) (g, logs, is) = inl (refl, ap (λ (u : State). u.least) is)
-one_step p s t (kinds.Soli listing) (objective, g, m, improves, is) =
+one_step p s t (kinds.Sol assigned) (g, logs, is) = inl (refl, ap (λ (u : State). u.least) is)
+one_step p s t (kinds.Soli assigned) (objective, g, m, improves, is) =
     inr (worth_of p g, ap (λ (u : State). value_list u.least) is, ap (λ (u : State). u.least) is, improves.better)
 one_step p s t (kinds.Del ids) legal = inl (refl, improve_deleted p s t ids legal)
 

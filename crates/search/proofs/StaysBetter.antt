@@ -81,7 +81,7 @@ asks_step : (objective : List Term) (p : Opb) (s t : State) (step : Step) → p.
 asks_step objective p s t (kinds.Pol items) is h (m, written, adds) = asks_added objective s t m h adds
 asks_step objective p s t (kinds.Rup c) is h (m, admitted, shown, adds) = asks_added objective s t m h adds
 asks_step objective p s t (kinds.Red c images) is h (m, k, admitted, redundant, adds) = asks_added objective s t m h adds
-asks_step objective p s t (kinds.Sol listing) is h (g, logs, same) =
+asks_step objective p s t (kinds.Sol assigned) is h (g, logs, same) =
     subst (AsksBetter objective) (sym same)
     (weaker s.least (Asks objective s) (Asks objective (record s { logged = s.logged ++ g ∷ [] })) (λ z a. record {
       id = a.id;
@@ -91,7 +91,7 @@ asks_step objective p s t (kinds.Sol listing) is h (g, logs, same) =
       kept = a.kept;
       given = a.given;
     }) h)
-asks_step objective p s t (kinds.Soli listing) is h (other, g, m, improves, same) =
+asks_step objective p s t (kinds.Soli assigned) is h (other, g, m, improves, same) =
     subst (AsksBetter objective) (sym same) (record {
       id = s.next;
       asked = m;

@@ -85,8 +85,8 @@ stand_step : (p : Opb) (ns : List NormalConstraint) (s t : State) (step : Step) 
 stand_step p ns s t (kinds.Pol items) count stand (m, written, adds) = stand_added ns s t m stand adds
 stand_step p ns s t (kinds.Rup c) count stand (m, admitted, shown, adds) = stand_added ns s t m stand adds
 stand_step p ns s t (kinds.Red c images) count stand (m, k, admitted, redundant, adds) = stand_added ns s t m stand adds
-stand_step p ns s t (kinds.Sol listing) count stand (g, logs, is) = subst (λ (u : State). Stand ns u.live u.next) (sym is) stand
-stand_step p ns s t (kinds.Soli listing) count stand (objective, g, m, improves, is) =
+stand_step p ns s t (kinds.Sol assigned) count stand (g, logs, is) = subst (λ (u : State). Stand ns u.live u.next) (sym is) stand
+stand_step p ns s t (kinds.Soli assigned) count stand (objective, g, m, improves, is) =
     subst (λ (u : State). Stand ns u.live u.next) (sym is) (stand_insert ns s.live s.next m stand)
 stand_step p ns s t (kinds.Del ids) count stand legal = stand_deleted p ns s t ids count stand legal
 

@@ -33,17 +33,17 @@ one_behind live first decisions l old free k low high overtaken = elim (cases_lt
 ]
 
 -- what is free in a table of what stands is not decided, and its opposite does not follow
-pub free_not_decided : (content : Content) (decisions listing : List Lit) (values : List Value) → IsEnd content decisions listing → AreValuesUnder listing values → LeavesFree decisions values
-free_not_decided content decisions listing values end are v free s =
-    is_none (among decisions v s) (λ e. false≢true (sym (values_leave_free listing values are v free s) ∙ (end.closure (record { var = record { 0 = v }; negated = s })).1 (inl e)))
+pub free_not_decided : (content : Content) (decisions assigned : List Lit) (values : List Value) → IsEnd content decisions assigned → AreValuesUnder assigned values → LeavesFree decisions values
+free_not_decided content decisions assigned values end are v free s =
+    is_none (among decisions v s) (λ e. false≢true (sym (values_leave_free assigned values are v free s) ∙ (end.closure (record { var = record { 0 = v }; negated = s })).1 (inl e)))
   where
     is_none : (b : Bool) → (b ≡ true → ⊥) → b ≡ false
     is_none true h = absurd (h refl)
     is_none false h = refl
 
-pub opposite_not_reached : (content : Content) (decisions listing : List Lit) (values : List Value) (l : Lit) → IsEnd content decisions listing → AreValuesUnder listing values → IsFree values (l.var.0) → IsReached (fin.values content) decisions (opposite l) → ⊥
-opposite_not_reached content decisions listing values l end are free reached =
-    false≢true (sym (values_leave_free listing values are (l.var.0) free ((opposite l).negated)) ∙ (end.closure (opposite l)).1 reached)
+pub opposite_not_reached : (content : Content) (decisions assigned : List Lit) (values : List Value) (l : Lit) → IsEnd content decisions assigned → AreValuesUnder assigned values → IsFree values (l.var.0) → IsReached (fin.values content) decisions (opposite l) → ⊥
+opposite_not_reached content decisions assigned values l end are free reached =
+    false≢true (sym (values_leave_free assigned values are (l.var.0) free ((opposite l).negated)) ∙ (end.closure (opposite l)).1 reached)
 
 -- an overtaken decision is one of the first
 pub overtaken_first : (live : List NormalConstraint) (first k : ℕ) (decisions : List Lit) → AreUpToDate live first decisions → k < length decisions → IsOvertaken live decisions k → k < first
@@ -58,14 +58,14 @@ pub record IsChosen (content : Content) (decisions : List Lit) (l : Lit) (count 
   pub not_reached : IsReached (fin.values content) decisions (opposite l) → ⊥
   pub fewer : unlisted_below count (decisions ++ l ∷ []) < unlisted_below count decisions
 
-pub chosen : (content : Content) (decisions listing : List Lit) (table values : List Value) (l : Lit) (count : ℕ) → IsEnd content decisions listing → AreValuesUnder listing table → values ≡ table → IsFree values (l.var.0) → l.var.0 < length values
+pub chosen : (content : Content) (decisions assigned : List Lit) (table values : List Value) (l : Lit) (count : ℕ) → IsEnd content decisions assigned → AreValuesUnder assigned table → values ≡ table → IsFree values (l.var.0) → l.var.0 < length values
     → length table ≡ count → IsConsistent decisions → IsChosen content decisions l count
-chosen content decisions listing table values l count end are same free inside size consistent =
+chosen content decisions assigned table values l count end are same free inside size consistent =
     let is_free : IsFree table (l.var.0) = subst (λ vs. IsFree vs (l.var.0)) same free in
-    let leaves = free_not_decided content decisions listing table end are in
+    let leaves = free_not_decided content decisions assigned table end are in
     let within : l.var.0 < count = subst (λ n. l.var.0 < n) (ap length same ∙ size) inside in
     record {
       consistent = push_consistent decisions l consistent (leaves (l.var.0) is_free (not l.negated));
-      not_reached = opposite_not_reached content decisions listing table l end are is_free;
+      not_reached = opposite_not_reached content decisions assigned table l end are is_free;
       fewer = fewer count decisions table l leaves is_free within;
     }

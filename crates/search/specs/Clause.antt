@@ -11,4 +11,4 @@ opposite_term l = record { coef = pos 1; var = l.var; negated = not l.negated }
 
 -- 1 ~l1 .. 1 ~ln >= 1: not all of these literals are true
 abbrev pub negated_clause : List Lit → Signed
-negated_clause listing = record { terms = map opposite_term listing; relation = AtLeast; right = pos 1 }
+negated_clause assigned = record { terms = map opposite_term assigned; relation = AtLeast; right = pos 1 }

@@ -30,8 +30,8 @@ abbrev pub StepBites : State → Step → Type 0
 StepBites old (kinds.Pol items) = (n : NormalConstraint) × IsPostfixOf (constraint_of old) items n × Bites (constraints old) n
 StepBites old (kinds.Rup c) = (n : NormalConstraint) × IsNormalOf c n × Bites (constraints old) n
 StepBites old (kinds.Red c images) = ⊥
-StepBites old (kinds.Sol listing) = ⊥
-StepBites old (kinds.Soli listing) = ⊥
+StepBites old (kinds.Sol assigned) = ⊥
+StepBites old (kinds.Soli assigned) = ⊥
 StepBites old (kinds.Del ids) = ⊥
 
 -- legal steps lead from one state to another, and at least so many of them bite
@@ -48,8 +48,8 @@ value_list (Some value) = value ∷ []
 
 -- what a step improves to, where it logs an improving solution and leads to this state
 abbrev pub improvement : Step → State → List ℤ
-improvement (kinds.Soli listing) new = value_list new.least
-improvement (kinds.Sol listing) new = []
+improvement (kinds.Soli assigned) new = value_list new.least
+improvement (kinds.Sol assigned) new = []
 improvement (kinds.Pol items) new = []
 improvement (kinds.Rup c) new = []
 improvement (kinds.Red c images) new = []
@@ -75,8 +75,8 @@ last_of (value ∷ later ∷ more) = last_of (later ∷ more)
 
 -- the step logs no improving solution
 abbrev pub ImprovesNothing : Step → Type 0
-ImprovesNothing (kinds.Soli listing) = ⊥
-ImprovesNothing (kinds.Sol listing) = Unit {0}
+ImprovesNothing (kinds.Soli assigned) = ⊥
+ImprovesNothing (kinds.Sol assigned) = Unit {0}
 ImprovesNothing (kinds.Pol items) = Unit {0}
 ImprovesNothing (kinds.Rup c) = Unit {0}
 ImprovesNothing (kinds.Red c images) = Unit {0}

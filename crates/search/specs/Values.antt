@@ -17,18 +17,18 @@ IsFree values v = slice_index_or values v True ≡ Free
 abbrev pub value_given : Lit → Value
 value_given l = if l.negated then False else True
 
--- what a listing says of a variable: true by its literal, false by the opposite, and free where neither is listed. Where no literal
+-- what an assignment says of a variable: true by its literal, false by the opposite, and free where neither is listed. Where no literal
 -- stands beside its opposite that is one value.
 abbrev pub IsValueUnder : List Lit → ℕ → Value → Type 0
-IsValueUnder listing v True = among listing v false ≡ true
-IsValueUnder listing v False = among listing v true ≡ true
-IsValueUnder listing v Free = (among listing v false ≡ false) × (among listing v true ≡ false)
+IsValueUnder assigned v True = among assigned v false ≡ true
+IsValueUnder assigned v False = among assigned v true ≡ true
+IsValueUnder assigned v Free = (among assigned v false ≡ false) × (among assigned v true ≡ false)
 
--- the table has of each of its variables what a listing says
+-- the table has of each of its variables what an assignment says
 abbrev pub AreValuesUnder : List Lit → List Value → Type 0
-AreValuesUnder listing values = (v : ℕ) → v < length values → IsValueUnder listing v (slice_index_or values v Free)
+AreValuesUnder assigned values = (v : ℕ) → v < length values → IsValueUnder assigned v (slice_index_or values v Free)
 
 -- how many of the first variables are not listed
 abbrev pub unlisted_below : ℕ → List Lit → ℕ
-unlisted_below zero listing = 0
-unlisted_below (suc v) listing = unlisted_below v listing + (if among listing v false || among listing v true then 0 else 1)
+unlisted_below zero assigned = 0
+unlisted_below (suc v) assigned = unlisted_below v assigned + (if among assigned v false || among assigned v true then 0 else 1)

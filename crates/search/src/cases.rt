@@ -76,12 +76,12 @@ pub fn borne_out()
 
 /// Under x0 and ~x2 the first of three variables is true, the second one free, and the third one false. A value that is turned, or
 /// left out, is none; and where no literal stands beside its opposite there is one.
-pub fn values_of_a_listing()
+pub fn values_of_an_assignment()
     ensures told { AreValuesUnder (x 0 ∷ not_x 2 ∷ []) (values.True ∷ values.Free ∷ values.False ∷ []) }
     ensures turned { AreValuesUnder (x 0 ∷ not_x 2 ∷ []) (values.False ∷ values.Free ∷ values.True ∷ []) → ⊥ }
     ensures left_out { AreValuesUnder (x 0 ∷ []) (values.Free ∷ []) → ⊥ }
-    ensures one_true { (listing : List Lit) → (v : ℕ) → (value : Value) → IsConsistent listing → among listing v false ≡ true
-        → IsValueUnder listing v value → value ≡ values.True }
-    ensures one_false { (listing : List Lit) → (v : ℕ) → (value : Value) → IsConsistent listing → among listing v true ≡ true
-        → IsValueUnder listing v value → value ≡ values.False }
+    ensures one_true { (assigned : List Lit) → (v : ℕ) → (value : Value) → IsConsistent assigned → among assigned v false ≡ true
+        → IsValueUnder assigned v value → value ≡ values.True }
+    ensures one_false { (assigned : List Lit) → (v : ℕ) → (value : Value) → IsConsistent assigned → among assigned v true ≡ true
+        → IsValueUnder assigned v value → value ≡ values.False }
 {}

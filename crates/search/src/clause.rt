@@ -56,7 +56,7 @@ fn is_listed(literals: &[Lit], literal: Lit) -> bool
     false
 }
 
-/// Whether a listing leads to a conflict.
+/// Whether an assignment leads to a conflict.
 fn has_conflict<'a, P: Propagator>(log: &mut Log<'a, P>, given: &[Lit]) -> Result<bool, AllocError>
     ensures same { log.new ≡ log.old }
     ensures value { IfOk result (λ yes. IsTrue yes ↔ IsImpossible (constraints log.old.state) given.now) }
@@ -119,7 +119,7 @@ fn log_clause<'a, P: Propagator>(
 
 /// What comes of decisions that led to a conflict.
 #[derive(Clone, Copy, Debug, PartialEq, Eq)]
-pub(crate) enum Lesson {
+pub(crate) enum ConflictEnd {
     /// One more constraint is known, which bites.
     Learned,
     /// A decision was undone whose opposite follows by now from those before it, and no more is known.
@@ -135,7 +135,7 @@ pub(crate) fn learn_clause<'a, P: Propagator>(
     decisions: &mut Vec<Lit>,
     count: usize,
     brancher: &mut Box<dyn Brancher>,
-) -> Result<Lesson, StepFault>
+) -> Result<ConflictEnd, StepFault>
     requires consistent { IsConsistent decisions.old.items }
     requires some { 0 < count }
     requires within { count ≤ length decisions.old.items }
@@ -143,10 +143,10 @@ pub(crate) fn learn_clause<'a, P: Propagator>(
     requires least { IsImpossible (constraints log.old.state) (take (count - 1) decisions.old.items) → ⊥ }
     requires room { HasRoom log.old.state }
     ensures problem { log.new.problem ≡ log.old.problem }
-    ensures biting { IfOk result (λ lesson. lesson ≡ Lesson.Learned → log.new.biting ≡ log.old.biting + 1) }
-    ensures id { IfOk result (λ lesson. lesson ≡ Lesson.Learned → TakesId log.old.state log.new.state) }
-    ensures same { IfOk result (λ lesson. lesson ≡ Lesson.Undone → log.new ≡ log.old) }
-    ensures overtaken { IfOk result (λ lesson. lesson ≡ Lesson.Undone → IsOvertaken (constraints log.old.state) decisions.old.items (count - 1)) }
+    ensures biting { IfOk result (λ conflict_end. conflict_end ≡ ConflictEnd.Learned → log.new.biting ≡ log.old.biting + 1) }
+    ensures id { IfOk result (λ conflict_end. conflict_end ≡ ConflictEnd.Learned → TakesId log.old.state log.new.state) }
+    ensures same { IfOk result (λ conflict_end. conflict_end ≡ ConflictEnd.Undone → log.new ≡ log.old) }
+    ensures overtaken { IfOk result (λ conflict_end. conflict_end ≡ ConflictEnd.Undone → IsOvertaken (constraints log.old.state) decisions.old.items (count - 1)) }
     ensures consistent { OnOk result (IsConsistent decisions.new.items) }
     ensures undone { OnOk result (decisions.new.items ≡ take (count - 1) decisions.old.items) }
     ensures memory { OnErr result (IsErrOf result StepFault.OutOfMemory) }
@@ -156,12 +156,12 @@ pub(crate) fn learn_clause<'a, P: Propagator>(
     let Reach::Closed(closed) = log.extend(&decisions.as_slice()[..kept])? else {
         unreachable!()
     };
-    let lesson = if is_listed(closed.as_slice(), last.opposite()) {
-        Lesson::Undone
+    let conflict_end = if is_listed(closed.as_slice(), last.opposite()) {
+        ConflictEnd::Undone
     } else {
         log_clause(alloc, log, &decisions.as_slice()[..count], brancher)?;
-        Lesson::Learned
+        ConflictEnd::Learned
     };
     decisions.truncate(kept);
-    Ok(lesson)
+    Ok(conflict_end)
 }

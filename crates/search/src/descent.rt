@@ -26,7 +26,7 @@ pub(crate) enum Descent {
     /// The constraint of this id has negative slack.
     Conflict(Id),
     /// Every variable has a value, by these literals, and there is no conflict.
-    Settled(Seq<Lit>),
+    Fixpoint(Seq<Lit>),
 }
 
 /// Notes what the open decisions force; the id of a constraint with negative slack, if they lead to one.
@@ -40,7 +40,7 @@ fn stand<'a, P: Propagator>(
     requires nothing { standing.old.0 ≡ [] }
     ensures same { log.new ≡ log.old }
     ensures count { length standing.new.1 ≡ length standing.old.1 }
-    ensures end { IfOk result (λ broken. MatchOption broken (IsEnd log.old.state.live decisions.now standing.new.0)
+    ensures end { IfOk result (λ falsified. MatchOption falsified (IsEnd log.old.state.live decisions.now standing.new.0)
         (λ id. LeadsToConflict (constraints log.old.state) decisions.now)) }
 {
     let trace = log.trace(decisions)?;
@@ -65,7 +65,7 @@ fn decide<'a, P: Propagator>(
     ensures same { log.new ≡ log.old }
     ensures count { length standing.new.1 ≡ length standing.old.1 }
     ensures decided { OnOk result (decisions.new.items ≡ decisions.old.items ++ literal ∷ []) }
-    ensures end { IfOk result (λ broken. MatchOption broken (IsEnd log.old.state.live decisions.new.items standing.new.0)
+    ensures end { IfOk result (λ falsified. MatchOption falsified (IsEnd log.old.state.live decisions.new.items standing.new.0)
         (λ id. LeadsToConflict (constraints log.old.state) decisions.new.items)) }
 {
     let trace = log.trace_last(decisions.as_slice(), literal)?;
@@ -102,7 +102,7 @@ pub(crate) fn descend<'a, P: Propagator>(
     loop {
         let picked = brancher.pick(standing.values());
         let Some(literal) = choose(standing.values(), count, picked) else {
-            return Ok(Descent::Settled(standing.into_listing()));
+            return Ok(Descent::Fixpoint(standing.into_assigned()));
         };
         if let Some(conflict) = decide(log, decisions, &mut standing, trail, literal)? {
             return Ok(Descent::Conflict(conflict));

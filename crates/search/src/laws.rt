@@ -10,7 +10,7 @@ ghost use Rattle.linear.specs.declared.term.Lit.{Lit};
 ghost use Rattle.linear.specs.declared.term.Term.{Term};
 ghost use Rattle.normal_form.specs.Normal.{NormalConstraint, Rises, largest_sum};
 ghost use Rattle.normal_form.specs.NormalOf.{IsNormalOf};
-ghost use Rattle.propagate.specs.Chain.{IsRefuted, IsSettled, LeadsToConflict};
+ghost use Rattle.propagate.specs.Chain.{IsRefuted, IsFixpoint, LeadsToConflict};
 ghost use Rattle.propagate.specs.Literals.{IsConsistent};
 ghost use Rattle.proof_rules.specs.Claim.{Claim};
 ghost use Rattle.proof_rules.specs.Justified.{IsLegalProof};
@@ -30,10 +30,10 @@ ghost use Rattle.search.specs.Solving.{FileIsLive, ImprovementIsLive};
 /// Where literals lead to a conflict, the clause that one of them is false is shown; so it may be logged by `rup`, as long as
 /// an id is left.
 pub fn clause_is_shown()
-    ensures shown { (live : List NormalConstraint) → (listing : List Lit) → (n : NormalConstraint) → IsConsistent listing
-        → IsNormalOf (negated_clause listing) n → LeadsToConflict live listing → IsShown live n }
-    ensures legal { (s : State) → (listing : List Lit) → IsConsistent listing → length listing < largest_sum
-        → LeadsToConflict (constraints s) listing → HasRoom s → (t : State) × LegalRup s (negated_clause listing) t }
+    ensures shown { (live : List NormalConstraint) → (assigned : List Lit) → (n : NormalConstraint) → IsConsistent assigned
+        → IsNormalOf (negated_clause assigned) n → LeadsToConflict live assigned → IsShown live n }
+    ensures legal { (s : State) → (assigned : List Lit) → IsConsistent assigned → length assigned < largest_sum
+        → LeadsToConflict (constraints s) assigned → HasRoom s → (t : State) × LegalRup s (negated_clause assigned) t }
 {}
 
 /// A conflict with nothing listed shows every constraint. So without a logged solution the problem has none, and with an
@@ -46,17 +46,17 @@ pub fn conflict_ends()
         → IsEntitled p s (Bounds (lowers.At best) (uppers.At best) None) }
 {}
 
-/// A listing that has no literal beside its opposite, names all variables of the file and is settled, as the closure of
+/// An assignment that has no literal beside its opposite, names all variables of the file and is a fixpoint, as the closure of
 /// decisions is, satisfies the file as long as the file's constraints are live; so it may be logged by `sol`. Where the
 /// constraint that asks for better than the least improving value is live too, it is better, and may be logged by `soli`.
-pub fn settled_listing_solves()
-    ensures solution { (p : Opb) → (s : State) → (listing : List Lit) → IsWithin p → IsConsistent listing
-        → NamesAll (length p.names) listing → FileIsLive p (constraints s) → IsSettled (constraints s) listing
-        → (t : State) × LegalSol p s listing t }
-    ensures improving { (p : Opb) → (s : State) → (objective : List Term) → (listing : List Lit) → IsWithin p
-        → p.objective ≡ Some objective → IsConsistent listing → NamesAll (length p.names) listing
-        → FileIsLive p (constraints s) → ImprovementIsLive objective s → IsSettled (constraints s) listing → HasRoom s
-        → (t : State) × LegalSoli p s listing t }
+pub fn fixpoint_solves()
+    ensures solution { (p : Opb) → (s : State) → (assigned : List Lit) → IsWithin p → IsConsistent assigned
+        → NamesAll (length p.names) assigned → FileIsLive p (constraints s) → IsFixpoint (constraints s) assigned
+        → (t : State) × LegalSol p s assigned t }
+    ensures improving { (p : Opb) → (s : State) → (objective : List Term) → (assigned : List Lit) → IsWithin p
+        → p.objective ≡ Some objective → IsConsistent assigned → NamesAll (length p.names) assigned
+        → FileIsLive p (constraints s) → ImprovementIsLive objective s → IsFixpoint (constraints s) assigned → HasRoom s
+        → (t : State) × LegalSoli p s assigned t }
 {}
 
 /// No legal step takes a normal constraint of the file away: a deletion asks for an id behind those of the file. So the

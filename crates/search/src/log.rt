@@ -148,19 +148,19 @@ impl<'a, P: Propagator> Log<'a, P> {
     }
 
     /// Logs a solution that is better than all improving ones before, and keeps its value.
-    pub fn improve(&mut self, listing: Seq<Lit>) -> Result<(), StepFault>
+    pub fn improve(&mut self, assigned: Seq<Lit>) -> Result<(), StepFault>
         ensures problem { self.new.problem ≡ self.old.problem }
-        ensures ok { OnOk result (Legal self.old.problem self.old.state (Step.Soli listing) self.new.state) }
-        ensures kept { OnOk result (self.new.steps ≡ self.old.steps ++ Step.Soli listing ∷ []) }
-        ensures improved { OnOk result (self.new.improved ≡ self.old.improved ++ improvement (Step.Soli listing) self.new.state) }
+        ensures ok { OnOk result (Legal self.old.problem self.old.state (Step.Soli assigned) self.new.state) }
+        ensures kept { OnOk result (self.new.steps ≡ self.old.steps ++ Step.Soli assigned ∷ []) }
+        ensures improved { OnOk result (self.new.improved ≡ self.old.improved ++ improvement (Step.Soli assigned) self.new.state) }
         ensures biting { OnOk result (self.new.biting ≡ self.old.biting) }
         ensures conclusion { OnOk result (self.new.conclusion ≡ Conclusion.Nothing) }
-        ensures fault { IfErr result (λ f. OrMemory f (IsStepFault self.old.problem self.old.state (Step.Soli listing) f)) }
+        ensures fault { IfErr result (λ f. OrMemory f (IsStepFault self.old.problem self.old.state (Step.Soli assigned) f)) }
         ensures err { OnErr result (self.new ≡ self.old) }
     {
         // The room for the value is taken first, as that for the step is.
         self.improved.push(0)?;
-        if let Err(fault) = keep(&mut self.steps, &mut self.kernel, Step::Soli(listing)) {
+        if let Err(fault) = keep(&mut self.steps, &mut self.kernel, Step::Soli(assigned)) {
             self.improved.pop();
             return Err(fault);
         }
@@ -257,7 +257,7 @@ impl<'a, P: Propagator> Log<'a, P> {
         self.kernel.has_room()
     }
 
-    /// What a listing extends to by propagation over the live constraints.
+    /// What an assignment extends to by propagation over the live constraints.
     pub fn extend(&mut self, given: &[Lit]) -> Result<Reach, AllocError>
         ensures same { self.new ≡ self.old }
         ensures value { IfOk result (IsReach (constraints self.old.state) given.now) }
@@ -265,7 +265,7 @@ impl<'a, P: Propagator> Log<'a, P> {
         self.kernel.extend(given)
     }
 
-    /// A chain from a listing without opposites over the live constraints, with its reasons.
+    /// A chain from an assignment without opposites over the live constraints, with its reasons.
     pub fn trace(&mut self, given: &[Lit]) -> Result<Trace, AllocError>
         requires { IsConsistent given.now }
         ensures same { self.new ≡ self.old }
@@ -274,7 +274,7 @@ impl<'a, P: Propagator> Log<'a, P> {
         self.kernel.trace(given)
     }
 
-    /// The same for a listing and one literal more, where what follows from the listing alone may be left out.
+    /// The same for an assignment and one literal more, where what follows from the assignment alone may be left out.
     pub fn trace_last(&mut self, before: &[Lit], last: Lit) -> Result<Trace, AllocError>
         requires { IsConsistent (before.now ++ last ∷ []) }
         ensures same { self.new ≡ self.old }

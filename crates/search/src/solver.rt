@@ -8,7 +8,7 @@ ghost use Rattle.std.specs.Prelude.{◌≡◌, ◌≤◌, IfOk, IfSome, IsNone};
 ghost use Rattle.search.specs.Solving.{BearsOut, IsSolved, TakesId};
 
 use super::brancher::Brancher;
-use super::clause::{Lesson, learn_clause, least_conflict};
+use super::clause::{ConflictEnd, learn_clause, least_conflict};
 use super::cutting::learn_constraint;
 use super::descent::{Descent, descend};
 use super::endings::{end_exhausted, end_solved, end_stopped, may_stop};
@@ -36,7 +36,7 @@ pub struct Solved<'a, P: Propagator> {
 /// Logs a solution. Where there is an objective the search goes on for a better one, with no decision open.
 fn accept<'a, P: Propagator>(
     log: &mut Log<'a, P>,
-    listing: Seq<Lit>,
+    assigned: Seq<Lit>,
     limit: u64,
 ) -> Result<Option<Found>, StepFault>
     ensures problem { log.new.problem ≡ log.old.problem }
@@ -44,13 +44,13 @@ fn accept<'a, P: Propagator>(
     ensures improved { IfOk result (λ end. IsNone end → TakesId log.old.state log.new.state) }
 {
     if log.problem().objective().is_none() {
-        log.apply(Step::Sol(listing))?;
+        log.apply(Step::Sol(assigned))?;
         return Ok(Some(end_solved(log)?));
     }
     if !log.has_room() {
         return Ok(Some(end_stopped(log, limit)?));
     }
-    log.improve(listing)?;
+    log.improve(assigned)?;
     Ok(None)
 }
 
@@ -78,17 +78,17 @@ impl<'a, P: Propagator> Run<'a, P> {
     ghost use Rattle.search.specs.Undoing.{AreUpToDate, IsUndone, NearsEnd};
 
     /// Learns from a conflict under the decisions, as long as an id is left; none where no decision is needed for it.
-    fn resolve(&mut self, conflict: Id) -> Result<Option<Lesson>, StepFault>
+    fn resolve(&mut self, conflict: Id) -> Result<Option<ConflictEnd>, StepFault>
         requires consistent { IsConsistent self.old.decisions.items }
         requires conflict { LeadsToConflict (constraints self.old.log.state) self.old.decisions.items }
         requires room { HasRoom self.old.log.state }
         ensures problem { self.new.log.problem ≡ self.old.log.problem }
-        ensures learned { IfOk result (λ lesson. lesson ≡ Some Lesson.Learned → TakesId self.old.log.state self.new.log.state) }
-        ensures same { IfOk result (λ lesson. lesson ≡ Some Lesson.Undone → self.new.log ≡ self.old.log) }
+        ensures learned { IfOk result (λ conflict_end. conflict_end ≡ Some ConflictEnd.Learned → TakesId self.old.log.state self.new.log.state) }
+        ensures same { IfOk result (λ conflict_end. conflict_end ≡ Some ConflictEnd.Undone → self.new.log ≡ self.old.log) }
         ensures fewer { (first : ℕ) → AreUpToDate (constraints self.old.log.state) first self.old.decisions.items
-            → IfOk result (λ lesson. lesson ≡ Some Lesson.Undone → length self.new.decisions.items < first) }
+            → IfOk result (λ conflict_end. conflict_end ≡ Some ConflictEnd.Undone → length self.new.decisions.items < first) }
         ensures consistent { OnOk result (IsConsistent self.new.decisions.items) }
-        ensures undone { IfOk result (λ lesson. IsSome lesson → IsUndone self.old.decisions.items self.new.decisions.items) }
+        ensures undone { IfOk result (λ conflict_end. IsSome conflict_end → IsUndone self.old.decisions.items self.new.decisions.items) }
     {
         let learned = learn_constraint(
             self.alloc,
@@ -101,13 +101,13 @@ impl<'a, P: Propagator> Run<'a, P> {
         )?;
         if learned {
             self.go_back();
-            return Ok(Some(Lesson::Learned));
+            return Ok(Some(ConflictEnd::Learned));
         }
         let count = least_conflict(&mut self.log, self.decisions.as_slice())?;
         if count == 0 {
             return Ok(None);
         }
-        let lesson = learn_clause(
+        let conflict_end = learn_clause(
             self.alloc,
             &mut self.log,
             &mut self.decisions,
@@ -115,7 +115,7 @@ impl<'a, P: Propagator> Run<'a, P> {
             &mut self.brancher,
         )?;
         self.go_back();
-        Ok(Some(lesson))
+        Ok(Some(conflict_end))
     }
 
     /// Takes off the trail what came with decisions that are undone.
@@ -177,16 +177,16 @@ impl<'a, P: Propagator> Run<'a, P> {
                 }
                 match self.resolve(conflict)? {
                     None => return Ok(Some(end_exhausted(&mut self.log)?)),
-                    Some(Lesson::Learned) => self.count_conflict()?,
-                    Some(Lesson::Undone) => {}
+                    Some(ConflictEnd::Learned) => self.count_conflict()?,
+                    Some(ConflictEnd::Undone) => {}
                 }
                 Ok(None)
             }
-            Descent::Settled(listing) => {
+            Descent::Fixpoint(assigned) => {
                 self.decisions.clear();
-                self.brancher.solution(listing.as_slice());
+                self.brancher.solution(assigned.as_slice());
                 self.go_back();
-                accept(&mut self.log, listing, limit)
+                accept(&mut self.log, assigned, limit)
             }
         }
     }

@@ -35,7 +35,7 @@ fn note(values: &mut Vec<Value>, literal: Lit)
 /// Literals, with what they say of the first variables.
 #[derive(Drop)]
 pub(crate) struct Standing {
-    listing: Vec<Lit>,
+    assigned: Vec<Lit>,
     values: Vec<Value>,
 }
 
@@ -46,9 +46,9 @@ impl Model for Standing {
 
     ghost Value = { List Lit × Table };
 
-    ghost view = { λ s. (s.listing.items, s.values.items) };
+    ghost view = { λ s. (s.assigned.items, s.values.items) };
 
-    ghost invariant = { λ s. AreValuesUnder s.listing.items s.values.items };
+    ghost invariant = { λ s. AreValuesUnder s.assigned.items s.values.items };
 }
 
 impl Standing {
@@ -57,11 +57,11 @@ impl Standing {
 
     /// No literal, and a number of variables, all free.
     pub(crate) fn new(alloc: Global, count: u32) -> Result<Self, AllocError>
-        ensures listing { IfOk result (λ s. s.0 ≡ []) }
+        ensures assigned { IfOk result (λ s. s.0 ≡ []) }
         ensures count { IfOk result (λ s. length s.1 ≡ count) }
     {
         Ok(Standing {
-            listing: Vec::new(alloc),
+            assigned: Vec::new(alloc),
             values: vec![in alloc; Value::Free; count as usize]?,
         })
     }
@@ -71,7 +71,7 @@ impl Standing {
         ensures ok { OnOk result (self.new.0 ≡ self.old.0 ++ literal ∷ []) }
         ensures count { length self.new.1 ≡ length self.old.1 }
     {
-        self.listing.push(literal)?;
+        self.assigned.push(literal)?;
         note(&mut self.values, literal);
         Ok(())
     }
@@ -107,9 +107,9 @@ impl Standing {
     }
 
     /// The literals.
-    pub(crate) fn into_listing(self) -> Seq<Lit>
+    pub(crate) fn into_assigned(self) -> Seq<Lit>
         ensures { result ≡ self.0 }
     {
-        Seq::from_vec(self.listing)
+        Seq::from_vec(self.assigned)
     }
 }

@@ -54,7 +54,7 @@ fn answers<P: Propagator>(
 fn agree(alloc: Global, problem: &Problem, lines: &[&str]) -> Result<Option<usize>, StepFault> {
     let plain = answers::<ScanPropagator>(alloc, problem, lines)?;
     let fast = answers::<WatchPropagator>(alloc, problem, lines)?;
-    let waiting = answers::<Deferred<ScanPropagator, WatchPropagator>>(alloc, problem, lines)?;
+    let waiting = answers::<Deferred<WatchPropagator>>(alloc, problem, lines)?;
     let wanted = Some(Err(StepFault::OutOfMemory));
     if plain == fast && plain == waiting && !plain.contains(&wanted) {
         Ok(Some(plain.iter().filter(|answer| answer.is_some()).count()))

@@ -35,7 +35,7 @@ fn problem(alloc: Global, least: i8) -> Result<Problem, AllocError> {
     Ok(Problem::new(Names::new(alloc), None, constraints))
 }
 
-/// A step of a table. The listings of solutions are empty: the file has no variable.
+/// A step of a table. The assignments of solutions are empty: the file has no variable.
 #[derive(Clone, Copy)]
 enum Line {
     Pol(&'static [Item]),

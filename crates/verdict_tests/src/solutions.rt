@@ -4,7 +4,7 @@
 use super::rows::{Problem, Row, rows_answer};
 use std::test::Fail;
 
-/// A listing is completed by propagation over the live constraints; it is judged by those of the file.
+/// An assignment is completed by propagation over the live constraints; it is judged by those of the file.
 const A_LOGGED_SOLUTION_IS_COMPLETED_AND_MEETS_THE_FILE: [Row; 6] = [
     Row {
         problem: Problem::Either,

@@ -6,8 +6,8 @@ use Rattle.std.proofs.lemmas.List.Elements.{Contains-append_left}
 use Rattle.std.proofs.Math.Seq.{take-append_seam, take-length}
 use Rattle.linear.specs.declared.term.Lit.{Lit}
 use Rattle.normal_form.specs.Normal.{NormalConstraint}
-use Rattle.propagate.specs.Chain.{IsChain, IsForcedByOne, IsRefuted, IsSettled}
-use Rattle.propagate.specs.Walk.{IsBrokenAt, IsQuiet}
+use Rattle.propagate.specs.Chain.{IsChain, IsForcedByOne, IsRefuted, IsFixpoint}
+use Rattle.propagate.specs.Walk.{IsFalsifiedAt, IsQuiet}
 use Rattle.propagate.proofs.Chains.{chain_of_more, conflict_of_more}
 use Rattle.propagate.proofs.JoinedChains.{chain_push}
 use Rattle.propagate.proofs.ReasonedChains.{conflict_at, not_refuted}
@@ -17,41 +17,41 @@ use Rattle.watch.specs.Roots.{AllForced, IsRoot}
 use Rattle.ledger.proofs.Attaching.{shown_more}
 use Rattle.watch.proofs.Walking.{forced_there, goes_on_further}
 
--- a chain from nothing that ends in a broken constraint refutes; a settled one shows that nothing does
-pub decided : (ns : List NormalConstraint) (listing new : List Lit) (waiting : List ℕ) (r : Option ℕ) (b : Bool) → b ≡ is_some r → IsContinued ns [] listing → IsContinued ns listing new → MatchOption r ((waiting ≡ []) × IsSettled ns new) (IsBrokenAt ns new) → (b ≡ true) ↔ IsRefuted ns
-decided ns listing new waiting None b e g h end = (λ t. absurd (false≢true (sym e ∙ t)), λ r. absurd (not_refuted ns new end.1 r))
-decided ns listing new waiting (Some place) b e g h end =
-    let all : IsContinued ns [] new = goes_on_further ns [] listing new g h in
-    (λ _. (all.0, all.1, conflict_at ns ([] ++ all.0) place (subst (λ (xs : List Lit). IsBrokenAt ns xs place) all.2 end)), λ _. e)
+-- a chain from nothing that ends in a falsified constraint refutes; one in a fixpoint shows that nothing does
+pub decided : (ns : List NormalConstraint) (assigned new : List Lit) (waiting : List ℕ) (r : Option ℕ) (b : Bool) → b ≡ is_some r → IsContinued ns [] assigned → IsContinued ns assigned new → MatchOption r ((waiting ≡ []) × IsFixpoint ns new) (IsFalsifiedAt ns new) → (b ≡ true) ↔ IsRefuted ns
+decided ns assigned new waiting None b e g h end = (λ t. absurd (false≢true (sym e ∙ t)), λ r. absurd (not_refuted ns new end.1 r))
+decided ns assigned new waiting (Some place) b e g h end =
+    let all : IsContinued ns [] new = goes_on_further ns [] assigned new g h in
+    (λ _. (all.0, all.1, conflict_at ns ([] ++ all.0) place (subst (λ (xs : List Lit). IsFalsifiedAt ns xs place) all.2 end)), λ _. e)
 
 -- more constraints chain the same
-pub goes_on_of_more : (ns extras : List NormalConstraint) (given listing : List Lit) → IsContinued ns given listing → IsContinued (ns ++ extras) given listing
-goes_on_of_more ns extras given listing g = (g.0, chain_of_more ns (ns ++ extras) (λ n h. Contains-append_left ns extras n h) given g.0 g.1, g.2)
+pub goes_on_of_more : (ns extras : List NormalConstraint) (given assigned : List Lit) → IsContinued ns given assigned → IsContinued (ns ++ extras) given assigned
+goes_on_of_more ns extras given assigned g = (g.0, chain_of_more ns (ns ++ extras) (λ n h. Contains-append_left ns extras n h) given g.0 g.1, g.2)
 
--- where all is settled, nothing has to wait
-pub looked_when_settled : (ns : List NormalConstraint) (listing : List Lit) (w : List ℕ) → IsSettled ns listing → AreLookedAt ns listing w
-looked_when_settled ns listing w s k low =
+-- where all is propagated, nothing has to wait
+pub looked_when_fixpoint : (ns : List NormalConstraint) (assigned : List Lit) (w : List ℕ) → IsFixpoint ns assigned → AreLookedAt ns assigned w
+looked_when_fixpoint ns assigned w s k low =
     let n : NormalConstraint = constraint_at ns k in
     inl (λ b. s.no_conflict (k, n, low, get_or_default ns k n nothing low, b), λ l f. s.nothing_forced l (k, n, low, get_or_default ns k n nothing low, f))
 
 -- one constraint more, which waits
-looked_with_one : (ns : List NormalConstraint) (n : NormalConstraint) (listing : List Lit) (w w' : List ℕ) → AreLookedAt ns listing w → ((k : ℕ) → Contains w k → Contains w' k) → Contains w' (length ns) → AreLookedAt (ns ++ n ∷ []) listing w'
-looked_with_one ns n listing w w' all kept here k low = elim (cases_eq k (length ns)) [
+looked_with_one : (ns : List NormalConstraint) (n : NormalConstraint) (assigned : List Lit) (w w' : List ℕ) → AreLookedAt ns assigned w → ((k : ℕ) → Contains w k → Contains w' k) → Contains w' (length ns) → AreLookedAt (ns ++ n ∷ []) assigned w'
+looked_with_one ns n assigned w w' all kept here k low = elim (cases_eq k (length ns)) [
   | inl e ↦ inr (subst (λ (j : ℕ). Contains w' j) (sym e) here)
   | inr other ↦
       let below : k < length ns = omega (arith, low, other, length-append ns (n ∷ [])) in
       elim (all k below) [
-        | inl quiet ↦ inl (subst (λ (m : NormalConstraint). IsQuiet listing m) (sym (get_or_append_left ns (n ∷ []) nothing k below)) quiet)
+        | inl quiet ↦ inl (subst (λ (m : NormalConstraint). IsQuiet assigned m) (sym (get_or_append_left ns (n ∷ []) nothing k below)) quiet)
         | inr waits ↦ inr (kept k waits)
       ]
 ]
 
-pub looked_with_slot : (slots new : List (Option NormalConstraint)) (n : NormalConstraint) (listing later : List Lit) (w w' : List ℕ) (place : ℕ) → new ≡ slots ++ Some n ∷ [] → later ≡ listing → place ≡ length slots
-    → AreLookedAt (shown slots) listing w → ((k : ℕ) → Contains w k → Contains w' k) → Contains w' place → AreLookedAt (shown new) later w'
-looked_with_slot slots new n listing later w w' place e f h all kept here =
+pub looked_with_slot : (slots new : List (Option NormalConstraint)) (n : NormalConstraint) (assigned later : List Lit) (w w' : List ℕ) (place : ℕ) → new ≡ slots ++ Some n ∷ [] → later ≡ assigned → place ≡ length slots
+    → AreLookedAt (shown slots) assigned w → ((k : ℕ) → Contains w k → Contains w' k) → Contains w' place → AreLookedAt (shown new) later w'
+looked_with_slot slots new n assigned later w w' place e f h all kept here =
     let same : shown new ≡ shown slots ++ n ∷ [] = ap shown e ∙ shown_more slots n in
     let last : Contains w' (length (shown slots)) = subst (λ (j : ℕ). Contains w' j) (h ∙ sym (length-map slots constraint_in)) here in
-    rw (same, f) (looked_with_one (shown slots) n listing w w' all kept last)
+    rw (same, f) (looked_with_one (shown slots) n assigned w w' all kept last)
 
 -- all constraints more
 shown_some : (ns : List NormalConstraint) → shown (map Some ns) ≡ ns
@@ -124,9 +124,9 @@ root_after old new w w' count count' r g e looked = record {
   );
 }
 
-pub settled_after : (old new : State) (w : List ℕ) (r : Option ℕ) (b : Bool) → b ≡ is_some r → GoesOn old new → MatchOption r ((w ≡ []) × IsSettled (shown old.slots) new.listing) (IsBrokenAt (shown old.slots) new.listing) → (b ≡ true → ⊥) → IsSettled (shown new.slots) new.listing
-settled_after old new w None b e g end no_conflict = subst (λ (os : List (Option NormalConstraint)). IsSettled (shown os) new.listing) (sym g.slots) end.1
-settled_after old new w (Some place) b e g end no_conflict = absurd (no_conflict e)
+pub fixpoint_after : (old new : State) (w : List ℕ) (r : Option ℕ) (b : Bool) → b ≡ is_some r → GoesOn old new → MatchOption r ((w ≡ []) × IsFixpoint (shown old.slots) new.assigned) (IsFalsifiedAt (shown old.slots) new.assigned) → (b ≡ true → ⊥) → IsFixpoint (shown new.slots) new.assigned
+fixpoint_after old new w None b e g end no_conflict = subst (λ (os : List (Option NormalConstraint)). IsFixpoint (shown os) new.assigned) (sym g.slots) end.1
+fixpoint_after old new w (Some place) b e g end no_conflict = absurd (no_conflict e)
 
 -- places that came later have constraints
 live_among : (added : List NormalConstraint) (k : ℕ) → k < length (map Some added) → IsSome (get_or (map Some added) k None)
@@ -143,9 +143,9 @@ pub live_after : (slots new : List (Option NormalConstraint)) (added : List Norm
 live_after slots new added k e low h = rw e (live_behind slots added k low (omega (arith, h, ap (length {A = Option NormalConstraint}) e)))
 
 -- what stood before stands again
-pub root_again : (old new : State) (w : List ℕ) (count : ℕ) → new.slots ≡ old.slots → new.propagated ≡ old.listing → new.reasons ≡ old.reasons → count ≡ length old.slots → IsSettled (shown old.slots) old.listing → AllForced old.reasons → IsRoot new w count
-root_again old new w count a b c e settled forced =
-    let looked : AreLookedAt (shown new.slots) new.propagated w = rw (a, b) (looked_when_settled (shown old.slots) old.listing w settled) in
+pub root_again : (old new : State) (w : List ℕ) (count : ℕ) → new.slots ≡ old.slots → new.propagated ≡ old.assigned → new.reasons ≡ old.reasons → count ≡ length old.slots → IsFixpoint (shown old.slots) old.assigned → AllForced old.reasons → IsRoot new w count
+root_again old new w count a b c e fixpoint forced =
+    let looked : AreLookedAt (shown new.slots) new.propagated w = rw (a, b) (looked_when_fixpoint (shown old.slots) old.assigned w fixpoint) in
     record { places = e ∙ ap (length {A = Option NormalConstraint}) (sym a); looked_at = looked; forced = (forced.0, c ∙ forced.1) }
 
 -- refuted constraints are refuted beside others

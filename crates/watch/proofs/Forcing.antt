@@ -11,37 +11,37 @@ use Rattle.normal_form.specs.Normal.{NormalConstraint, Rises}
 use Rattle.linear.specs.Literal.{opposite}
 use Rattle.propagate.specs.Literals.{lists}
 use Rattle.propagate.specs.Passes.{literal_of}
-use Rattle.propagate.specs.Slack.{IsBroken}
-use Rattle.propagate.specs.Chain.{IsSettled}
-use Rattle.propagate.specs.Walk.{IsQuiet, IsBrokenAt}
+use Rattle.propagate.specs.Slack.{IsFalsified}
+use Rattle.propagate.specs.Chain.{IsFixpoint}
+use Rattle.propagate.specs.Walk.{IsQuiet, IsFalsifiedAt}
 use Rattle.propagate.proofs.Occurrences.{nothing_forced}
-use Rattle.propagate.proofs.ReasonedChains.{settled_from_quiet}
+use Rattle.propagate.proofs.ReasonedChains.{fixpoint_from_quiet}
 use Rattle.ledger.specs.Ledgers.{constraint_at, nothing, open_sum, HasSlack, term_at}
 use Rattle.watch.specs.Looking.{AreLookedAt, IsContinued, CanForce}
 use Rattle.ledger.proofs.Opening.{fewer}
 use Rattle.watch.proofs.Walking.{goes_on_further}
 
 -- what is so while the terms of a constraint are gone over
-pub record IsForcing (ns : List NormalConstraint) (from listing : List Lit) (place slack index : ℕ) : Type 0 where
-  pub has_slack : HasSlack ns listing place slack
-  pub goes_on : IsContinued ns from listing
-  pub done : (k : ℕ) → k < index → CanForce listing slack (term_at ns place k) → ⊥
+pub record IsForcing (ns : List NormalConstraint) (from assigned : List Lit) (place slack index : ℕ) : Type 0 where
+  pub has_slack : HasSlack ns assigned place slack
+  pub goes_on : IsContinued ns from assigned
+  pub done : (k : ℕ) → k < index → CanForce assigned slack (term_at ns place k) → ⊥
 
 can_before : (xs ys new : List Lit) (slack : ℕ) (t : NormalTerm) → new ≡ xs ++ ys → CanForce new slack t → CanForce xs slack t
 can_before xs ys new slack t e f =
     let here : CanForce (xs ++ ys) slack t = rw e at f in
     (here.0, fewer xs ys (t.var.0) t.negated (lists xs (literal_of t)) refl here.1, fewer xs ys (t.var.0) (Rattle.std.proofs.Common.not t.negated) (lists xs (opposite (literal_of t))) refl here.2)
 
-pub forcing_more : (ns ms : List NormalConstraint) (from listing new : List Lit) (place slack index : ℕ) → ms ≡ ns → IsForcing ns from listing place slack index
-    → HasSlack ms new place slack → IsContinued ms listing new → (CanForce new slack (term_at ms place index) → ⊥) → IsForcing ns from new place slack (index + 1)
-forcing_more ns ms from listing new place slack index e h has goes done =
-    let here : IsContinued ns listing new = rw e at goes in
+pub forcing_more : (ns ms : List NormalConstraint) (from assigned new : List Lit) (place slack index : ℕ) → ms ≡ ns → IsForcing ns from assigned place slack index
+    → HasSlack ms new place slack → IsContinued ms assigned new → (CanForce new slack (term_at ms place index) → ⊥) → IsForcing ns from new place slack (index + 1)
+forcing_more ns ms from assigned new place slack index e h has goes done =
+    let here : IsContinued ns assigned new = rw e at goes in
     record {
       has_slack = rw e at has;
-      goes_on = goes_on_further ns from listing new h.goes_on here;
+      goes_on = goes_on_further ns from assigned new h.goes_on here;
       done = λ k low can. elim (cases_eq k index) [
         | inl same ↦ done (subst (λ (ks : List NormalConstraint). CanForce new slack (term_at ks place index)) (sym e) (subst (λ (j : ℕ). CanForce new slack (term_at ns place j)) same can))
-        | inr other ↦ h.done k (omega (arith, low, other)) (can_before listing here.0 new slack (term_at ns place k) here.2 can)
+        | inr other ↦ h.done k (omega (arith, low, other)) (can_before assigned here.0 new slack (term_at ns place k) here.2 can)
       ];
     }
 
@@ -54,24 +54,24 @@ pub longer : (ns : List NormalConstraint) (xs ys : List Lit) → IsContinued ns 
 longer ns xs ys g = omega (arith, ap (length {A = Lit}) g.2, length-append xs g.0)
 
 -- a constraint whose terms can force nothing is quiet
-pub quiet_after : (ns : List NormalConstraint) (from listing : List Lit) (place slack : ℕ) → Rises 0 (constraint_at ns place).terms → IsForcing ns from listing place slack (length (constraint_at ns place).terms) → IsQuiet listing (constraint_at ns place)
-quiet_after ns from listing place slack rises h =
+pub quiet_after : (ns : List NormalConstraint) (from assigned : List Lit) (place slack : ℕ) → Rises 0 (constraint_at ns place).terms → IsForcing ns from assigned place slack (length (constraint_at ns place).terms) → IsQuiet assigned (constraint_at ns place)
+quiet_after ns from assigned place slack rises h =
     let n : NormalConstraint = constraint_at ns place in
-    let has : open_sum listing n ≡ n.degree + slack = h.has_slack in (
+    let has : open_sum assigned n ≡ n.degree + slack = h.has_slack in (
       λ b. omega (arith, ints, b, has),
-      nothing_forced listing n slack rises has (λ k d low can. h.done k low (subst (λ (t : NormalTerm). CanForce listing slack t) (get_or_default n.terms k d _ low) can)),
+      nothing_forced assigned n slack rises has (λ k d low can. h.done k low (subst (λ (t : NormalTerm). CanForce assigned slack t) (get_or_default n.terms k d _ low) can)),
     )
 
--- where nothing waits, all is settled
-pub settled_when_empty : (ns : List NormalConstraint) (listing : List Lit) (w : List ℕ) → w ≡ [] → AreLookedAt ns listing w → IsSettled ns listing
-settled_when_empty ns listing w e looked =
-    settled_from_quiet ns listing (All-from_get_or (IsQuiet listing) ns nothing (λ k low. elim (looked k low) [
+-- where nothing waits, all is propagated
+pub fixpoint_when_empty : (ns : List NormalConstraint) (assigned : List Lit) (w : List ℕ) → w ≡ [] → AreLookedAt ns assigned w → IsFixpoint ns assigned
+fixpoint_when_empty ns assigned w e looked =
+    fixpoint_from_quiet ns assigned (All-from_get_or (IsQuiet assigned) ns nothing (λ k low. elim (looked k low) [
       | inl quiet ↦ quiet
       | inr waits ↦ absurd (omega (arith, waits.1, ap (length {A = ℕ}) e))
     ]))
 
-pub broken_there : (ns : List NormalConstraint) (listing : List Lit) (place : ℕ) → place < length ns → IsBroken listing (constraint_at ns place) → IsBrokenAt ns listing place
-broken_there ns listing place low h = (constraint_at ns place, (low, get_or_default ns place (constraint_at ns place) nothing low), h)
+pub falsified_there : (ns : List NormalConstraint) (assigned : List Lit) (place : ℕ) → place < length ns → IsFalsified assigned (constraint_at ns place) → IsFalsifiedAt ns assigned place
+falsified_there ns assigned place low h = (constraint_at ns place, (low, get_or_default ns place (constraint_at ns place) nothing low), h)
 
 -- fewer variables left, or as many and fewer places that wait
 pub smaller : (v l l' c q q' : ℕ) → l < l' → l' ≤ v → q' ≤ c → (v - l') * (c + 1) + q' < (v - l) * (c + 1) + q
@@ -85,8 +85,8 @@ taken_or_kept place rest q kept here k (zero, low, e) = subst (λ (j : ℕ). Con
 taken_or_kept place rest q kept here k (suc i, low, e) = kept k (i, omega (arith, low), e)
 
 -- a place that was taken waits again
-pub readded : (ns : List NormalConstraint) (listing : List Lit) (place : ℕ) (before rest q : List ℕ) → before ≡ place ∷ rest → AreLookedAt ns listing before → ((k : ℕ) → Contains rest k → Contains q k) → Contains q place → AreLookedAt ns listing q
-readded ns listing place before rest q e looked kept here k low = elim (looked k low) [
+pub readded : (ns : List NormalConstraint) (assigned : List Lit) (place : ℕ) (before rest q : List ℕ) → before ≡ place ∷ rest → AreLookedAt ns assigned before → ((k : ℕ) → Contains rest k → Contains q k) → Contains q place → AreLookedAt ns assigned q
+readded ns assigned place before rest q e looked kept here k low = elim (looked k low) [
   | inl quiet ↦ inl quiet
   | inr waits ↦ inr (taken_or_kept place rest q kept here k (subst (λ (xs : List ℕ). Contains xs k) e waits))
 ]

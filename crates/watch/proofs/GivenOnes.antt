@@ -6,15 +6,15 @@ use Rattle.std.proofs.Math.Seq.{take-append_seam}
 use Rattle.linear.specs.declared.term.Lit.{Lit}
 use Rattle.normal_form.specs.Normal.{NormalConstraint}
 use Rattle.normal_form.proofs.SetSums.{Within}
-use Rattle.propagate.specs.Chain.{IsChain, IsClosure, IsImpossible, IsRefuted, IsSettled}
+use Rattle.propagate.specs.Chain.{IsChain, IsClosure, IsImpossible, IsRefuted, IsFixpoint}
 use Rattle.linear.specs.Literal.{opposite}
 use Rattle.propagate.specs.Literals.{among, lists, IsConsistent, IsOnce}
-use Rattle.propagate.specs.Walk.{IsBrokenAt}
+use Rattle.propagate.specs.Walk.{IsFalsifiedAt}
 use Rattle.propagate.proofs.ChainEnds.{by_set}
 use Rattle.propagate.proofs.Chains.{no_conflict_from}
 use Rattle.propagate.proofs.Closure.{more_literals}
 use Rattle.propagate.proofs.Consistency.{only_here}
-use Rattle.propagate.proofs.Listings.{among_cases, among_left}
+use Rattle.propagate.proofs.Assignments.{among_cases, among_left}
 use Rattle.propagate.proofs.ReasonedChains.{conflict_at}
 use Rattle.propagate.proofs.SearchEnds.{one_end_or_conflict}
 use Rattle.watch.specs.Givens.{HasAll, IsGiven, IsWholeEnd, Overlies}
@@ -28,13 +28,13 @@ given_none s given = record {
   slots = refl;
   variables = refl;
   added = [];
-  listing = sym (append-nil s.listing);
+  assigned = sym (append-nil s.assigned);
   reasons = ([], sym (append-nil s.reasons), refl);
   within = λ v s e. absurd (false≢true e);
 }
 
-pub given_one : (s t : State) (l : Lit) (r : Option ℕ) → t.slots ≡ s.slots → t.variables ≡ s.variables → t.listing ≡ s.listing ++ l ∷ [] → t.reasons ≡ s.reasons ++ r ∷ [] → IsGiven s t (l ∷ [])
-given_one s t l r a b c d = record { slots = a; variables = b; added = l ∷ []; listing = c; reasons = (r ∷ [], d, refl); within = λ v s e. e }
+pub given_one : (s t : State) (l : Lit) (r : Option ℕ) → t.slots ≡ s.slots → t.variables ≡ s.variables → t.assigned ≡ s.assigned ++ l ∷ [] → t.reasons ≡ s.reasons ++ r ∷ [] → IsGiven s t (l ∷ [])
+given_one s t l r a b c d = record { slots = a; variables = b; added = l ∷ []; assigned = c; reasons = (r ∷ [], d, refl); within = λ v s e. e }
 
 -- one after another
 pub given_both : (a b c : State) (xs ys zs : List Lit) → IsGiven a b xs → IsGiven b c ys → Within (among xs) (among zs) → Within (among ys) (among zs) → IsGiven a c zs
@@ -42,7 +42,7 @@ given_both a b c xs ys zs g h left right = record {
   slots = h.slots ∙ g.slots;
   variables = h.variables ∙ g.variables;
   added = g.added ++ h.added;
-  listing = h.listing ∙ ap (λ (ls : List Lit). ls ++ h.added) g.listing ∙ append_assoc a.listing g.added h.added;
+  assigned = h.assigned ∙ ap (λ (ls : List Lit). ls ++ h.added) g.assigned ∙ append_assoc a.assigned g.added h.added;
   reasons = (
     g.reasons.0 ++ h.reasons.0,
     h.reasons.1 ∙ ap (λ (rs : List (Option ℕ)). rs ++ h.reasons.0) g.reasons.1 ∙ append_assoc a.reasons g.reasons.0 h.reasons.0,
@@ -58,13 +58,13 @@ pub one_within : (xs : List Lit) (l : Lit) → lists xs l ≡ true → Within (a
 one_within xs l h v s e = let here = only_here l v s e in cc
 
 -- what is given so far is there
-pub more_given : (given : List Lit) (k : ℕ) (d : Lit) (old new : State) (l : Lit) → k < length given → l ≡ get_or given k d → IsGiven old new (l ∷ []) → HasAll (take k given) old.listing → lists new.listing l ≡ true → HasAll (take (k + 1) given) new.listing
+pub more_given : (given : List Lit) (k : ℕ) (d : Lit) (old new : State) (l : Lit) → k < length given → l ≡ get_or given k d → IsGiven old new (l ∷ []) → HasAll (take k given) old.assigned → lists new.assigned l ≡ true → HasAll (take (k + 1) given) new.assigned
 more_given given k d old new l low is g all here m e =
     let next : take (k + 1) given ≡ take k given ++ l ∷ [] = take_more given k d low ∙ ap (λ (x : Lit). take k given ++ x ∷ []) (sym is) in
     let split : among (take k given ++ l ∷ []) (m.var.0) m.negated ≡ true = ap (λ (xs : List Lit). among xs (m.var.0) m.negated) (sym next) ∙ e in
     elim (among_cases (take k given) (l ∷ []) (m.var.0) m.negated split) [
-      | inl x ↦ ap (λ (xs : List Lit). lists xs m) g.listing ∙ among_left old.listing g.added (m.var.0) m.negated (all m x)
-      | inr x ↦ one_within new.listing l here (m.var.0) m.negated x
+      | inl x ↦ ap (λ (xs : List Lit). lists xs m) g.assigned ∙ among_left old.assigned g.added (m.var.0) m.negated (all m x)
+      | inr x ↦ one_within new.assigned l here (m.var.0) m.negated x
     ]
 
 -- no chain has the opposite of what is given
@@ -96,34 +96,34 @@ clashed ns given root added l r a h e = elim (one_end_or_conflict ns given) [
       ]
 ]
 
--- where the walk over what is given ends in a broken constraint, and where it ends well
-pub ends_impossible : (ns : List NormalConstraint) (given root added listing : List Lit) (place : ℕ) → IsContinued ns [] root → Within (among added) (among given) → IsContinued ns (root ++ added) listing → IsBrokenAt ns listing place → IsImpossible ns given
-ends_impossible ns given root added listing place r a g b = inr (conflict_kept ns given root added listing r a g (conflict_at ns listing place b))
+-- where the walk over what is given ends in a falsified constraint, and where it ends well
+pub ends_impossible : (ns : List NormalConstraint) (given root added assigned : List Lit) (place : ℕ) → IsContinued ns [] root → Within (among added) (among given) → IsContinued ns (root ++ added) assigned → IsFalsifiedAt ns assigned place → IsImpossible ns given
+ends_impossible ns given root added assigned place r a g b = inr (conflict_kept ns given root added assigned r a g (conflict_at ns assigned place b))
 
-pub ends_well : (ns : List NormalConstraint) (given root added listing : List Lit) → IsContinued ns [] root → Within (among added) (among given) → IsContinued ns (root ++ added) listing → IsSettled ns listing → HasAll given (root ++ added) → IsWholeEnd ns given listing
-ends_well ns given root added listing r a g q h =
-    let has : HasAll given listing = λ l e. ap (λ (xs : List Lit). lists xs l) g.2 ∙ among_left (root ++ added) g.0 (l.var.0) l.negated (h l e) in
-    record { settled = q; has_given = has; closure = closure_kept ns given root added listing r a g q (by_set given listing has) }
+pub ends_well : (ns : List NormalConstraint) (given root added assigned : List Lit) → IsContinued ns [] root → Within (among added) (among given) → IsContinued ns (root ++ added) assigned → IsFixpoint ns assigned → HasAll given (root ++ added) → IsWholeEnd ns given assigned
+ends_well ns given root added assigned r a g q h =
+    let has : HasAll given assigned = λ l e. ap (λ (xs : List Lit). lists xs l) g.2 ∙ among_left (root ++ added) g.0 (l.var.0) l.negated (h l e) in
+    record { fixpoint = q; has_given = has; closure = closure_kept ns given root added assigned r a g q (by_set given assigned has) }
 
 -- all of it lies over what was there
-pub overlies : (old new : State) (given : List Lit) (as_many : length old.reasons ≡ length old.listing) → IsGiven old new given → Overlies old new
+pub overlies : (old new : State) (given : List Lit) (as_many : length old.reasons ≡ length old.assigned) → IsGiven old new given → Overlies old new
 overlies old new given as_many g = record {
   slots = g.slots;
-  literals = ap (λ (xs : List Lit). take (length old.listing) xs) g.listing ∙ take-append_seam old.listing g.added;
-  long = omega (arith, ap (length {A = Lit}) g.listing, length-append old.listing g.added);
-  reasons = ap (λ (rs : List (Option ℕ)). take (length old.listing) rs) g.reasons.1 ∙ ap (λ (n : ℕ). take n (old.reasons ++ g.reasons.0)) (sym as_many) ∙ take-append_seam old.reasons g.reasons.0;
+  literals = ap (λ (xs : List Lit). take (length old.assigned) xs) g.assigned ∙ take-append_seam old.assigned g.added;
+  long = omega (arith, ap (length {A = Lit}) g.assigned, length-append old.assigned g.added);
+  reasons = ap (λ (rs : List (Option ℕ)). take (length old.assigned) rs) g.reasons.1 ∙ ap (λ (n : ℕ). take n (old.reasons ++ g.reasons.0)) (sym as_many) ∙ take-append_seam old.reasons g.reasons.0;
 }
 
-pub overlies_walked : (old mid new : State) (given : List Lit) (as_many : length old.reasons ≡ length old.listing) → IsGiven old mid given → GoesOn mid new → Overlies old new
+pub overlies_walked : (old mid new : State) (given : List Lit) (as_many : length old.reasons ≡ length old.assigned) → IsGiven old mid given → GoesOn mid new → Overlies old new
 overlies_walked old mid new given as_many g h =
-    let listing : new.listing ≡ old.listing ++ (g.added ++ h.listing.0) = h.listing.2 ∙ ap (λ (xs : List Lit). xs ++ h.listing.0) g.listing ∙ append_assoc old.listing g.added h.listing.0 in
+    let assigned : new.assigned ≡ old.assigned ++ (g.added ++ h.assigned.0) = h.assigned.2 ∙ ap (λ (xs : List Lit). xs ++ h.assigned.0) g.assigned ∙ append_assoc old.assigned g.added h.assigned.0 in
     let more : List (Option ℕ) = map Some h.reasons.0 in
     let reasons : new.reasons ≡ old.reasons ++ (g.reasons.0 ++ more) = h.reasons.1 ∙ ap (λ (rs : List (Option ℕ)). rs ++ more) g.reasons.1 ∙ append_assoc old.reasons g.reasons.0 more in
     record {
       slots = h.slots ∙ g.slots;
-      literals = ap (λ (xs : List Lit). take (length old.listing) xs) listing ∙ take-append_seam old.listing (g.added ++ h.listing.0);
-      long = omega (arith, ap (length {A = Lit}) listing, length-append old.listing (g.added ++ h.listing.0));
-      reasons = ap (λ (rs : List (Option ℕ)). take (length old.listing) rs) reasons ∙ ap (λ (n : ℕ). take n (old.reasons ++ (g.reasons.0 ++ more))) (sym as_many) ∙ take-append_seam old.reasons (g.reasons.0 ++ more);
+      literals = ap (λ (xs : List Lit). take (length old.assigned) xs) assigned ∙ take-append_seam old.assigned (g.added ++ h.assigned.0);
+      long = omega (arith, ap (length {A = Lit}) assigned, length-append old.assigned (g.added ++ h.assigned.0));
+      reasons = ap (λ (rs : List (Option ℕ)). take (length old.assigned) rs) reasons ∙ ap (λ (n : ℕ). take n (old.reasons ++ (g.reasons.0 ++ more))) (sym as_many) ∙ take-append_seam old.reasons (g.reasons.0 ++ more);
     }
 
 yes_is : (b : Bool) → false ≡ not b → b ≡ true
@@ -134,40 +134,40 @@ no_is : (b : Bool) → true ≡ not b → b ≡ true → ⊥
 no_is true h e = false≢true (sym h)
 no_is false h e = false≢true e
 
--- whether there is such a listing, by where the walk over what is given ends
-ended : (ns : List NormalConstraint) (given root added listing : List Lit) (waiting : List ℕ) (r : Option ℕ) (b : Bool) → is_some r ≡ not b → IsContinued ns [] root → Within (among added) (among given) → IsContinued ns (root ++ added) listing
-    → MatchOption r ((waiting ≡ []) × IsSettled ns listing) (IsBrokenAt ns listing) → HasAll given (root ++ added)
-    → (b ≡ true → IsWholeEnd ns given listing) × ((b ≡ true → ⊥) → IsImpossible ns given)
-ended ns given root added listing waiting None b e r a g end h = (λ _. ends_well ns given root added listing r a g end.1 h, λ none. absurd (none (yes_is b e)))
-ended ns given root added listing waiting (Some place) b e r a g end h = (λ yes'. absurd (no_is b e yes'), λ _. ends_impossible ns given root added listing place r a g end)
+-- whether there is such an assignment, by where the walk over what is given ends
+ended : (ns : List NormalConstraint) (given root added assigned : List Lit) (waiting : List ℕ) (r : Option ℕ) (b : Bool) → is_some r ≡ not b → IsContinued ns [] root → Within (among added) (among given) → IsContinued ns (root ++ added) assigned
+    → MatchOption r ((waiting ≡ []) × IsFixpoint ns assigned) (IsFalsifiedAt ns assigned) → HasAll given (root ++ added)
+    → (b ≡ true → IsWholeEnd ns given assigned) × ((b ≡ true → ⊥) → IsImpossible ns given)
+ended ns given root added assigned waiting None b e r a g end h = (λ _. ends_well ns given root added assigned r a g end.1 h, λ none. absurd (none (yes_is b e)))
+ended ns given root added assigned waiting (Some place) b e r a g end h = (λ yes'. absurd (no_is b e yes'), λ _. ends_impossible ns given root added assigned place r a g end)
 
-pub through : (old mid new : State) (given : List Lit) (waiting : List ℕ) (r : Option ℕ) (b : Bool) → is_some r ≡ not b → IsContinued (shown old.slots) [] old.listing → IsGiven old mid given → GoesOn mid new
-    → MatchOption r ((waiting ≡ []) × IsSettled (shown mid.slots) new.listing) (IsBrokenAt (shown mid.slots) new.listing) → HasAll given mid.listing
-    → (b ≡ true → IsWholeEnd (shown old.slots) given new.listing) × ((b ≡ true → ⊥) → IsImpossible (shown old.slots) given)
+pub through : (old mid new : State) (given : List Lit) (waiting : List ℕ) (r : Option ℕ) (b : Bool) → is_some r ≡ not b → IsContinued (shown old.slots) [] old.assigned → IsGiven old mid given → GoesOn mid new
+    → MatchOption r ((waiting ≡ []) × IsFixpoint (shown mid.slots) new.assigned) (IsFalsifiedAt (shown mid.slots) new.assigned) → HasAll given mid.assigned
+    → (b ≡ true → IsWholeEnd (shown old.slots) given new.assigned) × ((b ≡ true → ⊥) → IsImpossible (shown old.slots) given)
 through old mid new given waiting r b e root g h end has =
     let ns : List NormalConstraint = shown old.slots in
-    let goes : IsContinued ns (old.listing ++ g.added) new.listing = subst (λ (xs : List Lit). IsContinued ns xs new.listing) g.listing (subst (λ (os : List (Option NormalConstraint)). IsContinued (shown os) mid.listing new.listing) g.slots h.listing) in
-    let there : MatchOption r ((waiting ≡ []) × IsSettled ns new.listing) (IsBrokenAt ns new.listing) = subst (λ (os : List (Option NormalConstraint)). MatchOption r ((waiting ≡ []) × IsSettled (shown os) new.listing) (IsBrokenAt (shown os) new.listing)) g.slots end in
-    ended ns given old.listing g.added new.listing waiting r b e root g.within goes there (subst (λ (xs : List Lit). HasAll given xs) g.listing has)
+    let goes : IsContinued ns (old.assigned ++ g.added) new.assigned = subst (λ (xs : List Lit). IsContinued ns xs new.assigned) g.assigned (subst (λ (os : List (Option NormalConstraint)). IsContinued (shown os) mid.assigned new.assigned) g.slots h.assigned) in
+    let there : MatchOption r ((waiting ≡ []) × IsFixpoint ns new.assigned) (IsFalsifiedAt ns new.assigned) = subst (λ (os : List (Option NormalConstraint)). MatchOption r ((waiting ≡ []) × IsFixpoint (shown os) new.assigned) (IsFalsifiedAt (shown os) new.assigned)) g.slots end in
+    ended ns given old.assigned g.added new.assigned waiting r b e root g.within goes there (subst (λ (xs : List Lit). HasAll given xs) g.assigned has)
 
-pub all_given : (given listing : List Lit) (r : Option Lit) (b : Bool) → b ≡ is_some r → b ≡ false → MatchOption r (HasAll given listing) (λ l. (lists given l ≡ true) × (lists listing (opposite l) ≡ true)) → HasAll given listing
-all_given given listing None b e f end = end
-all_given given listing (Some l) b e f end = absurd (false≢true (sym f ∙ e))
+pub all_given : (given assigned : List Lit) (r : Option Lit) (b : Bool) → b ≡ is_some r → b ≡ false → MatchOption r (HasAll given assigned) (λ l. (lists given l ≡ true) × (lists assigned (opposite l) ≡ true)) → HasAll given assigned
+all_given given assigned None b e f end = end
+all_given given assigned (Some l) b e f end = absurd (false≢true (sym f ∙ e))
 
-pub one_clashes : (old mid : State) (given : List Lit) (r : Option Lit) (b : Bool) → b ≡ is_some r → b ≡ true → MatchOption r (HasAll given mid.listing) (λ l. (lists given l ≡ true) × (lists mid.listing (opposite l) ≡ true)) → IsContinued (shown old.slots) [] old.listing → IsGiven old mid given → IsImpossible (shown old.slots) given
+pub one_clashes : (old mid : State) (given : List Lit) (r : Option Lit) (b : Bool) → b ≡ is_some r → b ≡ true → MatchOption r (HasAll given mid.assigned) (λ l. (lists given l ≡ true) × (lists mid.assigned (opposite l) ≡ true)) → IsContinued (shown old.slots) [] old.assigned → IsGiven old mid given → IsImpossible (shown old.slots) given
 one_clashes old mid given None b e f end root g = absurd (false≢true (sym e ∙ f))
 one_clashes old mid given (Some l) b e f end root g =
-    clashed (shown old.slots) given old.listing g.added l root g.within end.0 (ap (λ (xs : List Lit). lists xs (opposite l)) (sym g.listing) ∙ end.1)
+    clashed (shown old.slots) given old.assigned g.added l root g.within end.0 (ap (λ (xs : List Lit). lists xs (opposite l)) (sym g.assigned) ∙ end.1)
 
 -- what is answered then
-pub reach_of : (ns : List NormalConstraint) (given listing closed : List Lit) → closed ≡ listing → IsWholeEnd ns given listing → IsOnce listing → IsConsistent listing → (IsImpossible ns given → ⊥) × IsClosure ns given closed × IsOnce closed
-reach_of ns given listing closed e w once consistent =
+pub reach_of : (ns : List NormalConstraint) (given assigned closed : List Lit) → closed ≡ assigned → IsWholeEnd ns given assigned → IsOnce assigned → IsConsistent assigned → (IsImpossible ns given → ⊥) × IsClosure ns given closed × IsOnce closed
+reach_of ns given assigned closed e w once consistent =
     let possible : IsImpossible ns given → ⊥ = λ i. elim i [
       | inl both ↦ consistent (both.0, w.has_given both.0 both.1, w.has_given (opposite both.0) both.2)
-      | inr r ↦ no_conflict_from ns given listing w.settled (by_set given listing w.has_given) r
+      | inr r ↦ no_conflict_from ns given assigned w.fixpoint (by_set given assigned w.has_given) r
     ] in
     rw e (possible, w.closure, once)
 
--- constraints that are refuted leave no listing to be had
+-- constraints that are refuted leave no assignment to be had
 pub refuted_impossible : (slots same : List (Option NormalConstraint)) (given : List Lit) → slots ≡ same → IsRefuted (shown slots) → IsImpossible (shown same) given
 refuted_impossible slots same given e r = inr (more_literals (shown same) [] given (λ l h. absurd (false≢true h)) (subst (λ (os : List (Option NormalConstraint)). IsRefuted (shown os)) e r))

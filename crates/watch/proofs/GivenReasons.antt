@@ -6,11 +6,11 @@ use Rattle.std.proofs.Math.Seq.{get_or-append_right}
 use Rattle.linear.specs.declared.term.Lit.{Lit}
 use Rattle.normal_form.specs.Normal.{NormalConstraint}
 use Rattle.normal_form.proofs.SetSums.{Within}
-use Rattle.propagate.specs.Chain.{IsSettled}
+use Rattle.propagate.specs.Chain.{IsFixpoint}
 use Rattle.linear.specs.Literal.{opposite}
 use Rattle.propagate.specs.Literals.{among, lists, IsConsistent, SameLiterals}
-use Rattle.propagate.specs.Walk.{IsBrokenAt}
-use Rattle.propagate.proofs.Listings.{among_cases, among_head, among_left, among_right, among_tail}
+use Rattle.propagate.specs.Walk.{IsFalsifiedAt}
+use Rattle.propagate.proofs.Assignments.{among_cases, among_head, among_left, among_right, among_tail}
 use Rattle.watch.specs.Givens.{HasAll, IsGiven}
 use Rattle.ledger.specs.Ledgers.{State, shown}
 use Rattle.watch.specs.Looking.{GoesOn}
@@ -51,28 +51,28 @@ given_walked xs ys rs places given many all a k d low none = elim (cases_lt k (l
       (there ∙ reason_at places more (k - length rs) refl (omega (arith, low, later, many, all, length-append rs more))) none)
 ]
 
-pub given_after : (old mid : State) (given : List Lit) → length old.reasons ≡ length old.listing → AllForced old.reasons → IsGiven old mid given → AreGiven mid.listing mid.reasons given
+pub given_after : (old mid : State) (given : List Lit) → length old.reasons ≡ length old.assigned → AllForced old.reasons → IsGiven old mid given → AreGiven mid.assigned mid.reasons given
 given_after old mid given many f g =
-    rw (g.listing, g.reasons.1) (given_added old.listing g.added old.reasons g.reasons.0 given many (given_root old.listing old.reasons given many f) g.within)
+    rw (g.assigned, g.reasons.1) (given_added old.assigned g.added old.reasons g.reasons.0 given many (given_root old.assigned old.reasons given many f) g.within)
 
-pub given_walk : (old mid new : State) (given : List Lit) → length old.reasons ≡ length old.listing → AllForced old.reasons → IsGiven old mid given → GoesOn mid new → length new.reasons ≡ length new.listing → AreGiven new.listing new.reasons given
+pub given_walk : (old mid new : State) (given : List Lit) → length old.reasons ≡ length old.assigned → AllForced old.reasons → IsGiven old mid given → GoesOn mid new → length new.reasons ≡ length new.assigned → AreGiven new.assigned new.reasons given
 given_walk old mid new given many f g h all =
-    let before : length mid.reasons ≡ length mid.listing = omega (arith, many, ap (length {A = Lit}) g.listing, ap (length {A = Option ℕ}) g.reasons.1, length-append old.listing g.added, length-append old.reasons g.reasons.0, g.reasons.2) in
-    let lengths : length (mid.reasons ++ map Some h.reasons.0) ≡ length (mid.listing ++ h.listing.0) = ap (length {A = Option ℕ}) (sym h.reasons.1) ∙ all ∙ ap (length {A = Lit}) h.listing.2 in
-    rw (h.listing.2, h.reasons.1) (given_walked mid.listing h.listing.0 mid.reasons h.reasons.0 given before lengths (given_after old mid given many f g))
+    let before : length mid.reasons ≡ length mid.assigned = omega (arith, many, ap (length {A = Lit}) g.assigned, ap (length {A = Option ℕ}) g.reasons.1, length-append old.assigned g.added, length-append old.reasons g.reasons.0, g.reasons.2) in
+    let lengths : length (mid.reasons ++ map Some h.reasons.0) ≡ length (mid.assigned ++ h.assigned.0) = ap (length {A = Option ℕ}) (sym h.reasons.1) ∙ all ∙ ap (length {A = Lit}) h.assigned.2 in
+    rw (h.assigned.2, h.reasons.1) (given_walked mid.assigned h.assigned.0 mid.reasons h.reasons.0 given before lengths (given_after old mid given many f g))
 
 -- the end of the walk over what is given
-pub walk_ends : (old mid new : State) (given : List Lit) (w : List ℕ) (r : Option ℕ) → IsGiven old mid given → GoesOn mid new → HasAll given mid.listing → MatchOption r ((w ≡ []) × IsSettled (shown mid.slots) new.listing) (IsBrokenAt (shown mid.slots) new.listing) → HasEnd (shown old.slots) given new.listing r
+pub walk_ends : (old mid new : State) (given : List Lit) (w : List ℕ) (r : Option ℕ) → IsGiven old mid given → GoesOn mid new → HasAll given mid.assigned → MatchOption r ((w ≡ []) × IsFixpoint (shown mid.slots) new.assigned) (IsFalsifiedAt (shown mid.slots) new.assigned) → HasEnd (shown old.slots) given new.assigned r
 walk_ends old mid new given w None g h has end =
     inr (
-      λ l e. ap (λ (xs : List Lit). lists xs l) h.listing.2 ∙ among_left mid.listing h.listing.0 (l.var.0) l.negated (has l e),
-      subst (λ (os : List (Option NormalConstraint)). IsSettled (shown os) new.listing) g.slots end.1,
+      λ l e. ap (λ (xs : List Lit). lists xs l) h.assigned.2 ∙ among_left mid.assigned h.assigned.0 (l.var.0) l.negated (has l e),
+      subst (λ (os : List (Option NormalConstraint)). IsFixpoint (shown os) new.assigned) g.slots end.1,
     )
-walk_ends old mid new given w (Some place) g h has end = subst (λ (os : List (Option NormalConstraint)). IsBrokenAt (shown os) new.listing place) g.slots end
+walk_ends old mid new given w (Some place) g h has end = subst (λ (os : List (Option NormalConstraint)). IsFalsifiedAt (shown os) new.assigned place) g.slots end
 
-pub clash_end : (given listing : List Lit) (r : Option Lit) (b : Bool) → b ≡ is_some r → b ≡ true → MatchOption r (HasAll given listing) (λ l. (lists given l ≡ true) × (lists listing (opposite l) ≡ true)) → Clashes given listing
-clash_end given listing None b e f end = absurd (false≢true (sym e ∙ f))
-clash_end given listing (Some l) b e f end = (l, end.0, end.1)
+pub clash_end : (given assigned : List Lit) (r : Option Lit) (b : Bool) → b ≡ is_some r → b ≡ true → MatchOption r (HasAll given assigned) (λ l. (lists given l ≡ true) × (lists assigned (opposite l) ≡ true)) → Clashes given assigned
+clash_end given assigned None b e f end = absurd (false≢true (sym e ∙ f))
+clash_end given assigned (Some l) b e f end = (l, end.0, end.1)
 
 -- given literals that are looked up
 pub take_within : (xs : List Lit) (k : ℕ) → Within (among (take k xs)) (among xs)
@@ -107,7 +107,7 @@ opposite_free marks l h = not_listed marks (opposite l) (lists marks (opposite l
 pub given_by_marks : (xs : List Lit) (rs : List (Option ℕ)) (marks given : List Lit) → SameLiterals marks given → AreGiven xs rs given → AreGiven xs rs marks
 given_by_marks xs rs marks given same a k d low none = same ((get_or xs k d).var.0) (get_or xs k d).negated ∙ a k d low none
 
--- where the constraints themselves are broken in the end
-pub root_ends : (old new : State) (given : List Lit) (w : List ℕ) (r : Option ℕ) (b : Bool) → b ≡ is_some r → b ≡ true → GoesOn old new → MatchOption r ((w ≡ []) × IsSettled (shown old.slots) new.listing) (IsBrokenAt (shown old.slots) new.listing) → HasEnd (shown old.slots) given new.listing r
+-- where the constraints themselves are falsified in the end
+pub root_ends : (old new : State) (given : List Lit) (w : List ℕ) (r : Option ℕ) (b : Bool) → b ≡ is_some r → b ≡ true → GoesOn old new → MatchOption r ((w ≡ []) × IsFixpoint (shown old.slots) new.assigned) (IsFalsifiedAt (shown old.slots) new.assigned) → HasEnd (shown old.slots) given new.assigned r
 root_ends old new given w None b e f g end = absurd (false≢true (sym e ∙ f))
 root_ends old new given w (Some place) b e f g end = end

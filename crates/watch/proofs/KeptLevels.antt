@@ -1,4 +1,4 @@
--- Levels of given literals, when the trail grows and when it is taken back.
+-- Levels of given literals, when the trail grows and when it is backtracked.
 use Rattle.std.proofs.Common.{◌≡◌, ℕ, suc, ◌+◌, ◌-◌, ◌<◌, ◌≤◌, inl, inr, true, false, Option, None, Some, List, [], ◌∷◌, ◌++◌, length, get_or, map, take, refl, ap, sym, subst, ◌∙◌, length-append, arith}
 use Rattle.std.proofs.lemmas.Bool.{false≢true, cases_lt}
 use Rattle.std.proofs.lemmas.List.{get_or-take, get_or_append_left, get_or_default, get_or_past, get_or_push, length-take-le, take-append-le, take-take, take_more}
@@ -6,7 +6,7 @@ use Rattle.std.proofs.Math.Seq.{take-append_seam, take-length}
 use Rattle.linear.specs.declared.term.Lit.{Lit}
 use Rattle.normal_form.specs.Normal.{NormalConstraint}
 use Rattle.propagate.specs.Literals.{lists}
-use Rattle.propagate.proofs.Listings.{among_cases, among_left, among_right}
+use Rattle.propagate.proofs.Assignments.{among_cases, among_left, among_right}
 use Rattle.watch.specs.Givens.{HasAll, IsGiven}
 use Rattle.watch.specs.Keeping.{AreLevels, IsKept, IsLevel, height_of}
 use Rattle.ledger.specs.Ledgers.{State, shown}
@@ -17,21 +17,21 @@ use Rattle.watch.proofs.GivenOnes.{one_within}
 use Rattle.watch.proofs.GivenReasons.{given_added, given_root, given_walked, take_within}
 
 -- a level that ends below what is added
-level_below : (listing more : List Lit) (reasons rest : List (Option ℕ)) (given : List Lit) (height : ℕ) → length reasons ≡ length listing → IsLevel listing reasons given height → IsLevel (listing ++ more) (reasons ++ rest) given height
-level_below listing more reasons rest given height many v =
-    let a : take height (listing ++ more) ≡ take height listing = take-append-le height listing more v.low in
+level_below : (assigned more : List Lit) (reasons rest : List (Option ℕ)) (given : List Lit) (height : ℕ) → length reasons ≡ length assigned → IsLevel assigned reasons given height → IsLevel (assigned ++ more) (reasons ++ rest) given height
+level_below assigned more reasons rest given height many v =
+    let a : take height (assigned ++ more) ≡ take height assigned = take-append-le height assigned more v.low in
     let b : take height (reasons ++ rest) ≡ take height reasons = take-append-le height reasons rest (omega (arith, v.low, many)) in
     record {
-      low = omega (arith, v.low, length-append listing more);
+      low = omega (arith, v.low, length-append assigned more);
       has_given = subst (λ (xs : List Lit). HasAll given xs) (sym a) v.has_given;
       others_forced = rw (a, b) v.others_forced;
     }
 
 -- the whole trail
-level_whole : (listing : List Lit) (reasons : List (Option ℕ)) (given : List Lit) → length reasons ≡ length listing → HasAll given listing → AreGiven listing reasons given → IsLevel listing reasons given (length listing)
-level_whole listing reasons given many h g =
-    let a : take (length listing) listing ≡ listing = take-length listing in
-    let b : take (length listing) reasons ≡ reasons = ap (λ (n : ℕ). take n reasons) (sym many) ∙ take-length reasons in
+level_whole : (assigned : List Lit) (reasons : List (Option ℕ)) (given : List Lit) → length reasons ≡ length assigned → HasAll given assigned → AreGiven assigned reasons given → IsLevel assigned reasons given (length assigned)
+level_whole assigned reasons given many h g =
+    let a : take (length assigned) assigned ≡ assigned = take-length assigned in
+    let b : take (length assigned) reasons ≡ reasons = ap (λ (n : ℕ). take n reasons) (sym many) ∙ take-length reasons in
     record {
       low = omega arith;
       has_given = subst (λ (xs : List Lit). HasAll given xs) (sym a) h;
@@ -39,181 +39,181 @@ level_whole listing reasons given many h g =
     }
 
 -- the level at the top
-height_above : (listing : List Lit) (heights : List ℕ) (n : ℕ) → length heights ≡ n → height_of listing heights n ≡ length listing
-height_above listing heights n e = get_or_past heights n (length listing) (omega (arith, e))
+height_above : (assigned : List Lit) (heights : List ℕ) (n : ℕ) → length heights ≡ n → height_of assigned heights n ≡ length assigned
+height_above assigned heights n e = get_or_past heights n (length assigned) (omega (arith, e))
 
-top : (listing : List Lit) (reasons : List (Option ℕ)) (given : List Lit) (heights : List ℕ) → AreLevels listing reasons given heights → IsLevel listing reasons given (length listing)
-top listing reasons given heights v =
+top : (assigned : List Lit) (reasons : List (Option ℕ)) (given : List Lit) (heights : List ℕ) → AreLevels assigned reasons given heights → IsLevel assigned reasons given (length assigned)
+top assigned reasons given heights v =
     let it = v.levels (length given) (omega arith) in
     let whole : take (length given) given ≡ given = take-length given in
-    subst (λ (h : ℕ). IsLevel listing reasons given h) (height_above listing heights (length given) v.as_many)
-    (subst (λ (xs : List Lit). IsLevel listing reasons xs (height_of listing heights (length given))) whole it)
+    subst (λ (h : ℕ). IsLevel assigned reasons given h) (height_above assigned heights (length given) v.as_many)
+    (subst (λ (xs : List Lit). IsLevel assigned reasons xs (height_of assigned heights (length given))) whole it)
 
-pub top_has : (listing : List Lit) (reasons : List (Option ℕ)) (given : List Lit) (heights : List ℕ) → AreLevels listing reasons given heights → HasAll given listing
-top_has listing reasons given heights v = subst (λ (xs : List Lit). HasAll given xs) (take-length listing) (top listing reasons given heights v).has_given
+pub top_has : (assigned : List Lit) (reasons : List (Option ℕ)) (given : List Lit) (heights : List ℕ) → AreLevels assigned reasons given heights → HasAll given assigned
+top_has assigned reasons given heights v = subst (λ (xs : List Lit). HasAll given xs) (take-length assigned) (top assigned reasons given heights v).has_given
 
-pub top_given : (listing : List Lit) (reasons : List (Option ℕ)) (given : List Lit) (heights : List ℕ) → length reasons ≡ length listing → AreLevels listing reasons given heights → AreGiven listing reasons given
-top_given listing reasons given heights many v =
-    let a : take (length listing) listing ≡ listing = take-length listing in
-    let b : take (length listing) reasons ≡ reasons = ap (λ (n : ℕ). take n reasons) (sym many) ∙ take-length reasons in
-    rw (← a, ← b) (top listing reasons given heights v).others_forced
+pub top_given : (assigned : List Lit) (reasons : List (Option ℕ)) (given : List Lit) (heights : List ℕ) → length reasons ≡ length assigned → AreLevels assigned reasons given heights → AreGiven assigned reasons given
+top_given assigned reasons given heights many v =
+    let a : take (length assigned) assigned ≡ assigned = take-length assigned in
+    let b : take (length assigned) reasons ≡ reasons = ap (λ (n : ℕ). take n reasons) (sym many) ∙ take-length reasons in
+    rw (← a, ← b) (top assigned reasons given heights v).others_forced
 
 -- heights where the trail grows on top
-height_grown : (listing more : List Lit) (heights : List ℕ) (j : ℕ) → j < length heights → height_of (listing ++ more) heights j ≡ height_of listing heights j
-height_grown listing more heights j low = get_or_default heights j (length (listing ++ more)) (length listing) low
+height_grown : (assigned more : List Lit) (heights : List ℕ) (j : ℕ) → j < length heights → height_of (assigned ++ more) heights j ≡ height_of assigned heights j
+height_grown assigned more heights j low = get_or_default heights j (length (assigned ++ more)) (length assigned) low
 
-below_end : (listing : List Lit) (reasons : List (Option ℕ)) (given : List Lit) (heights : List ℕ) (j : ℕ) → AreLevels listing reasons given heights → j ≤ length given → height_of listing heights j ≤ length listing
-below_end listing reasons given heights j v h = (v.levels j h).low
+below_end : (assigned : List Lit) (reasons : List (Option ℕ)) (given : List Lit) (heights : List ℕ) (j : ℕ) → AreLevels assigned reasons given heights → j ≤ length given → height_of assigned heights j ≤ length assigned
+below_end assigned reasons given heights j v h = (v.levels j h).low
 
 -- more on top
-pub levels_grown : (listing more : List Lit) (reasons rest : List (Option ℕ)) (given : List Lit) (heights : List ℕ) → length reasons ≡ length listing → length (reasons ++ rest) ≡ length (listing ++ more) → AreLevels listing reasons given heights → AreGiven (listing ++ more) (reasons ++ rest) given → AreLevels (listing ++ more) (reasons ++ rest) given heights
-levels_grown listing more reasons rest given heights many all v g = record {
+pub levels_grown : (assigned more : List Lit) (reasons rest : List (Option ℕ)) (given : List Lit) (heights : List ℕ) → length reasons ≡ length assigned → length (reasons ++ rest) ≡ length (assigned ++ more) → AreLevels assigned reasons given heights → AreGiven (assigned ++ more) (reasons ++ rest) given → AreLevels (assigned ++ more) (reasons ++ rest) given heights
+levels_grown assigned more reasons rest given heights many all v g = record {
   as_many = v.as_many;
   levels = λ j h. elim (cases_lt j (length heights)) [
-    | inl low ↦ subst (λ (k : ℕ). IsLevel (listing ++ more) (reasons ++ rest) (take j given) k) (sym (height_grown listing more heights j low)) (level_below listing more reasons rest (take j given) (height_of listing heights j) many (v.levels j h))
+    | inl low ↦ subst (λ (k : ℕ). IsLevel (assigned ++ more) (reasons ++ rest) (take j given) k) (sym (height_grown assigned more heights j low)) (level_below assigned more reasons rest (take j given) (height_of assigned heights j) many (v.levels j h))
     | inr high ↦
         let last : j ≡ length given = omega (arith, h, high, v.as_many) in
-        let has : HasAll given (listing ++ more) = λ l e. among_left listing more (l.var.0) l.negated (top_has listing reasons given heights v l e) in
-        let it = level_whole (listing ++ more) (reasons ++ rest) given all has g in
-        let up : height_of (listing ++ more) heights j ≡ length (listing ++ more) = height_above (listing ++ more) heights j (v.as_many ∙ sym last) in
+        let has : HasAll given (assigned ++ more) = λ l e. among_left assigned more (l.var.0) l.negated (top_has assigned reasons given heights v l e) in
+        let it = level_whole (assigned ++ more) (reasons ++ rest) given all has g in
+        let up : height_of (assigned ++ more) heights j ≡ length (assigned ++ more) = height_above (assigned ++ more) heights j (v.as_many ∙ sym last) in
         let firsts : take j given ≡ given = ap (λ (n : ℕ). take n given) last ∙ take-length given in
         rw (up, firsts) it
   ];
   rise = λ i j h k. elim (cases_lt j (length heights)) [
-    | inl low ↦ omega (arith, height_grown listing more heights j low, height_grown listing more heights i (omega (arith, low, h)), v.rise i j h k)
+    | inl low ↦ omega (arith, height_grown assigned more heights j low, height_grown assigned more heights i (omega (arith, low, h)), v.rise i j h k)
     | inr high ↦
-        let up : height_of (listing ++ more) heights j ≡ length (listing ++ more) = get_or_past heights j (length (listing ++ more)) (omega (arith, high)) in
+        let up : height_of (assigned ++ more) heights j ≡ length (assigned ++ more) = get_or_past heights j (length (assigned ++ more)) (omega (arith, high)) in
         elim (cases_lt i (length heights)) [
-          | inl low ↦ omega (arith, up, height_grown listing more heights i low, below_end listing reasons given heights i v (omega (arith, h, k)), length-append listing more)
-          | inr past ↦ omega (arith, up, get_or_past heights i (length (listing ++ more)) past)
+          | inl low ↦ omega (arith, up, height_grown assigned more heights i low, below_end assigned reasons given heights i v (omega (arith, h, k)), length-append assigned more)
+          | inr past ↦ omega (arith, up, get_or_past heights i (length (assigned ++ more)) past)
         ]
   ];
 }
 
 -- one level more, which begins where the trail ended
-height_pushed : (listing new : List Lit) (heights : List ℕ) (j : ℕ) → j ≤ length heights → height_of new (heights ++ length listing ∷ []) j ≡ height_of listing heights j
-height_pushed listing new heights j h = elim (cases_lt j (length heights)) [
-  | inl low ↦ get_or_append_left heights (length listing ∷ []) (length new) j low ∙ get_or_default heights j (length new) (length listing) low
+height_pushed : (assigned new : List Lit) (heights : List ℕ) (j : ℕ) → j ≤ length heights → height_of new (heights ++ length assigned ∷ []) j ≡ height_of assigned heights j
+height_pushed assigned new heights j h = elim (cases_lt j (length heights)) [
+  | inl low ↦ get_or_append_left heights (length assigned ∷ []) (length new) j low ∙ get_or_default heights j (length new) (length assigned) low
   | inr high ↦
       let last : j ≡ length heights = omega (arith, h, high) in
-      get_or_push heights (length listing) (length new) j (sym last) ∙ sym (get_or_past heights j (length listing) high)
+      get_or_push heights (length assigned) (length new) j (sym last) ∙ sym (get_or_past heights j (length assigned) high)
 ]
 
-pub levels_pushed : (listing more : List Lit) (reasons rest : List (Option ℕ)) (given : List Lit) (heights : List ℕ) (l : Lit) → length reasons ≡ length listing → length (reasons ++ rest) ≡ length (listing ++ more) → AreLevels listing reasons given heights → AreGiven (listing ++ more) (reasons ++ rest) (given ++ l ∷ []) → lists (listing ++ more) l ≡ true
-    → AreLevels (listing ++ more) (reasons ++ rest) (given ++ l ∷ []) (heights ++ length listing ∷ [])
-levels_pushed listing more reasons rest given heights l many all v g here = record {
-  as_many = omega (arith, v.as_many, length-append heights (length listing ∷ []), length-append given (l ∷ []));
+pub levels_pushed : (assigned more : List Lit) (reasons rest : List (Option ℕ)) (given : List Lit) (heights : List ℕ) (l : Lit) → length reasons ≡ length assigned → length (reasons ++ rest) ≡ length (assigned ++ more) → AreLevels assigned reasons given heights → AreGiven (assigned ++ more) (reasons ++ rest) (given ++ l ∷ []) → lists (assigned ++ more) l ≡ true
+    → AreLevels (assigned ++ more) (reasons ++ rest) (given ++ l ∷ []) (heights ++ length assigned ∷ [])
+levels_pushed assigned more reasons rest given heights l many all v g here = record {
+  as_many = omega (arith, v.as_many, length-append heights (length assigned ∷ []), length-append given (l ∷ []));
   levels = λ j h. elim (cases_lt j (length given + 1)) [
     | inl low ↦
         let firsts : take j (given ++ l ∷ []) ≡ take j given = take-append-le j given (l ∷ []) (omega (arith, low)) in
-        let up = height_pushed listing (listing ++ more) heights j (omega (arith, low, v.as_many)) in
-        let it = level_below listing more reasons rest (take j given) (height_of listing heights j) many (v.levels j (omega (arith, low))) in
+        let up = height_pushed assigned (assigned ++ more) heights j (omega (arith, low, v.as_many)) in
+        let it = level_below assigned more reasons rest (take j given) (height_of assigned heights j) many (v.levels j (omega (arith, low))) in
         rw (up, firsts) it
     | inr high ↦
         let last : j ≡ length (given ++ l ∷ []) = omega (arith, h, high, length-append given (l ∷ [])) in
-        let up : height_of (listing ++ more) (heights ++ length listing ∷ []) j ≡ length (listing ++ more) = height_above (listing ++ more) (heights ++ length listing ∷ []) j (omega (arith, last, v.as_many, length-append heights (length listing ∷ []), length-append given (l ∷ []))) in
+        let up : height_of (assigned ++ more) (heights ++ length assigned ∷ []) j ≡ length (assigned ++ more) = height_above (assigned ++ more) (heights ++ length assigned ∷ []) j (omega (arith, last, v.as_many, length-append heights (length assigned ∷ []), length-append given (l ∷ []))) in
         let firsts : take j (given ++ l ∷ []) ≡ given ++ l ∷ [] = ap (λ (n : ℕ). take n (given ++ l ∷ [])) last ∙ take-length (given ++ l ∷ []) in
-        let has : HasAll (given ++ l ∷ []) (listing ++ more) = λ m e. elim (among_cases given (l ∷ []) (m.var.0) m.negated e) [
-          | inl x ↦ among_left listing more (m.var.0) m.negated (top_has listing reasons given heights v m x)
-          | inr x ↦ one_within (listing ++ more) l here (m.var.0) m.negated x
+        let has : HasAll (given ++ l ∷ []) (assigned ++ more) = λ m e. elim (among_cases given (l ∷ []) (m.var.0) m.negated e) [
+          | inl x ↦ among_left assigned more (m.var.0) m.negated (top_has assigned reasons given heights v m x)
+          | inr x ↦ one_within (assigned ++ more) l here (m.var.0) m.negated x
         ] in
-        rw (up, firsts) (level_whole (listing ++ more) (reasons ++ rest) (given ++ l ∷ []) all has g)
+        rw (up, firsts) (level_whole (assigned ++ more) (reasons ++ rest) (given ++ l ∷ []) all has g)
   ];
   rise = λ i j h k. elim (cases_lt j (length given + 1)) [
-    | inl low ↦ omega (arith, height_pushed listing (listing ++ more) heights j (omega (arith, low, v.as_many)), height_pushed listing (listing ++ more) heights i (omega (arith, low, h, v.as_many)), v.rise i j h (omega (arith, low)))
+    | inl low ↦ omega (arith, height_pushed assigned (assigned ++ more) heights j (omega (arith, low, v.as_many)), height_pushed assigned (assigned ++ more) heights i (omega (arith, low, h, v.as_many)), v.rise i j h (omega (arith, low)))
     | inr high ↦
-        let past : length (heights ++ length listing ∷ []) ≤ j = omega (arith, high, v.as_many, length-append heights (length listing ∷ [])) in
-        let up : height_of (listing ++ more) (heights ++ length listing ∷ []) j ≡ length (listing ++ more) = get_or_past (heights ++ length listing ∷ []) j (length (listing ++ more)) past in
+        let past : length (heights ++ length assigned ∷ []) ≤ j = omega (arith, high, v.as_many, length-append heights (length assigned ∷ [])) in
+        let up : height_of (assigned ++ more) (heights ++ length assigned ∷ []) j ≡ length (assigned ++ more) = get_or_past (heights ++ length assigned ∷ []) j (length (assigned ++ more)) past in
         elim (cases_lt i (length given + 1)) [
-          | inl low ↦ omega (arith, up, height_pushed listing (listing ++ more) heights i (omega (arith, low, v.as_many)), below_end listing reasons given heights i v (omega (arith, low)), length-append listing more)
-          | inr top_too ↦ omega (arith, up, get_or_past (heights ++ length listing ∷ []) i (length (listing ++ more)) (omega (arith, top_too, v.as_many, length-append heights (length listing ∷ []))))
+          | inl low ↦ omega (arith, up, height_pushed assigned (assigned ++ more) heights i (omega (arith, low, v.as_many)), below_end assigned reasons given heights i v (omega (arith, low)), length-append assigned more)
+          | inr top_too ↦ omega (arith, up, get_or_past (heights ++ length assigned ∷ []) i (length (assigned ++ more)) (omega (arith, top_too, v.as_many, length-append heights (length assigned ∷ []))))
         ]
   ];
 }
 
 -- back to a level
-height_back : (listing : List Lit) (heights : List ℕ) (level count j : ℕ) → j ≤ level → level ≤ length heights → count ≡ height_of listing heights level → count ≤ length listing → height_of (take count listing) (take level heights) j ≡ height_of listing heights j
-height_back listing heights level count j h k e low = elim (cases_lt j level) [
+height_back : (assigned : List Lit) (heights : List ℕ) (level count j : ℕ) → j ≤ level → level ≤ length heights → count ≡ height_of assigned heights level → count ≤ length assigned → height_of (take count assigned) (take level heights) j ≡ height_of assigned heights j
+height_back assigned heights level count j h k e low = elim (cases_lt j level) [
   | inl less ↦
-      get_or-take level heights j (length (take count listing)) less ∙ get_or_default heights j (length (take count listing)) (length listing) (omega (arith, less, k))
+      get_or-take level heights j (length (take count assigned)) less ∙ get_or_default heights j (length (take count assigned)) (length assigned) (omega (arith, less, k))
   | inr same ↦
       let is : j ≡ level = omega (arith, h, same) in
-      get_or_past (take level heights) j (length (take count listing)) (omega (arith, same, length-take-le level heights k)) ∙ length-take-le count listing low ∙ e ∙ ap (height_of listing heights) (sym is)
+      get_or_past (take level heights) j (length (take count assigned)) (omega (arith, same, length-take-le level heights k)) ∙ length-take-le count assigned low ∙ e ∙ ap (height_of assigned heights) (sym is)
 ]
 
-pub levels_back : (listing : List Lit) (reasons : List (Option ℕ)) (given : List Lit) (heights : List ℕ) (level count : ℕ) → level ≤ length given → count ≡ height_of listing heights level → AreLevels listing reasons given heights
-    → AreLevels (take count listing) (take count reasons) (take level given) (take level heights)
-levels_back listing reasons given heights level count h e v =
-    let low : count ≤ length listing = omega (arith, e, below_end listing reasons given heights level v h) in
+pub levels_back : (assigned : List Lit) (reasons : List (Option ℕ)) (given : List Lit) (heights : List ℕ) (level count : ℕ) → level ≤ length given → count ≡ height_of assigned heights level → AreLevels assigned reasons given heights
+    → AreLevels (take count assigned) (take count reasons) (take level given) (take level heights)
+levels_back assigned reasons given heights level count h e v =
+    let low : count ≤ length assigned = omega (arith, e, below_end assigned reasons given heights level v h) in
     let many : level ≤ length heights = omega (arith, h, v.as_many) in
     let short : length (take level given) ≡ level = length-take-le level given h in
     record {
       as_many = length-take-le level heights many ∙ sym short;
       levels = λ j k.
           let inside : j ≤ level = omega (arith, k, short) in
-          let up = height_back listing heights level count j inside many e low in
-          let under : height_of listing heights j ≤ count = omega (arith, e, v.rise j level inside h) in
+          let up = height_back assigned heights level count j inside many e low in
+          let under : height_of assigned heights j ≤ count = omega (arith, e, v.rise j level inside h) in
           let it = v.levels j (omega (arith, inside, h)) in
-          let a : take (height_of listing heights j) (take count listing) ≡ take (height_of listing heights j) listing = take-take (height_of listing heights j) count listing under in
-          let b : take (height_of listing heights j) (take count reasons) ≡ take (height_of listing heights j) reasons = take-take (height_of listing heights j) count reasons under in
+          let a : take (height_of assigned heights j) (take count assigned) ≡ take (height_of assigned heights j) assigned = take-take (height_of assigned heights j) count assigned under in
+          let b : take (height_of assigned heights j) (take count reasons) ≡ take (height_of assigned heights j) reasons = take-take (height_of assigned heights j) count reasons under in
           let firsts : take j (take level given) ≡ take j given = take-take j level given inside in
-          let there : IsLevel (take count listing) (take count reasons) (take j given) (height_of listing heights j) = record {
-            low = omega (arith, under, length-take-le count listing low);
+          let there : IsLevel (take count assigned) (take count reasons) (take j given) (height_of assigned heights j) = record {
+            low = omega (arith, under, length-take-le count assigned low);
             has_given = rw a it.has_given;
             others_forced = rw (a, b) it.others_forced;
           } in
           rw (up, firsts) there;
       rise = λ i j k m.
           let inside : j ≤ level = omega (arith, m, short) in
-          omega (arith, height_back listing heights level count j inside many e low, height_back listing heights level count i (omega (arith, k, inside)) many e low, v.rise i j k (omega (arith, inside, h)));
+          omega (arith, height_back assigned heights level count j inside many e low, height_back assigned heights level count i (omega (arith, k, inside)) many e low, v.rise i j k (omega (arith, inside, h)));
     }
 
 -- what is kept, after each change of the trail
-pub kept_settled : (old new : State) (levels : List Lit × List ℕ) (q q' : List ℕ) (c c' : ℕ) → length old.reasons ≡ length old.listing → length new.reasons ≡ length new.listing → GoesOn old new → c' ≡ c → AreLookedAt (shown old.slots) new.propagated q' → IsKept old levels q c → IsKept new levels q' c'
-kept_settled old new levels q q' c c' many all g e looked k =
+pub kept_fixpoint : (old new : State) (levels : List Lit × List ℕ) (q q' : List ℕ) (c c' : ℕ) → length old.reasons ≡ length old.assigned → length new.reasons ≡ length new.assigned → GoesOn old new → c' ≡ c → AreLookedAt (shown old.slots) new.propagated q' → IsKept old levels q c → IsKept new levels q' c'
+kept_fixpoint old new levels q q' c c' many all g e looked k =
     let added : List (Option ℕ) = map Some g.reasons.0 in
-    let lengths : length (old.reasons ++ added) ≡ length (old.listing ++ g.listing.0) = ap (length {A = Option ℕ}) (sym g.reasons.1) ∙ all ∙ ap (length {A = Lit}) g.listing.2 in
-    let given = given_walked old.listing g.listing.0 old.reasons g.reasons.0 levels.0 many lengths (top_given old.listing old.reasons levels.0 levels.1 many k.levels_are) in
+    let lengths : length (old.reasons ++ added) ≡ length (old.assigned ++ g.assigned.0) = ap (length {A = Option ℕ}) (sym g.reasons.1) ∙ all ∙ ap (length {A = Lit}) g.assigned.2 in
+    let given = given_walked old.assigned g.assigned.0 old.reasons g.reasons.0 levels.0 many lengths (top_given old.assigned old.reasons levels.0 levels.1 many k.levels_are) in
     record {
       places = e ∙ k.places ∙ ap (length {A = Option NormalConstraint}) (sym g.slots);
       looked_at = subst (λ (os : List (Option NormalConstraint)). AreLookedAt (shown os) new.propagated q') (sym g.slots) looked;
-      levels_are = rw (g.listing.2, g.reasons.1) (levels_grown old.listing g.listing.0 old.reasons added levels.0 levels.1 many lengths k.levels_are given);
+      levels_are = rw (g.assigned.2, g.reasons.1) (levels_grown old.assigned g.assigned.0 old.reasons added levels.0 levels.1 many lengths k.levels_are given);
     }
 
 given_more : (xs : List Lit) (rs : List (Option ℕ)) (given : List Lit) (l : Lit) → AreGiven xs rs given → AreGiven xs rs (given ++ l ∷ [])
 given_more xs rs given l a k d low none = among_left given (l ∷ []) ((get_or xs k d).var.0) (get_or xs k d).negated (a k d low none)
 
-pub kept_opened : (old new : State) (levels pushed : List Lit × List ℕ) (l : Lit) (height : ℕ) (q q' : List ℕ) (c c' : ℕ) → length old.reasons ≡ length old.listing → length new.reasons ≡ length new.listing → IsGiven old new (l ∷ []) → lists new.listing l ≡ true → c' ≡ c → AreLookedAt (shown old.slots) new.propagated q'
-    → pushed ≡ (levels.0 ++ l ∷ [], levels.1 ++ height ∷ []) → height ≡ length old.listing → IsKept old levels q c → IsKept new pushed q' c'
+pub kept_opened : (old new : State) (levels pushed : List Lit × List ℕ) (l : Lit) (height : ℕ) (q q' : List ℕ) (c c' : ℕ) → length old.reasons ≡ length old.assigned → length new.reasons ≡ length new.assigned → IsGiven old new (l ∷ []) → lists new.assigned l ≡ true → c' ≡ c → AreLookedAt (shown old.slots) new.propagated q'
+    → pushed ≡ (levels.0 ++ l ∷ [], levels.1 ++ height ∷ []) → height ≡ length old.assigned → IsKept old levels q c → IsKept new pushed q' c'
 kept_opened old new levels pushed l height q q' c c' many all g here e looked is low k =
     let rest : List (Option ℕ) = g.reasons.0 in
-    let lengths : length (old.reasons ++ rest) ≡ length (old.listing ++ g.added) = ap (length {A = Option ℕ}) (sym g.reasons.1) ∙ all ∙ ap (length {A = Lit}) g.listing in
-    let before = given_more old.listing old.reasons levels.0 l (top_given old.listing old.reasons levels.0 levels.1 many k.levels_are) in
-    let given = given_added old.listing g.added old.reasons rest (levels.0 ++ l ∷ []) many before (λ v s f. among_right levels.0 (l ∷ []) v s (g.within v s f)) in
-    let there = levels_pushed old.listing g.added old.reasons rest levels.0 levels.1 l many lengths k.levels_are given (ap (λ (xs : List Lit). lists xs l) (sym g.listing) ∙ here) in
+    let lengths : length (old.reasons ++ rest) ≡ length (old.assigned ++ g.added) = ap (length {A = Option ℕ}) (sym g.reasons.1) ∙ all ∙ ap (length {A = Lit}) g.assigned in
+    let before = given_more old.assigned old.reasons levels.0 l (top_given old.assigned old.reasons levels.0 levels.1 many k.levels_are) in
+    let given = given_added old.assigned g.added old.reasons rest (levels.0 ++ l ∷ []) many before (λ v s f. among_right levels.0 (l ∷ []) v s (g.within v s f)) in
+    let there = levels_pushed old.assigned g.added old.reasons rest levels.0 levels.1 l many lengths k.levels_are given (ap (λ (xs : List Lit). lists xs l) (sym g.assigned) ∙ here) in
     record {
       places = e ∙ k.places ∙ ap (length {A = Option NormalConstraint}) (sym g.slots);
       looked_at = subst (λ (os : List (Option NormalConstraint)). AreLookedAt (shown os) new.propagated q') (sym g.slots) looked;
-      levels_are = rw (g.listing, g.reasons.1, is, low) there;
+      levels_are = rw (g.assigned, g.reasons.1, is, low) there;
     }
 
-pub kept_back : (old new : State) (levels back : List Lit × List ℕ) (level count : ℕ) (q q' : List ℕ) (c c' : ℕ) → level ≤ length levels.0 → count ≡ height_of old.listing levels.1 level → new.slots ≡ old.slots → new.listing ≡ take count old.listing → new.reasons ≡ take count old.reasons → c' ≡ c
+pub kept_back : (old new : State) (levels back : List Lit × List ℕ) (level count : ℕ) (q q' : List ℕ) (c c' : ℕ) → level ≤ length levels.0 → count ≡ height_of old.assigned levels.1 level → new.slots ≡ old.slots → new.assigned ≡ take count old.assigned → new.reasons ≡ take count old.reasons → c' ≡ c
     → AreLookedAt (shown old.slots) new.propagated q' → back ≡ (take level levels.0, take level levels.1) → IsKept old levels q c → IsKept new back q' c'
-kept_back old new levels back level count q q' c c' h is slots listing reasons e looked f k = record {
+kept_back old new levels back level count q q' c c' h is slots assigned reasons e looked f k = record {
   places = e ∙ k.places ∙ ap (length {A = Option NormalConstraint}) (sym slots);
   looked_at = subst (λ (os : List (Option NormalConstraint)). AreLookedAt (shown os) new.propagated q') (sym slots) looked;
-  levels_are = rw (listing, reasons, f) (levels_back old.listing old.reasons levels.0 levels.1 level count h is k.levels_are);
+  levels_are = rw (assigned, reasons, f) (levels_back old.assigned old.reasons levels.0 levels.1 level count h is k.levels_are);
 }
 
-pub height_low : (s : State) (levels : List Lit × List ℕ) (q : List ℕ) (c level : ℕ) → IsKept s levels q c → level ≤ length levels.0 → height_of s.listing levels.1 level ≤ length s.listing
-height_low s levels q c level k h = below_end s.listing s.reasons levels.0 levels.1 level k.levels_are h
+pub height_low : (s : State) (levels : List Lit × List ℕ) (q : List ℕ) (c level : ℕ) → IsKept s levels q c → level ≤ length levels.0 → height_of s.assigned levels.1 level ≤ length s.assigned
+height_low s levels q c level k h = below_end s.assigned s.reasons levels.0 levels.1 level k.levels_are h
 
 -- other constraints, the trail as it was
-pub kept_same : (old new : State) (levels : List Lit × List ℕ) (q q' : List ℕ) (c c' : ℕ) → new.listing ≡ old.listing → new.reasons ≡ old.reasons → c' ≡ length new.slots → AreLookedAt (shown new.slots) new.propagated q' → IsKept old levels q c → IsKept new levels q' c'
-kept_same old new levels q q' c c' listing reasons e looked k = record {
+pub kept_same : (old new : State) (levels : List Lit × List ℕ) (q q' : List ℕ) (c c' : ℕ) → new.assigned ≡ old.assigned → new.reasons ≡ old.reasons → c' ≡ length new.slots → AreLookedAt (shown new.slots) new.propagated q' → IsKept old levels q c → IsKept new levels q' c'
+kept_same old new levels q q' c c' assigned reasons e looked k = record {
   places = e;
   looked_at = looked;
-  levels_are = rw (listing, reasons) k.levels_are;
+  levels_are = rw (assigned, reasons) k.levels_are;
 }
 
 -- where nothing is given, all is forced
@@ -227,51 +227,51 @@ all_forced (Some p ∷ rs) h =
     let rest = all_forced rs (λ k low. h (suc k) (omega (arith, low))) in
     (p ∷ rest.0, ap (λ (os : List (Option ℕ)). Some p ∷ os) rest.1)
 
-pub root_kept : (s : State) (levels : List Lit × List ℕ) (q : List ℕ) (c : ℕ) → length s.reasons ≡ length s.listing → levels ≡ ([], []) → IsKept s levels q c → IsRoot s q c
+pub root_kept : (s : State) (levels : List Lit × List ℕ) (q : List ℕ) (c : ℕ) → length s.reasons ≡ length s.assigned → levels ≡ ([], []) → IsKept s levels q c → IsRoot s q c
 root_kept s levels q c many e k =
-    let none : AreLevels s.listing s.reasons [] [] = subst (λ (p : List Lit × List ℕ). AreLevels s.listing s.reasons p.0 p.1) e k.levels_are in
+    let none : AreLevels s.assigned s.reasons [] [] = subst (λ (p : List Lit × List ℕ). AreLevels s.assigned s.reasons p.0 p.1) e k.levels_are in
     record {
       places = k.places;
       looked_at = k.looked_at;
-      forced = all_forced s.reasons (nothing_given s.listing s.reasons (top_given s.listing s.reasons [] [] many none) many);
+      forced = all_forced s.reasons (nothing_given s.assigned s.reasons (top_given s.assigned s.reasons [] [] many none) many);
     }
 
-pub kept_root : (s : State) (levels : List Lit × List ℕ) (q : List ℕ) (c : ℕ) → length s.reasons ≡ length s.listing → levels ≡ ([], []) → IsRoot s q c → IsKept s levels q c
+pub kept_root : (s : State) (levels : List Lit × List ℕ) (q : List ℕ) (c : ℕ) → length s.reasons ≡ length s.assigned → levels ≡ ([], []) → IsRoot s q c → IsKept s levels q c
 kept_root s levels q c many e r =
-    let none : AreLevels s.listing s.reasons [] [] = record {
+    let none : AreLevels s.assigned s.reasons [] [] = record {
       as_many = refl;
       levels = λ j h.
           let first : j ≡ 0 = omega (arith, h) in
-          let up : height_of s.listing [] j ≡ length s.listing = height_above s.listing [] j (sym first) in
-          let it = level_whole s.listing s.reasons [] many (λ l f. absurd (false≢true f)) (given_root s.listing s.reasons [] many r.forced) in
+          let up : height_of s.assigned [] j ≡ length s.assigned = height_above s.assigned [] j (sym first) in
+          let it = level_whole s.assigned s.reasons [] many (λ l f. absurd (false≢true f)) (given_root s.assigned s.reasons [] many r.forced) in
           let firsts : take {A = Lit} j [] ≡ [] = ap (λ (n : ℕ). take {A = Lit} n []) first in
           rw (up, firsts) it;
-      rise = λ i j h k. omega (arith, get_or_past [] i (length s.listing) (omega arith), get_or_past [] j (length s.listing) (omega arith));
+      rise = λ i j h k. omega (arith, get_or_past [] i (length s.assigned) (omega arith), get_or_past [] j (length s.assigned) (omega arith));
     } in
     record {
       places = r.places;
       looked_at = r.looked_at;
-      levels_are = subst (λ (p : List Lit × List ℕ). AreLevels s.listing s.reasons p.0 p.1) (sym e) none;
+      levels_are = subst (λ (p : List Lit × List ℕ). AreLevels s.assigned s.reasons p.0 p.1) (sym e) none;
     }
 
-pub kept_wider : (old new : State) (levels : List Lit × List ℕ) (q : List ℕ) (c : ℕ) → new.slots ≡ old.slots → new.listing ≡ old.listing → new.propagated ≡ old.propagated → new.reasons ≡ old.reasons → IsKept old levels q c → IsKept new levels q c
-kept_wider old new levels q c slots listing propagated reasons k =
+pub kept_wider : (old new : State) (levels : List Lit × List ℕ) (q : List ℕ) (c : ℕ) → new.slots ≡ old.slots → new.assigned ≡ old.assigned → new.propagated ≡ old.propagated → new.reasons ≡ old.reasons → IsKept old levels q c → IsKept new levels q c
+kept_wider old new levels q c slots assigned propagated reasons k =
     let looked : AreLookedAt (shown new.slots) new.propagated q = rw (slots, propagated) k.looked_at in
-    kept_same old new levels q q c c listing reasons (k.places ∙ ap (length {A = Option NormalConstraint}) (sym slots)) looked k
+    kept_same old new levels q q c c assigned reasons (k.places ∙ ap (length {A = Option NormalConstraint}) (sym slots)) looked k
 
--- the first literals of a listing are among it
+-- the first literals of an assignment are among it
 pub firsts_within : (xs given : List Lit) (k : ℕ) → xs ≡ take k given → (l : Lit) → lists xs l ≡ true → lists given l ≡ true
 firsts_within xs given k e l h = take_within given k (l.var.0) l.negated (ap (λ (ys : List Lit). lists ys l) (sym e) ∙ h)
 
-pub kept_given : (s : State) (levels : List Lit × List ℕ) (q : List ℕ) (c k : ℕ) (given : List Lit) → length s.reasons ≡ length s.listing → levels.0 ≡ take k given → IsKept s levels q c → AreGiven s.listing s.reasons given
+pub kept_given : (s : State) (levels : List Lit × List ℕ) (q : List ℕ) (c k : ℕ) (given : List Lit) → length s.reasons ≡ length s.assigned → levels.0 ≡ take k given → IsKept s levels q c → AreGiven s.assigned s.reasons given
 kept_given s levels q c k given many e kept j d low none =
-    firsts_within levels.0 given k e (get_or s.listing j d) (top_given s.listing s.reasons levels.0 levels.1 many kept.levels_are j d low none)
+    firsts_within levels.0 given k e (get_or s.assigned j d) (top_given s.assigned s.reasons levels.0 levels.1 many kept.levels_are j d low none)
 
 pub next_first : (xs given : List Lit) (k : ℕ) (d : Lit) → k < length given → xs ≡ take k given → xs ++ get_or given k d ∷ [] ≡ take (k + 1) given
 next_first xs given k d low e = ap (λ (ys : List Lit). ys ++ get_or given k d ∷ []) e ∙ sym (take_more given k d low)
 
-pub kept_has : (s : State) (levels : List Lit × List ℕ) (q : List ℕ) (c : ℕ) (given : List Lit) → levels.0 ≡ given → IsKept s levels q c → HasAll given s.listing
-kept_has s levels q c given e k = subst (λ (xs : List Lit). HasAll xs s.listing) e (top_has s.listing s.reasons levels.0 levels.1 k.levels_are)
+pub kept_has : (s : State) (levels : List Lit × List ℕ) (q : List ℕ) (c : ℕ) (given : List Lit) → levels.0 ≡ given → IsKept s levels q c → HasAll given s.assigned
+kept_has s levels q c given e k = subst (λ (xs : List Lit). HasAll xs s.assigned) e (top_has s.assigned s.reasons levels.0 levels.1 k.levels_are)
 
 -- a level that was opened, and closed again
 pub level_closed : (old mid new : List Lit × List ℕ) (l : Lit) (height count : ℕ) → mid ≡ (old.0 ++ l ∷ [], old.1 ++ height ∷ []) → count ≡ length mid.0 → length old.1 ≡ length old.0 → new ≡ (take (count - 1) mid.0, take (count - 1) mid.1) → new ≡ old

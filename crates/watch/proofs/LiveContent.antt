@@ -1,16 +1,13 @@
 -- The constraints by their ids are those at their places, but for places that say nothing.
-use Rattle.std.proofs.Common.{◌≡◌, ℕ, suc, ◌<◌, ◌⊎◌, inl, inr, Bool, true, false, cond, ◌&&◌, T, Contains, Option, None, Some, List, [], ◌∷◌, length, get_or, map, refl, ap, sym, subst, ◌∙◌, arith}
+use Rattle.std.proofs.Common.{◌≡◌, ℕ, suc, ◌<◌, ◌⊎◌, inl, inr, Bool, true, false, cond, Contains, Option, None, Some, MatchOption, List, [], ◌∷◌, length, get_or, refl, ap, sym, ◌∙◌, arith}
 use Rattle.std.proofs.lemmas.List.{get_or_default, length-map}
-use Rattle.std.specs.BTreeMap.Range.{entries_between}
-use Rattle.std.specs.declared.ops.Bound.TheVariants.{Excluded, Unbounded}
 use Rattle.std.specs.FinMap as fin
-use Rattle.std.specs.List.Sorted.{IsStrictlySortedBy}
-use Rattle.std.specs.Ordering.{nat_cmp, eq_by_cmp, is_lt}
+use Rattle.std.specs.Ordering.{nat_cmp, eq_by_cmp}
 use Rattle.normal_form.specs.Normal.{NormalConstraint}
 use Rattle.propagate.specs.Content.{Content, IsLeastAbove}
-use Rattle.propagate.proofs.Entries.{Entries, found_at, ids_of, least_above, none_above, rise, values_of}
+use Rattle.propagate.proofs.Entries.{Entries, found_at, ids_of, values_of}
 use Rattle.ledger.specs.Ledgers.{constraint_at, constraint_in, nothing, shown}
-use Rattle.watch.specs.Named.{AreNamed, content_at, place_of}
+use Rattle.watch.specs.Named.{AreNamed, IsNextPlaced, content_at, place_of}
 use Rattle.watch.proofs.LiveOnes.{AddsNothing}
 use Rattle.watch.proofs.NamedPlaces.{below, got, got_none, shows}
 use Rattle.ledger.proofs.Standing.{shown_at}
@@ -61,30 +58,16 @@ live_content slots es ids a = record {
   rest = λ n c. at_slot slots es ids c.0 n (get_or slots c.0 None) a refl (get_or_default (shown slots) c.0 nothing n c.1 ∙ c.2);
 }
 
--- the entries with what stands at their places
-abbrev entered : Slots → Places → Entries
-entered slots = map (λ e. (e.0, constraint_at (shown slots) e.1))
+-- the least id above another that has a place is the least one that has a constraint
+first_above : (slots : Slots) (es : Places) (ids : List ℕ) (id next : ℕ) → AreNamed es ids slots → IsNextPlaced es id next → IsLeastAbove (content_at slots es) id (Some next)
+first_above slots es ids id next a h =
+    let k = h.1.0 in
+    let it = a.live next k h.1.1 in
+    (h.0, (it.0, sym (got slots es ids next k a h.1.1) ∙ it.1), λ q above below. got_none slots es q (h.2 q above below))
 
-ids_kept : (slots : Slots) (es : Places) → ids_of (entered slots es) ≡ map (λ e. e.0) es
-ids_kept slots [] = refl
-ids_kept slots (e ∷ es) = ap (λ (ks : List ℕ). e.0 ∷ ks) (ids_kept slots es)
+nothing_above : (slots : Slots) (es : Places) (id : ℕ) → ((k : ℕ) → id < k → place_of es k ≡ None) → IsLeastAbove (content_at slots es) id None
+nothing_above slots es id h k above = got_none slots es k (h k above)
 
-rise_still : (slots : Slots) (es : Places) → IsStrictlySortedBy nat_cmp (map (λ e. e.0) es) → T (fin.is_sorted nat_cmp (entered slots es))
-rise_still slots es s = rise (entered slots es) (subst (λ (ks : List ℕ). IsStrictlySortedBy nat_cmp ks) (sym (ids_kept slots es)) s)
-
-abbrev above : {X : Type 0} → ℕ → List (ℕ × X) → List (ℕ × X)
-above id es = entries_between nat_cmp (Excluded id) Unbounded es
-
-first_chosen : (slots : Slots) (b : Bool) (e : ℕ × ℕ) (es : Places) (fs : Entries) → fs ≡ entered slots es → cond b ((e.0, constraint_at (shown slots) e.1) ∷ fs) fs ≡ entered slots (cond b (e ∷ es) es)
-first_chosen slots true e es fs h = ap (λ (gs : Entries). (e.0, constraint_at (shown slots) e.1) ∷ gs) h
-first_chosen slots false e es fs h = h
-
-above_entered : (slots : Slots) (id : ℕ) (es : Places) → above id (entered slots es) ≡ entered slots (above id es)
-above_entered slots id [] = refl
-above_entered slots id (e ∷ es) = first_chosen slots (is_lt (nat_cmp id e.0) && true) e (above id es) (above id (entered slots es)) (above_entered slots id es)
-
-pub nothing_above : (slots : Slots) (es : Places) (id : ℕ) → IsStrictlySortedBy nat_cmp (map (λ e. e.0) es) → above id es ≡ [] → IsLeastAbove (content_at slots es) id None
-nothing_above slots es id s e = none_above (entered slots es) id (rise_still slots es s) (above_entered slots id es ∙ ap (entered slots) e)
-
-pub first_above : (slots : Slots) (es : Places) (id next k : ℕ) (rest : Places) → IsStrictlySortedBy nat_cmp (map (λ e. e.0) es) → above id es ≡ (next, k) ∷ rest → IsLeastAbove (content_at slots es) id (Some next)
-first_above slots es id next k rest s e = least_above (entered slots es) id (next, constraint_at (shown slots) k) (entered slots rest) (rise_still slots es s) (above_entered slots id es ∙ ap (entered slots) e)
+pub least_placed : (slots : Slots) (es : Places) (ids : List ℕ) (id : ℕ) (o : Option ℕ) → AreNamed es ids slots → MatchOption o ((k : ℕ) → id < k → place_of es k ≡ None) (IsNextPlaced es id) → IsLeastAbove (content_at slots es) id o
+least_placed slots es ids id None a h = nothing_above slots es id h
+least_placed slots es ids id (Some next) a h = first_above slots es ids id next a h

@@ -3,11 +3,11 @@ use Rattle.std.proofs.Common.{◌≡◌, ◌↔◌, ◌⊎◌, inl, inr, Any, Co
 use Rattle.std.proofs.lemmas.List.Elements.{Contains-append_left, Contains-append_right, Contains-append_cases}
 use Rattle.linear.specs.declared.term.Lit.{Lit}
 use Rattle.normal_form.specs.Normal.{NormalConstraint}
-use Rattle.propagate.specs.Chain.{IsChain, IsClosure, IsImpossible, IsReached, IsRefuted, IsSettled, LeadsToConflict}
+use Rattle.propagate.specs.Chain.{IsChain, IsClosure, IsImpossible, IsReached, IsRefuted, IsFixpoint, LeadsToConflict}
 use Rattle.propagate.specs.Reach.{IsReach}
 use Rattle.propagate.specs.declared.reach.Reach.{Reach}
 use Rattle.propagate.specs.declared.reach.Reach.TheVariants as reaches
-use Rattle.propagate.specs.Slack.{IsBroken, IsForced}
+use Rattle.propagate.specs.Slack.{IsFalsified, IsForced}
 use Rattle.propagate.proofs.Chains.{more_constraints}
 use Rattle.ledger.specs.Ledgers.{nothing}
 use Rattle.ledger.proofs.Standing.{quiet_nothing}
@@ -33,8 +33,8 @@ chain_back ns ms s given (l ∷ ls) c = (more_constraints (IsForced given l) ms 
 
 pub live_conflicts : (ns ms : List NormalConstraint) → AddsNothing ns ms → (given : List Lit) → LeadsToConflict ns given ↔ LeadsToConflict ms given
 live_conflicts ns ms s given = (
-  λ r. (r.0, chain_live ns ms s given r.0 r.1, any_live (IsBroken (given ++ r.0)) ns ms s (quiet_nothing (given ++ r.0)).0 r.2),
-  λ r. (r.0, chain_back ns ms s given r.0 r.1, more_constraints (IsBroken (given ++ r.0)) ms ns s.has r.2),
+  λ r. (r.0, chain_live ns ms s given r.0 r.1, any_live (IsFalsified (given ++ r.0)) ns ms s (quiet_nothing (given ++ r.0)).0 r.2),
+  λ r. (r.0, chain_back ns ms s given r.0 r.1, more_constraints (IsFalsified (given ++ r.0)) ms ns s.has r.2),
 )
 
 reached_live : (ns ms : List NormalConstraint) → AddsNothing ns ms → (given : List Lit) (l : Lit) → IsReached ns given l → IsReached ms given l
@@ -79,8 +79,8 @@ pub live_reach : (ns ms : List NormalConstraint) → AddsNothing ns ms → (give
 live_reach ns ms s given reaches.Conflict h = impossible_live ns ms s given h
 live_reach ns ms s given (reaches.Closed closed) h = (λ i. h.0 (impossible_back ns ms s given i), live_closure ns ms s given closed h.1, h.2)
 
-pub live_settled : (ns ms : List NormalConstraint) → AddsNothing ns ms → (listing : List Lit) → IsSettled ns listing → IsSettled ms listing
-live_settled ns ms s listing q = record {
-  nothing_forced = λ l f. q.nothing_forced l (more_constraints (IsForced listing l) ms ns s.has f);
-  no_conflict = λ b. q.no_conflict (more_constraints (IsBroken listing) ms ns s.has b);
+pub live_fixpoint : (ns ms : List NormalConstraint) → AddsNothing ns ms → (assigned : List Lit) → IsFixpoint ns assigned → IsFixpoint ms assigned
+live_fixpoint ns ms s assigned q = record {
+  nothing_forced = λ l f. q.nothing_forced l (more_constraints (IsForced assigned l) ms ns s.has f);
+  no_conflict = λ b. q.no_conflict (more_constraints (IsFalsified assigned) ms ns s.has b);
 }

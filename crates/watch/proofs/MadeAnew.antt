@@ -1,76 +1,82 @@
--- A map that is filled with what another has, id by id.
-use Rattle.std.proofs.Common.{◌≡◌, ℕ, inl, inr, Bool, cond, All, Option, None, Some, List, [], ◌∷◌, map, refl, ap, sym, ◌∙◌}
+-- A map that is filled with what another has, place by place.
+use Rattle.std.proofs.Common.{◌≡◌, ℕ, ◌<◌, ◌≤◌, ◌+◌, inl, inr, Bool, cond, Option, None, Some, List, MatchOption, length, get_or, refl, ap, sym, ◌∙◌, arith}
 use Rattle.std.specs.FinMap as fin
-use Rattle.std.specs.List.Sorted.{IsStrictlySortedBy}
-use Rattle.std.specs.Ordering.{is_eq, nat_cmp}
-use Rattle.std.specs.declared.cmp.Ordering.{Ordering}
-use Rattle.std.specs.declared.cmp.Ordering.TheVariants.{Less}
+use Rattle.std.specs.Ordering.{nat_cmp}
 use Rattle.std.proofs.lemmas.Bool.{cases_eq}
 use Rattle.std.proofs.lemmas.Cmp.{nat_cmp_total}
-use Rattle.std.proofs.lemmas.List.Elements.{All-head, All-tail}
-use Rattle.std.proofs.lemmas.Map.Keys.{sorted_tail}
-use Rattle.std.proofs.lemmas.Map.Views.{All-after_first}
 use Rattle.normal_form.specs.Normal.{NormalConstraint}
 use Rattle.propagate.specs.Content.{Content}
-use Rattle.watch.specs.Named.{content_at, place_of}
-use Rattle.watch.proofs.NamedPlaces.{got_none, other_id, own_id}
+use Rattle.watch.specs.Named.{AreNamed, content_at, place_of}
+use Rattle.watch.proofs.NamedPlaces.{below, got, got_none, other_id, own_id}
 
-abbrev Places : Type 0
-Places = List (ℕ × ℕ)
+abbrev Slots : Type 0
+Slots = List (Option NormalConstraint)
 
--- what is not among the rest is there as it was, and nothing of the rest is there
-pub record IsFilledTo (old new : Content) (rest : Places) : Type 0 where
-  pub free : (q k : ℕ) → place_of rest q ≡ Some k → fin.get new q ≡ None
-  pub same : (q : ℕ) → place_of rest q ≡ None → fin.get new q ≡ fin.get old q
-  pub rises : IsStrictlySortedBy nat_cmp (map (λ e. e.0) rest)
+-- what stands at the first places is there under its id, and nothing else is
+pub record IsFilledTo (slots : Slots) (ids : List ℕ) (new : Content) (count : ℕ) : Type 0 where
+  pub there : (k : ℕ) (n : NormalConstraint) → k < count → get_or slots k None ≡ Some n → fin.get new (get_or ids k 0) ≡ Some n
+  pub free : (q : ℕ) → ((k : ℕ) (n : NormalConstraint) → k < count → get_or slots k None ≡ Some n → get_or ids k 0 ≡ q → ⊥) → fin.get new q ≡ None
+
+pub filled_first : (slots : Slots) (ids : List ℕ) → IsFilledTo slots ids fin.empty 0
+filled_first slots ids = record {
+  there = λ k n low is. absurd (omega (arith, low));
+  free = λ q none. fin.get-empty nat_cmp q;
+}
+
+same_some : (j k : ℕ) → Some j ≡ Some k → j ≡ k
+same_some j k e = cc
+
+-- two places with a constraint have two ids
+one_place : (slots : Slots) (es : List (ℕ × ℕ)) (ids : List ℕ) (j k : ℕ) (n m : NormalConstraint) → AreNamed es ids slots → get_or slots j None ≡ Some n → get_or slots k None ≡ Some m → get_or ids j 0 ≡ get_or ids k 0 → j ≡ k
+one_place slots es ids j k n m a is at same = same_some j k (sym (a.named j n is) ∙ ap (place_of es) same ∙ a.named k m at)
+
+pub next_free : (slots : Slots) (es : List (ℕ × ℕ)) (ids : List ℕ) (new : Content) (count : ℕ) (n : NormalConstraint) → AreNamed es ids slots → IsFilledTo slots ids new count → get_or slots count None ≡ Some n → fin.get new (get_or ids count 0) ≡ None
+next_free slots es ids new count n a h is = h.free (get_or ids count 0) (λ k m low at same.
+    let here : k ≡ count = one_place slots es ids k count m n a at is same in
+    omega (arith, here, low))
 
 none_is_not_some : {X : Type 0} (x : X) (o : Option X) → o ≡ None → o ≡ Some x → ⊥
 none_is_not_some x o e f = cc
 
-pub filled_first : (slots : List (Option NormalConstraint)) (es : Places) → IsStrictlySortedBy nat_cmp (map (λ e. e.0) es) → IsFilledTo (content_at slots es) fin.empty es
-filled_first slots es s = record {
-  free = λ q k e. fin.get-empty nat_cmp q;
-  same = λ q e. fin.get-empty nat_cmp q ∙ sym (got_none slots es q e);
-  rises = s;
+last_or_before : (k count : ℕ) → k < count + 1 → (k ≡ count → ⊥) → k < count
+last_or_before k count low other = omega (arith, low, other)
+
+got_put : (new more : Content) (id : ℕ) (n : NormalConstraint) → more ≡ fin.insert new id n → fin.get more id ≡ Some n
+got_put new more id n g = ap (λ (m : Content). fin.get m id) g ∙ fin.get-insert nat_cmp_total new id n id ∙ ap (λ (b : Bool). cond b (Some n) (fin.get new id)) (own_id id)
+
+got_kept : (new more : Content) (id q : ℕ) (n : NormalConstraint) → more ≡ fin.insert new id n → (q ≡ id → ⊥) → fin.get more q ≡ fin.get new q
+got_kept new more id q n g other = ap (λ (m : Content). fin.get m q) g ∙ fin.get-insert nat_cmp_total new id n q ∙ ap (λ (b : Bool). cond b (Some n) (fin.get new q)) (other_id q id other)
+
+-- one place more
+pub filled_more : (slots : Slots) (es : List (ℕ × ℕ)) (ids : List ℕ) (new more : Content) (count : ℕ) (o : Option NormalConstraint) → AreNamed es ids slots → IsFilledTo slots ids new count → o ≡ get_or slots count None
+    → MatchOption o (more ≡ new) (λ n. more ≡ fin.insert new (get_or ids count 0) n) → IsFilledTo slots ids more (count + 1)
+filled_more slots es ids new more count None a h at g = record {
+  there = λ k n low is.
+      let before : k < count = last_or_before k count low (λ same. none_is_not_some n (get_or slots k None) (ap (λ (j : ℕ). get_or slots j None) same ∙ sym at) is) in
+      ap (λ (m : Content). fin.get m (get_or ids k 0)) g ∙ h.there k n before is;
+  free = λ q none. ap (λ (m : Content). fin.get m q) g ∙ h.free q (λ k n low is same. none k n (omega (arith, low)) is same);
+}
+filled_more slots es ids new more count (Some x) a h at g = record {
+  there = λ k n low is. elim (cases_eq k count) as (λ _. fin.get more (get_or ids k 0) ≡ Some n) [
+    | inl here ↦
+        let same : Some x ≡ Some n = at ∙ ap (λ (j : ℕ). get_or slots j None) (sym here) ∙ is in
+        ap (λ (j : ℕ). fin.get more (get_or ids j 0)) here ∙ got_put new more (get_or ids count 0) x g ∙ same
+    | inr other ↦
+        let before : k < count = last_or_before k count low other in
+        let differs : get_or ids k 0 ≡ get_or ids count 0 → ⊥ = λ same. other (one_place slots es ids k count n x a is (sym at) same) in
+        got_kept new more (get_or ids count 0) (get_or ids k 0) x g differs ∙ h.there k n before is
+  ];
+  free = λ q none.
+      let differs : q ≡ get_or ids count 0 → ⊥ = λ same. none count x (omega arith) (sym at) (sym same) in
+      got_kept new more (get_or ids count 0) q x g differs ∙ h.free q (λ k n low is same. none k n (omega (arith, low)) is same);
 }
 
-absent : (id : ℕ) (rest : Places) → All (λ q. nat_cmp id q ≡ Less) (map (λ e. e.0) rest) → place_of rest id ≡ None
-absent id [] a = refl
-absent id (e ∷ es) a =
-    let before : nat_cmp id e.0 ≡ Less = All-head (λ q. nat_cmp id q ≡ Less) e.0 (map (λ x. x.0) es) a in
-    ap (λ (o : Ordering). cond (is_eq o) (Some e.1) (place_of es id)) before ∙ absent id es (All-tail (λ q. nat_cmp id q ≡ Less) e.0 (map (λ x. x.0) es) a)
-
-first_there : (e : ℕ × ℕ) (rest : Places) → place_of (e ∷ rest) e.0 ≡ Some e.1
-first_there e rest = ap (λ (b : Bool). cond b (Some e.1) (place_of rest e.0)) (own_id e.0)
-
-passed : (e : ℕ × ℕ) (rest : Places) (q : ℕ) → (q ≡ e.0 → ⊥) → place_of (e ∷ rest) q ≡ place_of rest q
-passed e rest q other = ap (λ (b : Bool). cond b (Some e.1) (place_of rest q)) (other_id q e.0 other)
-
-pub next_free : (old new : Content) (e : ℕ × ℕ) (rest : Places) → IsFilledTo old new (e ∷ rest) → fin.get new e.0 ≡ None
-next_free old new e rest h = h.free e.0 e.1 (first_there e rest)
-
-pub filled_more : (old new more : Content) (e : ℕ × ℕ) (rest : Places) → IsFilledTo old new (e ∷ rest) → fin.get more e.0 ≡ fin.get old e.0 → ((q : ℕ) → (q ≡ e.0 → ⊥) → fin.get more q ≡ fin.get new q) → IsFilledTo old more rest
-filled_more old new more e rest h own others =
-    let gone : place_of rest e.0 ≡ None = absent e.0 rest (All-after_first nat_cmp e.0 (map (λ x. x.0) rest) h.rises) in
-    record {
-      free = λ q k is.
-          let other : q ≡ e.0 → ⊥ = λ here. none_is_not_some k (place_of rest q) (ap (place_of rest) here ∙ gone) is in
-          others q other ∙ h.free q k (passed e rest q other ∙ is);
-      same = λ q is. elim (cases_eq q e.0) [
-        | inl here ↦ ap (fin.get more) here ∙ own ∙ ap (fin.get old) (sym here)
-        | inr other ↦ others q other ∙ h.same q (passed e rest q other ∙ is)
-      ];
-      rises = sorted_tail nat_cmp e.0 (map (λ x. x.0) rest) h.rises;
-    }
-
-pub filled : (old new : Content) → IsFilledTo old new [] → new ≡ old
-filled old new h = fin.same_map nat_cmp_total fin.nat_cmp-IsAntisymmetric new old (λ q. h.same q refl)
-
--- a constraint that is put in
-pub own_put : (old new other : Content) (id : ℕ) (n : NormalConstraint) → Some n ≡ fin.get other id → new ≡ fin.insert old id n → fin.get new id ≡ fin.get other id
-own_put old new other id n e g =
-    ap (λ (m : Content). fin.get m id) g ∙ fin.get-insert nat_cmp_total old id n id ∙ ap (λ (b : Bool). cond b (Some n) (fin.get old id)) (own_id id) ∙ e
-
-pub others_kept : (old new : Content) (id : ℕ) (n : NormalConstraint) → new ≡ fin.insert old id n → (q : ℕ) → (q ≡ id → ⊥) → fin.get new q ≡ fin.get old q
-others_kept old new id n g q other =
-    ap (λ (m : Content). fin.get m q) g ∙ fin.get-insert nat_cmp_total old id n q ∙ ap (λ (b : Bool). cond b (Some n) (fin.get old q)) (other_id q id other)
+pub filled : (slots : Slots) (es : List (ℕ × ℕ)) (ids : List ℕ) (new : Content) (count : ℕ) → AreNamed es ids slots → length slots ≤ count → IsFilledTo slots ids new count → new ≡ content_at slots es
+filled slots es ids new count a all h = fin.same_map nat_cmp_total fin.nat_cmp-IsAntisymmetric new (content_at slots es) (λ q. by q (place_of es q) refl)
+  where
+    by : (q : ℕ) (o : Option ℕ) → place_of es q ≡ o → fin.get new q ≡ fin.get (content_at slots es) q
+    by q None e = h.free q (λ k n low is same. none_is_not_some k (place_of es q) e (ap (place_of es) (sym same) ∙ a.named k n is)) ∙ sym (got_none slots es q e)
+    by q (Some k) e =
+        let it = a.live q k e in
+        let low : k < count = omega (arith, all, below slots k it.0 it.1) in
+        ap (fin.get new) (sym it.2) ∙ h.there k it.0 low it.1 ∙ sym it.1 ∙ got slots es ids q k a e

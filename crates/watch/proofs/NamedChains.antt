@@ -7,10 +7,10 @@ use Rattle.std.specs.Option.{option_map}
 use Rattle.linear.specs.declared.term.Lit.{Lit}
 use Rattle.normal_form.specs.Normal.{NormalConstraint}
 use Rattle.propagate.specs.declared.trace.Trace.{Trace}
-use Rattle.propagate.specs.Chain.{IsChain, IsSettled}
-use Rattle.propagate.specs.Content.{AreForcedIn, IsBrokenIn, IsEnd, IsTrace, IsTraceOfLast, traced}
-use Rattle.propagate.specs.Slack.{IsBroken, IsForced}
-use Rattle.propagate.specs.Walk.{IsBrokenAt}
+use Rattle.propagate.specs.Chain.{IsChain, IsFixpoint}
+use Rattle.propagate.specs.Content.{AreForcedIn, IsFalsifiedIn, IsEnd, IsTrace, IsTraceOfLast, traced}
+use Rattle.propagate.specs.Slack.{IsFalsified, IsForced}
+use Rattle.propagate.specs.Walk.{IsFalsifiedAt}
 use Rattle.propagate.proofs.ChainEnds.{given_within}
 use Rattle.propagate.proofs.Chains.{no_conflict_from}
 use Rattle.propagate.proofs.SearchIsRight.{closure_by}
@@ -21,7 +21,7 @@ use Rattle.ledger.specs.Ledgers.{constraint_at, constraint_in, nothing, shown}
 use Rattle.watch.specs.Named.{AreNamed, content_at}
 use Rattle.watch.specs.Steps.{AreSteps, IsFound, IsFoundOfLast, IsTraceOf, literals_of, step_named}
 use Rattle.watch.proofs.LiveContent.{live_content}
-use Rattle.watch.proofs.LiveOnes.{live_settled}
+use Rattle.watch.proofs.LiveOnes.{live_fixpoint}
 use Rattle.watch.proofs.NamedPlaces.{got, shows}
 use Rattle.ledger.proofs.Standing.{quiet_nothing, shown_at}
 
@@ -49,32 +49,32 @@ literals_named : (ids : List ℕ) (steps : List Step) → traced (map (step_name
 literals_named ids [] = refl
 literals_named ids (s ∷ ss) = ap (λ (ls : List Lit). s.literal ∷ ls) (literals_named ids ss)
 
--- a settled end is one of the constraints by their ids
-ended : (slots : Slots) (es : Places) (ids : List ℕ) → AreNamed es ids slots → (given chain : List Lit) → IsChain (fin.values (content_at slots es)) given chain → IsSettled (shown slots) (given ++ chain) → IsEnd (content_at slots es) given (given ++ chain)
+-- an end in a fixpoint is one of the constraints by their ids
+ended : (slots : Slots) (es : Places) (ids : List ℕ) → AreNamed es ids slots → (given chain : List Lit) → IsChain (fin.values (content_at slots es)) given chain → IsFixpoint (shown slots) (given ++ chain) → IsEnd (content_at slots es) given (given ++ chain)
 ended slots es ids a given chain c q =
     let values = fin.values (content_at slots es) in
-    let settled = live_settled (shown slots) values (live_content slots es ids a) (given ++ chain) q in
+    let fixpoint = live_fixpoint (shown slots) values (live_content slots es ids a) (given ++ chain) q in
     record {
-      no_conflict = no_conflict_from values given (given ++ chain) settled (given_within given chain);
-      closure = closure_by values given (given ++ chain) chain (c, refl, settled);
+      no_conflict = no_conflict_from values given (given ++ chain) fixpoint (given_within given chain);
+      closure = closure_by values given (given ++ chain) chain (c, refl, fixpoint);
     }
 
--- the place of what is broken, and the id
-broken_named : (slots : Slots) (es : Places) (ids : List ℕ) (listing : List Lit) (k : ℕ) → AreNamed es ids slots → IsBrokenAt (shown slots) listing k → IsBrokenIn (content_at slots es) listing (get_or ids k 0)
-broken_named slots es ids listing k a b =
+-- the place of what is falsified, and the id
+falsified_named : (slots : Slots) (es : Places) (ids : List ℕ) (assigned : List Lit) (k : ℕ) → AreNamed es ids slots → IsFalsifiedAt (shown slots) assigned k → IsFalsifiedIn (content_at slots es) assigned (get_or ids k 0)
+falsified_named slots es ids assigned k a b =
     let here : constraint_at (shown slots) k ≡ b.0 = same_default (shown slots) k b.0 b.1.0 b.1.1 in
-    named_one (IsBroken listing) slots es ids k (get_or slots k None) a (quiet_nothing listing).0 refl (subst (IsBroken listing) (sym here) b.2)
+    named_one (IsFalsified assigned) slots es ids k (get_or slots k None) a (quiet_nothing assigned).0 refl (subst (IsFalsified assigned) (sym here) b.2)
   where
     same_default : (ns : List NormalConstraint) (k : ℕ) (n : NormalConstraint) → k < length ns → get_or ns k n ≡ n → constraint_at ns k ≡ n
     same_default ns k n low e = get_or_default ns k nothing n low ∙ e
 
-end_named : (slots : Slots) (es : Places) (ids : List ℕ) (given : List Lit) (steps : List Step) → AreNamed es ids slots → AreSteps (shown slots) given steps → (broken : Option ℕ) → MatchOption broken (IsSettled (shown slots) (given ++ literals_of steps)) (IsBrokenAt (shown slots) (given ++ literals_of steps))
-    → MatchOption (option_map (λ place. get_or ids place 0) broken) (IsEnd (content_at slots es) given (given ++ literals_of steps)) (IsBrokenIn (content_at slots es) (given ++ literals_of steps))
+end_named : (slots : Slots) (es : Places) (ids : List ℕ) (given : List Lit) (steps : List Step) → AreNamed es ids slots → AreSteps (shown slots) given steps → (falsified : Option ℕ) → MatchOption falsified (IsFixpoint (shown slots) (given ++ literals_of steps)) (IsFalsifiedAt (shown slots) (given ++ literals_of steps))
+    → MatchOption (option_map (λ place. get_or ids place 0) falsified) (IsEnd (content_at slots es) given (given ++ literals_of steps)) (IsFalsifiedIn (content_at slots es) (given ++ literals_of steps))
 end_named slots es ids given steps a c None q =
     let content = content_at slots es in
     let chain = chain_traced content given (map (step_named ids) steps) (steps_named slots es ids a given steps c) in
     ended slots es ids a given (literals_of steps) (subst (λ (ls : List Lit). IsChain (fin.values content) given ls) (literals_named ids steps) chain) q
-end_named slots es ids given steps a c (Some k) b = broken_named slots es ids (given ++ literals_of steps) k a b
+end_named slots es ids given steps a c (Some k) b = falsified_named slots es ids (given ++ literals_of steps) k a b
 
 -- the chain that was found is a trace of the constraints by their ids
 pub trace_named : (slots : Slots) (es : Places) (ids : List ℕ) (given : List Lit) (c : Chain) (t : Trace) → AreNamed es ids slots → IsFound (shown slots) given c → IsTraceOf ids c t → IsTrace (content_at slots es) given t
@@ -82,12 +82,12 @@ trace_named slots es ids given c t a f n =
     let content = content_at slots es in
     let steps = c.steps.items in
     let same : traced t.forced ≡ literals_of steps = ap traced n.forced ∙ literals_named ids steps in
-    let end = end_named slots es ids given steps a f.chain c.broken f.end in
+    let end = end_named slots es ids given steps a f.chain c.falsified f.end in
     record {
       chain = subst (λ (ps : List (Lit × ℕ)). AreForcedIn content given ps) (sym n.forced) (steps_named slots es ids a given steps f.chain);
       end =
-          subst (λ (o : Option ℕ). MatchOption o (IsEnd content given (given ++ traced t.forced)) (IsBrokenIn content (given ++ traced t.forced))) (sym n.conflict)
-          (subst (λ (ls : List Lit). MatchOption (option_map (λ place. get_or ids place 0) c.broken) (IsEnd content given (given ++ ls)) (IsBrokenIn content (given ++ ls))) (sym same) end);
+          subst (λ (o : Option ℕ). MatchOption o (IsEnd content given (given ++ traced t.forced)) (IsFalsifiedIn content (given ++ traced t.forced))) (sym n.conflict)
+          (subst (λ (ls : List Lit). MatchOption (option_map (λ place. get_or ids place 0) c.falsified) (IsEnd content given (given ++ ls)) (IsFalsifiedIn content (given ++ ls))) (sym same) end);
     }
 
 -- and one that leaves out what stands before the last literal
@@ -114,9 +114,9 @@ as_many slots es ids a = length-map slots constraint_in ∙ sym a.as_many
 pub places_named : (slots : Slots) (es : Places) (ids : List ℕ) (given : List Lit) (c : Chain) → AreNamed es ids slots → IsFound (shown slots) given c → All (λ s. s.place < length ids) c.steps.items
 places_named slots es ids given c a f = steps_below (shown slots) given c.steps.items (length ids) (as_many slots es ids a) f.chain
 
-end_below : (ns : List NormalConstraint) (listing : List Lit) (count : ℕ) (o : Option ℕ) → length ns ≡ count → MatchOption o (IsSettled ns listing) (IsBrokenAt ns listing) → IfSome o (λ place. place < count)
-end_below ns listing count None e q = tt
-end_below ns listing count (Some k) e b = omega (arith, b.1.0, e)
+end_below : (ns : List NormalConstraint) (assigned : List Lit) (count : ℕ) (o : Option ℕ) → length ns ≡ count → MatchOption o (IsFixpoint ns assigned) (IsFalsifiedAt ns assigned) → IfSome o (λ place. place < count)
+end_below ns assigned count None e q = tt
+end_below ns assigned count (Some k) e b = omega (arith, b.1.0, e)
 
-pub broken_place_named : (slots : Slots) (es : Places) (ids : List ℕ) (given : List Lit) (c : Chain) → AreNamed es ids slots → IsFound (shown slots) given c → IfSome c.broken (λ place. place < length ids)
-broken_place_named slots es ids given c a f = end_below (shown slots) (given ++ literals_of c.steps.items) (length ids) c.broken (as_many slots es ids a) f.end
+pub falsified_place_named : (slots : Slots) (es : Places) (ids : List ℕ) (given : List Lit) (c : Chain) → AreNamed es ids slots → IsFound (shown slots) given c → IfSome c.falsified (λ place. place < length ids)
+falsified_place_named slots es ids given c a f = end_below (shown slots) (given ++ literals_of c.steps.items) (length ids) c.falsified (as_many slots es ids a) f.end

@@ -43,7 +43,7 @@ propagates_one old new w w' same kept on = record {
   kept = kept;
 }
 
-pub one_on : (old new : State) (w : List ℕ) (broken : Option ℕ) → is_some broken ≡ false → IsPropagation old new w broken → IsPropagatedOn (shown old.slots) old.propagated new.propagated w
+pub one_on : (old new : State) (w : List ℕ) (falsified : Option ℕ) → is_some falsified ≡ false → IsPropagation old new w falsified → IsPropagatedOn (shown old.slots) old.propagated new.propagated w
 one_on old new w None e p = p
 one_on old new w (Some k) e p = absurd (false≢true (sym e))
 
@@ -91,21 +91,21 @@ looked_beside ns old new place w w' e g looked k low = elim (looked k low) [
   | inr waits ↦ inr (waits_beside place w w' g.kept k waits)
 ]
 
-no_more_waits : (ns : List NormalConstraint) (listing : List Lit) (place : ℕ) (q : List ℕ) → IsQuiet listing (constraint_at ns place) → (k : ℕ) → Contains (place ∷ q) k → IsQuiet listing (constraint_at ns k) ⊎ Contains q k
-no_more_waits ns listing place q quiet k (zero, low, e) = inl (subst (λ (j : ℕ). IsQuiet listing (constraint_at ns j)) e quiet)
-no_more_waits ns listing place q quiet k (suc i, low, e) = inr (i, omega (arith, low), e)
+no_more_waits : (ns : List NormalConstraint) (assigned : List Lit) (place : ℕ) (q : List ℕ) → IsQuiet assigned (constraint_at ns place) → (k : ℕ) → Contains (place ∷ q) k → IsQuiet assigned (constraint_at ns k) ⊎ Contains q k
+no_more_waits ns assigned place q quiet k (zero, low, e) = inl (subst (λ (j : ℕ). IsQuiet assigned (constraint_at ns j)) e quiet)
+no_more_waits ns assigned place q quiet k (suc i, low, e) = inr (i, omega (arith, low), e)
 
 -- a place whose constraint is quiet waits no more
-pub visited : (ns : List NormalConstraint) (listing : List Lit) (place : ℕ) (q : List ℕ) → AreLookedAt ns listing (place ∷ q) → IsQuiet listing (constraint_at ns place) → AreLookedAt ns listing q
-visited ns listing place q looked quiet k low = elim (looked k low) [
+pub visited : (ns : List NormalConstraint) (assigned : List Lit) (place : ℕ) (q : List ℕ) → AreLookedAt ns assigned (place ∷ q) → IsQuiet assigned (constraint_at ns place) → AreLookedAt ns assigned q
+visited ns assigned place q looked quiet k low = elim (looked k low) [
   | inl done ↦ inl done
-  | inr waits ↦ no_more_waits ns listing place q quiet k waits
+  | inr waits ↦ no_more_waits ns assigned place q quiet k waits
 ]
 
 -- a walk goes on, and what it added is propagated
 pub goes_on_same : (old mid new : State) → IsSameBut mid new → GoesOn old mid → GoesOn old new
 goes_on_same old mid new same g =
-    let goes : GoesOn old (record mid { propagated = new.propagated }) = record { slots = g.slots; variables = g.variables; listing = g.listing; reasons = g.reasons } in
+    let goes : GoesOn old (record mid { propagated = new.propagated }) = record { slots = g.slots; variables = g.variables; assigned = g.assigned; reasons = g.reasons } in
     subst (GoesOn old) (sym same) goes
 
 pub if_ok : {E : Type 0} (A B : Option ℕ → Type 0) (r : Result (Option ℕ) E) → ((o : Option ℕ) → A o → B o) → IfOk r A → IfOk r B

@@ -23,10 +23,10 @@ abbrev any_term : NormalTerm
 any_term = record { coef = 0; var = record { 0 = 0 }; negated = false }
 
 -- where none of the terms has the variable of a literal with the reason, there is no such literal
-pub no_reason : (ns : List NormalConstraint) (listing : List Lit) (reasons : List (Option ℕ)) (place k count : ℕ) → AreReasons ns listing reasons → k < length listing → get_or reasons k None ≡ Some place → length (constraint_at ns place).terms ≤ count
-    → ((j : ℕ) (d : Lit) → j < count → (get_or listing k d).var.0 ≡ (term_at ns place j).var.0 → ⊥) → ⊥
-no_reason ns listing reasons place k count r low is many h =
-    let l : Lit = get_or listing k any in
-    let forced = subst (λ (o : Option ℕ). IsReason ns (take k listing) l o) is (r.forced k any low) in
+pub no_reason : (ns : List NormalConstraint) (assigned : List Lit) (reasons : List (Option ℕ)) (place k count : ℕ) → AreReasons ns assigned reasons → k < length assigned → get_or reasons k None ≡ Some place → length (constraint_at ns place).terms ≤ count
+    → ((j : ℕ) (d : Lit) → j < count → (get_or assigned k d).var.0 ≡ (term_at ns place j).var.0 → ⊥) → ⊥
+no_reason ns assigned reasons place k count r low is many h =
+    let l : Lit = get_or assigned k any in
+    let forced = subst (λ (o : Option ℕ). IsReason ns (take k assigned) l o) is (r.forced k any low) in
     let it = has_term (l.var.0) l.negated any_term (constraint_at ns place).terms forced.1.occurs in
     h it.0 any (omega (arith, it.1, many)) (sym it.2)

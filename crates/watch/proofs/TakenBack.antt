@@ -12,7 +12,7 @@ use Rattle.propagate.specs.Literals.{coefficient_of, lists}
 use Rattle.propagate.specs.Slack.{IsForced}
 use Rattle.propagate.specs.Walk.{IsQuiet}
 use Rattle.propagate.proofs.Consistency.{only_here}
-use Rattle.propagate.proofs.Listings.{among_cases}
+use Rattle.propagate.proofs.Assignments.{among_cases}
 use Rattle.ledger.specs.Ledgers.{State, constraint_at, constraint_in, nothing, shown}
 use Rattle.watch.specs.Looking.{AreLookedAt}
 use Rattle.watch.specs.Roots.{AllForced, IsRoot}
@@ -45,7 +45,7 @@ forced_before xs l m n false true unset absent q f e g = elim (among_cases xs (l
 forced_before xs l m n false false unset absent q f e g =
     q.1 m (record { unset = e; opposite_unset = g; occurs = f.occurs; above = omega (arith, ints, f.above, open_less xs l n unset) })
 
--- a constraint without a literal that is taken back stays quiet
+-- a constraint without a literal that is backtracked stays quiet
 pub still_quiet_back : (xs : List Lit) (l : Lit) (n : NormalConstraint) → lists xs l ≡ false → coefficient_of n l ≡ 0 → IsQuiet (xs ++ l ∷ []) n → IsQuiet xs n
 still_quiet_back xs l n unset absent q = (
   λ b. q.0 (omega (arith, ints, b, open_less xs l n unset)),
@@ -76,18 +76,18 @@ pub forced_first : (rs new : List (Option ℕ)) (k : ℕ) → new ≡ take k rs 
 forced_first rs new k e a = (take k a.0, e ∙ ap (λ (os : List (Option ℕ)). take k os) a.1 ∙ some_take a.0 k)
 
 -- a constraint that was taken out has nothing to be looked at
-pub looked_without : (slots : List (Option NormalConstraint)) (place : ℕ) (listing : List Lit) (w : List ℕ) → AreLookedAt (shown slots) listing w → AreLookedAt (shown (set slots place None)) listing w
-looked_without slots place listing w all k low =
+pub looked_without : (slots : List (Option NormalConstraint)) (place : ℕ) (assigned : List Lit) (w : List ℕ) → AreLookedAt (shown slots) assigned w → AreLookedAt (shown (set slots place None)) assigned w
+looked_without slots place assigned w all k low =
     let many : k < length slots = omega (arith, low, length-map (set slots place None) constraint_in, length-set slots place None) in
     elim (cases_eq k place) [
       | inl e ↦
           let gone : get_or (set slots place None) k None ≡ None = ap (λ (j : ℕ). get_or (set slots place None) j None) e ∙ get_or-set_same slots place None None (omega (arith, e, many)) in
           let says : constraint_at (shown (set slots place None)) k ≡ nothing = shown_at (set slots place None) k ∙ ap constraint_in gone in
-          inl (subst (λ (n : NormalConstraint). IsQuiet listing n) (sym says) (quiet_nothing listing))
+          inl (subst (λ (n : NormalConstraint). IsQuiet assigned n) (sym says) (quiet_nothing assigned))
       | inr other ↦
           let same : constraint_at (shown (set slots place None)) k ≡ constraint_at (shown slots) k = shown_at (set slots place None) k ∙ ap constraint_in (get_or-set_other slots place k None None other) ∙ sym (shown_at slots k) in
           elim (all k (omega (arith, many, length-map slots constraint_in))) [
-            | inl quiet ↦ inl (subst (λ (n : NormalConstraint). IsQuiet listing n) (sym same) quiet)
+            | inl quiet ↦ inl (subst (λ (n : NormalConstraint). IsQuiet assigned n) (sym same) quiet)
             | inr waits ↦ inr waits
           ]
     ]

@@ -7,14 +7,14 @@ use Rattle.linear.specs.declared.term.Lit.{Lit}
 use Rattle.normal_form.specs.Normal.{NormalConstraint}
 use Rattle.linear.specs.Literal.{opposite}
 use Rattle.propagate.specs.Literals.{among, lists, IsConsistent, SameLiterals}
-use Rattle.propagate.proofs.Closure.{same_settled}
+use Rattle.propagate.proofs.Closure.{same_fixpoint}
 use Rattle.propagate.proofs.ChainEnds.{by_set}
-use Rattle.propagate.proofs.Listings.{among_cases}
-use Rattle.propagate.proofs.SameListings.{same_broken, same_pushed, turned_same, within_same}
+use Rattle.propagate.proofs.Assignments.{among_cases}
+use Rattle.propagate.proofs.SameAssignments.{same_falsified, same_pushed, turned_same, within_same}
 use Rattle.watch.specs.declared.chain.Chain.{Chain}
 use Rattle.watch.specs.declared.chain.Step.{Step}
 use Rattle.watch.specs.Givens.{HasAll, IsDecided}
-use Rattle.watch.specs.Keeping.{IsSettledOrBroken}
+use Rattle.watch.specs.Keeping.{IsFixpointOrFalsified}
 use Rattle.ledger.specs.Ledgers.{State, AreReasons, IsReason}
 use Rattle.watch.specs.Steps.{AreGiven, AreSteps, IsFound, IsFoundOfLast, IsTold, literals_of}
 use Rattle.watch.proofs.Deciding.{reason_at}
@@ -43,7 +43,7 @@ tail_more ns xs rs start k place l steps r low is reason c e =
 some_is_not_none : (p : ℕ) (o : Option ℕ) → o ≡ Some p → o ≡ None → ⊥
 some_is_not_none p o e f = cc
 
-pub decided_reasons : (old new : State) (last : Lit) (from k : ℕ) → from ≡ length old.listing → length old.reasons ≡ length old.listing → length new.reasons ≡ length new.listing → IsDecided old new last → from + 1 ≤ k → k < length new.listing → get_or new.reasons k None ≡ None → ⊥
+pub decided_reasons : (old new : State) (last : Lit) (from k : ℕ) → from ≡ length old.assigned → length old.reasons ≡ length old.assigned → length new.reasons ≡ length new.assigned → IsDecided old new last → from + 1 ≤ k → k < length new.assigned → get_or new.reasons k None ≡ None → ⊥
 decided_reasons old new last from k is many all d after low none =
     let first : List (Option ℕ) = old.reasons ++ None ∷ [] in
     let more : List (Option ℕ) = map Some d.places in
@@ -87,16 +87,16 @@ told_same ns given xs steps h t v s =
       | inr x ↦ t.inside l x
     ]) v s)
 
-same_end : (ns : List NormalConstraint) (xs ys : List Lit) (broken : Option ℕ) → SameLiterals xs ys → IsSettledOrBroken ns xs broken → IsSettledOrBroken ns ys broken
-same_end ns xs ys None same q = same_settled ns ys xs q (within_same ys xs (turned_same xs ys same)) (within_same xs ys same)
-same_end ns xs ys (Some place) same b = (b.0, b.1, same_broken xs ys b.0 same b.2)
+same_end : (ns : List NormalConstraint) (xs ys : List Lit) (falsified : Option ℕ) → SameLiterals xs ys → IsFixpointOrFalsified ns xs falsified → IsFixpointOrFalsified ns ys falsified
+same_end ns xs ys None same q = same_fixpoint ns ys xs q (within_same ys xs (turned_same xs ys same)) (within_same xs ys same)
+same_end ns xs ys (Some place) same b = (b.0, b.1, same_falsified xs ys b.0 same b.2)
 
 same_found : (ns : List NormalConstraint) (xs ys : List Lit) (c : Chain) → SameLiterals xs ys → IsFound ns xs c → IsFound ns ys c
 same_found ns xs ys c same f =
     let steps = c.steps.items in
     record {
       chain = same_steps ns xs ys steps same f.chain;
-      end = same_end ns (xs ++ literals_of steps) (ys ++ literals_of steps) c.broken (same_pushed xs ys (literals_of steps) same) f.end;
+      end = same_end ns (xs ++ literals_of steps) (ys ++ literals_of steps) c.falsified (same_pushed xs ys (literals_of steps) same) f.end;
     }
 
 -- what stands on the trail can be left out

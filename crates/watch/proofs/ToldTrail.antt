@@ -6,24 +6,24 @@ use Rattle.std.proofs.lemmas.List.{get_or_default, take_more}
 use Rattle.linear.specs.declared.term.Lit.{Lit}
 use Rattle.normal_form.specs.Normal.{NormalConstraint}
 use Rattle.normal_form.proofs.SetSums.{Within, sum_apart, sum_within}
-use Rattle.propagate.specs.Chain.{IsSettled}
+use Rattle.propagate.specs.Chain.{IsFixpoint}
 use Rattle.linear.specs.Literal.{opposite}
 use Rattle.propagate.specs.Literals.{among, lists, IsConsistent, SameLiterals}
-use Rattle.propagate.specs.Slack.{IsBroken, IsForced, not_false}
-use Rattle.propagate.specs.Walk.{IsBrokenAt}
+use Rattle.propagate.specs.Slack.{IsFalsified, IsForced, not_false}
+use Rattle.propagate.specs.Walk.{IsFalsifiedAt}
 use Rattle.propagate.proofs.ChainEnds.{by_set}
-use Rattle.propagate.proofs.Chains.{broken_more}
-use Rattle.propagate.proofs.Closure.{same_settled}
+use Rattle.propagate.proofs.Chains.{falsified_more}
+use Rattle.propagate.proofs.Closure.{same_fixpoint}
 use Rattle.propagate.proofs.Consistency.{only_here}
-use Rattle.propagate.proofs.Listings.{among_cases, among_head, among_left, among_right, fewer_not_false}
-use Rattle.propagate.proofs.SameListings.{same_broken, same_forced, same_pushed}
+use Rattle.propagate.proofs.Assignments.{among_cases, among_head, among_left, among_right, fewer_not_false}
+use Rattle.propagate.proofs.SameAssignments.{same_falsified, same_forced, same_pushed}
 use Rattle.watch.specs.declared.chain.Chain.{Chain}
 use Rattle.watch.specs.declared.chain.Step.{Step}
 use Rattle.watch.specs.Givens.{HasAll}
 use Rattle.ledger.specs.Ledgers.{IsReason, constraint_at, nothing}
 use Rattle.watch.specs.Steps.{AreSteps, Clashes, IsFound, IsTold, IsToldTo, LeadsTo, literals_of}
 
--- what is forced under some literals is forced under more, where it is free there; else its constraint is broken
+-- what is forced under some literals is forced under more, where it is free there; else its constraint is falsified
 still_forced : (n : NormalConstraint) (xs ys : List Lit) (l : Lit) → Within (among xs) (among ys) → IsForced xs l n → lists ys l ≡ false → lists ys (opposite l) ≡ false → IsForced ys l n
 still_forced n xs ys l h f e k = record {
   unset = e;
@@ -32,8 +32,8 @@ still_forced n xs ys l h f e k = record {
   above = omega (arith, ints, f.above, sum_within (not_false ys) (not_false xs) (fewer_not_false xs ys h) n.terms);
 }
 
-now_broken : (n : NormalConstraint) (xs ys : List Lit) (l : Lit) → Within (among xs) (among ys) → IsForced xs l n → lists ys (opposite l) ≡ true → IsBroken ys n
-now_broken n xs ys l h f k = omega (arith, ints, f.above, sum_apart (not_false ys) (not_false xs) (l.var.0) l.negated (fewer_not_false xs ys h) (ap not k) (ap not f.opposite_unset) n.terms)
+now_falsified : (n : NormalConstraint) (xs ys : List Lit) (l : Lit) → Within (among xs) (among ys) → IsForced xs l n → lists ys (opposite l) ≡ true → IsFalsified ys n
+now_falsified n xs ys l h f k = omega (arith, ints, f.above, sum_apart (not_false ys) (not_false xs) (l.var.0) l.negated (fewer_not_false xs ys h) (ap not k) (ap not f.opposite_unset) n.terms)
 
 pub literals_push : (ss : List Step) (s : Step) → literals_of (ss ++ s ∷ []) ≡ literals_of ss ++ s.literal ∷ []
 literals_push [] s = refl
@@ -123,17 +123,17 @@ told_one ns given trail steps k place l low is t r e f =
       ];
     }
 
--- where the opposite is given, the constraint is broken
-pub told_broken : (ns : List NormalConstraint) (given trail : List Lit) (steps : List Step) (k place : ℕ) (l : Lit) → IsTold ns given (take k trail) steps → IsReason ns (take k trail) l (Some place) → lists given (opposite l) ≡ true → LeadsTo ns given steps place
-told_broken ns given trail steps k place l t r e =
+-- where the opposite is given, the constraint is falsified
+pub told_falsified : (ns : List NormalConstraint) (given trail : List Lit) (steps : List Step) (k place : ℕ) (l : Lit) → IsTold ns given (take k trail) steps → IsReason ns (take k trail) l (Some place) → lists given (opposite l) ≡ true → LeadsTo ns given steps place
+told_falsified ns given trail steps k place l t r e =
     let n : NormalConstraint = constraint_at ns place in
     let ys : List Lit = given ++ literals_of steps in
     record {
       chain = t.chain;
-      broken = (
+      falsified = (
         n,
         (r.0, get_or_default ns place n nothing r.0),
-        now_broken n (take k trail) ys l (by_set (take k trail) ys t.covers) r.1 (among_left given (literals_of steps) (l.var.0) (opposite l).negated e),
+        now_falsified n (take k trail) ys l (by_set (take k trail) ys t.covers) r.1 (among_left given (literals_of steps) (l.var.0) (opposite l).negated e),
       );
     }
 
@@ -150,19 +150,19 @@ same_steps ns xs ys [] same c = tt
 same_steps ns xs ys (s ∷ ss) same c =
     ((c.0.0, same_forced xs ys (constraint_at ns s.place) s.literal same c.0.1), same_steps ns (xs ++ s.literal ∷ []) (ys ++ s.literal ∷ []) ss (same_pushed xs ys (s.literal ∷ []) same) c.1)
 
--- a whole trail that was told: where it is settled, and where it is broken
-told_settled : (ns : List NormalConstraint) (given trail : List Lit) (steps : List Step) → IsTold ns given trail steps → HasAll given trail → IsSettled ns trail → IsSettled ns (given ++ literals_of steps)
-told_settled ns given trail steps t h q =
+-- a whole trail that was told: where it is a fixpoint, and where it is falsified
+told_fixpoint : (ns : List NormalConstraint) (given trail : List Lit) (steps : List Step) → IsTold ns given trail steps → HasAll given trail → IsFixpoint ns trail → IsFixpoint ns (given ++ literals_of steps)
+told_fixpoint ns given trail steps t h q =
     let ys : List Lit = given ++ literals_of steps in
-    same_settled ns ys trail q
+    same_fixpoint ns ys trail q
     (by_set ys trail (λ l e. elim (among_cases given (literals_of steps) (l.var.0) l.negated e) [
       | inl x ↦ h l x
       | inr x ↦ t.inside l x
     ]))
     (by_set trail ys t.covers)
 
-told_broken_at : (ns : List NormalConstraint) (given trail : List Lit) (steps : List Step) (place : ℕ) → IsTold ns given trail steps → IsBrokenAt ns trail place → IsBrokenAt ns (given ++ literals_of steps) place
-told_broken_at ns given trail steps place t b = (b.0, b.1, broken_more b.0 trail (given ++ literals_of steps) (by_set trail (given ++ literals_of steps) t.covers) b.2)
+told_falsified_at : (ns : List NormalConstraint) (given trail : List Lit) (steps : List Step) (place : ℕ) → IsTold ns given trail steps → IsFalsifiedAt ns trail place → IsFalsifiedAt ns (given ++ literals_of steps) place
+told_falsified_at ns given trail steps place t b = (b.0, b.1, falsified_more b.0 trail (given ++ literals_of steps) (by_set trail (given ++ literals_of steps) t.covers) b.2)
 
 twice : (b : Bool) → not (not b) ≡ b
 twice true = refl
@@ -175,17 +175,17 @@ no_clash ns given trail steps t c =
 
 -- what is found in the end
 abbrev pub HasEnd : List NormalConstraint → List Lit → List Lit → Option ℕ → Type 0
-HasEnd ns given trail r = MatchOption r (Clashes given trail ⊎ (HasAll given trail × IsSettled ns trail)) (IsBrokenAt ns trail)
+HasEnd ns given trail r = MatchOption r (Clashes given trail ⊎ (HasAll given trail × IsFixpoint ns trail)) (IsFalsifiedAt ns trail)
 
-whole : (ns : List NormalConstraint) (given trail : List Lit) (steps : List Step) (r : Option ℕ) → IsTold ns given trail steps → HasEnd ns given trail r → MatchOption r (IsSettled ns (given ++ literals_of steps)) (IsBrokenAt ns (given ++ literals_of steps))
+whole : (ns : List NormalConstraint) (given trail : List Lit) (steps : List Step) (r : Option ℕ) → IsTold ns given trail steps → HasEnd ns given trail r → MatchOption r (IsFixpoint ns (given ++ literals_of steps)) (IsFalsifiedAt ns (given ++ literals_of steps))
 whole ns given trail steps None t (inl c) = absurd (no_clash ns given trail steps t c)
-whole ns given trail steps None t (inr e) = told_settled ns given trail steps t e.0 e.1
-whole ns given trail steps (Some place) t b = told_broken_at ns given trail steps place t b
+whole ns given trail steps None t (inr e) = told_fixpoint ns given trail steps t e.0 e.1
+whole ns given trail steps (Some place) t b = told_falsified_at ns given trail steps place t b
 
-told_found : (ns : List NormalConstraint) (given trail : List Lit) (steps : List Step) (early broken new : Option ℕ) → MatchOption early (IsTold ns given trail steps) (LeadsTo ns given steps) → MatchOption early (new ≡ broken) (λ place. new ≡ Some place) → HasEnd ns given trail broken
-    → AreSteps ns given steps × MatchOption new (IsSettled ns (given ++ literals_of steps)) (IsBrokenAt ns (given ++ literals_of steps))
-told_found ns given trail steps None broken new t e h = rw e (t.chain, whole ns given trail steps broken t h)
-told_found ns given trail steps (Some place) broken new t e h = rw e (t.chain, t.broken)
+told_found : (ns : List NormalConstraint) (given trail : List Lit) (steps : List Step) (early falsified new : Option ℕ) → MatchOption early (IsTold ns given trail steps) (LeadsTo ns given steps) → MatchOption early (new ≡ falsified) (λ place. new ≡ Some place) → HasEnd ns given trail falsified
+    → AreSteps ns given steps × MatchOption new (IsFixpoint ns (given ++ literals_of steps)) (IsFalsifiedAt ns (given ++ literals_of steps))
+told_found ns given trail steps None falsified new t e h = rw e (t.chain, whole ns given trail steps falsified t h)
+told_found ns given trail steps (Some place) falsified new t e h = rw e (t.chain, t.falsified)
 
 same_told : (ns : List NormalConstraint) (marks given trail : List Lit) (steps : List Step) (early : Option ℕ) → SameLiterals marks given → MatchOption early (IsTold ns marks trail steps) (LeadsTo ns marks steps) → MatchOption early (IsTold ns given trail steps) (LeadsTo ns given steps)
 same_told ns marks given trail steps None same t = record {
@@ -196,10 +196,10 @@ same_told ns marks given trail steps None same t = record {
 }
 same_told ns marks given trail steps (Some place) same t = record {
   chain = same_steps ns marks given steps same t.chain;
-  broken = (t.broken.0, t.broken.1, same_broken (marks ++ literals_of steps) (given ++ literals_of steps) t.broken.0 (same_pushed marks given (literals_of steps) same) t.broken.2);
+  falsified = (t.falsified.0, t.falsified.1, same_falsified (marks ++ literals_of steps) (given ++ literals_of steps) t.falsified.0 (same_pushed marks given (literals_of steps) same) t.falsified.2);
 }
 
-pub found : (ns : List NormalConstraint) (marks given trail : List Lit) (told c : Chain) (broken : Option ℕ) → SameLiterals marks given → IsToldTo ns marks trail told → c.steps.items ≡ told.steps.items → MatchOption told.broken (c.broken ≡ broken) (λ place. c.broken ≡ Some place) → HasEnd ns given trail broken → IsFound ns given c
-found ns marks given trail told c broken same t e f h =
-    let it = told_found ns given trail told.steps.items told.broken broken c.broken (same_told ns marks given trail told.steps.items told.broken same t) f h in
+pub found : (ns : List NormalConstraint) (marks given trail : List Lit) (told c : Chain) (falsified : Option ℕ) → SameLiterals marks given → IsToldTo ns marks trail told → c.steps.items ≡ told.steps.items → MatchOption told.falsified (c.falsified ≡ falsified) (λ place. c.falsified ≡ Some place) → HasEnd ns given trail falsified → IsFound ns given c
+found ns marks given trail told c falsified same t e f h =
+    let it = told_found ns given trail told.steps.items told.falsified falsified c.falsified (same_told ns marks given trail told.steps.items told.falsified same t) f h in
     record { chain = rw e (it.0); end = rw e (it.1) }

@@ -15,7 +15,7 @@ use Rattle.ledger.specs.Ledgers.{State, constraint_at, open_sum, shown, HasSlack
 use Rattle.watch.specs.Looking.{GoesOn, IsContinued, CanForce}
 use Rattle.propagate.specs.Passes.{literal_of}
 use Rattle.propagate.proofs.Occurrences.{forced_at}
-use Rattle.propagate.proofs.Listings.{among_right, among_head}
+use Rattle.propagate.proofs.Assignments.{among_right, among_head}
 use Rattle.ledger.proofs.Opening.{open_less}
 
 -- a normal constraint has a variable with one sign only
@@ -43,21 +43,21 @@ one_sign low (t ∷ ts) v s r h =
     (one_sign (x + 1) ts v s r.2) h
 
 -- what a constraint forces does not change its slack
-pub same_open : (listing : List Lit) (l : Lit) (n : NormalConstraint) → Rises 0 n.terms → IsForced listing l n → open_sum (listing ++ l ∷ []) n ≡ open_sum listing n
-same_open listing l n r f = omega (arith, open_less listing l n f.unset, one_sign 0 n.terms (l.var.0) l.negated r f.occurs)
+pub same_open : (assigned : List Lit) (l : Lit) (n : NormalConstraint) → Rises 0 n.terms → IsForced assigned l n → open_sum (assigned ++ l ∷ []) n ≡ open_sum assigned n
+same_open assigned l n r f = omega (arith, open_less assigned l n f.unset, one_sign 0 n.terms (l.var.0) l.negated r f.occurs)
 
 pub none_or_some : (n : ℕ) → (n ≡ 0) ⊎ (0 < n)
 none_or_some zero = inl refl
 none_or_some (suc n) = inr (omega arith)
 
-pub forced_there : (ns : List NormalConstraint) (listing : List Lit) (l : Lit) (place : ℕ) → place < length ns → IsForced listing l (constraint_at ns place) → IsForcedByOne ns listing l
-forced_there ns listing l place low f = (place, constraint_at ns place, low, get_or_default ns place (constraint_at ns place) _ low, f)
+pub forced_there : (ns : List NormalConstraint) (assigned : List Lit) (l : Lit) (place : ℕ) → place < length ns → IsForced assigned l (constraint_at ns place) → IsForcedByOne ns assigned l
+forced_there ns assigned l place low f = (place, constraint_at ns place, low, get_or_default ns place (constraint_at ns place) _ low, f)
 
-pub goes_on_by_one : (ns : List NormalConstraint) (listing : List Lit) (l : Lit) (place : ℕ) → place < length ns → IsForced listing l (constraint_at ns place) → IsContinued ns listing (listing ++ l ∷ [])
-goes_on_by_one ns listing l place low f = (l ∷ [], (forced_there ns listing l place low f, tt), refl)
+pub goes_on_by_one : (ns : List NormalConstraint) (assigned : List Lit) (l : Lit) (place : ℕ) → place < length ns → IsForced assigned l (constraint_at ns place) → IsContinued ns assigned (assigned ++ l ∷ [])
+goes_on_by_one ns assigned l place low f = (l ∷ [], (forced_there ns assigned l place low f, tt), refl)
 
-pub goes_on_nowhere : (ns : List NormalConstraint) (listing : List Lit) → IsContinued ns listing listing
-goes_on_nowhere ns listing = ([], tt, sym (append-nil listing))
+pub goes_on_nowhere : (ns : List NormalConstraint) (assigned : List Lit) → IsContinued ns assigned assigned
+goes_on_nowhere ns assigned = ([], tt, sym (append-nil assigned))
 
 chain_joined : (ns : List NormalConstraint) (given xs ys : List Lit) → IsChain ns given xs → IsChain ns (given ++ xs) ys → IsChain ns given (xs ++ ys)
 chain_joined ns given [] ys c d = subst (λ (zs : List Lit). IsChain ns zs ys) (append-nil given) d
@@ -68,45 +68,45 @@ goes_on_further ns a b c g h =
     (g.0 ++ h.0, chain_joined ns a g.0 h.0 g.1 (subst (λ (xs : List Lit). IsChain ns xs h.0) g.2 h.1), h.2 ∙ ap (λ (xs : List Lit). xs ++ h.0) g.2 ∙ append_assoc a g.0 h.0)
 
 -- all of it, for the literal of a term
-pub record IsStep (ns : List NormalConstraint) (listing new : List Lit) (place index slack : ℕ) : Type 0 where
+pub record IsStep (ns : List NormalConstraint) (assigned new : List Lit) (place index slack : ℕ) : Type 0 where
   pub has_slack : HasSlack ns new place slack
-  pub goes_on : IsContinued ns listing new
+  pub goes_on : IsContinued ns assigned new
   pub done : CanForce new slack (term_at ns place index) → ⊥
 
 -- a term that can force its literal does
-pub forced_by_term : (ns : List NormalConstraint) (listing : List Lit) (place index slack : ℕ) (t : NormalTerm) → index < length (constraint_at ns place).terms → Rises 0 (constraint_at ns place).terms → HasSlack ns listing place slack → t ≡ get_or (constraint_at ns place).terms index t → CanForce listing slack t → IsForced listing (literal_of t) (constraint_at ns place)
-forced_by_term ns listing place index slack t inside rises has is can = forced_at listing (constraint_at ns place) slack index t rises inside is has can
+pub forced_by_term : (ns : List NormalConstraint) (assigned : List Lit) (place index slack : ℕ) (t : NormalTerm) → index < length (constraint_at ns place).terms → Rises 0 (constraint_at ns place).terms → HasSlack ns assigned place slack → t ≡ get_or (constraint_at ns place).terms index t → CanForce assigned slack t → IsForced assigned (literal_of t) (constraint_at ns place)
+forced_by_term ns assigned place index slack t inside rises has is can = forced_at assigned (constraint_at ns place) slack index t rises inside is has can
 
-pub step : (ns : List NormalConstraint) (listing new : List Lit) (place index slack : ℕ) (t : NormalTerm)
-    → place < length ns → index < length (constraint_at ns place).terms → Rises 0 (constraint_at ns place).terms → HasSlack ns listing place slack
-    → t ≡ get_or (constraint_at ns place).terms index t → CanForce listing slack t
-    → new ≡ listing ++ literal_of t ∷ []
-    → IsStep ns listing new place index slack
-step ns listing new place index slack t low inside rises has is can e =
+pub step : (ns : List NormalConstraint) (assigned new : List Lit) (place index slack : ℕ) (t : NormalTerm)
+    → place < length ns → index < length (constraint_at ns place).terms → Rises 0 (constraint_at ns place).terms → HasSlack ns assigned place slack
+    → t ≡ get_or (constraint_at ns place).terms index t → CanForce assigned slack t
+    → new ≡ assigned ++ literal_of t ∷ []
+    → IsStep ns assigned new place index slack
+step ns assigned new place index slack t low inside rises has is can e =
     let n : NormalConstraint = constraint_at ns place in
-    let f : IsForced listing (literal_of t) n = forced_at listing n slack index t rises inside is has can in
+    let f : IsForced assigned (literal_of t) n = forced_at assigned n slack index t rises inside is has can in
     rw e (record {
-      has_slack = omega (arith, has, same_open listing (literal_of t) n rises f);
-      goes_on = goes_on_by_one ns listing (literal_of t) place low f;
+      has_slack = omega (arith, has, same_open assigned (literal_of t) n rises f);
+      goes_on = goes_on_by_one ns assigned (literal_of t) place low f;
       done = λ again.
           let same : term_at ns place index ≡ t = get_or_default n.terms index _ t inside ∙ sym is in
-          false≢true (sym again.1 ∙ ap (λ (u : NormalTerm). lists (listing ++ literal_of t ∷ []) (literal_of u)) same ∙ among_right listing (literal_of t ∷ []) (t.var.0) t.negated (among_head (literal_of t) []));
+          false≢true (sym again.1 ∙ ap (λ (u : NormalTerm). lists (assigned ++ literal_of t ∷ []) (literal_of u)) same ∙ among_right assigned (literal_of t ∷ []) (t.var.0) t.negated (among_head (literal_of t) []));
     })
 
 -- nothing is added
 pub goes_nowhere : (s : State) → GoesOn s s
-goes_nowhere s = record { slots = refl; variables = refl; listing = goes_on_nowhere (shown s.slots) s.listing; reasons = ([], sym (append-nil s.reasons)) }
+goes_nowhere s = record { slots = refl; variables = refl; assigned = goes_on_nowhere (shown s.slots) s.assigned; reasons = ([], sym (append-nil s.reasons)) }
 
 -- one literal is added, with its reason
-pub goes_by_one : (s t : State) (place : ℕ) → t.slots ≡ s.slots → t.variables ≡ s.variables → IsContinued (shown s.slots) s.listing t.listing → t.reasons ≡ s.reasons ++ Some place ∷ [] → GoesOn s t
-goes_by_one s t place a b c d = record { slots = a; variables = b; listing = c; reasons = (place ∷ [], d) }
+pub goes_by_one : (s t : State) (place : ℕ) → t.slots ≡ s.slots → t.variables ≡ s.variables → IsContinued (shown s.slots) s.assigned t.assigned → t.reasons ≡ s.reasons ++ Some place ∷ [] → GoesOn s t
+goes_by_one s t place a b c d = record { slots = a; variables = b; assigned = c; reasons = (place ∷ [], d) }
 
 -- one after another
 pub goes_both : (a b c : State) → GoesOn a b → GoesOn b c → GoesOn a c
 goes_both a b c g h = record {
   slots = h.slots ∙ g.slots;
   variables = h.variables ∙ g.variables;
-  listing = goes_on_further (shown a.slots) a.listing b.listing c.listing g.listing (subst (λ (os : List (Option NormalConstraint)). IsContinued (shown os) b.listing c.listing) g.slots h.listing);
+  assigned = goes_on_further (shown a.slots) a.assigned b.assigned c.assigned g.assigned (subst (λ (os : List (Option NormalConstraint)). IsContinued (shown os) b.assigned c.assigned) g.slots h.assigned);
   reasons = (
     g.reasons.0 ++ h.reasons.0,
     h.reasons.1 ∙ ap (λ (rs : List (Option ℕ)). rs ++ map Some h.reasons.0) g.reasons.1 ∙ append_assoc a.reasons (map Some g.reasons.0) (map Some h.reasons.0)

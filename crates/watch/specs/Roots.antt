@@ -7,7 +7,7 @@ use Rattle.watch.specs.Looking.{AreLookedAt}
 abbrev pub AllForced : List (Option ℕ) → Type 0
 AllForced reasons = (places : List ℕ) × (reasons ≡ map Some places)
 
--- the literals are forced from nothing, and what does not wait is settled
+-- the literals are forced from nothing, and what does not wait is quiet
 pub record IsRoot (s : State) (waiting : List ℕ) (count : ℕ) : Type 0 where
   pub places : count ≡ length s.slots
   pub looked_at : AreLookedAt (shown s.slots) s.propagated waiting

@@ -4,10 +4,10 @@ use Rattle.std.specs.Option.{option_map}
 use Rattle.linear.specs.declared.term.Lit.{Lit}
 use Rattle.normal_form.specs.Normal.{NormalConstraint}
 use Rattle.propagate.specs.declared.trace.Trace.{Trace}
-use Rattle.propagate.specs.Chain.{IsSettled}
+use Rattle.propagate.specs.Chain.{IsFixpoint}
 use Rattle.linear.specs.Literal.{opposite}
 use Rattle.propagate.specs.Literals.{lists}
-use Rattle.propagate.specs.Walk.{IsBrokenAt}
+use Rattle.propagate.specs.Walk.{IsFalsifiedAt}
 use Rattle.watch.specs.declared.chain.Step.{Step}
 use Rattle.watch.specs.declared.chain.Chain.{Chain}
 use Rattle.watch.specs.Givens.{HasAll}
@@ -22,10 +22,10 @@ AreSteps constraints given (s ∷ ss) = IsReason constraints given s.literal (So
 abbrev pub literals_of : List Step → List Lit
 literals_of = map (λ s. s.literal)
 
--- a chain from what is given, to a constraint that is broken, or to the end
+-- a chain from what is given, to a constraint that is falsified, or to the end
 pub record IsFound (constraints : List NormalConstraint) (given : List Lit) (c : Chain) : Type 0 where
   pub chain : AreSteps constraints given c.steps.items
-  pub end : MatchOption c.broken (IsSettled constraints (given ++ literals_of c.steps.items)) (IsBrokenAt constraints (given ++ literals_of c.steps.items))
+  pub end : MatchOption c.falsified (IsFixpoint constraints (given ++ literals_of c.steps.items)) (IsFalsifiedAt constraints (given ++ literals_of c.steps.items))
 
 -- the same from some literals and one more behind them, where what follows from those before it may be left out
 pub record IsFoundOfLast (constraints : List NormalConstraint) (before : List Lit) (last : Lit) (c : Chain) : Type 0 where
@@ -35,7 +35,7 @@ pub record IsFoundOfLast (constraints : List NormalConstraint) (before : List Li
 
 -- a literal without a reason is a given one
 abbrev pub AreGiven : List Lit → List (Option ℕ) → List Lit → Type 0
-AreGiven listing reasons given = (k : ℕ) (d : Lit) → k < length listing → slice_index_or reasons k None ≡ None → lists given (slice_index_or listing k d) ≡ true
+AreGiven assigned reasons given = (k : ℕ) (d : Lit) → k < length assigned → slice_index_or reasons k None ≡ None → lists given (slice_index_or assigned k d) ≡ true
 
 -- the first literals of a trail, told as steps from what is given: those that are not given themselves
 pub record IsTold (constraints : List NormalConstraint) (given trail : List Lit) (steps : List Step) : Type 0 where
@@ -44,18 +44,18 @@ pub record IsTold (constraints : List NormalConstraint) (given trail : List Lit)
   pub covers : HasAll trail (given ++ literals_of steps)
   pub free : (l : Lit) → lists trail l ≡ true → lists given (opposite l) ≡ false
 
--- some steps lead to a constraint that is broken
+-- some steps lead to a constraint that is falsified
 pub record LeadsTo (constraints : List NormalConstraint) (given : List Lit) (steps : List Step) (place : ℕ) : Type 0 where
   pub chain : AreSteps constraints given steps
-  pub broken : IsBrokenAt constraints (given ++ literals_of steps) place
+  pub falsified : IsFalsifiedAt constraints (given ++ literals_of steps) place
 
--- what was told of a trail: all of it, or as far as to a broken constraint
+-- what was told of a trail: all of it, or as far as to a falsified constraint
 abbrev pub IsToldTo : List NormalConstraint → List Lit → List Lit → Chain → Type 0
-IsToldTo constraints given trail c = MatchOption c.broken (IsTold constraints given trail c.steps.items) (LeadsTo constraints given c.steps.items)
+IsToldTo constraints given trail c = MatchOption c.falsified (IsTold constraints given trail c.steps.items) (LeadsTo constraints given c.steps.items)
 
 -- a given literal whose opposite is listed
 abbrev pub Clashes : List Lit → List Lit → Type 0
-Clashes given listing = (l : Lit) × (lists given l ≡ true) × (lists listing (opposite l) ≡ true)
+Clashes given assigned = (l : Lit) × (lists given l ≡ true) × (lists assigned (opposite l) ≡ true)
 
 -- a step with the id of the constraint at its place
 abbrev pub step_named : List ℕ → Step → Lit × ℕ
@@ -64,4 +64,4 @@ step_named ids s = (s.literal, slice_index_or ids s.place 0)
 -- a trace tells a chain, with ids for places
 pub record IsTraceOf (ids : List ℕ) (c : Chain) (t : Trace) : Type 0 where
   pub forced : t.forced ≡ map (step_named ids) c.steps.items
-  pub conflict : t.conflict ≡ option_map (λ place. slice_index_or ids place 0) c.broken
+  pub conflict : t.conflict ≡ option_map (λ place. slice_index_or ids place 0) c.falsified

@@ -2,22 +2,22 @@
 
 ghost use Rattle.std.specs.Prelude.{◌≡◌, ◌↔◌, IsTrue};
 
-/// All are there and all is settled, or a constraint is broken, or the opposite of a literal is there.
+/// All are there and all is propagated, or a constraint is falsified, or the opposite of a literal is there.
 #[derive(Clone, Copy, Debug)]
 pub(crate) enum Ascent {
     Whole,
-    Broken(usize),
+    Falsified(usize),
     Clash,
 }
 
 impl Ascent {
-    /// Whether all are there, and all is settled.
+    /// Whether all are there, and all is propagated.
     pub(crate) fn is_whole(self) -> bool
         ensures { IsTrue result ↔ (self ≡ Ascent.Whole) }
     {
         match self {
             Ascent::Whole => true,
-            Ascent::Broken(_) | Ascent::Clash => false,
+            Ascent::Falsified(_) | Ascent::Clash => false,
         }
     }
 }

@@ -7,9 +7,9 @@ pub(crate) struct Step {
     pub(crate) place: usize,
 }
 
-/// A chain, and the place of a constraint that is broken then, if there is one.
+/// A chain, and the place of a constraint that is falsified then, if there is one.
 #[derive(Debug, Drop)]
 pub(crate) struct Chain {
     pub(crate) steps: Vec<Step>,
-    pub(crate) broken: Option<usize>,
+    pub(crate) falsified: Option<usize>,
 }

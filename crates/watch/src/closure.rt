@@ -1,7 +1,7 @@
 //! Constraints by place, with what they force from nothing kept between calls.
 //!
 //! A closure from nothing only grows as constraints come in, and a question beside extra constraints goes on from it.
-//! Above it stand the literals that were given last, with what they force: a listing that begins as that one goes on
+//! Above it stand the literals that were given last, with what they force: an assignment that begins as that one goes on
 //! from where they part, and a question without given literals takes them back.
 //! It is found when something is asked: a constraint that comes in only waits, so that reading a database costs no
 //! walk. A constraint that goes takes with it what was given, and what was found from nothing by way of it and after
@@ -117,8 +117,8 @@ impl Closure {
         answer
     }
 
-    /// What a listing extends to: `Conflict` exactly where it has a literal and its opposite or a chain from it leads
-    /// to a broken constraint, else exactly the given and forced literals, each once.
+    /// What an assignment extends to: `Conflict` exactly where it has a literal and its opposite or a chain from it leads
+    /// to a falsified constraint, else exactly the given and forced literals, each once.
     pub(crate) fn extend(&mut self, given: &[Lit]) -> Result<Reach, AllocError>
         ensures slots { self.new ≡ self.old }
         ensures value { IfOk result (IsReach (shown self.old) given.now) }
@@ -145,7 +145,7 @@ impl Closure {
         self.ledger.take_out(place)
     }
 
-    /// A chain from a listing without opposites, with the places of its reasons, to a broken constraint or to the end.
+    /// A chain from an assignment without opposites, with the places of its reasons, to a falsified constraint or to the end.
     pub(crate) fn trace(&mut self, given: &[Lit]) -> Result<Chain, AllocError>
         requires { IsConsistent given.now }
         ensures slots { self.new ≡ self.old }
@@ -160,7 +160,7 @@ impl Closure {
         )
     }
 
-    /// The same for a listing and one literal more, where what follows from the listing alone may be left out.
+    /// The same for an assignment and one literal more, where what follows from the assignment alone may be left out.
     pub(crate) fn trace_last(&mut self, before: &[Lit], last: Lit) -> Result<Chain, AllocError>
         requires { IsConsistent (before.now ++ last ∷ []) }
         ensures slots { self.new ≡ self.old }

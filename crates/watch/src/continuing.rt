@@ -13,7 +13,7 @@ ghost use Rattle.watch.specs.Steps.{AreSteps, IsFound, IsFoundOfLast, literals_o
 use super::chain::{Chain, Step};
 use super::following::{decide, follow};
 use super::levels::Levels;
-use super::tracing::{broken_place, chain_over};
+use super::tracing::{chain_over, falsified_place};
 use ledger::{Ledger, Queue};
 use linear::Lit;
 use propagate::{literal_count, with_last};
@@ -21,11 +21,11 @@ use std::alloc::{AllocError, Global};
 
 /// Tells the trail behind a literal, where each one has a reason.
 fn tell_behind(alloc: Global, ledger: &Ledger, last: usize) -> Result<Vec<Step>, AllocError>
-    requires there { last < length ledger.now.listing }
-    requires forced { (k : ℕ) → last < k → k < length ledger.now.listing
+    requires there { last < length ledger.now.assigned }
+    requires forced { (k : ℕ) → last < k → k < length ledger.now.assigned
         → slice_index_or ledger.now.reasons k None ≡ None → ⊥ }
-    ensures chain { IfOk result (λ v. AreSteps (shown ledger.now.slots) (take (last + 1) ledger.now.listing) v.items) }
-    ensures all { IfOk result (λ v. take (last + 1) ledger.now.listing ++ literals_of v.items ≡ ledger.now.listing) }
+    ensures chain { IfOk result (λ v. AreSteps (shown ledger.now.slots) (take (last + 1) ledger.now.assigned) v.items) }
+    ensures all { IfOk result (λ v. take (last + 1) ledger.now.assigned ++ literals_of v.items ≡ ledger.now.assigned) }
 {
     let mut steps = Vec::new(alloc);
     let literals = ledger.literals();
@@ -52,18 +52,18 @@ fn chain_on(
 ) -> Result<Chain, AllocError>
     requires kept { IsKept ledger.old levels.old queue.old.0 queue.old.1 }
     requires variable { last.var.0 < ledger.old.variables }
-    requires unset { lists ledger.old.listing last ≡ false }
-    requires opposite_unset { lists ledger.old.listing (opposite last) ≡ false }
+    requires unset { lists ledger.old.assigned last ≡ false }
+    requires opposite_unset { lists ledger.old.assigned (opposite last) ≡ false }
     ensures slots { ledger.new.slots ≡ ledger.old.slots }
     ensures kept { IsKept ledger.new levels.new queue.new.0 queue.new.1 }
-    ensures value { IfOk result (IsFound (shown ledger.old.slots) (ledger.old.listing ++ last ∷ [])) }
+    ensures value { IfOk result (IsFound (shown ledger.old.slots) (ledger.old.assigned ++ last ∷ [])) }
 {
     let from = ledger.len();
     let ascent = decide(ledger, queue, levels, last)?;
     ledger.reveal();
     Ok(Chain {
         steps: tell_behind(alloc, ledger, from)?,
-        broken: broken_place(ascent),
+        falsified: falsified_place(ascent),
     })
 }
 

@@ -4,7 +4,7 @@
 //! by id; the id of a place names a reason when a chain is told. Where more stands empty than not, an insertion makes
 //! the places anew: it may fail, as a removal may not, and what it copies is paid for by the removals before it.
 
-ghost use Rattle.std.specs.Prelude.{◌≡◌, ◌↔◌, ◌++◌, ◌∷◌, [], ℕ, Contains, IfOk, IsTrue, OnErr, OnOk, None};
+ghost use Rattle.std.specs.Prelude.{◌≡◌, ◌↔◌, ◌++◌, ◌∷◌, [], ℕ, Contains, IfOk, IsSome, IsTrue, MatchOption, OnErr, OnOk, None};
 ghost use Rattle.std.specs.FinMap as map;
 ghost use Rattle.std.specs.Option.{option_copied};
 ghost use Rattle.propagate.specs.Chain.{IsRefuted};
@@ -16,18 +16,17 @@ ghost use Rattle.watch.specs.Lent.{IsEachOnce};
 use super::closure::Closure;
 use super::lending::Occurrences;
 use super::naming::trace_of;
+use super::places::Places;
 use linear::Lit;
 use normal_form::Normal;
 use propagate::{Id, Reach, Trace};
 use std::alloc::{AllocError, Global};
-use std::collections::BTreeMap;
 use std::marker::Model;
-use std::ops::Bound;
 
 /// A finite map from ids to constraints.
 #[derive(Drop)]
 pub(crate) struct Database {
-    places: BTreeMap<Id, usize>,
+    places: Places,
     ids: Vec<Id>,
     closure: Closure,
     /// The terms and places of the constraints that are there.
@@ -48,9 +47,9 @@ impl Model for Database {
 
     ghost coded = { map.code coded_ℕ constraint_code };
 
-    ghost view = { λ d. content_at d.closure d.places.entries };
+    ghost view = { λ d. content_at d.closure d.places };
 
-    ghost invariant = { λ d. AreNamed d.places.entries d.ids.items d.closure };
+    ghost invariant = { λ d. AreNamed d.places d.ids.items d.closure };
 }
 
 impl Database {
@@ -59,7 +58,7 @@ impl Database {
         ensures { result ≡ map.empty }
     {
         Database {
-            places: BTreeMap::new(alloc),
+            places: Places::new(alloc),
             ids: Vec::new(alloc),
             closure: Closure::new(alloc),
             occupied: 0,
@@ -80,7 +79,7 @@ impl Database {
         self.places.insert(id, place)?;
         match self.closure.attach(constraint) {
             Err(_) => {
-                self.places.remove(&id);
+                self.places.remove(id);
                 return Err(AllocError);
             }
             Ok(()) => {}
@@ -90,26 +89,24 @@ impl Database {
         Ok(())
     }
 
-    /// Puts in a copy of the constraint that another database has under an id.
-    fn put_from(&mut self, id: Id, other: &Database) -> Result<(), AllocError>
-        requires { map.get self.old id ≡ None }
-        ensures own { OnOk result (map.get self.new id ≡ map.get other.now id) }
-        ensures others { OnOk result ((k : ℕ) → (k ≡ id → ⊥) → map.get self.new k ≡ map.get self.old k) }
+    /// Puts in a copy of a constraint, if there is one.
+    fn put_copy(&mut self, id: Id, constraint: Option<&Normal>) -> Result<(), AllocError>
+        requires { IsSome constraint → map.get self.old id ≡ None }
+        ensures { OnOk result (MatchOption (option_copied constraint.entry) (self.new ≡ self.old) (λ n. self.new ≡ map.insert self.old id n)) }
     {
-        let Some(constraint) = other.get(id) else {
+        let Some(constraint) = constraint else {
             return Ok(());
         };
-        self.put(id, constraint.copy(self.alloc)?)?;
-        Ok(())
+        self.put(id, constraint.copy(self.alloc)?)
     }
 
-    /// Puts in copies of the constraints of another database, where there is none yet.
+    /// Puts in copies of the constraints of another database, place by place, where there is none yet.
     fn fill_from(&mut self, other: &Database) -> Result<(), AllocError>
         requires { self.old ≡ map.empty }
         ensures { OnOk result (self.new ≡ other.now) }
     {
-        for (id, _) in other.places.iter() {
-            self.put_from(*id, other)?;
+        for place in 0..other.ids.len() {
+            self.put_copy(other.ids[place], other.closure.get(place))?;
         }
         Ok(())
     }
@@ -148,7 +145,7 @@ impl Database {
         ensures value { result ≡ map.get self.old id }
         ensures removed { self.new ≡ map.remove self.old id }
     {
-        let place = self.places.remove(&id)?;
+        let place = self.places.remove(id)?;
         let size = self.closure.term_count(place).saturating_add(1);
         self.occupied = self.occupied.saturating_sub(size);
         self.vacant = self.vacant.saturating_add(size);
@@ -159,7 +156,7 @@ impl Database {
     pub(crate) fn get(&self, id: Id) -> Option<&Normal>
         ensures { option_copied result ≡ map.get self.now id }
     {
-        let place = *self.places.get(&id)?;
+        let place = self.places.get(id)?;
         self.closure.get(place)
     }
 
@@ -180,8 +177,8 @@ impl Database {
         self.closure.refute(extras)
     }
 
-    /// What a listing extends to: `Conflict` exactly where it has a literal and its opposite or a chain from it leads
-    /// to a broken constraint, else exactly the given and forced literals, each once.
+    /// What an assignment extends to: `Conflict` exactly where it has a literal and its opposite or a chain from it leads
+    /// to a falsified constraint, else exactly the given and forced literals, each once.
     pub(crate) fn extend(&mut self, given: &[Lit]) -> Result<Reach, AllocError>
         ensures content { self.new ≡ self.old }
         ensures value { IfOk result (IsReach (map.values self.old) given.now) }
@@ -189,7 +186,7 @@ impl Database {
         self.closure.extend(given)
     }
 
-    /// A chain from a listing without opposites, with the ids of its reasons, to a broken constraint or to the end.
+    /// A chain from an assignment without opposites, with the ids of its reasons, to a falsified constraint or to the end.
     pub(crate) fn trace(&mut self, given: &[Lit]) -> Result<Trace, AllocError>
         requires { IsConsistent given.now }
         ensures content { self.new ≡ self.old }
@@ -199,7 +196,7 @@ impl Database {
         trace_of(self.alloc, chain, self.ids.as_slice())
     }
 
-    /// The same for a listing and one literal more, where what follows from the listing alone may be left out.
+    /// The same for an assignment and one literal more, where what follows from the assignment alone may be left out.
     pub(crate) fn trace_last(&mut self, before: &[Lit], last: Lit) -> Result<Trace, AllocError>
         requires { IsConsistent (before.now ++ last ∷ []) }
         ensures content { self.new ≡ self.old }
@@ -213,13 +210,6 @@ impl Database {
     pub(crate) fn after(&self, id: Id) -> Option<Id>
         ensures { IsLeastAbove self.now id result }
     {
-        match self
-            .places
-            .range((Bound::Excluded(id), Bound::Unbounded))
-            .next()
-        {
-            Some((next, _)) => Some(*next),
-            None => None,
-        }
+        self.places.after(id)
     }
 }

@@ -1,4 +1,4 @@
-//! What a listing of literals extends to.
+//! What an assignment of literals extends to.
 //!
 //! The trail has what is given and what is forced with it, in whatever order they came: each chain from what is given
 //! alone reaches what is there, so that the walk ends where a walk from the given literals would.

@@ -22,7 +22,7 @@ pub(crate) fn attach_waiting(
 ) -> Result<(), AllocError>
     requires count { queue.old.1 ≡ length ledger.old.slots }
     requires looked_at { AreLookedAt (shown ledger.old.slots) ledger.old.propagated queue.old.0 }
-    ensures listing { ledger.new.listing ≡ ledger.old.listing }
+    ensures assigned { ledger.new.assigned ≡ ledger.old.assigned }
     ensures propagated { ledger.new.propagated ≡ ledger.old.propagated }
     ensures reasons { ledger.new.reasons ≡ ledger.old.reasons }
     ensures count { queue.new.1 ≡ length ledger.new.slots }
@@ -54,7 +54,7 @@ pub(crate) fn attach_all(
 ) -> Result<(), AllocError>
     requires count { queue.old.1 ≡ length ledger.old.slots }
     requires looked_at { AreLookedAt (shown ledger.old.slots) ledger.old.propagated queue.old.0 }
-    ensures listing { ledger.new.listing ≡ ledger.old.listing }
+    ensures assigned { ledger.new.assigned ≡ ledger.old.assigned }
     ensures propagated { ledger.new.propagated ≡ ledger.old.propagated }
     ensures reasons { ledger.new.reasons ≡ ledger.old.reasons }
     ensures count { queue.new.1 ≡ length ledger.new.slots }
@@ -73,7 +73,7 @@ pub(crate) fn detach_from(ledger: &mut Ledger, count: usize)
     requires count { count ≤ length ledger.old.slots }
     requires live { (k : ℕ) → count ≤ k → k < length ledger.old.slots
         → IsSome (slice_index_or ledger.old.slots k None) }
-    requires reasons { (k place : ℕ) → k < length ledger.old.listing
+    requires reasons { (k place : ℕ) → k < length ledger.old.assigned
         → slice_index_or ledger.old.reasons k None ≡ Some place → place < count }
     ensures { ledger.new ≡ record ledger.old { slots = take count ledger.old.slots } }
 {

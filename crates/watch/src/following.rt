@@ -1,8 +1,8 @@
-//! Given literals, followed from where a listing parts from the one before.
+//! Given literals, followed from where an assignment parts from the one before.
 //!
-//! Literals above that are taken back with what they forced, and each constraint that they leave to force something
+//! Literals above that are backtracked with what they forced, and each constraint that they leave to force something
 //! waits again; the others are given one by one, each with what it forces. So what is kept never depends on what a
-//! listing had in place of another.
+//! assignment had in place of another.
 
 ghost use Rattle.std.specs.Prelude.{◌≡◌, ◌<◌, ◌≤◌, ◌⊎◌, ◌++◌, ◌∷◌, [], ℕ, List, false, All, IfOk, OnErr, OnOk, length, take};
 ghost use Rattle.linear.specs.declared.term.Lit.{Lit};
@@ -10,16 +10,16 @@ ghost use Rattle.linear.specs.Literal.{opposite};
 ghost use Rattle.propagate.specs.Literals.{lists};
 ghost use Rattle.watch.specs.Givens.{IsDecided, IsPushed};
 ghost use Rattle.watch.specs.Looking.{AreLookedAt, GoesOn};
-ghost use Rattle.watch.specs.Keeping.{IsAscent, IsKept, IsSettledOrBroken, broken_place};
+ghost use Rattle.watch.specs.Keeping.{IsAscent, IsKept, IsFixpointOrFalsified, falsified_place};
 ghost use Rattle.ledger.specs.Ledgers.{shown};
 ghost use Rattle.watch.specs.Steps.{AreGiven};
-ghost use Rattle.propagate.specs.Chain.{IsSettled};
+ghost use Rattle.propagate.specs.Chain.{IsFixpoint};
 
 use super::ascent::Ascent;
 use super::giving::give;
 use super::levels::Levels;
-use super::release::take_back_to;
-use super::walk::settle;
+use super::release::backtrack_to;
+use super::walk::propagate_all;
 use ledger::{Ledger, Queue};
 use linear::Lit;
 use std::alloc::AllocError;
@@ -34,12 +34,12 @@ pub(crate) fn go_back(ledger: &mut Ledger, queue: &mut Queue, levels: &mut Level
     ensures kept { IsKept ledger.new levels.new queue.new.0 queue.new.1 }
 {
     let end = ledger.len();
-    take_back_to(ledger, queue, levels.height(level, end));
+    backtrack_to(ledger, queue, levels.height(level, end));
     levels.truncate(level);
 }
 
-/// Adds what is forced, up to a constraint that is broken, whatever levels there are.
-fn settle_kept(ledger: &mut Ledger, queue: &mut Queue) -> Result<Ascent, AllocError>
+/// Adds what is forced, up to a constraint that is falsified, whatever levels there are.
+fn propagate_kept(ledger: &mut Ledger, queue: &mut Queue) -> Result<Ascent, AllocError>
     requires count { queue.old.1 ≡ length ledger.old.slots }
     requires looked_at { AreLookedAt (shown ledger.old.slots) ledger.old.propagated queue.old.0 }
     ensures slots { ledger.new.slots ≡ ledger.old.slots }
@@ -47,15 +47,15 @@ fn settle_kept(ledger: &mut Ledger, queue: &mut Queue) -> Result<Ascent, AllocEr
     ensures goes_on { GoesOn ledger.old ledger.new }
     ensures kept { (levels : List Lit × List ℕ) → IsKept ledger.old levels queue.old.0 queue.old.1
         → IsKept ledger.new levels queue.new.0 queue.new.1 }
-    ensures broken { IfOk result (λ a. IsSettledOrBroken (shown ledger.old.slots) ledger.new.listing (broken_place a)) }
+    ensures falsified { IfOk result (λ a. IsFixpointOrFalsified (shown ledger.old.slots) ledger.new.assigned (falsified_place a)) }
     ensures end { (levels : List Lit × List ℕ) → IsKept ledger.old levels queue.old.0 queue.old.1
-        → IfOk result (IsAscent (shown ledger.old.slots) levels.0 ledger.new.listing) }
+        → IfOk result (IsAscent (shown ledger.old.slots) levels.0 ledger.new.assigned) }
 {
     ledger.reveal();
-    let broken = settle(ledger, queue);
+    let falsified = propagate_all(ledger, queue);
     ledger.reveal();
-    match broken? {
-        Some(place) => Ok(Ascent::Broken(place)),
+    match falsified? {
+        Some(place) => Ok(Ascent::Falsified(place)),
         None => Ok(Ascent::Whole),
     }
 }
@@ -63,12 +63,12 @@ fn settle_kept(ledger: &mut Ledger, queue: &mut Queue) -> Result<Ascent, AllocEr
 /// One level more, where the opposite of its literal is not there.
 fn open_level(ledger: &mut Ledger, levels: &mut Levels, literal: Lit) -> Result<(), AllocError>
     requires variable { literal.var.0 < ledger.old.variables }
-    requires free { lists ledger.old.listing (opposite literal) ≡ false }
+    requires free { lists ledger.old.assigned (opposite literal) ≡ false }
     ensures slots { ledger.new.slots ≡ ledger.old.slots }
     ensures variables { ledger.new.variables ≡ ledger.old.variables }
     ensures levels { OnOk result (levels.new.0 ≡ levels.old.0 ++ literal ∷ []) }
     ensures no_levels { OnErr result (levels.new ≡ levels.old) }
-    ensures pushed { OnOk result (lists ledger.old.listing literal ≡ false → IsPushed ledger.old ledger.new literal) }
+    ensures pushed { OnOk result (lists ledger.old.assigned literal ≡ false → IsPushed ledger.old ledger.new literal) }
     ensures kept { (queue : List ℕ × ℕ) → IsKept ledger.old levels.old queue.0 queue.1
         → IsKept ledger.new levels.new queue.0 queue.1 }
 {
@@ -91,14 +91,14 @@ fn step_up(
     ensures variables { ledger.new.variables ≡ ledger.old.variables }
     ensures levels { (levels.new.0 ≡ levels.old.0) ⊎ (levels.new.0 ≡ levels.old.0 ++ literal ∷ []) }
     ensures kept { IsKept ledger.new levels.new queue.new.0 queue.new.1 }
-    ensures end { IfOk result (IsAscent (shown ledger.old.slots) (levels.old.0 ++ literal ∷ []) ledger.new.listing) }
+    ensures end { IfOk result (IsAscent (shown ledger.old.slots) (levels.old.0 ++ literal ∷ []) ledger.new.assigned) }
     ensures whole { IfOk result (λ a. a ≡ Ascent.Whole → levels.new.0 ≡ levels.old.0 ++ literal ∷ []) }
 {
     if ledger.has(literal.opposite()) {
         return Ok(Ascent::Clash);
     }
     open_level(ledger, levels, literal)?;
-    settle_kept(ledger, queue)
+    propagate_kept(ledger, queue)
 }
 
 /// Gives a literal that is free, with what is forced then.
@@ -110,18 +110,18 @@ pub(crate) fn decide(
 ) -> Result<Ascent, AllocError>
     requires kept { IsKept ledger.old levels.old queue.old.0 queue.old.1 }
     requires variable { literal.var.0 < ledger.old.variables }
-    requires unset { lists ledger.old.listing literal ≡ false }
-    requires opposite_unset { lists ledger.old.listing (opposite literal) ≡ false }
+    requires unset { lists ledger.old.assigned literal ≡ false }
+    requires opposite_unset { lists ledger.old.assigned (opposite literal) ≡ false }
     ensures slots { ledger.new.slots ≡ ledger.old.slots }
     ensures kept { IsKept ledger.new levels.new queue.new.0 queue.new.1 }
     ensures decided { OnOk result (IsDecided ledger.old ledger.new literal) }
-    ensures broken { IfOk result (λ a. IsSettledOrBroken (shown ledger.old.slots) ledger.new.listing (broken_place a)) }
+    ensures falsified { IfOk result (λ a. IsFixpointOrFalsified (shown ledger.old.slots) ledger.new.assigned (falsified_place a)) }
 {
     open_level(ledger, levels, literal)?;
-    settle_kept(ledger, queue)
+    propagate_kept(ledger, queue)
 }
 
-/// Gives the literals of a listing that are still to come.
+/// Gives the literals of an assignment that are still to come.
 fn climb(
     ledger: &mut Ledger,
     queue: &mut Queue,
@@ -132,12 +132,12 @@ fn climb(
     requires variables { All (λ l. l.var.0 < ledger.old.variables) given.now }
     requires short { length levels.old.0 ≤ length given.now }
     requires first { levels.old.0 ≡ take (length levels.old.0) given.now }
-    requires settled { IsSettled (shown ledger.old.slots) ledger.old.listing }
+    requires fixpoint { IsFixpoint (shown ledger.old.slots) ledger.old.assigned }
     ensures slots { ledger.new.slots ≡ ledger.old.slots }
     ensures variables { ledger.new.variables ≡ ledger.old.variables }
     ensures first { levels.new.0 ≡ take (length levels.new.0) given.now }
     ensures kept { IsKept ledger.new levels.new queue.new.0 queue.new.1 }
-    ensures end { IfOk result (IsAscent (shown ledger.old.slots) given.now ledger.new.listing) }
+    ensures end { IfOk result (IsAscent (shown ledger.old.slots) given.now ledger.new.assigned) }
 {
     for index in levels.count()..given.len() {
         let ascent = step_up(ledger, queue, levels, given[index])?;
@@ -148,7 +148,7 @@ fn climb(
     Ok(Ascent::Whole)
 }
 
-/// Gives the literals of a listing, from where it parts from the one before.
+/// Gives the literals of an assignment, from where it parts from the one before.
 pub(crate) fn follow(
     ledger: &mut Ledger,
     queue: &mut Queue,
@@ -160,13 +160,13 @@ pub(crate) fn follow(
     ensures slots { ledger.new.slots ≡ ledger.old.slots }
     ensures variables { ledger.new.variables ≡ ledger.old.variables }
     ensures kept { IsKept ledger.new levels.new queue.new.0 queue.new.1 }
-    ensures given { AreGiven ledger.new.listing ledger.new.reasons given.now }
-    ensures end { IfOk result (IsAscent (shown ledger.old.slots) given.now ledger.new.listing) }
+    ensures given { AreGiven ledger.new.assigned ledger.new.reasons given.now }
+    ensures end { IfOk result (IsAscent (shown ledger.old.slots) given.now ledger.new.assigned) }
 {
     go_back(ledger, queue, levels, levels.agreement(given));
-    let settled = settle_kept(ledger, queue);
+    let fixpoint = propagate_kept(ledger, queue);
     ledger.reveal();
-    let ascent = settled?;
+    let ascent = fixpoint?;
     if !ascent.is_whole() {
         return Ok(ascent);
     }

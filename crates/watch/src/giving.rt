@@ -14,11 +14,11 @@ use linear::Lit;
 /// Takes a literal as true, unless it is there. Its opposite is not.
 pub(crate) fn give(ledger: &mut Ledger, literal: Lit)
     requires variable { literal.var.0 < ledger.old.variables }
-    requires free { lists ledger.old.listing (opposite literal) ≡ false }
+    requires free { lists ledger.old.assigned (opposite literal) ≡ false }
     ensures given { IsGiven ledger.old ledger.new (literal ∷ []) }
     ensures propagated { ledger.new.propagated ≡ ledger.old.propagated }
-    ensures there { lists ledger.new.listing literal ≡ true }
-    ensures pushed { lists ledger.old.listing literal ≡ false → IsPushed ledger.old ledger.new literal }
+    ensures there { lists ledger.new.assigned literal ≡ true }
+    ensures pushed { lists ledger.old.assigned literal ≡ false → IsPushed ledger.old ledger.new literal }
 {
     if ledger.has(literal) {
         return;

@@ -1,6 +1,6 @@
 //! The literals that were given last, and how high the trail stood before each.
 //!
-//! A listing that begins as the last one did goes on from where they part, so that a search that decides one literal
+//! An assignment that begins as the last one did goes on from where they part, so that a search that decides one literal
 //! more pays for what that one forces.
 
 ghost use Rattle.std.specs.Prelude.{◌≡◌, ◌≤◌, ◌++◌, ◌∷◌, [], OnErr, OnOk, length, slice_index_or, take};
@@ -55,7 +55,7 @@ impl Levels {
         }
     }
 
-    /// How many literals at the beginning of a listing are the first ones here.
+    /// How many literals at the beginning of an assignment are the first ones here.
     pub(crate) fn agreement(&self, given: &[Lit]) -> usize
         ensures few { result ≤ length self.now.0 }
         ensures same { take result self.now.0 ≡ take result given.now }

@@ -1,11 +1,11 @@
 //! A propagator that is fast: it keeps what it has found between calls, and a call costs what it touches.
 //!
-//! Over the single steps of a ledger stand the walks: forced literals are added until nothing waits or a constraint is broken,
-//! given literals are followed from where a listing parts from the one before, and the trail is told as a chain with reasons.
+//! Over the single steps of a ledger stand the walks: forced literals are added until nothing waits or a constraint is falsified,
+//! given literals are followed from where an assignment parts from the one before, and the trail is told as a chain with reasons.
 //! Places of constraints end here: what is asked and answered has their ids.
 //!
 //! It is a layer of its own since what it says is the one contract of all propagators, about what constraints refute, extend and
-//! trace. Whether a place has to be looked at, and how that is found out, is settled below.
+//! trace. Whether a place has to be looked at, and how that is found out, is decided below.
 #![tactic(auto)]
 
 mod ascent;
@@ -20,6 +20,7 @@ mod giving;
 mod lending;
 mod levels;
 mod naming;
+mod places;
 mod refutation;
 mod release;
 mod telling;

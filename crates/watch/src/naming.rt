@@ -23,15 +23,15 @@ fn with_ids(alloc: Global, steps: &[Step], ids: &[Id]) -> Result<Vec<(Lit, Id)>,
     Ok(forced)
 }
 
-/// A chain with ids for the places of its reasons, and of what is broken at its end.
+/// A chain with ids for the places of its reasons, and of what is falsified at its end.
 pub(crate) fn trace_of(alloc: Global, chain: Chain, ids: &[Id]) -> Result<Trace, AllocError>
     requires steps { All (λ s. s.place < length ids.now) chain.steps.items }
-    requires broken { IfSome chain.broken (λ place. place < length ids.now) }
+    requires falsified { IfSome chain.falsified (λ place. place < length ids.now) }
     ensures { IfOk result (IsTraceOf ids.now chain) }
 {
-    let Chain { steps, broken } = chain;
+    let Chain { steps, falsified } = chain;
     Ok(Trace {
         forced: Seq::from_vec(with_ids(alloc, steps.as_slice(), ids)?),
-        conflict: broken.map(|place| ids[place]),
+        conflict: falsified.map(|place| ids[place]),
     })
 }

@@ -2,34 +2,34 @@
 //!
 //! What the constraints force from nothing stands at the bottom of the trail. Extra constraints are attached at the
 //! end as any others, and the walk goes on from there: so it costs what they touch. Afterwards the literals above the
-//! bottom are taken back and the extra constraints taken off, and nothing of them is left.
+//! bottom are backtracked and the extra constraints taken off, and nothing of them is left.
 
 ghost use Rattle.std.specs.Prelude.{◌≡◌, ◌↔◌, ◌≤◌, ◌++◌, IfOk, IsTrue, Some, List, length, map, take};
 ghost use Rattle.normal_form.specs.Normal.{NormalConstraint};
-ghost use Rattle.propagate.specs.Chain.{IsRefuted, IsSettled};
+ghost use Rattle.propagate.specs.Chain.{IsRefuted, IsFixpoint};
 ghost use Rattle.ledger.specs.Ledgers.{shown};
 ghost use Rattle.watch.specs.Looking.{GoesOn};
 ghost use Rattle.watch.specs.Roots.{IsRoot};
 
 use super::extras::{attach_all, detach_from};
-use super::walk::{settle, undo};
+use super::walk::{backtrack_quietly, propagate_all};
 use ledger::{Ledger, Queue};
 use normal_form::Normal;
 use std::alloc::{AllocError, Global};
 
 /// Whether the constraints are refuted. What they force from nothing is then found.
-fn settle_root(ledger: &mut Ledger, queue: &mut Queue) -> Result<bool, AllocError>
+fn propagate_root(ledger: &mut Ledger, queue: &mut Queue) -> Result<bool, AllocError>
     requires { IsRoot ledger.old queue.old.0 queue.old.1 }
     ensures value { IfOk result (λ yes. IsTrue yes ↔ IsRefuted (shown ledger.old.slots)) }
     ensures goes_on { GoesOn ledger.old ledger.new }
     ensures root { IsRoot ledger.new queue.new.0 queue.new.1 }
-    ensures settled { IfOk result (λ yes. (IsTrue yes → ⊥)
-        → IsSettled (shown ledger.new.slots) ledger.new.listing) }
-    ensures propagated { IfOk result (λ yes. (IsTrue yes → ⊥) → ledger.new.propagated ≡ ledger.new.listing) }
+    ensures fixpoint { IfOk result (λ yes. (IsTrue yes → ⊥)
+        → IsFixpoint (shown ledger.new.slots) ledger.new.assigned) }
+    ensures propagated { IfOk result (λ yes. (IsTrue yes → ⊥) → ledger.new.propagated ≡ ledger.new.assigned) }
     ensures first { take (length ledger.old.propagated) ledger.new.propagated ≡ ledger.old.propagated }
 {
     ledger.reveal();
-    Ok(settle(ledger, queue)?.is_some())
+    Ok(propagate_all(ledger, queue)?.is_some())
 }
 
 /// Attaches constraints, and decides whether all are refuted. What stood before comes first.
@@ -41,19 +41,19 @@ fn decide_beside(
 ) -> Result<bool, AllocError>
     requires { IsRoot ledger.old queue.old.0 queue.old.1 }
     ensures value { IfOk result (λ yes. IsTrue yes ↔ IsRefuted (shown ledger.old.slots ++ extras.now)) }
-    ensures literals { take (length ledger.old.listing) ledger.new.listing ≡ ledger.old.listing }
+    ensures literals { take (length ledger.old.assigned) ledger.new.assigned ≡ ledger.old.assigned }
     ensures first { take (length ledger.old.propagated) ledger.new.propagated ≡ ledger.old.propagated }
-    ensures more_literals { length ledger.old.listing ≤ length ledger.new.listing }
-    ensures reasons { take (length ledger.old.listing) ledger.new.reasons ≡ ledger.old.reasons }
+    ensures more_literals { length ledger.old.assigned ≤ length ledger.new.assigned }
+    ensures reasons { take (length ledger.old.assigned) ledger.new.reasons ≡ ledger.old.reasons }
     ensures slots { (added : List NormalConstraint) × (ledger.new.slots ≡ ledger.old.slots ++ map Some added) }
     ensures count { queue.new.1 ≡ length ledger.new.slots }
 {
     ledger.reveal();
     attach_all(alloc, ledger, queue, extras)?;
-    settle_root(ledger, queue)
+    propagate_root(ledger, queue)
 }
 
-/// Whether settled constraints are refuted beside others. What stood before stands again.
+/// Whether fixpoint constraints are refuted beside others. What stood before stands again.
 fn refute_beside(
     alloc: Global,
     ledger: &mut Ledger,
@@ -61,8 +61,8 @@ fn refute_beside(
     extras: &[Normal],
 ) -> Result<bool, AllocError>
     requires root { IsRoot ledger.old queue.old.0 queue.old.1 }
-    requires settled { IsSettled (shown ledger.old.slots) ledger.old.listing }
-    requires propagated { ledger.old.propagated ≡ ledger.old.listing }
+    requires fixpoint { IsFixpoint (shown ledger.old.slots) ledger.old.assigned }
+    requires propagated { ledger.old.propagated ≡ ledger.old.assigned }
     ensures slots { ledger.new.slots ≡ ledger.old.slots }
     ensures root { IsRoot ledger.new queue.new.0 queue.new.1 }
     ensures value { IfOk result (λ yes. IsTrue yes ↔ IsRefuted (shown ledger.old.slots ++ extras.now)) }
@@ -70,7 +70,7 @@ fn refute_beside(
     let root = ledger.len();
     let count = ledger.count();
     let answer = decide_beside(alloc, ledger, queue, extras);
-    undo(ledger, root);
+    backtrack_quietly(ledger, root);
     detach_from(ledger, count);
     queue.clear(count);
     answer
@@ -88,7 +88,7 @@ pub(crate) fn refute_anew(
     ensures root { IsRoot ledger.new queue.new.0 queue.new.1 }
     ensures value { IfOk result (λ yes. IsTrue yes ↔ IsRefuted (shown ledger.old.slots ++ extras.now)) }
 {
-    if settle_root(ledger, queue)? {
+    if propagate_root(ledger, queue)? {
         return Ok(true);
     }
     refute_beside(alloc, ledger, queue, extras)

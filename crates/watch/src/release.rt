@@ -1,4 +1,4 @@
-//! Literals that stood on a constraint, taken back before it goes.
+//! Literals that stood on a constraint, backtracked before it goes.
 //!
 //! What is forced from nothing is kept between calls, and each literal has the constraint that forced it. Those
 //! before the first that stands on the constraint are a chain without it, so they stay; the first and all after it
@@ -15,42 +15,42 @@ ghost use Rattle.watch.specs.Roots.{IsRoot};
 use ledger::{Ledger, Queue};
 
 /// Takes the last literal back, if there is one, and queues the constraints that may force it, where it was propagated.
-fn take_back_one(ledger: &mut Ledger, queue: &mut Queue)
+fn backtrack_one(ledger: &mut Ledger, queue: &mut Queue)
     requires count { queue.old.1 ≡ length ledger.old.slots }
     requires looked_at { AreLookedAt (shown ledger.old.slots) ledger.old.propagated queue.old.0 }
     ensures slots { ledger.new.slots ≡ ledger.old.slots }
     ensures variables { ledger.new.variables ≡ ledger.old.variables }
-    ensures literals { length ledger.new.listing ≡ length ledger.old.listing - 1 }
-    ensures listing { ledger.new.listing ≡ take (length ledger.new.listing) ledger.old.listing }
-    ensures reasons { ledger.new.reasons ≡ take (length ledger.new.listing) ledger.old.reasons }
+    ensures literals { length ledger.new.assigned ≡ length ledger.old.assigned - 1 }
+    ensures assigned { ledger.new.assigned ≡ take (length ledger.new.assigned) ledger.old.assigned }
+    ensures reasons { ledger.new.reasons ≡ take (length ledger.new.assigned) ledger.old.reasons }
     ensures count { queue.new.1 ≡ queue.old.1 }
     ensures looked_at { AreLookedAt (shown ledger.old.slots) ledger.new.propagated queue.new.0 }
 {
     ledger.reveal();
     if !ledger.is_propagated() {
-        ledger.take_back();
+        ledger.unassign_last();
         return;
     }
-    if let Some(literal) = ledger.take_back() {
+    if let Some(literal) = ledger.unassign_last() {
         ledger.queue_places(literal, queue);
     }
 }
 
 /// Takes all literals but the first ones back, and queues the constraints that may force one of them.
-pub(crate) fn take_back_to(ledger: &mut Ledger, queue: &mut Queue, count: usize)
-    requires count { count ≤ length ledger.old.listing }
+pub(crate) fn backtrack_to(ledger: &mut Ledger, queue: &mut Queue, count: usize)
+    requires count { count ≤ length ledger.old.assigned }
     requires places { queue.old.1 ≡ length ledger.old.slots }
     requires looked_at { AreLookedAt (shown ledger.old.slots) ledger.old.propagated queue.old.0 }
     ensures slots { ledger.new.slots ≡ ledger.old.slots }
     ensures variables { ledger.new.variables ≡ ledger.old.variables }
-    ensures listing { ledger.new.listing ≡ take count ledger.old.listing }
+    ensures assigned { ledger.new.assigned ≡ take count ledger.old.assigned }
     ensures reasons { ledger.new.reasons ≡ take count ledger.old.reasons }
     ensures places { queue.new.1 ≡ queue.old.1 }
     ensures looked_at { AreLookedAt (shown ledger.old.slots) ledger.new.propagated queue.new.0 }
 {
     ledger.reveal();
     while ledger.len() > count {
-        take_back_one(ledger, queue);
+        backtrack_one(ledger, queue);
     }
 }
 
@@ -59,10 +59,10 @@ pub(crate) fn take_back_to(ledger: &mut Ledger, queue: &mut Queue, count: usize)
 fn forced_before(ledger: &Ledger, place: usize, index: usize, count: usize) -> usize
     requires place { place < length ledger.now.slots }
     requires index { index < length (constraint_at (shown ledger.now.slots) place).terms }
-    requires count { count ≤ length ledger.now.listing }
+    requires count { count ≤ length ledger.now.assigned }
     ensures fewer { result ≤ count }
     ensures none { (k : ℕ) (d : Lit) → k < result → slice_index_or ledger.now.reasons k None ≡ Some place
-        → (slice_index_or ledger.now.listing k d).var.0
+        → (slice_index_or ledger.now.assigned k d).var.0
         ≡ (term_at (shown ledger.now.slots) place index).var.0 → ⊥ }
 {
     let position = ledger.position(ledger.term(place, index).var.0 as usize);
@@ -76,8 +76,8 @@ fn forced_before(ledger: &Ledger, place: usize, index: usize, count: usize) -> u
 /// How many literals stand before the first whose reason is the constraint of a place: one of its own.
 fn count_before(ledger: &Ledger, place: usize) -> usize
     requires { place < length ledger.now.slots }
-    ensures few { result ≤ length ledger.now.listing }
-    ensures as_many { length ledger.now.reasons ≡ length ledger.now.listing }
+    ensures few { result ≤ length ledger.now.assigned }
+    ensures as_many { length ledger.now.reasons ≡ length ledger.now.assigned }
     ensures none { (k : ℕ) → k < result → slice_index_or ledger.now.reasons k None ≡ Some place → ⊥ }
 {
     let mut count = ledger.len();
@@ -94,9 +94,9 @@ pub(crate) fn release(ledger: &mut Ledger, queue: &mut Queue, place: usize)
     requires place { place < length ledger.old.slots }
     ensures slots { ledger.new.slots ≡ ledger.old.slots }
     ensures root { IsRoot ledger.new queue.new.0 queue.new.1 }
-    ensures reasons { (k : ℕ) → k < length ledger.new.listing
+    ensures reasons { (k : ℕ) → k < length ledger.new.assigned
         → slice_index_or ledger.new.reasons k None ≡ Some place → ⊥ }
 {
     let count = count_before(ledger, place);
-    take_back_to(ledger, queue, count);
+    backtrack_to(ledger, queue, count);
 }

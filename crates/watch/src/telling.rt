@@ -2,7 +2,7 @@
 //!
 //! What the constraints force from nothing stands below the given literals on the trail, but is told behind them.
 //! There each literal is forced still, by the same constraint; or it is given itself, and is left out; or its
-//! opposite is given, and then its constraint is broken, and the chain ends.
+//! opposite is given, and then its constraint is falsified, and the chain ends.
 
 ghost use Rattle.std.specs.Prelude.{◌≡◌, ◌+◌, ◌<◌, ◌≤◌, ◌++◌, ◌∷◌, [], All, IfOk, MatchOption, length, take};
 ghost use Rattle.propagate.specs.Literals.{IsConsistent, SameLiterals};
@@ -41,19 +41,19 @@ pub(crate) fn marks_of(alloc: Global, count: usize, given: &[Lit]) -> Result<Tra
     Ok(marks)
 }
 
-/// Tells one literal of the trail more; the place of its constraint where that is broken.
+/// Tells one literal of the trail more; the place of its constraint where that is falsified.
 fn tell(
     ledger: &Ledger,
     given: &Trail,
     index: usize,
     steps: &mut Vec<Step>,
 ) -> Result<Option<usize>, AllocError>
-    requires index { index < length ledger.now.listing }
+    requires index { index < length ledger.now.assigned }
     requires wide { ledger.now.variables ≤ given.now.1 }
-    requires given { AreGiven ledger.now.listing ledger.now.reasons given.now.0 }
-    requires told { IsTold (shown ledger.now.slots) given.now.0 (take index ledger.now.listing) steps.old.items }
-    ensures { IfOk result (λ broken. MatchOption broken
-        (IsTold (shown ledger.now.slots) given.now.0 (take (index + 1) ledger.now.listing) steps.new.items)
+    requires given { AreGiven ledger.now.assigned ledger.now.reasons given.now.0 }
+    requires told { IsTold (shown ledger.now.slots) given.now.0 (take index ledger.now.assigned) steps.old.items }
+    ensures { IfOk result (λ falsified. MatchOption falsified
+        (IsTold (shown ledger.now.slots) given.now.0 (take (index + 1) ledger.now.assigned) steps.new.items)
         (LeadsTo (shown ledger.now.slots) given.now.0 steps.new.items)) }
 {
     ledger.reveal();
@@ -72,21 +72,21 @@ fn tell(
     Ok(None)
 }
 
-/// Tells the trail, as far as to a constraint that is broken.
+/// Tells the trail, as far as to a constraint that is falsified.
 pub(crate) fn tell_all(alloc: Global, ledger: &Ledger, given: &Trail) -> Result<Chain, AllocError>
     requires wide { ledger.now.variables ≤ given.now.1 }
-    requires given { AreGiven ledger.now.listing ledger.now.reasons given.now.0 }
-    ensures { IfOk result (IsToldTo (shown ledger.now.slots) given.now.0 ledger.now.listing) }
+    requires given { AreGiven ledger.now.assigned ledger.now.reasons given.now.0 }
+    ensures { IfOk result (IsToldTo (shown ledger.now.slots) given.now.0 ledger.now.assigned) }
 {
     let mut steps = Vec::new(alloc);
     for index in 0..ledger.len() {
-        let broken = tell(ledger, given, index, &mut steps)?;
-        if broken.is_some() {
-            return Ok(Chain { steps, broken });
+        let falsified = tell(ledger, given, index, &mut steps)?;
+        if falsified.is_some() {
+            return Ok(Chain { steps, falsified });
         }
     }
     Ok(Chain {
         steps,
-        broken: None,
+        falsified: None,
     })
 }

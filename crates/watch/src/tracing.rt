@@ -2,7 +2,7 @@
 
 ghost use Rattle.std.specs.Prelude.{◌≡◌, IfOk, MatchOption, Some};
 ghost use Rattle.propagate.specs.Literals.{IsConsistent};
-ghost use Rattle.watch.specs.Keeping.{IsKept, broken_place};
+ghost use Rattle.watch.specs.Keeping.{IsKept, falsified_place};
 ghost use Rattle.ledger.specs.Ledgers.{shown};
 ghost use Rattle.watch.specs.Steps.{IsFound};
 
@@ -16,31 +16,31 @@ use linear::Lit;
 use propagate::literal_count;
 use std::alloc::{AllocError, Global};
 
-/// The chain that is told, and where it is not broken, what is broken behind it.
-fn with_end(told: Chain, broken: Option<usize>) -> Chain
+/// The chain that is told, and where it is not falsified, what is falsified behind it.
+fn with_end(told: Chain, falsified: Option<usize>) -> Chain
     ensures steps { result.steps.items ≡ told.steps.items }
-    ensures broken { MatchOption told.broken (result.broken ≡ broken) (λ place. result.broken ≡ Some place) }
+    ensures falsified { MatchOption told.falsified (result.falsified ≡ falsified) (λ place. result.falsified ≡ Some place) }
 {
-    match told.broken {
+    match told.falsified {
         Some(_) => told,
         None => Chain {
             steps: told.steps,
-            broken,
+            falsified,
         },
     }
 }
 
-/// The place of what is broken at the end of a way up.
-pub(crate) fn broken_place(ascent: Ascent) -> Option<usize>
-    ensures { result ≡ broken_place ascent }
+/// The place of what is falsified at the end of a way up.
+pub(crate) fn falsified_place(ascent: Ascent) -> Option<usize>
+    ensures { result ≡ falsified_place ascent }
 {
     match ascent {
-        Ascent::Broken(place) => Some(place),
+        Ascent::Falsified(place) => Some(place),
         Ascent::Whole | Ascent::Clash => None,
     }
 }
 
-/// The chain from given literals, to a broken constraint or to the end, followed from where they part from those
+/// The chain from given literals, to a falsified constraint or to the end, followed from where they part from those
 /// before.
 pub(crate) fn chain_over(
     alloc: Global,
@@ -58,5 +58,5 @@ pub(crate) fn chain_over(
     ledger.widen(alloc, literal_count(given))?;
     let marks = marks_of(alloc, ledger.variable_count(), given)?;
     let ascent = follow(ledger, queue, levels, given)?;
-    Ok(with_end(tell_all(alloc, ledger, &marks)?, broken_place(ascent)))
+    Ok(with_end(tell_all(alloc, ledger, &marks)?, falsified_place(ascent)))
 }

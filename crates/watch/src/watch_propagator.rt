@@ -2,7 +2,7 @@
 //! literals that were given last with what they force.
 //!
 //! What it answers is what the plain propagator answers, since both meet the one contract. What it keeps shows in the time alone: a
-//! listing goes on from where it parts from the last one, and costs the constraints that its literals touch.
+//! assignment goes on from where it parts from the last one, and costs the constraints that its literals touch.
 
 use super::database::Database;
 use super::lending::Occurrences;

@@ -10,19 +10,19 @@ use Rattle.analysis.proofs.biting.forces.Goals as goal
 
 pub returns-then-is_forced : goal.returns-then-is_forced
 returns-then-is_forced c =
-    let listing : List Lit = literals_up_to c.args.level c.args.standing.now in
+    let assigned : List Lit = literals_up_to c.args.level c.args.standing.now in
     let t = c.term-term.result in
-    let can : CanForce listing c.args.slack t.coef (literal_of t) = subst (CanForce listing c.args.slack t.coef) c.literal.ensures (c.is_forced.ensures.0 c.if-is_forced.true) in (
-      λ _. (literal_of t, forced_at listing c.args.constraint.now c.args.slack c.loop-place.place t c.len-place-end.ensures.normal.rises (omega arith) c.term-term.ensures.value c.requires can),
+    let can : CanForce assigned c.args.slack t.coef (literal_of t) = subst (CanForce assigned c.args.slack t.coef) c.literal.ensures (c.is_forced.ensures.0 c.if-is_forced.true) in (
+      λ _. (literal_of t, forced_at assigned c.args.constraint.now c.args.slack c.loop-place.place t c.len-place-end.ensures.normal.rises (omega arith) c.term-term.ensures.value c.requires can),
       λ _. refl,
     )
 
 pub loop-place-preserved : goal.loop-place-preserved
 loop-place-preserved c =
-    let listing : List Lit = literals_up_to c.args.level c.args.standing.now in
+    let assigned : List Lit = literals_up_to c.args.level c.args.standing.now in
     let t = c.term-term.result in
-    none_more (TermForces listing c.args.slack) c.args.constraint.now.terms c.loop-place.place t (omega arith) c.term-term.ensures.value c.loop-place.invariant
-    (λ can. false≢true (sym c.if-is_forced.false ∙ c.is_forced.ensures.1 (subst (CanForce listing c.args.slack t.coef) (sym c.literal.ensures) can)))
+    none_more (TermForces assigned c.args.slack) c.args.constraint.now.terms c.loop-place.place t (omega arith) c.term-term.ensures.value c.loop-place.invariant
+    (λ can. false≢true (sym c.if-is_forced.false ∙ c.is_forced.ensures.1 (subst (CanForce assigned c.args.slack t.coef) (sym c.literal.ensures) can)))
 
 pub returns : goal.returns
 returns c = (

@@ -11,10 +11,10 @@ first = record { var = record { 0 = 0 }; negated = false }
 
 pub loop-literal-preserved : goal.loop-literal-preserved
 loop-literal-preserved c =
-    let listing = c.args.listing.now in
+    let assigned = c.args.assigned.now in
     let place = c.loop-literal.literal-index in
-    let item : Lit = get_or listing place first in
-    let more = sym (take_more listing place first (omega arith)) in (
+    let item : Lit = get_or assigned place first in
+    let more = sym (take_more assigned place first (omega arith)) in (
       ap (literals_up_to 0) c.in_ok-push.ensures.items
           ∙ one_more_at_start c.loop-literal.trail.items c.at_start.result item c.at_start.ensures.literal c.at_start.ensures.level
           ∙ ap (λ xs. xs ++ item ∷ []) c.loop-literal.invariant.0 ∙ more,

@@ -6,8 +6,8 @@ use Rattle.deferred.proofs.settling.settle.Given as goal
 
 abbrev pub invariant-loop-id : goal.invariant-loop-id
 invariant-loop-id g l =
-    AreApart (g.W.Propagator.content l.waiting) (g.P.Propagator.content l.settled)
-    × (joined (g.W.Propagator.content l.waiting) (g.P.Propagator.content l.settled) ≡ joined (g.W.Propagator.content l.fn.waiting) (g.P.Propagator.content l.fn.settled))
+    AreApart l.waiting (g.P.Propagator.content l.settled)
+    × (joined l.waiting (g.P.Propagator.content l.settled) ≡ joined l.fn.waiting (g.P.Propagator.content l.fn.settled))
 
 abbrev pub decreases-loop-id : goal.decreases-loop-id
-decreases-loop-id g l = fin.len (g.W.Propagator.content l.waiting)
+decreases-loop-id g l = fin.len l.waiting

@@ -17,26 +17,26 @@ loop-literal-init c =
 pub loop-literal-preserved : goal.loop-literal-preserved
 loop-literal-preserved c =
     let at = c.loop-literal in
-    let listing : List Lit = c.args.listing.now in
-    let before = take at.literal-index listing in
-    let more = sym (take_more listing at.literal-index first c.loop-literal-test.true) in (
+    let assigned : List Lit = c.args.assigned.now in
+    let before = take at.literal-index assigned in
+    let more = sym (take_more assigned at.literal-index first c.loop-literal-test.true) in (
       subst (λ xs. AreSidesOf xs (length c.args.table.now) c.agrees.new.beyond.plain c.agrees.new.beyond.negated) more (c.in_ok-agrees.ensures.sides before at.invariant.0),
       subst (λ xs. IsApart c.args.table.now xs) more
-          (apart_more c.args.table.now before (get_or listing at.literal-index first) at.invariant.1 ((c.in_ok-agrees.ensures.agrees before at.invariant.0).0 c.if-not-branch.false)),
+          (apart_more c.args.table.now before (get_or assigned at.literal-index first) at.invariant.1 ((c.in_ok-agrees.ensures.agrees before at.invariant.0).0 c.if-not-branch.false)),
     )
 
 pub returns-then-not-branch : goal.returns-then-not-branch
 returns-then-not-branch c =
     let at = c.loop-literal in
-    let listing : List Lit = c.args.listing.now in
-    let l = get_or listing at.literal-index first in (
+    let assigned : List Lit = c.args.assigned.now in
+    let l = get_or assigned at.literal-index first in (
       λ h. absurd (false≢true h),
-      λ consistent. absurd (false≢true (sym c.if-not-branch.true ∙ (c.in_ok-agrees.ensures.agrees (take at.literal-index listing) at.invariant.0).1
-          (consistent_agrees listing c.args.table.now at.literal-index l c.requires consistent (listed_at at.literal-index listing first c.loop-literal-test.true)))),
+      λ consistent. absurd (false≢true (sym c.if-not-branch.true ∙ (c.in_ok-agrees.ensures.agrees (take at.literal-index assigned) at.invariant.0).1
+          (consistent_agrees assigned c.args.table.now at.literal-index l c.requires consistent (listed_at at.literal-index assigned first c.loop-literal-test.true)))),
     )
 
 pub returns : goal.returns
 returns c =
     let at = c.loop-literal in
-    let listing : List Lit = c.args.listing.now in
-    (λ _. apart_consistent c.args.table.now listing (subst (λ xs. IsApart c.args.table.now xs) (take_all at.literal-index listing c.loop-literal-test.false) at.invariant.1), λ _. refl)
+    let assigned : List Lit = c.args.assigned.now in
+    (λ _. apart_consistent c.args.table.now assigned (subst (λ xs. IsApart c.args.table.now xs) (take_all at.literal-index assigned c.loop-literal-test.false) at.invariant.1), λ _. refl)

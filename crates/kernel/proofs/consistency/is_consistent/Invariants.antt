@@ -6,4 +6,4 @@ use Rattle.kernel.proofs.consistency.is_consistent.Given as goal
 
 abbrev pub invariant-loop-literal : goal.invariant-loop-literal
 invariant-loop-literal l =
-    AreSidesOf (take l.literal-index l.listing) (length l.table) l.beyond.plain l.beyond.negated × IsApart l.table (take l.literal-index l.listing)
+    AreSidesOf (take l.literal-index l.assigned) (length l.table) l.beyond.plain l.beyond.negated × IsApart l.table (take l.literal-index l.assigned)

@@ -10,8 +10,8 @@ first = record { var = record { 0 = 0 }; negated = false }
 pub loop-literal-preserved : goal.loop-literal-preserved
 loop-literal-preserved c =
     let at = c.loop-literal in
-    let listing : List Lit = c.args.listing.now in (
+    let assigned : List Lit = c.args.assigned.now in (
       c.note.ensures.length ∙ at.invariant.0,
-      subst (λ xs. IsTableOf xs c.note.new.table.items) (sym (take_more listing at.literal-index first c.loop-literal-test.true))
-          (c.note.ensures.noted (take at.literal-index listing) at.invariant.1),
+      subst (λ xs. IsTableOf xs c.note.new.table.items) (sym (take_more assigned at.literal-index first c.loop-literal-test.true))
+          (c.note.ensures.noted (take at.literal-index assigned) at.invariant.1),
     )

@@ -7,9 +7,9 @@ use Rattle.kernel.proofs.values.values.Goals as goal
 
 pub returns : goal.returns
 returns c =
-    let listing : List Lit = c.args.listing.now in
+    let assigned : List Lit = c.args.assigned.now in
     let table : List (Option Bool) = c.in_ok-table.table.items in
     IfOk-weaker c.all_values.result (λ found. MatchOption found (HasGap c.as_slice.result.now) (λ g. map (λ b. Some b) g ≡ c.as_slice.result.now))
-    (λ found. MatchOption found (LeavesOut c.args.count listing) (GivesAll c.args.count listing))
-    (λ found h. table_read c.args.count listing table found c.in_ok-table.ensures.length c.in_ok-table.ensures.table (subst (λ xs. MatchOption found (HasGap xs) (λ g. map (λ b. Some b) g ≡ xs)) c.as_slice.ensures.value h))
+    (λ found. MatchOption found (LeavesOut c.args.count assigned) (GivesAll c.args.count assigned))
+    (λ found h. table_read c.args.count assigned table found c.in_ok-table.ensures.length c.in_ok-table.ensures.table (subst (λ xs. MatchOption found (HasGap xs) (λ g. map (λ b. Some b) g ≡ xs)) c.as_slice.ensures.value h))
     c.all_values.ensures

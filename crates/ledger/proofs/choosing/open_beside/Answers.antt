@@ -6,7 +6,7 @@ use Rattle.normal_form.specs.declared.term.NormalTerm.{NormalTerm}
 use Rattle.normal_form.specs.Normal.{NormalConstraint}
 use Rattle.propagate.specs.Literals.{lists}
 use Rattle.propagate.specs.Passes.{literal_of}
-use Rattle.ledger.specs.Trails.{assigned}
+use Rattle.ledger.specs.Trails.{on_trail}
 use Rattle.ledger.specs.Watched.{AreOthersFalse, IsFalseBeside, IsOpenBeside}
 use Rattle.ledger.specs.declared.pair.Pair.{Pair}
 use Rattle.std.specs.Prelude.{IfSome, MatchOption}
@@ -27,17 +27,17 @@ loop-index-preserved c =
     elim c.match-open_at.branch [
       | in-Some+else-not-assigns w ↦
           let l : Lit = w.in-Some.literal in
-          let falls : lists (assigned t) (opposite l) ≡ true = ap (lists (assigned t)) (sym w.opposite.ensures) ∙ sym w.assigns.ensures ∙ w.if-not-assigns.false in
+          let falls : lists (on_trail t) (opposite l) ≡ true = ap (lists (on_trail t)) (sym w.opposite.ensures) ∙ sym w.assigns.ensures ∙ w.if-not-assigns.false in
           rw w.chosen-is (record {
             none = λ e. absurd (some_none l e);
-            all = next_false (assigned t) p n.terms c.loop-index.index i.all (λ d a b. subst (λ (m : Lit). lists (assigned t) (opposite m) ≡ true) (w.in-Some.ensures.own d) falls);
+            all = next_false (on_trail t) p n.terms c.loop-index.index i.all (λ d a b. subst (λ (m : Lit). lists (on_trail t) (opposite m) ≡ true) (w.in-Some.ensures.own d) falls);
             chosen = w.in-Some.ensures.value;
           })
       | in_default w ↦
           let now : (d : NormalTerm) → IsFalseBeside t.0 p (literal_of (get_or n.terms c.loop-index.index d)) = w.in_default.ensures.value in
           rw w.chosen-is (record {
             none = λ e. next_false t.0 p n.terms c.loop-index.index (i.none e) now;
-            all = next_false (assigned t) p n.terms c.loop-index.index i.all (λ d. false_longer t.0 t.2 p (literal_of (get_or n.terms c.loop-index.index d)) (now d));
+            all = next_false (on_trail t) p n.terms c.loop-index.index i.all (λ d. false_longer t.0 t.2 p (literal_of (get_or n.terms c.loop-index.index d)) (now d));
             chosen = i.chosen;
           })
     ]
@@ -59,7 +59,7 @@ pub returns-clause-last : goal.returns-clause-last
 returns-clause-last c =
     let t = c.args.trail.now in
     let n : NormalConstraint = c.args.constraint.now in
-    if_some c.loop-index.chosen (λ l. inr (others_false (assigned t) c.args.others n (λ k d h. c.loop-index.invariant.all k d (omega (arith, h, c.loop-index-test.false, c.len-index-end.ensures.value, c.loop-index.auto.index-end)))))
+    if_some c.loop-index.chosen (λ l. inr (others_false (on_trail t) c.args.others n (λ k d h. c.loop-index.invariant.all k d (omega (arith, h, c.loop-index-test.false, c.len-index-end.ensures.value, c.loop-index.auto.index-end)))))
   where
     if_some : {A : Lit → Type 0} (o : Option Lit) → ((l : Lit) → A l) → IfSome o A
     if_some None f = tt

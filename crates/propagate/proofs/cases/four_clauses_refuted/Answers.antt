@@ -1,4 +1,4 @@
--- The third clause forces x1, then the second x2, then the first x3, and the fourth is broken.
+-- The third clause forces x1, then the second x2, then the first x3, and the fourth is falsified.
 use Rattle.std.proofs.Common.{refl, [], ◌∷◌}
 use Rattle.normal_form.specs.Cases.{plain, negated, normal}
 use Rattle.propagate.specs.Cases.{x, unit, four_clauses}

@@ -5,8 +5,8 @@ use Rattle.normal_form.specs.Normal.{NormalConstraint}
 use Rattle.propagate.specs.Cases.{x, not_x, one_of_two, two_ids, unit_not}
 use Rattle.propagate.specs.Chain.{LeadsToConflict, IsClosure}
 use Rattle.propagate.specs.Literals.{coefficient_of}
-use Rattle.propagate.specs.Passes.{is_broken}
-use Rattle.propagate.proofs.ChainEnds.{broken_test, broken_tested}
+use Rattle.propagate.specs.Passes.{is_falsified}
+use Rattle.propagate.proofs.ChainEnds.{falsified_test, falsified_tested}
 use Rattle.propagate.proofs.Consistency.{one_closure}
 use Rattle.propagate.proofs.SearchIsRight.{closure_met, conflict_met, no_conflict_met, test_forced}
 use Rattle.propagate.proofs.SmallContent.{found, values_are}
@@ -33,13 +33,13 @@ returns-clause-end c = record {
 pub returns-clause-conflict : goal.returns-clause-conflict
 returns-clause-conflict c = record {
   chain = ((one_of_two, found 2, test_forced (not_x 1 ∷ []) one_of_two (x 2) refl), tt);
-  end = (unit_not 2, found 5, broken_test (not_x 1 ∷ x 2 ∷ []) (unit_not 2) refl);
+  end = (unit_not 2, found 5, falsified_test (not_x 1 ∷ x 2 ∷ []) (unit_not 2) refl);
 }
 
 pub returns-clause-other_conflict : goal.returns-clause-other_conflict
 returns-clause-other_conflict c = record {
   chain = ((unit_not 2, found 5, test_forced (not_x 1 ∷ []) (unit_not 2) (not_x 2) refl), tt);
-  end = (one_of_two, found 2, broken_test (not_x 1 ∷ not_x 2 ∷ []) one_of_two refl);
+  end = (one_of_two, found 2, falsified_test (not_x 1 ∷ not_x 2 ∷ []) one_of_two refl);
 }
 
 pub returns-clause-too_early : goal.returns-clause-too_early
@@ -54,11 +54,11 @@ returns-clause-other_reason c t =
     let none : coefficient_of forced.0 (x 2) ≡ 0 = ap (λ n. coefficient_of n (x 2)) (same 5 forced.0 (unit_not 2) forced.1 (found 5)) in
     omega (arith, none, forced.2.occurs)
 
-pub returns-clause-not_broken : goal.returns-clause-not_broken
-returns-clause-not_broken c t =
+pub returns-clause-not_falsified : goal.returns-clause-not_falsified
+returns-clause-not_falsified c t =
     let n = t.end.0 in
-    let met : is_broken (x 1 ∷ not_x 2 ∷ []) n ≡ false = ap (is_broken (x 1 ∷ not_x 2 ∷ [])) (same 2 n one_of_two t.end.1 (found 2)) in
-    false≢true (sym met ∙ broken_tested (x 1 ∷ not_x 2 ∷ []) n t.end.2)
+    let met : is_falsified (x 1 ∷ not_x 2 ∷ []) n ≡ false = ap (is_falsified (x 1 ∷ not_x 2 ∷ [])) (same 2 n one_of_two t.end.1 (found 2)) in
+    false≢true (sym met ∙ falsified_tested (x 1 ∷ not_x 2 ∷ []) n t.end.2)
 
 pub returns-clause-conflict_left_out : goal.returns-clause-conflict_left_out
 returns-clause-conflict_left_out c t =

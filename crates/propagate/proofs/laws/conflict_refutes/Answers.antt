@@ -1,4 +1,4 @@
--- A settled listing would have the whole listing in it.
+-- A fixpoint would have the whole assignment in it.
 use Rattle.propagate.proofs.KeptChains.{reached_refutes, asked_refutes}
 use Rattle.propagate.proofs.laws.conflict_refutes.Goals as goal
 

@@ -1,4 +1,4 @@
--- Else the closure of the more would be settled, and no chain leaves it.
+-- Else the closure of the more would be fixpoint, and no chain leaves it.
 use Rattle.propagate.proofs.Closure as closure
 use Rattle.propagate.proofs.laws.more_literals.Goals as goal
 

@@ -1,4 +1,4 @@
--- Each step adds a forced literal; where none is left, the listing is settled.
+-- Each step adds a forced literal; where none is left, the assignment is a fixpoint.
 use Rattle.propagate.proofs.SearchIsRight.{conflict_met, closure_met, no_conflict_met}
 use Rattle.propagate.proofs.laws.search_is_right.Goals as goal
 

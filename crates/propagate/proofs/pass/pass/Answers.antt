@@ -1,4 +1,4 @@
--- What is visited is a constraint at its place; as long as nothing is listed, those so far are quiet under one listing.
+-- What is visited is a constraint at its place; as long as nothing is listed, those so far are quiet under one assignment.
 use Rattle.std.proofs.Common.{List, map, ◌∙◌, arith}
 use Rattle.normal_form.specs.Normal.{NormalConstraint}
 use Rattle.propagate.proofs.PassSteps.{goes_by, goes_both, quiet_more}

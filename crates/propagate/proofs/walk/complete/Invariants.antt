@@ -1,4 +1,4 @@
--- The listing is what was given and the literals of the steps so far.
+-- The assignment is what was given and the literals of the steps so far.
 use Rattle.std.proofs.Common.{◌≡◌, ◌++◌, map}
 use Rattle.propagate.specs.Walk.{IsReasonedChain, literals_of}
 use Rattle.propagate.proofs.SearchEnds.{unset_below, bound_of}

@@ -12,7 +12,7 @@ use Rattle.proof_steps.specs.declared.step.Step.TheVariants as kinds
 use Rattle.search.specs.Clause.{negated_clause}
 use Rattle.search.specs.Log.{Logbook, StepBites}
 use Rattle.search.specs.Undoing.{IsOvertaken}
-use Rattle.search.specs.declared.clause.Lesson.TheVariants as lessons
+use Rattle.search.specs.declared.clause.ConflictEnd.TheVariants as lessons
 use Rattle.search.proofs.BitingClauses.{learned_bites, take_consistent}
 use Rattle.search.proofs.clause.learn_clause.Goals as goal
 use Rattle.search.proofs.clause.learn_clause.Goals.{then-is_listed, else-is_listed+in_ok-log_clause}
@@ -63,7 +63,7 @@ returns-clause-overtaken g c =
     let inside : c.args.count - 1 < length items = omega (arith, c.requires.some, c.requires.within) in
     let listed : lists closed (opposite last) ≡ true → IsOvertaken live items (c.args.count - 1) =
     λ h d. subst (λ x. IsReached live (take (c.args.count - 1) items) (opposite x)) (c.index-last.ensures ∙ get_or_default items (c.args.count - 1) last d inside) ((reach.1 (opposite last)).0 h) in
-    elim c.if-is_listed.branch as (λ _. c.if-is_listed.lesson ≡ lessons.Undone → IsOvertaken live items (c.args.count - 1)) [
+    elim c.if-is_listed.branch as (λ _. c.if-is_listed.conflict_end ≡ lessons.Undone → IsOvertaken live items (c.args.count - 1)) [
       | then-is_listed w ↦ λ _. listed (subst (λ xs. lists xs (opposite last) ≡ true) c.as_slice-2.ensures (ap (λ (l : Lit). lists c.as_slice-2.result.now l) (sym c.opposite.ensures) ∙ sym c.is_listed.ensures ∙ w.if-is_listed.true))
-      | else-is_listed+in_ok-log_clause w ↦ λ is. other (sym w.lesson-is ∙ is)
+      | else-is_listed+in_ok-log_clause w ↦ λ is. other (sym w.conflict_end-is ∙ is)
     ]

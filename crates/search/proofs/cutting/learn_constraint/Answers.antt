@@ -1,13 +1,13 @@
 use Rattle.std.proofs.Common.{◌⊎◌, List, IfSome, take, sym, subst}
 use Rattle.linear.specs.declared.term.Lit.{Lit}
 use Rattle.propagate.specs.Reach.{IsReach}
-use Rattle.propagate.specs.Slack.{IsBroken, IsForced}
+use Rattle.propagate.specs.Slack.{IsFalsified, IsForced}
 use Rattle.propagate.specs.declared.reach.Reach.TheVariants as reaches
 use Rattle.proof_rules.specs.Expression.{IsPostfixOf}
 use Rattle.proof_rules.specs.State.{State, constraints, constraint_of}
 use Rattle.proof_steps.specs.declared.step.Step.TheVariants as kinds
 use Rattle.search.specs.Log.{Logbook, StepBites}
-use Rattle.search.proofs.BitingClauses.{settled_bites}
+use Rattle.search.proofs.BitingClauses.{fixpoint_bites}
 use Rattle.search.proofs.cutting.learn_constraint.Goals as goal
 
 pub learn-requires-clause-bites : goal.learn-requires-clause-bites
@@ -23,7 +23,7 @@ learn-requires-clause-bites g c =
     let reach : IsReach live given (reaches.Closed closed) =
     subst (λ r. IsReach live given r) c.in-Closed.is
     (subst (λ xs. IsReach live (take learned.level xs) c.in_ok-closed.field-0) c.as_slice-2.ensures.value c.in_ok-closed.ensures.value) in
-    let bites : IsBroken closed learned.constraint ⊎ ((l : Lit) × IsForced closed l learned.constraint) =
-    subst (λ xs. IsBroken xs learned.constraint ⊎ ((l : Lit) × IsForced xs l learned.constraint)) c.as_slice-3.ensures (c.in_ok-bites_under.ensures.0 c.if-not-branch.false).0 in
+    let bites : IsFalsified closed learned.constraint ⊎ ((l : Lit) × IsForced closed l learned.constraint) =
+    subst (λ xs. IsFalsified xs learned.constraint ⊎ ((l : Lit) × IsForced xs l learned.constraint)) c.as_slice-3.ensures (c.in_ok-bites_under.ensures.0 c.if-not-branch.false).0 in
     subst (λ (l : Logbook). StepBites l.state (kinds.Pol learned.items)) (sym c.extend.ensures.same)
-    (learned.constraint, derived, settled_bites live given closed learned.constraint reach bites)
+    (learned.constraint, derived, fixpoint_bites live given closed learned.constraint reach bites)

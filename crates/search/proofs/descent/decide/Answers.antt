@@ -11,17 +11,17 @@ returns-clause-end g c =
     let t = c.in_ok-trace.trace in
     let content = c.args.log.now.state.live in
     let before : List Lit = c.args.decisions.now.items in
-    let listing : List Lit = c.args.standing.now.0 in
+    let assigned : List Lit = c.args.standing.now.0 in
     let last : Lit = c.args.literal in
-    let noted : t.conflict ≡ None → c.if-is_none.standing.0 ≡ listing ++ last ∷ traced t.forced =
-    elim c.if-is_none.branch as (λ _. t.conflict ≡ None → c.if-is_none.standing.0 ≡ listing ++ last ∷ traced t.forced) [
+    let noted : t.conflict ≡ None → c.if-is_none.standing.0 ≡ assigned ++ last ∷ traced t.forced =
+    elim c.if-is_none.branch as (λ _. t.conflict ≡ None → c.if-is_none.standing.0 ≡ assigned ++ last ∷ traced t.forced) [
       | then-is_none+in_ok-add+in_ok-add_forced w ↦ λ _.
           ap (λ s. s.0) w.standing-is ∙ w.in_ok-add_forced.ensures.ok
           ∙ ap (λ xs. xs ++ map (λ p. p.0) w.as_slice-then-is_none.result.now) w.in_ok-add.ensures.ok
-          ∙ ap (λ ps. (listing ++ last ∷ []) ++ traced ps) w.as_slice-then-is_none.ensures
-          ∙ append_assoc listing (last ∷ []) (traced t.forced)
+          ∙ ap (λ ps. (assigned ++ last ∷ []) ++ traced ps) w.as_slice-then-is_none.ensures
+          ∙ append_assoc assigned (last ∷ []) (traced t.forced)
       | else-is_none w ↦ λ is. absurd (named t.conflict c.is_none.result c.is_none.ensures w.if-is_none.false is)
     ] in
     let told : IsTraceOfLast content before last t = subst (λ xs. IsTraceOfLast content xs last t) c.as_slice.ensures.value c.in_ok-trace.ensures.value in
     subst (λ xs. Stands content xs c.if-is_none.standing.0 t.conflict) (sym c.in_ok-push.ensures.items)
-    (last_noted content before listing c.if-is_none.standing.0 last t c.requires.end told noted)
+    (last_noted content before assigned c.if-is_none.standing.0 last t c.requires.end told noted)

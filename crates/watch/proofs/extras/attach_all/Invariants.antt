@@ -6,7 +6,7 @@ use Rattle.watch.proofs.extras.attach_all.Given as goal
 
 abbrev pub invariant-loop-extra : goal.invariant-loop-extra
 invariant-loop-extra l = record {
-  listing : l.ledger.listing ≡ l.initial.ledger.listing;
+  assigned : l.ledger.assigned ≡ l.initial.ledger.assigned;
   reasons : l.ledger.reasons ≡ l.initial.ledger.reasons;
   count : l.queue.1 ≡ length l.ledger.slots;
   propagated : l.ledger.propagated ≡ l.initial.ledger.propagated;

@@ -10,7 +10,7 @@ pub detach-requires-clause-reasons : goal.detach-requires-clause-reasons
 detach-requires-clause-reasons c = λ k place h is.
     let w = c.widen.new.self in
     let e = c.in_ok-attach.ensures.ok in
-    let below : place < length w.slots = reasons_below w.slots w.listing w.reasons c.reveal.ensures.reasons k place (omega (arith, h, ap (λ (s : State). length s.listing) e)) (ap (λ (s : State). get_or s.reasons k None) (sym e) ∙ is) in
+    let below : place < length w.slots = reasons_below w.slots w.assigned w.reasons c.reveal.ensures.reasons k place (omega (arith, h, ap (λ (s : State). length s.assigned) e)) (ap (λ (s : State). get_or s.reasons k None) (sym e) ∙ is) in
     omega (arith, below, ap (λ (s : State). length s.slots) e, length-append w.slots (Some c.args.constraint ∷ []))
 
 pub returns-in-Err-clause-looked_at : goal.returns-in-Err-clause-looked_at

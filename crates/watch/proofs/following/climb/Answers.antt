@@ -20,8 +20,8 @@ returns-then-not-is_whole-clause-end c =
     let i = c.loop-index.invariant in
     let a = c.in_ok-ascent.ascent in
     let xs : List Lit = c.loop-index.levels.0 ++ get_or given k none ∷ [] in
-    let end = subst (λ (os : List (Option NormalConstraint)). IsAscent (shown os) xs c.step_up.new.ledger.listing a) i.slots c.in_ok-ascent.ensures.end in
-    other_end (shown c.args.ledger.now.slots) xs given c.step_up.new.ledger.listing a (λ e. false≢true (sym c.if-not-is_whole.true ∙ c.is_whole.ensures.1 e))
+    let end = subst (λ (os : List (Option NormalConstraint)). IsAscent (shown os) xs c.step_up.new.ledger.assigned a) i.slots c.in_ok-ascent.ensures.end in
+    other_end (shown c.args.ledger.now.slots) xs given c.step_up.new.ledger.assigned a (λ e. false≢true (sym c.if-not-is_whole.true ∙ c.is_whole.ensures.1 e))
     (firsts_within xs given (k + 1) (next_first c.loop-index.levels.0 given k none (omega arith) i.first)) end
 
 pub returns-clause-end : goal.returns-clause-end
@@ -30,4 +30,4 @@ returns-clause-end c =
     let i = c.loop-index.invariant in
     let last : c.loop-index.index ≡ length given = omega (arith, c.loop-index-test.false, c.requires.short) in
     let all = i.first ∙ ap (λ (n : ℕ). take n given) last ∙ take-length given in
-    (kept_has c.loop-index.ledger c.loop-index.levels c.loop-index.queue.0 c.loop-index.queue.1 given all i.kept, i.settled)
+    (kept_has c.loop-index.ledger c.loop-index.levels c.loop-index.queue.0 c.loop-index.queue.1 given all i.kept, i.fixpoint)

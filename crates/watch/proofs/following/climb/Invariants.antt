@@ -1,6 +1,6 @@
--- The literals so far are given, and all is settled.
+-- The literals so far are given, and all is propagated.
 use Rattle.std.proofs.Common.{◌≡◌, take}
-use Rattle.propagate.specs.Chain.{IsSettled}
+use Rattle.propagate.specs.Chain.{IsFixpoint}
 use Rattle.watch.specs.Keeping.{IsKept}
 use Rattle.ledger.specs.Ledgers.{shown}
 use Rattle.watch.proofs.following.climb.Given as goal
@@ -11,5 +11,5 @@ invariant-loop-index l = record {
   variables : l.ledger.variables ≡ l.initial.ledger.variables;
   kept : IsKept l.ledger l.levels l.queue.0 l.queue.1;
   first : l.levels.0 ≡ take l.index l.given;
-  settled : IsSettled (shown l.initial.ledger.slots) l.ledger.listing;
+  fixpoint : IsFixpoint (shown l.initial.ledger.slots) l.ledger.assigned;
 }

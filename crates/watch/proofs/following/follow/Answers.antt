@@ -12,24 +12,24 @@ use Rattle.watch.proofs.following.follow.Goals as goal
 
 pub returns-in_err-ascent-clause-given : goal.returns-in_err-ascent-clause-given
 returns-in_err-ascent-clause-given c =
-    let s = c.settle_kept-settled in
+    let s = c.propagate_kept-fixpoint in
     let first = ap (λ (p : List Lit × List ℕ). p.0) c.go_back.ensures.levels ∙ c.agreement.ensures.same in
     kept_given s.new.ledger c.go_back.new.levels s.new.queue.0 s.new.queue.1 c.agreement.result c.args.given.now c.reveal.ensures.reasons.as_many first (s.ensures.kept c.go_back.new.levels c.go_back.ensures.kept)
 
 pub returns-then-not-is_whole-clause-given : goal.returns-then-not-is_whole-clause-given
 returns-then-not-is_whole-clause-given c =
-    let s = c.settle_kept-settled in
+    let s = c.propagate_kept-fixpoint in
     let first = ap (λ (p : List Lit × List ℕ). p.0) c.go_back.ensures.levels ∙ c.agreement.ensures.same in
     kept_given s.new.ledger c.go_back.new.levels s.new.queue.0 s.new.queue.1 c.agreement.result c.args.given.now c.reveal.ensures.reasons.as_many first (s.ensures.kept c.go_back.new.levels c.go_back.ensures.kept)
 
 pub returns-then-not-is_whole-clause-end : goal.returns-then-not-is_whole-clause-end
 returns-then-not-is_whole-clause-end c =
-    let s = c.settle_kept-settled in
+    let s = c.propagate_kept-fixpoint in
     let a = c.in_ok-ascent.ascent in
     let given = c.args.given.now in
     let first = ap (λ (p : List Lit × List ℕ). p.0) c.go_back.ensures.levels ∙ c.agreement.ensures.same in
-    let end = subst (λ (os : List (Option NormalConstraint)). IsAscent (shown os) c.go_back.new.levels.0 s.new.ledger.listing a) c.go_back.ensures.slots (c.in_ok-ascent.ensures.end c.go_back.new.levels c.go_back.ensures.kept) in
-    other_end (shown c.args.ledger.now.slots) c.go_back.new.levels.0 given s.new.ledger.listing a (λ e. false≢true (sym c.if-not-is_whole.true ∙ c.is_whole.ensures.1 e)) (firsts_within c.go_back.new.levels.0 given c.agreement.result first) end
+    let end = subst (λ (os : List (Option NormalConstraint)). IsAscent (shown os) c.go_back.new.levels.0 s.new.ledger.assigned a) c.go_back.ensures.slots (c.in_ok-ascent.ensures.end c.go_back.new.levels c.go_back.ensures.kept) in
+    other_end (shown c.args.ledger.now.slots) c.go_back.new.levels.0 given s.new.ledger.assigned a (λ e. false≢true (sym c.if-not-is_whole.true ∙ c.is_whole.ensures.1 e)) (firsts_within c.go_back.new.levels.0 given c.agreement.result first) end
 
 pub returns-clause-given : goal.returns-clause-given
 returns-clause-given c =
@@ -39,6 +39,6 @@ returns-clause-given c =
 pub returns-clause-end : goal.returns-clause-end
 returns-clause-end c =
     let a = c.climb-answer in
-    let slots = c.settle_kept-settled.ensures.slots ∙ c.go_back.ensures.slots in
-    IfOk-weaker a.result (IsAscent (shown c.settle_kept-settled.new.ledger.slots) c.args.given.now a.new.ledger.listing) (IsAscent (shown c.args.ledger.now.slots) c.args.given.now a.new.ledger.listing)
-    (λ r h. subst (λ (os : List (Option NormalConstraint)). IsAscent (shown os) c.args.given.now a.new.ledger.listing r) slots h) a.ensures.end
+    let slots = c.propagate_kept-fixpoint.ensures.slots ∙ c.go_back.ensures.slots in
+    IfOk-weaker a.result (IsAscent (shown c.propagate_kept-fixpoint.new.ledger.slots) c.args.given.now a.new.ledger.assigned) (IsAscent (shown c.args.ledger.now.slots) c.args.given.now a.new.ledger.assigned)
+    (λ r h. subst (λ (os : List (Option NormalConstraint)). IsAscent (shown os) c.args.given.now a.new.ledger.assigned r) slots h) a.ensures.end

@@ -5,6 +5,6 @@ use Rattle.watch.proofs.refutation.refute_anew.Goals as goal
 
 pub returns-then-branch-clause-value : goal.returns-then-branch-clause-value
 returns-then-branch-clause-value c = (
-  λ _. refuted_beside c.args.ledger.now.slots c.args.ledger.now.slots c.args.extras.now refl (c.in_ok-settle_root.ensures.value.0 c.if-branch.true),
+  λ _. refuted_beside c.args.ledger.now.slots c.args.ledger.now.slots c.args.extras.now refl (c.in_ok-propagate_root.ensures.value.0 c.if-branch.true),
   λ _. refl,
 )

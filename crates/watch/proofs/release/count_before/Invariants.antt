@@ -6,6 +6,6 @@ use Rattle.watch.proofs.release.count_before.Given as goal
 
 abbrev pub invariant-loop-index : goal.invariant-loop-index
 invariant-loop-index l = record {
-  few : l.count ≤ length l.ledger.listing;
-  none : (k j : ℕ) (d : Lit) → k < l.count → j < l.index → get_or l.ledger.reasons k None ≡ Some l.place → (get_or l.ledger.listing k d).var.0 ≡ (term_at (shown l.ledger.slots) l.place j).var.0 → ⊥;
+  few : l.count ≤ length l.ledger.assigned;
+  none : (k j : ℕ) (d : Lit) → k < l.count → j < l.index → get_or l.ledger.reasons k None ≡ Some l.place → (get_or l.ledger.assigned k d).var.0 ≡ (term_at (shown l.ledger.slots) l.place j).var.0 → ⊥;
 }

@@ -9,10 +9,10 @@ use Rattle.watch.proofs.release.release.Goals as goal
 pub returns-clause-root : goal.returns-clause-root
 returns-clause-root c =
     let old = c.args.ledger.now in
-    let new = c.take_back_to.new.ledger in
-    let t = c.take_back_to.ensures in
+    let new = c.backtrack_to.new.ledger in
+    let t = c.backtrack_to.ensures in
     record {
       places = t.places ∙ c.requires.root.places ∙ ap length (sym t.slots);
-      looked_at = subst (λ (os : List (Option NormalConstraint)). AreLookedAt (shown os) new.propagated c.take_back_to.new.queue.0) (sym t.slots) t.looked_at;
+      looked_at = subst (λ (os : List (Option NormalConstraint)). AreLookedAt (shown os) new.propagated c.backtrack_to.new.queue.0) (sym t.slots) t.looked_at;
       forced = forced_first old.reasons new.reasons c.count_before-count.result t.reasons c.requires.root.forced;
     }

@@ -17,4 +17,4 @@ returns-in-Forces-clause-goes_on c =
     let low : c.args.place < length ns = omega (arith, c.requires.place, length-map old.slots constraint_in) in
     let forced = subst (λ (xs : List Lit). IsForced xs l (constraint_at ns c.args.place)) c.requires.propagated c.in-Forces.ensures.value.0 in
     goes_by_one old c.assign.new.self c.args.place (ap (λ (s : State). s.slots) c.assign.ensures) (ap (λ (s : State). s.variables) c.assign.ensures)
-    (subst (IsContinued ns old.listing) (sym (ap (λ (s : State). s.listing) c.assign.ensures)) (goes_on_by_one ns old.listing l c.args.place low forced)) (ap (λ (s : State). s.reasons) c.assign.ensures)
+    (subst (IsContinued ns old.assigned) (sym (ap (λ (s : State). s.assigned) c.assign.ensures)) (goes_on_by_one ns old.assigned l c.args.place low forced)) (ap (λ (s : State). s.reasons) c.assign.ensures)

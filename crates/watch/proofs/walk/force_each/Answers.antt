@@ -19,9 +19,9 @@ loop-index-preserved c =
     let ns : List NormalConstraint = shown c.args.ledger.now.slots in
     let i = c.loop-index.invariant in
     let f = c.force_term.ensures in
-    let before : IsForcing ns c.args.ledger.now.listing c.loop-index.ledger.listing c.args.place c.args.slack c.loop-index.index = record { has_slack = i.slack; goes_on = i.goes_on.listing; done = i.done } in
-    let after = forcing_more ns (shown c.loop-index.ledger.slots) c.args.ledger.now.listing c.loop-index.ledger.listing c.force_term.new.ledger.listing c.args.place c.args.slack c.loop-index.index
-    (ap shown i.goes_on.slots) before f.slack f.goes_on.listing f.done in
+    let before : IsForcing ns c.args.ledger.now.assigned c.loop-index.ledger.assigned c.args.place c.args.slack c.loop-index.index = record { has_slack = i.slack; goes_on = i.goes_on.assigned; done = i.done } in
+    let after = forcing_more ns (shown c.loop-index.ledger.slots) c.args.ledger.now.assigned c.loop-index.ledger.assigned c.force_term.new.ledger.assigned c.args.place c.args.slack c.loop-index.index
+    (ap shown i.goes_on.slots) before f.slack f.goes_on.assigned f.done in
     record {
       goes_on = goes_both c.args.ledger.now c.loop-index.ledger c.force_term.new.ledger i.goes_on f.goes_on;
       propagated = f.propagated ∙ i.propagated;
@@ -34,5 +34,5 @@ returns-clause-quiet c =
     let ns : List NormalConstraint = shown c.args.ledger.now.slots in
     let i = c.loop-index.invariant in
     let all : length (constraint_at ns c.args.place).terms ≡ c.loop-index.index = omega (arith, c.term_count-end.ensures.value) in
-    let before : IsForcing ns c.args.ledger.now.listing c.loop-index.ledger.listing c.args.place c.args.slack c.loop-index.index = record { has_slack = i.slack; goes_on = i.goes_on.listing; done = i.done } in
-    quiet_after ns c.args.ledger.now.listing c.loop-index.ledger.listing c.args.place c.args.slack c.term_count-end.ensures.rises (subst (λ (k : ℕ). IsForcing ns c.args.ledger.now.listing c.loop-index.ledger.listing c.args.place c.args.slack k) (sym all) before)
+    let before : IsForcing ns c.args.ledger.now.assigned c.loop-index.ledger.assigned c.args.place c.args.slack c.loop-index.index = record { has_slack = i.slack; goes_on = i.goes_on.assigned; done = i.done } in
+    quiet_after ns c.args.ledger.now.assigned c.loop-index.ledger.assigned c.args.place c.args.slack c.term_count-end.ensures.rises (subst (λ (k : ℕ). IsForcing ns c.args.ledger.now.assigned c.loop-index.ledger.assigned c.args.place c.args.slack k) (sym all) before)

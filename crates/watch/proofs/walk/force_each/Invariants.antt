@@ -10,6 +10,6 @@ invariant-loop-index l =
     record {
       goes_on : GoesOn l.initial.ledger l.ledger;
       propagated : l.ledger.propagated ≡ l.initial.ledger.propagated;
-      slack : HasSlack ns l.ledger.listing l.place l.slack;
-      done : (k : ℕ) → k < l.index → CanForce l.ledger.listing l.slack (term_at ns l.place k) → ⊥;
+      slack : HasSlack ns l.ledger.assigned l.place l.slack;
+      done : (k : ℕ) → k < l.index → CanForce l.ledger.assigned l.slack (term_at ns l.place k) → ⊥;
     }

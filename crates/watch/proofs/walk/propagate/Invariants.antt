@@ -7,8 +7,8 @@ abbrev pub invariant-loop-ledger : goal.invariant-loop-ledger
 invariant-loop-ledger l = record {
   on : PropagatesOn l.initial.ledger l.ledger l.initial.queue.0 l.queue.0;
   count : l.queue.1 ≡ l.initial.queue.1;
-  idle : l.initial.ledger.propagated ≡ l.initial.ledger.listing → (l.ledger.propagated ≡ l.initial.ledger.propagated) × (l.queue.0 ≡ l.initial.queue.0);
+  idle : l.initial.ledger.propagated ≡ l.initial.ledger.assigned → (l.ledger.propagated ≡ l.initial.ledger.propagated) × (l.queue.0 ≡ l.initial.queue.0);
 }
 
 abbrev pub decreases-loop-ledger : goal.decreases-loop-ledger
-decreases-loop-ledger l = length l.ledger.listing - length l.ledger.propagated
+decreases-loop-ledger l = length l.ledger.assigned - length l.ledger.propagated

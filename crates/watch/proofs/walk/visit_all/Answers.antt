@@ -4,7 +4,7 @@ use Rattle.linear.specs.declared.term.Lit.{Lit}
 use Rattle.normal_form.specs.Normal.{NormalConstraint}
 use Rattle.ledger.specs.Ledgers.{shown}
 use Rattle.watch.specs.Looking.{AreLookedAt, IsVisited}
-use Rattle.watch.proofs.Forcing.{settled_when_empty}
+use Rattle.watch.proofs.Forcing.{fixpoint_when_empty}
 use Rattle.watch.proofs.Propagating.{prefix_both}
 use Rattle.watch.proofs.Walking.{goes_both}
 use Rattle.watch.proofs.walk.visit_all.Goals as goal
@@ -34,4 +34,4 @@ returns-clause-end c =
     let i = c.loop-place.invariant in
     let ns : List NormalConstraint = shown c.args.ledger.now.slots in
     let ended = c.in_default.ensures.value in
-    (ended.1, settled_when_empty ns c.loop-place.ledger.listing c.loop-place.queue.0 ended.0 (subst (λ (xs : List Lit). AreLookedAt ns xs c.loop-place.queue.0) i.propagated i.looked_at))
+    (ended.1, fixpoint_when_empty ns c.loop-place.ledger.assigned c.loop-place.queue.0 ended.0 (subst (λ (xs : List Lit). AreLookedAt ns xs c.loop-place.queue.0) i.propagated i.looked_at))

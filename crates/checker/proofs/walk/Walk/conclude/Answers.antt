@@ -1,10 +1,9 @@
-use Rattle.std.proofs.Common.{Some, ap, refl}
+use Rattle.std.proofs.Common.{Some, ap}
 use Rattle.kernel.specs.Held.{Held}
 use Rattle.checker.proofs.walk.Walk.conclude.Goals as goal
 
 pub returns-in-Ok-clause-accepts : goal.returns-in-Ok-clause-accepts
 returns-in-Ok-clause-accepts g c = record {
-  section_is = refl;
   best = c.in-Ok.accepted.best;
   justified = c.in-Ok.ensures.justified;
   state = ap (λ (k : Held). k.state) c.conclude.ensures.same;

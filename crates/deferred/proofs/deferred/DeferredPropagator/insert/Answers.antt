@@ -9,21 +9,21 @@ use Rattle.deferred.proofs.deferred.DeferredPropagator.insert.Goals as goal
 
 pub insert-requires : goal.insert-requires
 insert-requires g c =
-    let w = g.W.Propagator.content c.self.inside.waiting in
+    let w = c.self.inside.waiting in
     let s = g.P.Propagator.content c.self.inside.settled in
     (in_neither w s c.args.id (ap (λ (m : Content). fin.get m c.args.id) c.self.view_is ∙ c.requires)).0
 
 pub invariant_of-self : goal.invariant_of-self
 invariant_of-self g c =
-    let w = g.W.Propagator.content c.self.inside.waiting in
+    let w = c.self.inside.waiting in
     let s = g.P.Propagator.content c.self.inside.settled in
     let free = (in_neither w s c.args.id (ap (λ (m : Content). fin.get m c.args.id) c.self.view_is ∙ c.requires)).1 in
-    either_way (λ m. AreApart m s) c.insert.result (g.W.Propagator.content c.insert.new.self) (fin.insert w c.args.id c.args.constraint) w c.insert.ensures.ok c.insert.ensures.err
+    either_way (λ m. AreApart m s) c.insert.result c.insert.new.self (fin.insert w c.args.id c.args.constraint) w c.insert.ensures.ok c.insert.ensures.err
     (more_apart w s c.args.id c.args.constraint free c.self.invariant) c.self.invariant
 
 pub returns-clause-ok : goal.returns-clause-ok
 returns-clause-ok g c =
-    let w = g.W.Propagator.content c.self.inside.waiting in
+    let w = c.self.inside.waiting in
     let s = g.P.Propagator.content c.self.inside.settled in
     on_ok_weaker c.insert.result
     (λ is. ap (λ (m : Content). joined m s) is ∙ more_waits w s c.args.id c.args.constraint ∙ ap (λ (m : Content). fin.insert m c.args.id c.args.constraint) c.self.view_is)

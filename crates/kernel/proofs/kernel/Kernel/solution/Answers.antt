@@ -15,6 +15,6 @@ returns-then-not-satisfied-clause-fault g c =
     let problem = ap (λ (x : Held). x.problem) (c.self.view_is ∙ c.in_ok-solution.ensures.same) in (
       (solution, completes),
       λ h d satisfies.
-          let same : h ≡ solution = one_completion (constraints k.state) (length k.problem.names) c.args.listing.now h solution d completes in
+          let same : h ≡ solution = one_completion (constraints k.state) (length k.problem.names) c.args.assigned.now h solution d completes in
           false≢true (c.if-not-satisfied.ensures.1 (subst (λ p. Satisfies (valuation_of solution) p) (sym problem) (subst (λ b. Satisfies (valuation_of b) k.problem) same satisfies))),
     )

@@ -24,21 +24,21 @@ pub returns-clause-unset : goal.returns-clause-unset
 returns-clause-unset c =
     let a = c.self.inside in
     let pending = ap (λ (w : Whole). w.2) c.self.view_is in
-    let low = inside a.trail.0 c.listing.result.now a.propagated c.args.self.now.2 c.listing.ensures.listing c.self.invariant pending c.requires in
-    (free a.trail.0 c.listing.result.now a.propagated c.args.self.now.0 c.listing.ensures.listing (ap (λ (w : Whole). w.0) c.self.view_is) low c.listing.ensures.fresh).0
+    let low = inside a.trail.0 c.assigned.result.now a.propagated c.args.self.now.2 c.assigned.ensures.assigned c.self.invariant pending c.requires in
+    (free a.trail.0 c.assigned.result.now a.propagated c.args.self.now.0 c.assigned.ensures.assigned (ap (λ (w : Whole). w.0) c.self.view_is) low c.assigned.ensures.fresh).0
 
 pub returns-clause-opposite_unset : goal.returns-clause-opposite_unset
 returns-clause-opposite_unset c =
     let a = c.self.inside in
     let pending = ap (λ (w : Whole). w.2) c.self.view_is in
-    let low = inside a.trail.0 c.listing.result.now a.propagated c.args.self.now.2 c.listing.ensures.listing c.self.invariant pending c.requires in
-    (free a.trail.0 c.listing.result.now a.propagated c.args.self.now.0 c.listing.ensures.listing (ap (λ (w : Whole). w.0) c.self.view_is) low c.listing.ensures.fresh).1
+    let low = inside a.trail.0 c.assigned.result.now a.propagated c.args.self.now.2 c.assigned.ensures.assigned c.self.invariant pending c.requires in
+    (free a.trail.0 c.assigned.result.now a.propagated c.args.self.now.0 c.assigned.ensures.assigned (ap (λ (w : Whole). w.0) c.self.view_is) low c.assigned.ensures.fresh).1
 
 pub returns-clause-variable : goal.returns-clause-variable
 returns-clause-variable c =
     let a = c.self.inside in
-    let x : Lit = get_or c.listing.result.now a.propagated any in
+    let x : Lit = get_or c.assigned.result.now a.propagated any in
     let pending = ap (λ (w : Whole). w.2) c.self.view_is in
-    let low = inside a.trail.0 c.listing.result.now a.propagated c.args.self.now.2 c.listing.ensures.listing c.self.invariant pending c.requires in
-    let there : lists c.listing.result.now x ≡ true = listed_at c.listing.result.now a.propagated any low in
-    omega (arith, c.listing.ensures.variables x (subst (λ (ys : List Lit). lists ys x ≡ true) c.listing.ensures.listing there), ap (λ (w : Whole). w.1) c.self.view_is)
+    let low = inside a.trail.0 c.assigned.result.now a.propagated c.args.self.now.2 c.assigned.ensures.assigned c.self.invariant pending c.requires in
+    let there : lists c.assigned.result.now x ≡ true = listed_at c.assigned.result.now a.propagated any low in
+    omega (arith, c.assigned.ensures.variables x (subst (λ (ys : List Lit). lists ys x ≡ true) c.assigned.ensures.assigned there), ap (λ (w : Whole). w.1) c.self.view_is)

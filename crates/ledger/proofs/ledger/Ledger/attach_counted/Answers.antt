@@ -1,7 +1,7 @@
 -- One constraint more at the end of all lists.
 use Rattle.std.proofs.Common.{◌≡◌, ◌+◌, ◌≤◌, ℕ, List, Option, None, Some, [], ◌∷◌, ◌++◌, length, refl, ap, ◌∙◌, arith}
 use Rattle.normal_form.specs.Normal.{NormalConstraint, variable_bound}
-use Rattle.ledger.specs.Trails.{assigned}
+use Rattle.ledger.specs.Trails.{on_trail}
 use Rattle.ledger.specs.Ledgers.{State}
 use Rattle.ledger.proofs.Attaching.{attached_counted, none_more, reasons_beside, unchanged, with_pairs}
 use Rattle.ledger.proofs.WatchedPlaces.{same_rows, watched_kept, watched_more}
@@ -37,7 +37,7 @@ invariant_of-self-2 c =
     c.in_ok-enter_counted.ensures.ok c.in_ok-enter_counted.ensures.length c.open_sum-open.ensures (λ l. omega (arith, c.degree.ensures.value, c.largest.ensures.each l)) in
     rw (slots, counters, limits) (
       with_pairs (e.slots.items ++ Some n ∷ []) e.trail.0 e.trail.1 c.enter_counted.new.table e.clauses (e.counters.items ++ c.open_sum-open.result ∷ []) (e.limits.items ++ (c.degree.result + c.largest.result) ∷ []) (e.watchers.pairs ++ None ∷ []) new.pairs it pairs,
-      reasons_beside e.slots.items n (assigned e.trail) e.reasons.items c.self.invariant.1,
+      reasons_beside e.slots.items n (on_trail e.trail) e.reasons.items c.self.invariant.1,
       c.self.invariant.2,
       watched_more e.slots.items e.trail.0 e.trail.1 e.watchers new n None c.self.invariant.3 i.slots_are.pair_count pairs (omega (arith, ap (length {A = List ℕ}) c.enter_counted.ensures.rows)) (same_rows e.watchers.rows new.rows c.enter_counted.ensures.rows) tt,
     )

@@ -2,7 +2,7 @@
 use Rattle.std.proofs.Common.{◌≡◌, ◌+◌, ◌<◌, ◌≤◌, ℕ, List, Option, Some, [], ◌∷◌, ◌++◌, length, refl, ap, sym, subst, ◌∙◌, arith}
 use Rattle.normal_form.specs.Normal.{NormalConstraint, variable_bound}
 use Rattle.ledger.specs.declared.pair.Pair.{Pair}
-use Rattle.ledger.specs.Trails.{assigned}
+use Rattle.ledger.specs.Trails.{on_trail}
 use Rattle.ledger.specs.Ledgers.{State}
 use Rattle.ledger.specs.Watched.{IsOpen, IsPairOf}
 use Rattle.ledger.proofs.Attaching.{attached_watched, none_more, reasons_beside, unchanged, with_pairs}
@@ -67,7 +67,7 @@ invariant_of-self-2 c =
     (λ l. omega (arith, c.degree.ensures.value, c.largest.ensures.each l)) in
     rw (slots, counters, limits) (
       with_pairs (e.slots.items ++ Some n ∷ []) e.trail.0 e.trail.1 e.table c.enter_watched.new.table (e.counters.items ++ 0 ∷ []) (e.limits.items ++ limit ∷ []) (e.watchers.pairs ++ Some p ∷ []) new.pairs it said.pairs,
-      reasons_beside e.slots.items n (assigned e.trail) e.reasons.items c.self.invariant.1,
+      reasons_beside e.slots.items n (on_trail e.trail) e.reasons.items c.self.invariant.1,
       c.self.invariant.2,
       watched_more e.slots.items e.trail.0 e.trail.1 e.watchers new n (Some p) c.self.invariant.3 i.slots_are.pair_count said.pairs (omega (arith, said.row_count)) said.kept
           (c.requires.pair, (first_below n p e.trail.1 c.requires.pair within, second_below n p e.trail.1 c.requires.pair within), first, second, said.first_there, said.second_there),

@@ -6,7 +6,7 @@ use Rattle.normal_form.specs.declared.term.NormalTerm.{NormalTerm}
 use Rattle.normal_form.specs.Normal.{NormalConstraint}
 use Rattle.ledger.specs.declared.occurrence.Occurrence.{Occurrence}
 use Rattle.ledger.specs.declared.pair.Pair.{Pair}
-use Rattle.ledger.specs.Trails.{assigned}
+use Rattle.ledger.specs.Trails.{on_trail}
 use Rattle.ledger.specs.Ledgers.{AreReasons, IsLedger, State, shown}
 use Rattle.ledger.specs.Watched.{AreWatched, Watching}
 use Rattle.ledger.specs.Occurrences.{HasMore, occurrences_of}
@@ -35,7 +35,7 @@ all_terms c base table place m =
 abbrev Left : End → List (List Occurrence) → List (List Occurrence) → Type 0
 Left c after behind =
     IsLedger c.pop.new.self.items c.self.inside.trail.0 c.self.inside.trail.1 after behind c.pop-in-Some-Some.new.self.items c.pop-in-Some-Some-2.new.self.items c.detach.new.self.pairs
-    × AreReasons (shown c.pop.new.self.items) (assigned c.self.inside.trail) c.self.inside.reasons.items × (c.self.inside.trail.1 ≤ vec_capacity c.self.inside.reasons)
+    × AreReasons (shown c.pop.new.self.items) (on_trail c.self.inside.trail) c.self.inside.reasons.items × (c.self.inside.trail.1 ≤ vec_capacity c.self.inside.reasons)
     × AreWatched c.pop.new.self.items c.self.inside.trail.0 c.self.inside.trail.1 c.detach.new.self
 
 left : (c : End) (after behind : List (List Occurrence)) → length after ≡ length c.self.inside.table → HasMore (λ l. occurrences_of l 0 (take (length c.pop.new.self.items) c.self.invariant.0.counted)) after (length c.pop.new.self.items) []
@@ -52,10 +52,10 @@ left c after behind long none long_w none_w same_counters same_limits same_watch
     let pairs : c.detach.new.self.pairs ≡ take (length e.watchers.pairs - 1) e.watchers.pairs = c.detach.ensures.pairs ∙ ap (λ (w : Watching). take (length w.pairs - 1) w.pairs) same_watchers in
     let rows : c.detach.new.self.rows ≡ e.watchers.rows = c.detach.ensures.rows ∙ ap (λ (w : Watching). w.rows) same_watchers in
     let it = detached e.slots.items rest e.trail.0 e.trail.1 e.table after e.clauses behind e.counters.items e.limits.items e.watchers.pairs n i (split c) long none long_w none_w in
-    let below : (k place : ℕ) → k < length (assigned e.trail) → get_or e.reasons.items k None ≡ Some place → place + 1 < length e.slots.items = subst (λ (s : State). (k place : ℕ) → k < length s.listing → get_or s.reasons k None ≡ Some place → place + 1 < length s.slots) (sym c.self.view_is) c.requires.reasons in
+    let below : (k place : ℕ) → k < length (on_trail e.trail) → get_or e.reasons.items k None ≡ Some place → place + 1 < length e.slots.items = subst (λ (s : State). (k place : ℕ) → k < length s.assigned → get_or s.reasons k None ≡ Some place → place + 1 < length s.slots) (sym c.self.view_is) c.requires.reasons in
     rw (counters, limits) (
       with_pairs rest e.trail.0 e.trail.1 after behind (take (length e.counters.items - 1) e.counters.items) (take (length e.limits.items - 1) e.limits.items) (take (length e.watchers.pairs - 1) e.watchers.pairs) c.detach.new.self.pairs it pairs,
-      reasons_without e.slots.items rest n (assigned e.trail) e.reasons.items (split c) c.self.invariant.1 below,
+      reasons_without e.slots.items rest n (on_trail e.trail) e.reasons.items (split c) c.self.invariant.1 below,
       c.self.invariant.2,
       watched_fewer e.slots.items rest e.trail.0 e.trail.1 e.watchers c.detach.new.self n (split c) i.slots_are.pair_count pairs rows c.self.invariant.3,
     )

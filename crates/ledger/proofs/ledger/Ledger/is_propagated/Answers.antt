@@ -8,5 +8,5 @@ pub returns : goal.returns
 returns c =
     let e = c.self.inside in
     let propagated = ap (λ (s : State). s.propagated) c.self.view_is in
-    let listing = ap (λ (s : State). s.listing) c.self.view_is in
-    (λ yes. sym propagated ∙ whole_when e.trail (c.is_propagated.ensures.0 yes) ∙ listing, λ same. c.is_propagated.ensures.1 (none_when e.trail (propagated ∙ same ∙ sym listing)))
+    let assigned = ap (λ (s : State). s.assigned) c.self.view_is in
+    (λ yes. sym propagated ∙ whole_when e.trail (c.is_propagated.ensures.0 yes) ∙ assigned, λ same. c.is_propagated.ensures.1 (none_when e.trail (propagated ∙ same ∙ sym assigned)))

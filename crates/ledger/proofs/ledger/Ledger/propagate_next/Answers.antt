@@ -4,22 +4,22 @@ use Rattle.linear.specs.declared.term.Lit.{Lit}
 use Rattle.normal_form.specs.Normal.{NormalConstraint}
 use Rattle.linear.specs.Literal.{opposite}
 use Rattle.propagate.specs.Literals.{IsConsistent, coefficient_of, lists}
-use Rattle.propagate.specs.Walk.{IsBrokenAt, IsQuiet}
+use Rattle.propagate.specs.Walk.{IsFalsifiedAt, IsQuiet}
 use Rattle.ledger.specs.declared.pair.Pair.{Pair}
-use Rattle.ledger.specs.Falls.{IsAt, IsBrokenThere}
-use Rattle.ledger.specs.Trails.{assigned}
+use Rattle.ledger.specs.Falls.{IsAt, IsFalsifiedThere}
+use Rattle.ledger.specs.Trails.{on_trail}
 use Rattle.ledger.specs.Ledgers.{AreReasons, State, shown}
 use Rattle.ledger.specs.Occurrences.{share_of}
 use Rattle.ledger.proofs.Standing.{all_within, each_kind, entries, enough, counted, parted_same, queued_there, recounted}
 use Rattle.ledger.proofs.WatchedQuiet.{fallen_queued, fallen_watched}
 use Rattle.ledger.proofs.AssignedLiterals.{next_listed, next_open, same_assigned, whole_when}
-use Rattle.ledger.proofs.BrokenClauses.{broken_there, none_case, some_case}
+use Rattle.ledger.proofs.FalsifiedClauses.{falsified_there, none_case, some_case}
 use Rattle.ledger.proofs.ledger.Ledger.propagate_next.Goals as goal
 
 pub next-requires : goal.next-requires
 next-requires c none =
     let e = c.self.inside in
-    c.requires.pending (sym (ap (λ (s : State). s.propagated) c.self.view_is) ∙ whole_when e.trail none ∙ ap (λ (s : State). s.listing) c.self.view_is)
+    c.requires.pending (sym (ap (λ (s : State). s.propagated) c.self.view_is) ∙ whole_when e.trail none ∙ ap (λ (s : State). s.assigned) c.self.view_is)
 
 pub fall-requires-clause-within : goal.fall-requires-clause-within
 fall-requires-clause-within c =
@@ -58,7 +58,7 @@ invariant_of-self-2 c =
     let given = entries i.counted e.trail.1 e.table l c.opposite-fallen.result c.code.result c.row.result.now i.index c.opposite-fallen.ensures c.code.ensures c.row.ensures in
     let after = counted i.counted e.trail.0 e.counters.items c.lower.new.counters.items l c.row.result.now i.counters_are given c.next.ensures.unset c.lower.ensures.length c.lower.ensures.lowered in
     let watched = rw c.as_slice.ensures.value at c.fall.ensures.watched in
-    let handled = rw c.as_slice.ensures.value at (none_case _ _ c.in_ok-broken.broken (sym c.is_some.ensures ∙ c.if-is_some.false) c.in_ok-broken.ensures.end) in (
+    let handled = rw c.as_slice.ensures.value at (none_case _ _ c.in_ok-falsified.falsified (sym c.is_some.ensures ∙ c.if-is_some.false) c.in_ok-falsified.ensures.end) in (
       (rw next (recounted e.slots.items e.trail.0 (e.trail.0 ++ l ∷ []) e.trail.1 e.trail.1 e.table e.clauses e.counters.items c.lower.new.counters.items e.limits.items e.watchers.pairs c.fall.new.self.pairs i refl after c.fall.ensures.kinds)),
       subst (λ (xs : List Lit). AreReasons (shown e.slots.items) xs e.reasons.items) (sym (same_assigned e.trail c.advance.new.self l c.next.ensures.first next)) c.self.invariant.1,
       omega (arith, c.self.invariant.2, ap (λ (w : Whole). w.1) next),
@@ -68,15 +68,15 @@ invariant_of-self-2 c =
 pub returns-then-is_some-clause-end : goal.returns-then-is_some-clause-end
 returns-then-is_some-clause-end c =
     let e = c.self.inside in
-    let end = rw c.as_slice.ensures.value at c.in_ok-broken.ensures.end in
-    let there : (k : ℕ) → IsBrokenThere e.slots.items e.trail k → (e.trail.0 ≡ c.args.self.now.propagated) × IsBrokenAt (shown c.args.self.now.slots) c.args.self.now.listing k = λ k b. (
+    let end = rw c.as_slice.ensures.value at c.in_ok-falsified.ensures.end in
+    let there : (k : ℕ) → IsFalsifiedThere e.slots.items e.trail k → (e.trail.0 ≡ c.args.self.now.propagated) × IsFalsifiedAt (shown c.args.self.now.slots) c.args.self.now.assigned k = λ k b. (
       ap (λ (s : State). s.propagated) c.self.view_is,
-      subst (λ (s : State). IsBrokenAt (shown s.slots) s.listing k) c.self.view_is (broken_there e.slots.items e.trail k b),
+      subst (λ (s : State). IsFalsifiedAt (shown s.slots) s.assigned k) c.self.view_is (falsified_there e.slots.items e.trail k b),
     ) in
-    some_case _ _ _ _ c.in_ok-broken.broken (sym c.is_some.ensures ∙ c.if-is_some.true) there end
+    some_case _ _ _ _ c.in_ok-falsified.falsified (sym c.is_some.ensures ∙ c.if-is_some.true) there end
 
 same_state : (slots others : List (Option NormalConstraint)) (xs ys ps qs : List Lit) (rs ss : List (Option ℕ)) (v w : ℕ) → slots ≡ others → xs ≡ ys → ps ≡ qs → rs ≡ ss → v ≡ w
-    → ◌≡◌ {A = State} (record { slots = slots; listing = xs; propagated = ps; reasons = rs; variables = v }) (record { slots = others; listing = ys; propagated = qs; reasons = ss; variables = w })
+    → ◌≡◌ {A = State} (record { slots = slots; assigned = xs; propagated = ps; reasons = rs; variables = v }) (record { slots = others; assigned = ys; propagated = qs; reasons = ss; variables = w })
 same_state slots others xs ys ps qs rs ss v w a b c d e = cc
 
 pub returns-clause-same : goal.returns-clause-same
@@ -85,8 +85,8 @@ returns-clause-same c =
     let old = c.args.self.now in
     let l : Lit = c.next.result in
     let next : c.advance.new.self ≡ (e.trail.0 ++ l ∷ [], e.trail.1, drop 1 e.trail.2) = c.advance.ensures l c.next.ensures.first in
-    same_state e.slots.items old.slots (assigned c.advance.new.self) old.listing c.advance.new.self.0 c.advance.new.self.0 e.reasons.items old.reasons c.advance.new.self.1 old.variables
-    (ap (λ (s : State). s.slots) c.self.view_is) (same_assigned e.trail c.advance.new.self l c.next.ensures.first next ∙ ap (λ (s : State). s.listing) c.self.view_is) refl
+    same_state e.slots.items old.slots (on_trail c.advance.new.self) old.assigned c.advance.new.self.0 c.advance.new.self.0 e.reasons.items old.reasons c.advance.new.self.1 old.variables
+    (ap (λ (s : State). s.slots) c.self.view_is) (same_assigned e.trail c.advance.new.self l c.next.ensures.first next ∙ ap (λ (s : State). s.assigned) c.self.view_is) refl
     (ap (λ (s : State). s.reasons) c.self.view_is) (ap (λ (w : Whole). w.1) next ∙ ap (λ (s : State). s.variables) c.self.view_is)
 
 pub returns-clause-end : goal.returns-clause-end
@@ -101,7 +101,7 @@ returns-clause-end c =
     let after = counted i.counted e.trail.0 e.counters.items c.lower.new.counters.items l c.row.result.now i.counters_are given unset c.lower.ensures.length c.lower.ensures.lowered in
     let parted = parted_same e.slots.items i.counted i.watched e.watchers.pairs c.fall.new.self.pairs i.slots_are c.fall.ensures.kinds in
     let watched = rw c.as_slice.ensures.value at c.fall.ensures.watched in
-    let handled = rw c.as_slice.ensures.value at (none_case _ _ c.in_ok-broken.broken (sym c.is_some.ensures ∙ c.if-is_some.false) c.in_ok-broken.ensures.end) in
+    let handled = rw c.as_slice.ensures.value at (none_case _ _ c.in_ok-falsified.falsified (sym c.is_some.ensures ∙ c.if-is_some.false) c.in_ok-falsified.ensures.end) in
     let longer : c.advance.new.self.0 ≡ new = ap (λ (w : Whole). w.0) (c.advance.ensures l c.next.ensures.first) in
     let apart : IsConsistent new = subst IsConsistent longer c.reveal.ensures.consistent in
     let lowered = rw c.as_slice-3.ensures.value at c.lower.ensures.queued in

@@ -1,6 +1,6 @@
 -- Nothing stands at the place any more, and nobody needs what stood there.
 use Rattle.std.proofs.Common.{◌≡◌, ◌<◌, ℕ, Some, None, length, get_or, ap, sym, subst, arith}
-use Rattle.ledger.specs.Trails.{assigned}
+use Rattle.ledger.specs.Trails.{on_trail}
 use Rattle.ledger.specs.Ledgers.{State}
 use Rattle.ledger.proofs.Attaching.{taken_out, reasons_apart}
 use Rattle.ledger.proofs.WatchedPlaces.{watched_without}
@@ -10,11 +10,11 @@ pub invariant_of-self : goal.invariant_of-self
 invariant_of-self c =
     let e = c.self.inside in
     let low : c.args.place < length e.slots.items = omega (arith, c.requires.place, ap (λ (s : State). length s.slots) c.self.view_is) in
-    let free : (k : ℕ) → k < length (assigned e.trail) → get_or e.reasons.items k None ≡ Some c.args.place → ⊥ = subst (λ (s : State). (k : ℕ) → k < length s.listing → get_or s.reasons k None ≡ Some c.args.place → ⊥) (sym c.self.view_is) c.requires.reasons in
+    let free : (k : ℕ) → k < length (on_trail e.trail) → get_or e.reasons.items k None ≡ Some c.args.place → ⊥ = subst (λ (s : State). (k : ℕ) → k < length s.assigned → get_or s.reasons k None ≡ Some c.args.place → ⊥) (sym c.self.view_is) c.requires.reasons in
     let gone : c.take.new.self ≡ None = c.take.ensures.after in
     rw gone (
       taken_out e.slots.items c.args.place e.trail.0 e.trail.1 e.table e.clauses e.counters.items e.limits.items e.watchers.pairs c.self.invariant.0 low,
-      reasons_apart e.slots.items c.args.place (assigned e.trail) e.reasons.items c.self.invariant.1 free,
+      reasons_apart e.slots.items c.args.place (on_trail e.trail) e.reasons.items c.self.invariant.1 free,
       c.self.invariant.2,
       watched_without e.slots.items c.args.place e.trail.0 e.trail.1 e.watchers low c.self.invariant.3,
     )

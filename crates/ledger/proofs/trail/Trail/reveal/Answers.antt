@@ -6,7 +6,7 @@ use Rattle.ledger.proofs.TrailLiterals.{apart}
 use Rattle.ledger.proofs.trail.Trail.reveal.Goals as goal
 
 pub returns-clause-once : goal.returns-clause-once
-returns-clause-once c = subst (λ (p : List Lit × ℕ). IsOnce p.0) c.self.view_is (apart c.self.inside.listing.items c.self.inside.values.items c.self.invariant.0).0
+returns-clause-once c = subst (λ (p : List Lit × ℕ). IsOnce p.0) c.self.view_is (apart c.self.inside.assigned.items c.self.inside.values.items c.self.invariant.0).0
 
 pub returns-clause-consistent : goal.returns-clause-consistent
-returns-clause-consistent c = subst (λ (p : List Lit × ℕ). IsConsistent p.0) c.self.view_is (apart c.self.inside.listing.items c.self.inside.values.items c.self.invariant.0).1
+returns-clause-consistent c = subst (λ (p : List Lit × ℕ). IsConsistent p.0) c.self.view_is (apart c.self.inside.assigned.items c.self.inside.values.items c.self.invariant.0).1

@@ -13,8 +13,8 @@ returns-in-Satisfied-clause-passed c =
     let is = place_is c.args.self.now.rows c.self.inside.rows c.row.result.now c.args.fallen c.code.result c.args.index c.row.ensures c.code.ensures (ap (λ (w : Watching). w.rows) c.self.view_is) c.requires.index in
     stays c.args.slots.now c.args.trail.now.0 c.args.trail.now.1 c.args.fallen c.args.self.now c.args.queue.now.0 c.args.queue.now.0 c.args.index place found.0 found.1 c.requires.falling c.requires.index is (λ k h. h) found.2 (inl found.3)
 
-pub returns-in-Broken-clause-passed : goal.returns-in-Broken-clause-passed
-returns-in-Broken-clause-passed c = (c.requires.falling.watched, c.in-Broken.ensures)
+pub returns-in-Falsified-clause-passed : goal.returns-in-Falsified-clause-passed
+returns-in-Falsified-clause-passed c = (c.requires.falling.watched, c.in-Falsified.ensures)
 
 pub returns-in-Last-clause-passed : goal.returns-in-Last-clause-passed
 returns-in-Last-clause-passed c =

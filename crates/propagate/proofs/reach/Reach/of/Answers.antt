@@ -1,4 +1,4 @@
--- The trail has the literals of the listing.
+-- The trail has the literals of the assignment.
 use Rattle.std.proofs.Common.{map, List}
 use Rattle.std.proofs.lemmas.Result.{IfOk-weaker}
 use Rattle.normal_form.specs.Normal.{NormalConstraint}

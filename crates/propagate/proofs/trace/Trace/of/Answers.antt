@@ -1,4 +1,4 @@
--- The walk begins with the literals of the listing, and its reasons are places of the constraints.
+-- The walk begins with the literals of the assignment, and its reasons are places of the constraints.
 use Rattle.std.proofs.Common.{List, map, length, sym, ◌∙◌}
 use Rattle.std.proofs.lemmas.List.{length-map}
 use Rattle.normal_form.specs.Normal.{NormalConstraint}
@@ -15,6 +15,6 @@ from_walk-requires-clause-steps c =
 pub returns : goal.returns
 returns c =
     let ns : List NormalConstraint = map (λ n. n.now) c.args.constraints.now in
-    trace_made ns c.args.ids.now c.args.given.now c.in-Some.start.0 c.in_ok-complete-in-Some.field-0.trail.0 c.in_ok-complete-in-Some.field-0.steps.items c.in_ok-complete-in-Some.field-0.broken c.from_walk.result
+    trace_made ns c.args.ids.now c.args.given.now c.in-Some.start.0 c.in_ok-complete-in-Some.field-0.trail.0 c.in_ok-complete-in-Some.field-0.steps.items c.in_ok-complete-in-Some.field-0.falsified c.from_walk.result
     (start_same c.in_ok-start.field-0 c.in-Some.start c.args.given.now c.in_ok-start.ensures.same c.in-Some.is)
-    c.in_ok-complete-in-Some.ensures.chain c.in_ok-complete-in-Some.ensures.listing c.in_ok-complete-in-Some.ensures.end c.from_walk.ensures.forced c.from_walk.ensures.conflict
+    c.in_ok-complete-in-Some.ensures.chain c.in_ok-complete-in-Some.ensures.assigned c.in_ok-complete-in-Some.ensures.end c.from_walk.ensures.forced c.from_walk.ensures.conflict

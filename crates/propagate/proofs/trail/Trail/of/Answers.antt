@@ -9,11 +9,11 @@ first = record { var = record { 0 = 0 }; negated = false }
 
 pub returns-then-not-branch-clause-none : goal.returns-then-not-branch-clause-none
 returns-then-not-branch-clause-none c _ =
-    contradicts_at c.args.listing.now c.loop-literal.trail.0 c.loop-literal.literal-index first c.loop-literal.invariant.1 (omega arith) (c.in_ok-admit.ensures.refused c.if-not-branch.true)
+    contradicts_at c.args.assigned.now c.loop-literal.trail.0 c.loop-literal.literal-index first c.loop-literal.invariant.1 (omega arith) (c.in_ok-admit.ensures.refused c.if-not-branch.true)
 
 pub loop-literal-preserved : goal.loop-literal-preserved
 loop-literal-preserved c = (
   c.in_ok-admit.ensures.count ∙ c.loop-literal.invariant.0,
-  same_more c.args.listing.now c.loop-literal.trail.0 c.admit.new.self.0 c.loop-literal.literal-index first (omega arith) c.loop-literal.invariant.1 (c.in_ok-admit.ensures.admitted c.if-not-branch.false),
-  consistent_more c.args.listing.now c.loop-literal.trail.0 c.loop-literal.literal-index first (omega arith) c.loop-literal.invariant.1 (c.in_ok-admit.ensures.free c.if-not-branch.false) c.loop-literal.invariant.2,
+  same_more c.args.assigned.now c.loop-literal.trail.0 c.admit.new.self.0 c.loop-literal.literal-index first (omega arith) c.loop-literal.invariant.1 (c.in_ok-admit.ensures.admitted c.if-not-branch.false),
+  consistent_more c.args.assigned.now c.loop-literal.trail.0 c.loop-literal.literal-index first (omega arith) c.loop-literal.invariant.1 (c.in_ok-admit.ensures.free c.if-not-branch.false) c.loop-literal.invariant.2,
 )

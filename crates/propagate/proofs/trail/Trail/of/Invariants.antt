@@ -5,4 +5,4 @@ use Rattle.propagate.proofs.trail.Trail.of.Given as goal
 
 abbrev pub invariant-loop-literal : goal.invariant-loop-literal
 invariant-loop-literal l =
-    (l.trail.1 ≡ l.count) × SameLiterals l.trail.0 (take l.literal-index l.listing) × IsConsistent (take l.literal-index l.listing)
+    (l.trail.1 ≡ l.count) × SameLiterals l.trail.0 (take l.literal-index l.assigned) × IsConsistent (take l.literal-index l.assigned)

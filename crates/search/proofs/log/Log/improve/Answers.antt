@@ -19,13 +19,13 @@ pub returns-in-Err-clause-fault : goal.returns-in-Err-clause-fault
 returns-in-Err-clause-fault g c =
     let log = c.self.inside in
     let f = c.in-Err.fault in
-    subst (λ (l : Logbook). OrMemory f (IsSoliFault l.problem l.state c.args.listing f)) c.self.view_is
-    (subst (λ q. OrMemory f (IsSoliFault q log.kernel.state c.args.listing f)) c.self.invariant.0 c.in-Err.ensures.fault)
+    subst (λ (l : Logbook). OrMemory f (IsSoliFault l.problem l.state c.args.assigned f)) c.self.view_is
+    (subst (λ q. OrMemory f (IsSoliFault q log.kernel.state c.args.assigned f)) c.self.invariant.0 c.in-Err.ensures.fault)
 
 -- the value that was kept is the least one now
 value_kept : (g : Over) (c : goal.After-drop g)
     → set c.push.new.self.items (c.len-place.result - 1) (to_z w128 (of_z w128 c.in-Some.value))
-    ≡ c.self.inside.improved.items ++ improvement (kinds.Soli c.args.listing) c.keep.new.kernel.state
+    ≡ c.self.inside.improved.items ++ improvement (kinds.Soli c.args.assigned) c.keep.new.kernel.state
 value_kept g c =
     let log = c.self.inside in
     let new : State = c.keep.new.kernel.state in
@@ -41,7 +41,7 @@ invariant_of-self-2 g c =
     let log = c.self.inside in
     let p : Opb = log.source.now in
     let new : State = c.keep.new.kernel.state in
-    let step : Step = kinds.Soli c.args.listing in
+    let step : Step = kinds.Soli c.args.assigned in
     let values : List ℤ = set c.push.new.self.items (c.len-place.result - 1) (to_z w128 (of_z w128 c.in-Some.value)) in
     let legal : Legal p log.kernel.state step new = subst (λ q. Legal q log.kernel.state step new) c.self.invariant.0 c.in_default.ensures.ok in
     let grown = grows p log.steps.items log.kernel.state new log.improved.items log.biting log.conclusion step c.self.invariant.1 legal in

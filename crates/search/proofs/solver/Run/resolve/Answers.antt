@@ -7,7 +7,7 @@ use Rattle.propagate.specs.Chain.{IsImpossible}
 use Rattle.proof_rules.specs.State.{constraints}
 use Rattle.search.specs.Log.{Logbook}
 use Rattle.search.specs.Undoing.{IsOvertaken}
-use Rattle.search.specs.declared.clause.Lesson.TheVariants as lessons
+use Rattle.search.specs.declared.clause.ConflictEnd.TheVariants as lessons
 use Rattle.search.proofs.UpToDate.{overtaken_first}
 use Rattle.search.proofs.solver.Run.resolve.Goals as goal
 
@@ -31,9 +31,9 @@ returns-clause-fewer g c first fresh is =
     let kept : middle ≡ items = c.in_ok-learned.ensures.kept c.if-learned.false in
     let same = c.least_conflict.ensures.same ∙ c.in_ok-learned.ensures.unchanged c.if-learned.false in
     let within : count - 1 < length items = omega (arith, c.if-count-eq0.false, c.in_ok-count.ensures.within, ap length c.as_slice.ensures.value, ap length kept) in
-    let undone : IsOvertaken (constraints c.least_conflict.new.log.state) middle (count - 1) = c.in_ok-lesson.ensures.overtaken (same_Some c.in_ok-lesson.lesson lessons.Undone is) in
+    let undone : IsOvertaken (constraints c.least_conflict.new.log.state) middle (count - 1) = c.in_ok-conflict_end.ensures.overtaken (same_Some c.in_ok-conflict_end.conflict_end lessons.Undone is) in
     let overtaken : IsOvertaken (constraints c.args.self.now.log.state) items (count - 1) =
     subst (λ (xs : List Lit). IsOvertaken (constraints c.args.self.now.log.state) xs (count - 1)) kept (subst (λ (l : Logbook). IsOvertaken (constraints l.state) middle (count - 1)) same undone) in
     let older = overtaken_first (constraints c.args.self.now.log.state) first (count - 1) items fresh within overtaken in
     let left = length-take-le (count - 1) middle (omega (arith, within, ap length kept)) in
-    omega (arith, older, left, ap length c.in_ok-lesson.ensures.undone, ap length c.go_back-2.ensures.decisions)
+    omega (arith, older, left, ap length c.in_ok-conflict_end.ensures.undone, ap length c.go_back-2.ensures.decisions)

@@ -8,7 +8,7 @@ use Rattle.search.proofs.standing.Standing.add.Goals as goal
 
 pub invariant_of-self-2 : goal.invariant_of-self-2
 invariant_of-self-2 c =
-    let listing : List Lit = c.self.inside.listing.items in
+    let assigned : List Lit = c.self.inside.assigned.items in
     let l : Lit = c.args.literal in
     subst (λ (xs : List Lit). AreValuesUnder xs c.note.new.values.items) (sym c.in_ok-push.ensures.items)
-    (subst (λ (vs : List Value). AreValuesUnder (listing ++ l ∷ []) vs) (sym c.note.ensures) (values_more listing l c.self.inside.values.items c.self.invariant))
+    (subst (λ (vs : List Value). AreValuesUnder (assigned ++ l ∷ []) vs) (sym c.note.ensures) (values_more assigned l c.self.inside.values.items c.self.invariant))

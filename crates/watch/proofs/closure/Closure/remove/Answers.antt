@@ -13,7 +13,7 @@ pub invariant_of-self : goal.invariant_of-self
 invariant_of-self c =
     let before = c.release.new.ledger in
     let new = c.take_out.new.self in
-    let many : length new.reasons ≡ length new.listing =
-    ap (λ (s : State). length s.reasons) c.take_out.ensures.slots ∙ c.reveal-2.ensures.reasons.as_many ∙ sym (ap (λ (s : State). length s.listing) c.take_out.ensures.slots) in
+    let many : length new.reasons ≡ length new.assigned =
+    ap (λ (s : State). length s.reasons) c.take_out.ensures.slots ∙ c.reveal-2.ensures.reasons.as_many ∙ sym (ap (λ (s : State). length s.assigned) c.take_out.ensures.slots) in
     kept_root new c.go_back.new.levels c.release.new.queue.0 c.release.new.queue.1 many c.go_back.ensures.levels
     (root_without before new c.args.place c.release.new.queue.0 c.release.new.queue.1 c.take_out.ensures.slots c.release.ensures.root)

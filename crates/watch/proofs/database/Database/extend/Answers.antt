@@ -12,6 +12,6 @@ use Rattle.watch.proofs.database.Database.extend.Goals as goal
 pub returns-clause-value : goal.returns-clause-value
 returns-clause-value c =
     let e = c.self.inside in
-    let live = subst (λ (m : Content). AddsNothing (shown e.closure) (map.values m)) c.self.view_is (live_content e.closure e.places.entries e.ids.items c.self.invariant) in
+    let live = subst (λ (m : Content). AddsNothing (shown e.closure) (map.values m)) c.self.view_is (live_content e.closure e.places e.ids.items c.self.invariant) in
     IfOk-weaker c.extend.result (IsReach (shown e.closure) c.args.given.now) (IsReach (map.values c.args.self.now) c.args.given.now)
     (λ r h. live_reach (shown e.closure) (map.values c.args.self.now) live c.args.given.now r h) c.extend.ensures.value

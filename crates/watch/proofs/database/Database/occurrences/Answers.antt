@@ -13,12 +13,12 @@ returns-clause-exactly c =
     let os = (all_of c.entries.result) in
     let lent = c.of.ensures ∙ ap (λ (ids : List ℕ). ids_at ids (live_places e.closure os)) c.as_slice-ids.ensures.value in
     subst (λ (m : Content). (id : ℕ) → Contains c.of.result id ↔ HasLiteral m c.args.literal id) c.self.view_is
-    (subst (λ (ks : List ℕ). (id : ℕ) → Contains ks id ↔ HasLiteral (content_at e.closure e.places.entries) c.args.literal id) (sym lent)
-    (lent_exactly e.closure e.places.entries e.ids.items c.args.literal os c.self.invariant c.entries.ensures.value))
+    (subst (λ (ks : List ℕ). (id : ℕ) → Contains ks id ↔ HasLiteral (content_at e.closure e.places) c.args.literal id) (sym lent)
+    (lent_exactly e.closure e.places e.ids.items c.args.literal os c.self.invariant c.entries.ensures.value))
 
 pub returns-clause-once : goal.returns-clause-once
 returns-clause-once c =
     let e = c.self.inside in
     let os = (all_of c.entries.result) in
     let lent = c.of.ensures ∙ ap (λ (ids : List ℕ). ids_at ids (live_places e.closure os)) c.as_slice-ids.ensures.value in
-    subst IsEachOnce (sym lent) (lent_once e.closure e.places.entries e.ids.items c.args.literal os c.self.invariant c.entries.ensures.value)
+    subst IsEachOnce (sym lent) (lent_once e.closure e.places e.ids.items c.args.literal os c.self.invariant c.entries.ensures.value)

@@ -12,7 +12,7 @@ use Rattle.watch.proofs.database.Database.refute.Goals as goal
 pub returns-clause-value : goal.returns-clause-value
 returns-clause-value c =
     let e = c.self.inside in
-    let live = subst (λ (m : Content). AddsNothing (shown e.closure) (map.values m)) c.self.view_is (live_content e.closure e.places.entries e.ids.items c.self.invariant) in
+    let live = subst (λ (m : Content). AddsNothing (shown e.closure) (map.values m)) c.self.view_is (live_content e.closure e.places e.ids.items c.self.invariant) in
     let same = live_refuted (shown e.closure) (map.values c.args.self.now) c.args.extras.now live in
     IfOk-weaker c.refute.result (λ yes. IsTrue yes ↔ IsRefuted (shown e.closure ++ c.args.extras.now))
     (λ yes. IsTrue yes ↔ IsRefuted (map.values c.args.self.now ++ c.args.extras.now))

@@ -1,0 +1,211 @@
+//! The duals: a multiplier for each tight row, and a reduced cost for each variable.
+//!
+//! The multipliers are the costs of the basic variables times the inverse; a reduced cost is what is left of a cost once the tight rows times
+//! their multipliers are taken from it. Where no multiplier is negative they tell a bound on every solution, whatever the point is:
+//! the right sides times the multipliers, and each reduced cost at its better bound.
+
+use super::basis::Basis;
+use super::costs::Costs;
+use super::domain::{Domain, domain_of};
+use super::fixed::{Fixed, read, write};
+use super::inverse::Inverse;
+use super::rows::{Entry, Rows};
+use super::sums::{Sum, add_row, clear, take_entries};
+use super::work::Work;
+use std::alloc::{AllocError, Global};
+
+/// The multipliers of the tight rows by their places, and the reduced costs of the variables.
+#[derive(Debug, Drop)]
+pub(crate) struct Duals {
+    multipliers: Vec<Fixed>,
+    reduced_costs: Vec<Fixed>,
+    sums: Vec<Sum>,
+}
+
+impl Duals {
+    /// Those of no rows and no variables.
+    pub(crate) fn new(alloc: Global) -> Self {
+        Duals {
+            multipliers: Vec::new(alloc),
+            reduced_costs: Vec::new(alloc),
+            sums: Vec::new(alloc),
+        }
+    }
+
+    /// Makes room for so many variables, where there are fewer.
+    pub(crate) fn widen(&mut self, variables: usize) -> Result<(), AllocError> {
+        for _ in self.reduced_costs.len()..variables {
+            self.reduced_costs.push(Fixed::ZERO)?;
+        }
+        Ok(())
+    }
+
+    /// Forgets the multipliers.
+    pub(crate) fn clear(&mut self) {
+        self.multipliers.clear();
+    }
+
+    /// The multipliers of the tight rows, by their places.
+    pub(crate) fn multipliers(&self) -> &[Fixed] {
+        self.multipliers.as_slice()
+    }
+
+    pub(crate) fn multiplier(&self, place: usize) -> Fixed {
+        read(self.multipliers.as_slice(), place)
+    }
+
+    pub(crate) fn set_multiplier(&mut self, place: usize, multiplier: Fixed) {
+        write(self.multipliers.as_mut_slice(), place, multiplier);
+    }
+
+    pub(crate) fn append_multiplier(&mut self, multiplier: Fixed) -> Result<(), AllocError> {
+        self.multipliers.push(multiplier)?;
+        Ok(())
+    }
+
+    /// Takes the multiplier at a place out, and puts the last one there.
+    pub(crate) fn take_out_multiplier(&mut self, place: usize) {
+        if place < self.multipliers.len() {
+            self.multipliers.swap_remove(place);
+        }
+    }
+
+    pub(crate) fn reduced_cost(&self, variable: usize) -> Fixed {
+        read(self.reduced_costs.as_slice(), variable)
+    }
+
+    pub(crate) fn set_reduced_cost(&mut self, variable: usize, reduced_cost: Fixed) {
+        write(self.reduced_costs.as_mut_slice(), variable, reduced_cost);
+    }
+
+    /// Takes a multiple of a tableau row from the multipliers and the reduced costs.
+    pub(crate) fn take(&mut self, factor: Fixed, weights: &[Entry], entries: &[Entry]) {
+        take_multiple(self.multipliers.as_mut_slice(), factor, weights);
+        take_multiple(self.reduced_costs.as_mut_slice(), factor, entries);
+    }
+
+    /// Makes all anew.
+    pub(crate) fn make(
+        &mut self,
+        rows: &Rows,
+        costs: &Costs,
+        basis: &Basis,
+        inverse: &Inverse,
+        work: &mut Work,
+    ) -> Result<(), AllocError> {
+        self.make_multipliers(costs, basis, inverse)?;
+        self.make_reduced_costs(rows, costs, basis, work)?;
+        work.count_square(basis.len());
+        work.count(self.reduced_costs.len());
+        Ok(())
+    }
+
+    /// The costs of the basic variables times the inverse.
+    fn make_multipliers(
+        &mut self,
+        costs: &Costs,
+        basis: &Basis,
+        inverse: &Inverse,
+    ) -> Result<(), AllocError> {
+        clear(&mut self.sums, basis.len())?;
+        for (place, variable) in basis.basic().iter().enumerate() {
+            let cost = costs.perturbed(*variable);
+            if !cost.is_zero() {
+                add_row(self.sums.as_mut_slice(), cost, inverse.row(place));
+            }
+        }
+        self.multipliers.clear();
+        for sum in &self.sums {
+            self.multipliers.push(sum.rounded())?;
+        }
+        Ok(())
+    }
+
+    /// The costs less the tight rows times their multipliers; 0 for a basic variable.
+    fn make_reduced_costs(
+        &mut self,
+        rows: &Rows,
+        costs: &Costs,
+        basis: &Basis,
+        work: &mut Work,
+    ) -> Result<(), AllocError> {
+        self.sums.clear();
+        for variable in 0..self.reduced_costs.len() {
+            self.sums.push(Sum::of(costs.perturbed(variable)))?;
+        }
+        for (row, multiplier) in basis.tight().iter().zip(self.multipliers.iter()) {
+            if !multiplier.is_zero() {
+                take_entries(self.sums.as_mut_slice(), *multiplier, rows.row(*row));
+                work.count(rows.row(*row).len());
+            }
+        }
+        self.round_reduced_costs(basis);
+        Ok(())
+    }
+
+    /// Rounds the sums to the reduced costs.
+    fn round_reduced_costs(&mut self, basis: &Basis) {
+        for (variable, (reduced_cost, sum)) in self
+            .reduced_costs
+            .iter_mut()
+            .zip(self.sums.iter())
+            .enumerate()
+        {
+            *reduced_cost = if basis.is_basic(variable) {
+                Fixed::ZERO
+            } else {
+                sum.rounded()
+            };
+        }
+    }
+
+    /// The least multiplier.
+    pub(crate) fn least_multiplier(&self) -> Fixed {
+        let mut least = Fixed::ZERO;
+        for multiplier in &self.multipliers {
+            if least.is_above(*multiplier) {
+                least = *multiplier;
+            }
+        }
+        least
+    }
+
+    /// The bound on the costs that they tell, in units of `2^-32`.
+    pub(crate) fn bound(
+        &self,
+        rows: &Rows,
+        costs: &Costs,
+        domains: &[Domain],
+        basis: &Basis,
+    ) -> i128 {
+        let mut sum = Sum::ZERO;
+        for (row, multiplier) in basis.tight().iter().zip(self.multipliers.iter()) {
+            if !multiplier.is_negative() {
+                sum = sum.plus_product(*multiplier, rows.right(*row));
+            }
+        }
+        sum.units().saturating_add(self.at_bounds(costs, domains))
+    }
+
+    /// What the reduced costs come to where each variable stands at the better bound, without what was added to the costs.
+    fn at_bounds(&self, costs: &Costs, domains: &[Domain]) -> i128 {
+        let mut total: i128 = 0;
+        for (variable, reduced_cost) in self.reduced_costs.iter().enumerate() {
+            let cost = reduced_cost.minus(costs.added(variable));
+            if !domain_of(domains, variable).better_bound(cost).is_zero() {
+                total = total.saturating_add(i128::from(cost.units()));
+            }
+        }
+        total
+    }
+}
+
+/// Takes a multiple of some entries from the numbers at their places.
+fn take_multiple(numbers: &mut [Fixed], factor: Fixed, entries: &[Entry]) {
+    let negated = factor.negated();
+    for entry in entries {
+        if entry.place < numbers.len() {
+            numbers[entry.place] = numbers[entry.place].plus_product(negated, entry.value);
+        }
+    }
+}

@@ -1,0 +1,34 @@
+//! The linear relaxation of a 0-1 problem, as an adviser that may be wrong.
+//!
+//! Where variables may take all values from 0 to 1, a dual simplex tells fast that constraints contradict each other, or that no solution is
+//! better than the best one, and by which multiples the constraints sum up to one that is false (Farkas). Whoever asks forms that sum
+//! exactly and judges it. So no clause says that an answer is right; what is proved is that every call returns, that no index is out of
+//! range, and that no number overflows or is divided by 0.
+//!
+//! A step goes through the files in this order: `pricing` (what is violated most), `tableau` (its row), `ratio` (what enters), `pivot` (the
+//! exchange, of `basis`, `inverse`, `point` and `duals`); `simplex` has the rounds of a call, `ends` how it ends, `multipliers` what is handed out.
+#![tactic(auto)]
+
+mod basis;
+mod costs;
+mod domain;
+mod duals;
+mod ends;
+mod fixed;
+mod inverse;
+mod multipliers;
+mod pivot;
+mod point;
+mod pricing;
+mod ratio;
+mod relaxation;
+mod rows;
+mod simplex;
+mod sums;
+mod tableau;
+mod touched;
+mod work;
+
+pub use fixed::Fixed;
+pub use multipliers::{Multiplier, Row, Source, WholeMultiplier, whole_multipliers};
+pub use relaxation::{End, Limits, Relaxation};

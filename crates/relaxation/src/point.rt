@@ -1,0 +1,150 @@
+//! The point: a value for each variable, and for each row what its left side is above its right side, its activity.
+//!
+//! Both follow from the basis. A step moves few of them, so they are kept, and made anew at the begin of a call and after a
+//! refactorisation.
+
+use super::basis::Basis;
+use super::domain::{Domain, domain_of};
+use super::duals::Duals;
+use super::fixed::{Fixed, read, write};
+use super::inverse::Inverse;
+use super::rows::{Entry, Rows};
+use super::sums::Sum;
+use super::work::Work;
+use std::alloc::{AllocError, Global};
+
+/// The values of the variables, and the activities of the rows.
+#[derive(Debug, Drop)]
+pub(crate) struct Point {
+    values: Vec<Fixed>,
+    activities: Vec<Fixed>,
+    /// What the tight rows still want where the basic variables are 0.
+    wanted: Vec<Fixed>,
+    /// The values of the basic variables, by their places.
+    basic: Vec<Fixed>,
+}
+
+/// What the left side of a row is above its right side.
+fn activity(entries: &[Entry], values: &[Fixed], right: Fixed) -> Fixed {
+    let mut sum = Sum::of(right.negated());
+    for entry in entries {
+        sum = sum.plus_product(entry.value, read(values, entry.place));
+    }
+    sum.rounded()
+}
+
+impl Point {
+    /// The point of no rows and no variables.
+    pub(crate) fn new(alloc: Global) -> Self {
+        Point {
+            values: Vec::new(alloc),
+            activities: Vec::new(alloc),
+            wanted: Vec::new(alloc),
+            basic: Vec::new(alloc),
+        }
+    }
+
+    /// Makes room for so many rows and variables, where there are fewer.
+    pub(crate) fn widen(&mut self, rows: usize, variables: usize) -> Result<(), AllocError> {
+        for _ in self.activities.len()..rows {
+            self.activities.push(Fixed::ZERO)?;
+        }
+        for _ in self.values.len()..variables {
+            self.values.push(Fixed::ZERO)?;
+        }
+        Ok(())
+    }
+
+    pub(crate) fn value(&self, variable: usize) -> Fixed {
+        read(self.values.as_slice(), variable)
+    }
+
+    pub(crate) fn set_value(&mut self, variable: usize, value: Fixed) {
+        write(self.values.as_mut_slice(), variable, value);
+    }
+
+    /// The activities, row by row.
+    pub(crate) fn activities(&self) -> &[Fixed] {
+        self.activities.as_slice()
+    }
+
+    pub(crate) fn set_activity(&mut self, row: usize, activity: Fixed) {
+        write(self.activities.as_mut_slice(), row, activity);
+    }
+
+    /// The activity of a row, from its terms.
+    pub(crate) fn measure(&self, rows: &Rows, row: usize) -> Fixed {
+        activity(rows.row(row), self.values.as_slice(), rows.right(row))
+    }
+
+    /// Moves a variable, and the activities of its rows with it.
+    pub(crate) fn shift(&mut self, rows: &Rows, variable: usize, change: Fixed) {
+        let value = self.value(variable).plus(change);
+        self.set_value(variable, value);
+        for entry in rows.column(variable) {
+            if entry.place < self.activities.len() {
+                self.activities[entry.place] = self.activities[entry.place].plus_product(
+                    entry.value,
+                    change,
+                );
+            }
+        }
+    }
+
+    /// Makes the point anew.
+    pub(crate) fn make(
+        &mut self,
+        rows: &Rows,
+        domains: &[Domain],
+        basis: &Basis,
+        inverse: &Inverse,
+        duals: &Duals,
+        work: &mut Work,
+    ) -> Result<(), AllocError> {
+        self.put_to_bounds(domains, basis, duals);
+        self.solve_basic(rows, basis, inverse)?;
+        self.measure_all(rows, work);
+        work.count_square(basis.len());
+        work.count(self.values.len());
+        Ok(())
+    }
+
+    /// Puts each variable to the bound that its reduced cost asks for, and the basic ones to 0.
+    fn put_to_bounds(&mut self, domains: &[Domain], basis: &Basis, duals: &Duals) {
+        for (variable, value) in self.values.iter_mut().enumerate() {
+            *value = if basis.is_basic(variable) {
+                Fixed::ZERO
+            } else {
+                domain_of(domains, variable).better_bound(duals.reduced_cost(variable))
+            };
+        }
+    }
+
+    /// Gives the basic variables the values that make the tight rows hold with equality.
+    fn solve_basic(
+        &mut self,
+        rows: &Rows,
+        basis: &Basis,
+        inverse: &Inverse,
+    ) -> Result<(), AllocError> {
+        self.wanted.clear();
+        for row in basis.tight() {
+            let wanted = self.measure(rows, *row).negated();
+            self.wanted.push(wanted)?;
+        }
+        inverse.product(self.wanted.as_slice(), &mut self.basic)?;
+        for (variable, value) in basis.basic().iter().zip(self.basic.iter()) {
+            write(self.values.as_mut_slice(), *variable, *value);
+        }
+        Ok(())
+    }
+
+    /// Makes all activities anew.
+    pub(crate) fn measure_all(&mut self, rows: &Rows, work: &mut Work) {
+        for (row, measured) in self.activities.iter_mut().enumerate() {
+            let entries = rows.row(row);
+            *measured = activity(entries, self.values.as_slice(), rows.right(row));
+            work.count(entries.len());
+        }
+    }
+}

@@ -1,0 +1,212 @@
+//! The relaxation of a 0-1 problem: its normal constraints over variables from 0 to 1, and its objective.
+//!
+//! A search adds the constraints once, fixes what it decided and propagated, and asks. Rows and domains may change in any way between calls.
+
+use super::basis::Basis;
+use super::costs::Costs;
+use super::domain::{Domain, domain_of};
+use super::duals::Duals;
+use super::fixed::Fixed;
+use super::inverse::Inverse;
+use super::multipliers::{Multiplier, Row};
+use super::point::Point;
+use super::ratio::Candidates;
+use super::rows::{Entry, Rows};
+use super::tableau::TableauRow;
+use super::touched::TouchedSums;
+use super::work::Work;
+use linear::{Integer, Lit, Term, Var};
+use normal_form::Normal;
+use std::alloc::{AllocError, Global};
+
+/// How a call of `solve` ends.
+#[derive(Clone, Copy, Debug, PartialEq, Eq)]
+pub enum End {
+    /// No point satisfies all rows: the rows sum up by the multipliers to one that none satisfies.
+    Infeasible,
+    /// Every point is worth more than the upper bound: the rows and the improving constraint sum up by the multipliers to one that
+    /// none satisfies.
+    CutOff,
+    /// The point of the least cost was found; the multipliers are those of its bound.
+    Values,
+    /// The limits were reached first, or a step could not be made.
+    Limit,
+}
+
+/// What a call may do.
+#[derive(Clone, Copy, Debug)]
+pub struct Limits {
+    /// How many steps.
+    pub steps: u32,
+    /// How many multiplications, about: it may be exceeded by one step and by what every call begins with.
+    pub work: u64,
+}
+
+/// The linear relaxation, with the basis of its last call.
+#[derive(Debug, Drop)]
+pub struct Relaxation {
+    pub(crate) rows: Rows,
+    pub(crate) costs: Costs,
+    pub(crate) domains: Vec<Domain>,
+    pub(crate) basis: Basis,
+    pub(crate) inverse: Inverse,
+    pub(crate) point: Point,
+    pub(crate) duals: Duals,
+    pub(crate) tableau: TableauRow,
+    pub(crate) candidates: Candidates,
+    /// How the basic variables move in a step.
+    pub(crate) column: Vec<Fixed>,
+    /// The column over the pivot.
+    pub(crate) factors: Vec<Fixed>,
+    /// The row of the inverse of the variable that enters.
+    pub(crate) entering_row: Vec<Entry>,
+    /// The coefficients of the variable that enters in tight rows, by their places.
+    pub(crate) tight_entries: Vec<Entry>,
+    pub(crate) multipliers: Vec<Multiplier>,
+    /// The sum of the rows by the multipliers.
+    pub(crate) sum: TouchedSums,
+    /// The bound on the scaled costs, in units of `2^-32`.
+    pub(crate) bound: i128,
+    /// What the bound has to be above to end a call.
+    pub(crate) cutoff: Option<i128>,
+    /// Steps since the inverse was made anew.
+    pub(crate) pivots: u32,
+    pub(crate) steps: u64,
+    pub(crate) work: Work,
+}
+
+impl Relaxation {
+    /// No constraint and no objective over so many variables.
+    pub fn new(alloc: Global, variables: usize) -> Result<Self, AllocError> {
+        let mut relaxation = Relaxation {
+            rows: Rows::new(alloc, 0)?,
+            costs: Costs::new(alloc),
+            domains: Vec::new(alloc),
+            basis: Basis::new(alloc),
+            inverse: Inverse::new(alloc),
+            point: Point::new(alloc),
+            duals: Duals::new(alloc),
+            tableau: TableauRow::new(alloc),
+            candidates: Candidates::new(alloc),
+            column: Vec::new(alloc),
+            factors: Vec::new(alloc),
+            entering_row: Vec::new(alloc),
+            tight_entries: Vec::new(alloc),
+            multipliers: Vec::new(alloc),
+            sum: TouchedSums::new(alloc),
+            bound: 0,
+            cutoff: None,
+            pivots: 0,
+            steps: 0,
+            work: Work::new(),
+        };
+        relaxation.widen(variables)?;
+        Ok(relaxation)
+    }
+
+    /// Makes room for so many variables, where there are fewer.
+    fn widen(&mut self, variables: usize) -> Result<(), AllocError> {
+        if variables > self.rows.variables() {
+            self.rows.widen(variables)?;
+            self.costs.widen(variables)?;
+            self.duals.widen(variables)?;
+            self.tableau.widen(variables)?;
+            self.sum.widen(variables)?;
+            for _ in self.domains.len()..variables {
+                self.domains.push(Domain::Free)?;
+            }
+        }
+        self.basis.widen(self.rows.count(), variables)?;
+        self.point.widen(self.rows.count(), variables)
+    }
+
+    /// Takes an objective to be minimised, in the stead of the one before. Variables beyond those that there are cost nothing.
+    pub fn set_cost(&mut self, terms: &[Term]) -> Result<(), AllocError> {
+        self.costs.set(terms)
+    }
+
+    /// Adds a constraint. Where memory ends it is not added.
+    pub fn add_row(&mut self, constraint: &Normal) -> Result<Row, AllocError> {
+        self.widen(constraint.variable_count())?;
+        let row = self.rows.count();
+        self.rows.add(constraint)?;
+        self.widen(constraint.variable_count())?;
+        Ok(Row(row))
+    }
+
+    /// Makes a literal true. A variable beyond those that there are stays free.
+    pub fn fix(&mut self, literal: Lit) {
+        let domain = if literal.negated {
+            Domain::False
+        } else {
+            Domain::True
+        };
+        self.set_domain(literal.var, domain);
+    }
+
+    /// Lets a variable take all values from 0 to 1 again.
+    pub fn free(&mut self, variable: Var) {
+        self.set_domain(variable, Domain::Free);
+    }
+
+    fn set_domain(&mut self, variable: Var, domain: Domain) {
+        let place = variable.0 as usize;
+        if place < self.domains.len() {
+            self.domains[place] = domain;
+        }
+    }
+
+    /// The multipliers of the last call: none where it reached its limits.
+    pub fn multipliers(&self) -> &[Multiplier] {
+        self.multipliers.as_slice()
+    }
+
+    /// The value of a variable at the point of the last call.
+    pub fn value(&self, variable: Var) -> Fixed {
+        self.point.value(variable.0 as usize)
+    }
+
+    /// The reduced cost of a variable: what the scaled bound grows by for each unit that the variable is off its better bound.
+    pub fn reduced_cost(&self, variable: Var) -> Fixed {
+        let place = variable.0 as usize;
+        self.duals
+            .reduced_cost(place)
+            .minus(self.costs.added(place))
+    }
+
+    /// Whether the reduced cost of some free variable is above what the bound of the last call lacks to the upper bound of that call, so
+    /// that the sum of the rows and the improving constraint by the multipliers forces a literal of it.
+    pub fn forces_a_literal(&self) -> bool {
+        let Some(cutoff) = self.cutoff else {
+            return false;
+        };
+        let gap = cutoff.saturating_sub(self.bound);
+        for place in 0..self.domains.len() {
+            let cost = self
+                .duals
+                .reduced_cost(place)
+                .minus(self.costs.added(place));
+            if domain_of(self.domains.as_slice(), place).is_free()
+                && i128::from(cost.size().units()) > gap
+            {
+                return true;
+            }
+        }
+        false
+    }
+
+    /// The bound of the last call on the objective's value, rounded down. It may be wrong: for progress lines alone.
+    pub fn bound(&self) -> Integer {
+        self.costs.value(self.bound)
+    }
+
+    /// How much was done in all calls: multiplications, about.
+    pub fn work_done(&self) -> u64 {
+        self.work.done()
+    }
+
+    /// How many steps were made in all calls.
+    pub fn steps(&self) -> u64 {
+        self.steps
+    }
+}

@@ -1,0 +1,326 @@
+//! The dual simplex: step after step, what is violated most is repaired, at the least loss of the bound.
+//!
+//! Every variable lies between two bounds, so any basis whose multipliers are not negative is dual feasible once each other variable
+//! stands at its better bound: the basis of an earlier call is a good begin of the next one, whatever was decided or taken back between
+//! them. A call ends as soon as the bound is above the cutoff, as a violated row cannot be repaired, as nothing is violated, or as the
+//! limits are reached.
+//!
+//! Fixed point goes wrong where pivots are small. Then the inverse is made anew, once in a call, and the step is looked for again; a pivot
+//! that is smaller still ends the call. Multipliers that are negative at the begin of a call are errors too, and the empty basis takes
+//! the place of theirs.
+
+use super::fixed::Fixed;
+use super::pricing::{Violation, worst_violation};
+use super::ratio::Candidate;
+use super::relaxation::{End, Limits, Relaxation};
+use linear::Integer;
+use std::alloc::AllocError;
+
+/// A pivot below this is looked for again with an inverse that is made anew.
+const SMALL_PIVOT: Fixed = Fixed { units: 1 << 19 };
+
+/// A pivot below this is not taken.
+const TINY_PIVOT: Fixed = Fixed { units: 1 << 16 };
+
+/// A tight row whose activity is above this in size tells that the inverse is to be made anew.
+const RESIDUAL: Fixed = Fixed { units: 1 << 16 };
+
+/// Multipliers below minus this are errors.
+const NEGATIVE: Fixed = Fixed { units: -(1 << 16) };
+
+/// After so many steps a call begins with an inverse that is made anew.
+const STALE: u32 = 200;
+
+/// After so many steps the inverse is made anew at once.
+const OVERDUE: u32 = 1_000;
+
+/// After each so many steps the tight rows are measured.
+const MEASURED: u32 = 100;
+
+/// The largest kernel.
+const LARGEST_KERNEL: usize = 1_000;
+
+/// What a call has to keep to.
+#[derive(Clone, Copy)]
+pub(crate) struct Call {
+    /// A bound above this ends it, in units of `2^-32` of the scaled costs.
+    cutoff: Option<i128>,
+    /// How much may have been done at its end, about.
+    work: u64,
+    /// Whether steps were made.
+    has_moved: bool,
+    /// Whether the inverse was made anew since something went wrong.
+    is_refreshed: bool,
+}
+
+impl Relaxation {
+    /// Solves the relaxation where solutions worth more than the upper bound are not looked for.
+    ///
+    /// `AllocError` comes where a growth was refused; the next call then begins with the empty basis.
+    pub fn solve(&mut self, upper: Option<Integer>, limits: Limits) -> Result<End, AllocError> {
+        let call = Call {
+            cutoff: self.cutoff(upper),
+            work: self.work.done().saturating_add(limits.work),
+            has_moved: false,
+            is_refreshed: false,
+        };
+        let end = self.run(call, limits.steps);
+        if end.is_err() {
+            self.forget_basis();
+        }
+        end
+    }
+
+    /// The upper bound as a scaled cost; none where there is no objective.
+    fn cutoff(&self, upper: Option<Integer>) -> Option<i128> {
+        match upper {
+            Some(value) if self.costs.are_given() => Some(self.costs.cutoff(value)),
+            _ => None,
+        }
+    }
+
+    /// Step after step, up to so many.
+    fn run(&mut self, mut call: Call, steps: u32) -> Result<End, AllocError> {
+        self.multipliers.clear();
+        self.cutoff = call.cutoff;
+        self.begin(call)?;
+        for _ in 0..steps {
+            if let Some(end) = self.step(&mut call)? {
+                return Ok(end);
+            }
+        }
+        if self.is_cut_off(call) {
+            return self.cut_off();
+        }
+        Ok(End::Limit)
+    }
+
+    /// Makes all anew that may have changed since the call before.
+    fn begin(&mut self, call: Call) -> Result<(), AllocError> {
+        if self.pivots > STALE && self.can_refactor(call) {
+            self.refactor()?;
+        } else if self.pivots >= OVERDUE {
+            self.forget_basis();
+        }
+        self.make_duals()?;
+        if NEGATIVE.is_above(self.duals.least_multiplier()) {
+            self.forget_basis();
+            self.make_duals()?;
+        }
+        self.make_point()
+    }
+
+    /// One step, or how the call ends.
+    fn step(&mut self, call: &mut Call) -> Result<Option<End>, AllocError> {
+        if self.is_cut_off(*call) {
+            return Ok(Some(self.cut_off()?));
+        }
+        if self.work.done() > call.work || self.basis.len() >= LARGEST_KERNEL {
+            return Ok(Some(End::Limit));
+        }
+        let Some(violation) = self.violation() else {
+            return self.end_with_values(call);
+        };
+        let Some(chosen) = self.entering(violation)? else {
+            return self.end_as_infeasible(call, violation);
+        };
+        self.take_step(call, violation, chosen)
+    }
+
+    /// Ends a call that is cut off.
+    fn cut_off(&mut self) -> Result<End, AllocError> {
+        self.note_bound_multipliers()?;
+        Ok(End::CutOff)
+    }
+
+    /// Ends a call where nothing is violated, if that is so once all is measured.
+    fn end_with_values(&mut self, call: &mut Call) -> Result<Option<End>, AllocError> {
+        if call.has_moved && !call.is_refreshed && !self.is_accurate() {
+            return self.refresh_once(call);
+        }
+        self.bound = self.current_bound();
+        self.note_bound_multipliers()?;
+        Ok(Some(End::Values))
+    }
+
+    /// Ends a call where a violation cannot be repaired, if the sum of the rows tells so. Where it does not even with an inverse that
+    /// is made anew, the basis is forgotten.
+    fn end_as_infeasible(
+        &mut self,
+        call: &mut Call,
+        violation: Violation,
+    ) -> Result<Option<End>, AllocError> {
+        self.note_farkas_multipliers(violation)?;
+        if self.is_false_sum()? {
+            return Ok(Some(End::Infeasible));
+        }
+        self.multipliers.clear();
+        if call.is_refreshed {
+            self.forget_basis();
+            return Ok(Some(End::Limit));
+        }
+        self.refresh_once(call)
+    }
+
+    /// The bound that the duals tell.
+    fn current_bound(&mut self) -> i128 {
+        self.work.count(self.domains.len());
+        self.duals.bound(
+            &self.rows,
+            &self.costs,
+            self.domains.as_slice(),
+            &self.basis,
+        )
+    }
+
+    /// Whether the bound is above the cutoff, where there is one.
+    fn is_cut_off(&mut self, call: Call) -> bool {
+        match call.cutoff {
+            Some(cutoff) => {
+                self.bound = self.current_bound();
+                self.bound > cutoff
+            }
+            None => false,
+        }
+    }
+
+    /// What is violated most.
+    fn violation(&mut self) -> Option<Violation> {
+        self.work.count(self.basis.len());
+        self.work.count(self.rows.count());
+        worst_violation(&self.point, &self.basis, self.domains.as_slice())
+    }
+
+    /// What enters where that leaves.
+    fn entering(&mut self, violation: Violation) -> Result<Option<Candidate>, AllocError> {
+        self.tableau.form(
+            violation.leaving,
+            &self.rows,
+            &self.basis,
+            &self.inverse,
+            &mut self.work,
+        )?;
+        let chosen = self.candidates.choose(
+            violation,
+            &self.tableau,
+            &self.duals,
+            &self.point,
+            self.domains.as_slice(),
+        )?;
+        self.work.count_product(4, self.candidates.len());
+        Ok(chosen)
+    }
+
+    /// Makes the step, unless its pivot is too small.
+    fn take_step(
+        &mut self,
+        call: &mut Call,
+        violation: Violation,
+        chosen: Candidate,
+    ) -> Result<Option<End>, AllocError> {
+        let pivot = chosen.entry.size();
+        if SMALL_PIVOT.is_above(pivot) {
+            if self.pivots > 0 && !call.is_refreshed {
+                return self.refresh_once(call);
+            }
+            if TINY_PIVOT.is_above(pivot) {
+                self.pivots = OVERDUE;
+                return Ok(Some(End::Limit));
+            }
+        }
+        self.pivot(violation, chosen)?;
+        call.has_moved = true;
+        self.steps = self.steps.saturating_add(1);
+        if self.is_inaccurate() {
+            return self.refresh(*call);
+        }
+        Ok(None)
+    }
+
+    /// Whether the inverse is to be made anew, asked after each so many steps.
+    fn is_inaccurate(&mut self) -> bool {
+        if self.pivots % MEASURED != 0 {
+            return false;
+        }
+        self.pivots >= OVERDUE || self.largest_residual().is_above(RESIDUAL)
+    }
+
+    /// The largest size of the activity of a tight row, which is to be 0.
+    fn largest_residual(&mut self) -> Fixed {
+        let mut largest = Fixed::ZERO;
+        for row in self.basis.tight() {
+            largest = largest.greater(self.point.measure(&self.rows, *row).size());
+            self.work.count(self.rows.row(*row).len());
+        }
+        largest
+    }
+
+    /// Makes all anew since something went wrong.
+    fn refresh_once(&mut self, call: &mut Call) -> Result<Option<End>, AllocError> {
+        call.is_refreshed = true;
+        self.refresh(*call)
+    }
+
+    /// Makes all anew; the end of the call where that is too much work.
+    fn refresh(&mut self, call: Call) -> Result<Option<End>, AllocError> {
+        if !self.can_refactor(call) {
+            self.pivots = OVERDUE;
+            return Ok(Some(End::Limit));
+        }
+        self.refactor()?;
+        self.make_duals()?;
+        self.make_point()?;
+        Ok(None)
+    }
+
+    /// Whether a refactorisation is within what a call may do.
+    fn can_refactor(&self, call: Call) -> bool {
+        let size = self.basis.len() as u64;
+        let cost = size.saturating_mul(size).saturating_mul(size);
+        self.work.done().saturating_add(cost) <= call.work
+    }
+
+    /// Makes the inverse anew, where the kernel has none with the empty basis.
+    fn refactor(&mut self) -> Result<(), AllocError> {
+        self.pivots = 0;
+        self.work.count_product(
+            self.basis.len(),
+            self.basis.len().saturating_mul(self.basis.len()),
+        );
+        if !self.inverse.refactor(&self.rows, &self.basis)? {
+            self.forget_basis();
+        }
+        Ok(())
+    }
+
+    /// Makes it the empty basis.
+    pub(crate) fn forget_basis(&mut self) {
+        self.pivots = 0;
+        self.basis.clear();
+        self.inverse.clear();
+        self.duals.clear();
+    }
+
+    /// Makes the duals of the basis.
+    fn make_duals(&mut self) -> Result<(), AllocError> {
+        self.duals.make(
+            &self.rows,
+            &self.costs,
+            &self.basis,
+            &self.inverse,
+            &mut self.work,
+        )
+    }
+
+    /// Makes the point of the basis.
+    fn make_point(&mut self) -> Result<(), AllocError> {
+        self.point.make(
+            &self.rows,
+            self.domains.as_slice(),
+            &self.basis,
+            &self.inverse,
+            &self.duals,
+            &mut self.work,
+        )
+    }
+}
