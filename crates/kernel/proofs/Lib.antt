@@ -8,6 +8,7 @@ pub mod Deleting
 pub mod Improving
 pub mod Keeping
 pub mod Listed
+pub mod Packing
 pub mod GoalsShown
 pub mod Showing
 pub mod Tables

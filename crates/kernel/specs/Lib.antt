@@ -5,5 +5,6 @@ pub mod Deletion
 pub mod File
 pub mod Held
 pub mod Logged
+pub mod Packed
 pub mod Redundance
 pub mod Table

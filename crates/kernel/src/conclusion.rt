@@ -1,7 +1,6 @@
 //! What a state entitles to conclude. Nothing is changed by it, so a proof that is refused here is refused for good.
 
 ghost use Rattle.std.specs.Prelude.{◌≡◌, ◌↔◌, ◌≤◌, IfOk, IfErr, IfSome, IsTrue, OnOk};
-ghost use Rattle.std.specs.Option.{option_copied};
 ghost use Rattle.normal_form.specs.NormalOf.{size_sum};
 ghost use Rattle.linear.specs.Largest.{largest_objective};
 ghost use Rattle.proof_rules.specs.Claim.{Claim, ClaimsUpper, IsSolution};
@@ -179,14 +178,14 @@ impl<'a, P: Propagator> Kernel<'a, P> {
         ensures best { IfOk result (IsBest self.now.problem (with_extra extra self.now.state).logged) }
         ensures solution { IfOk result (λ best. IfSome best (IsSolution self.now.problem)) }
     {
-        let logged = self.log.best(self.source);
+        let logged = self.log.best(self.allocator, self.source)?;
         let Some(last) = extra else {
-            return copied(logged);
+            return Ok(logged);
         };
-        if is_better(self.source, &last, logged) {
+        if is_better(self.source, &last, &logged) {
             return Ok(Some(last));
         }
-        copied(logged)
+        Ok(logged)
     }
 }
 
@@ -199,15 +198,6 @@ fn is_reached(problem: &Problem, best: &Option<Assignment>, upper: Upper) -> boo
         (Upper::Inf, _) => true,
         (Upper::At(_), None) => false,
         (Upper::At(bound), Some(best)) => problem.value(best) <= bound,
-    }
-}
-
-fn copied(solution: Option<&Assignment>) -> Result<Option<Assignment>, AllocError>
-    ensures { IfOk result (λ copy. copy ≡ option_copied solution.entry) }
-{
-    match solution {
-        None => Ok(None),
-        Some(solution) => Ok(Some(solution.clone()?)),
     }
 }
 

@@ -2,8 +2,7 @@
 //! Whoever searches asks here how good its best solution is and whether another constraint can still be named, and keeps
 //! no count of its own that might differ.
 
-ghost use Rattle.std.specs.Prelude.{◌≡◌, ◌↔◌, IfSome, IsTrue};
-ghost use Rattle.std.specs.Option.{option_copied};
+ghost use Rattle.std.specs.Prelude.{◌≡◌, ◌↔◌, IfOk, IfSome, IsTrue};
 ghost use Rattle.proof_rules.specs.Claim.{IsSolution};
 ghost use Rattle.proof_rules.specs.Forms.{problem_ids};
 ghost use Rattle.proof_rules.specs.Justified.{IsBest};
@@ -12,6 +11,7 @@ ghost use Rattle.proof_rules.specs.State.{HasRoom};
 use super::kernel::Kernel;
 use linear::{Assignment, Integer};
 use propagate::Propagator;
+use std::alloc::AllocError;
 
 impl<'a, P: Propagator> Kernel<'a, P> {
     /// The least value of an improving solution, none where there is none.
@@ -21,12 +21,13 @@ impl<'a, P: Propagator> Kernel<'a, P> {
         self.log.least()
     }
 
-    /// The logged solution of the least value, the earliest among equals; none where nothing is logged.
-    pub fn best_logged(&self) -> Option<&Assignment>
-        ensures best { IsBest self.now.problem self.now.state.logged (option_copied result) }
-        ensures solution { IfSome (option_copied result) (IsSolution self.now.problem) }
+    /// The logged solution of the least value, the earliest among equals; none where nothing is logged. It is made anew for each
+    /// call, since solutions are kept at a bit a variable: an error says that there was no memory for that.
+    pub fn best_logged(&self) -> Result<Option<Assignment>, AllocError>
+        ensures best { IfOk result (λ best. IsBest self.now.problem self.now.state.logged best) }
+        ensures solution { IfOk result (λ best. IfSome best (IsSolution self.now.problem)) }
     {
-        self.log.best(self.source)
+        self.log.best(self.allocator, self.source)
     }
 
     /// Whether an id is left for one more constraint.

@@ -13,6 +13,7 @@ mod holdings;
 mod kernel;
 mod log;
 mod objective;
+mod packed;
 mod pol;
 mod propagation;
 mod redundance;

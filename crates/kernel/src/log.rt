@@ -1,14 +1,14 @@
 //! What a proof has logged: its solutions, the least value of an improving one, and the ids of the constraints that improving
-//! ones added. All solutions are kept, and the best is looked up where it is asked for, at the end.
+//! ones added. All solutions are kept, at a bit a variable, and the best is looked up where it is asked for, at the end.
 
-ghost use Rattle.std.specs.Prelude.{◌≡◌, [], ◌↔◌, ◌<ℤ◌, ◌≤ℤ◌, All, IfSome, IsTrue, OnErr, OnOk};
+ghost use Rattle.std.specs.Prelude.{◌≡◌, [], ◌↔◌, ◌<ℤ◌, ◌≤ℤ◌, All, IfOk, IfSome, IsTrue, OnErr, OnOk};
 ghost use Rattle.std.specs.FinSet as set;
-ghost use Rattle.std.specs.Option.{option_copied};
 ghost use Rattle.proof_rules.specs.Claim.{IsSolution};
 ghost use Rattle.proof_rules.specs.Justified.{IsBest};
 ghost use Rattle.proof_rules.specs.Legal.{worth_of};
 ghost use Rattle.kernel.specs.Logged.{unlogged, with_logged, with_improved};
 
+use super::packed::PackedAssignment;
 use linear::{Assignment, Integer, Problem};
 use propagate::{Id, Ids};
 use std::alloc::{AllocError, Global};
@@ -17,7 +17,7 @@ use std::marker::Model;
 /// What a proof has logged.
 #[derive(Drop)]
 pub(crate) struct Log {
-    solutions: Vec<Assignment>,
+    solutions: Vec<PackedAssignment>,
     least: Option<Integer>,
     improving: Ids,
 }
@@ -45,25 +45,28 @@ impl Log {
     }
 
     /// Logs a solution.
-    pub(crate) fn push(&mut self, solution: Assignment) -> Result<(), AllocError>
-        ensures ok { OnOk result (self.new ≡ with_logged solution self.old) }
+    pub(crate) fn push(&mut self, alloc: Global, solution: &Assignment) -> Result<(), AllocError>
+        ensures ok { OnOk result (self.new ≡ with_logged solution.now self.old) }
         ensures err { OnErr result (self.new ≡ self.old) }
     {
-        self.solutions.push(solution)?;
+        let packed = PackedAssignment::pack(alloc, solution)?;
+        self.solutions.push(packed)?;
         Ok(())
     }
 
     /// Logs an improving solution, its value and the id of the constraint that asks for better ones.
     pub(crate) fn improve(
         &mut self,
-        solution: Assignment,
+        alloc: Global,
+        solution: &Assignment,
         value: Integer,
         id: Id,
     ) -> Result<(), AllocError>
-        ensures ok { OnOk result (self.new ≡ with_improved solution value id self.old) }
+        ensures ok { OnOk result (self.new ≡ with_improved solution.now value id self.old) }
         ensures err { OnErr result (self.new ≡ self.old) }
     {
-        self.solutions.push(solution)?;
+        let packed = PackedAssignment::pack(alloc, solution)?;
+        self.solutions.push(packed)?;
         if let Err(refused) = self.improving.insert(id) {
             self.solutions.pop();
             return Err(refused);
@@ -114,26 +117,31 @@ impl Log {
     }
 
     /// The logged solution of the least value, the earliest among equals; none where nothing is logged.
-    pub(crate) fn best(&self, problem: &Problem) -> Option<&Assignment>
+    pub(crate) fn best(
+        &self,
+        alloc: Global,
+        problem: &Problem,
+    ) -> Result<Option<Assignment>, AllocError>
         requires { All (IsSolution problem.now) self.now.logged }
-        ensures best { IsBest problem.now self.now.logged (option_copied result) }
-        ensures solution { IfSome (option_copied result) (IsSolution problem.now) }
+        ensures best { IfOk result (IsBest problem.now self.now.logged) }
+        ensures solution { IfOk result (λ best. IfSome best (IsSolution problem.now)) }
     {
         let mut best = None;
-        for solution in self.solutions.as_slice() {
-            if is_better(problem, solution, best) {
+        for packed in self.solutions.as_slice() {
+            let solution = packed.unpack(alloc)?;
+            if is_better(problem, &solution, &best) {
                 best = Some(solution);
             }
         }
-        best
+        Ok(best)
     }
 }
 
 /// Whether a solution is worth less than the best one of some others, if there is one.
-pub(crate) fn is_better(problem: &Problem, solution: &Assignment, best: Option<&Assignment>) -> bool
+pub(crate) fn is_better(problem: &Problem, solution: &Assignment, best: &Option<Assignment>) -> bool
     requires solution { IsSolution problem.now solution.now }
-    requires best { IfSome (option_copied best) (IsSolution problem.now) }
-    ensures { IsTrue result ↔ IfSome (option_copied best.entry) (λ b. worth_of problem.now solution.now <ℤ worth_of problem.now b) }
+    requires best { IfSome best.now (IsSolution problem.now) }
+    ensures { IsTrue result ↔ IfSome best.now (λ b. worth_of problem.now solution.now <ℤ worth_of problem.now b) }
 {
     match best {
         None => true,

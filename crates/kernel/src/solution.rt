@@ -28,7 +28,7 @@ impl<'a, P: Propagator> Kernel<'a, P> {
         ensures err { OnErr result (self.new ≡ self.old) }
     {
         let solution = self.solution(assigned)?;
-        self.log.push(solution)?;
+        self.log.push(self.allocator, &solution)?;
         Ok(Applied { id: None })
     }
 
@@ -54,27 +54,31 @@ impl<'a, P: Propagator> Kernel<'a, P> {
             return Err(StepFault::TooManyIds);
         }
         let better = below(self.allocator, objective.as_slice(), value)?;
-        self.improve(solution, value, better)
+        self.improve(&solution, value, better)
     }
 
     /// Logs an improving solution, and adds the constraint that asks for better ones, under the next id.
     fn improve(
         &mut self,
-        solution: Assignment,
+        solution: &Assignment,
         value: Integer,
         better: Normal,
     ) -> Result<Applied, StepFault>
-        requires value { value ≡ worth_of self.old.problem solution }
+        requires value { value ≡ worth_of self.old.problem solution.now }
         requires room { HasRoom self.old.state }
-        requires kept { IsKept (record { problem = self.old.problem; state = with_improvement self.old.problem solution better self.old.state }) }
+        requires kept { IsKept (record { problem = self.old.problem; state = with_improvement self.old.problem solution.now better self.old.state }) }
         ensures problem { self.new.problem ≡ self.old.problem }
-        ensures ok { OnOk result (self.new.state ≡ with_improvement self.old.problem solution better self.old.state) }
+        ensures ok { OnOk result (self.new.state ≡ with_improvement self.old.problem solution.now better self.old.state) }
         ensures id { IfOk result (λ applied. applied.id ≡ Some self.old.state.next) }
         ensures memory { OnErr result (IsErrOf result StepFault.OutOfMemory) }
         ensures err { OnErr result (self.new ≡ self.old) }
     {
         let id = self.database.push(better)?;
-        if self.log.improve(solution, value, id).is_err() {
+        if self
+            .log
+            .improve(self.allocator, solution, value, id)
+            .is_err()
+        {
             self.database.take_back();
             return Err(StepFault::OutOfMemory);
         }
