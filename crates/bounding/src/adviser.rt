@@ -1,0 +1,341 @@
+//! The adviser of one search: the relaxation of its problem, what it may do, and what came of it.
+//!
+//! It is handed all that stands when it is asked, and fixes that in the relaxation where a call is due: a call costs more than that anyhow,
+//! and a search that asks in vain pays nothing for each literal.
+
+ghost use Rattle.std.specs.Prelude.{◌≡◌, IfOk};
+ghost use Rattle.bounding.specs.Advice.{IsBorneOut};
+
+use super::advice::{Advice, Figures, Node};
+use super::effort::{Aim, Effort};
+use super::judgement::{Judgement, judge};
+use super::sources::Sources;
+use super::standing::Standing;
+use super::summing::line_of;
+use kernel::Kernel;
+use linear::{Integer, Lit, Problem, Var};
+use proof_rules::StepFault;
+use propagate::{Id, Propagator};
+use relaxation::{End, Fixed, Relaxation, whole_multipliers};
+use std::alloc::{AllocError, Global};
+
+/// How many variables a problem may have. Beyond that one call takes too long.
+const MOST_VARIABLES: usize = 20_000;
+
+/// The greatest whole number is `2^20` first, since small numbers make short constraints.
+const BITS: u32 = 20;
+
+/// Where the sum of those says nothing it is `2^32`.
+const MORE_BITS: u32 = 32;
+
+/// Values that are this near to 0 or 1 are taken for whole ones, in units of `2^-32`.
+const WHOLE: i64 = 1 << 12;
+
+/// Where there is a solution, a value leads a search only if it is so far from the middle: 5/16, in units of `2^-32`.
+const CLEAR: i64 = 5 << 28;
+
+/// An adviser, for one search of one problem.
+#[derive(Drop)]
+pub struct Adviser {
+    alloc: Global,
+    relaxation: Relaxation,
+    sources: Sources,
+    effort: Effort,
+    /// How many variables the file has.
+    count: u32,
+    /// The literals that are fixed in the relaxation.
+    fixed: Vec<Lit>,
+    leanings: Vec<Lit>,
+    bound: Option<Integer>,
+    figures: Figures,
+}
+
+/// How far a value is from the middle, in units of `2^-32`.
+fn distance_from_middle(value: Fixed) -> i64 {
+    value
+        .units()
+        .saturating_sub(Fixed::HALF.units())
+        .saturating_abs()
+}
+
+/// Whether a value is about 0 or 1.
+fn is_whole(value: Fixed) -> bool {
+    let from_end = Fixed::HALF
+        .units()
+        .saturating_sub(distance_from_middle(value));
+    from_end.saturating_abs() <= WHOLE
+}
+
+/// The relaxation of a problem without its constraints.
+fn relaxation_of(alloc: Global, problem: &Problem, count: usize) -> Result<Relaxation, AllocError> {
+    let mut relaxation = Relaxation::new(alloc, count)?;
+    if let Some(objective) = problem.objective() {
+        relaxation.set_cost(objective.as_slice())?;
+    }
+    Ok(relaxation)
+}
+
+impl Adviser {
+    ghost use Rattle.std.specs.Prelude.{◌≡◌, ◌≤◌, List, IfOk, IfSome, OnOk};
+    ghost use Rattle.linear.specs.declared.term.Lit.{Lit};
+    ghost use Rattle.bounding.specs.Advice.{IsBorneOut};
+    ghost use Rattle.bounding.specs.Standing.{AreAmong};
+
+    /// The adviser of a problem whose file's constraints a kernel has. None where the problem is too large for one: above 20,000 variables or
+    /// 60,000 terms.
+    pub fn new<'a, P: Propagator>(
+        alloc: Global,
+        problem: &Problem,
+        kernel: &Kernel<'a, P>,
+    ) -> Result<Option<Self>, AllocError> {
+        let names = problem.names().len();
+        if names > MOST_VARIABLES {
+            return Ok(None);
+        }
+        let mut relaxation = relaxation_of(alloc, problem, names)?;
+        let mut sources = Sources::new(alloc);
+        if !sources.add_file(alloc, kernel, &mut relaxation)? {
+            return Ok(None);
+        }
+        Ok(Some(Adviser {
+            alloc,
+            relaxation,
+            sources,
+            effort: Effort::new(),
+            count: names as u32,
+            fixed: Vec::new(alloc),
+            leanings: Vec::new(alloc),
+            bound: None,
+            figures: Figures {
+                calls: 0,
+                conflicts: 0,
+                forcings: 0,
+                failed: 0,
+            },
+        }))
+    }
+
+    /// Takes note of an improving solution, which is the last step that the kernel applied: from now on better ones are looked for.
+    pub fn improve<'a, P: Propagator>(&mut self, kernel: &Kernel<'a, P>) {
+        let Ok(id) = Id::try_from(kernel.last_id()) else {
+            return;
+        };
+        if let (Some(value), Some(constraint)) = (kernel.least_value(), kernel.constraint(id)) {
+            self.sources.improve(id, value, constraint);
+        }
+    }
+
+    /// Solves the relaxation at a node, where that is due. The line of a conflict derives a constraint that has negative slack under
+    /// what stands, and that of a forcing one derives a constraint.
+    ///
+    /// `AllocError` comes where a growth was refused. The adviser may be asked again then.
+    pub fn ask<'a, P: Propagator>(
+        &mut self,
+        kernel: &Kernel<'a, P>,
+        node: Node<'_>,
+    ) -> Result<Advice, AllocError>
+        ensures { IfOk result (IsBorneOut kernel.now.state node.entry.standing.now) }
+    {
+        let before = self.relaxation.work_done();
+        let aim = self.aim();
+        let Some(limits) = self.effort.limits(before, node, aim) else {
+            return Ok(Advice::Nothing);
+        };
+        let standing = Standing::of(self.alloc, node.standing)?;
+        self.fix(node.standing)?;
+        let end = self.relaxation.solve(self.sources.upper(), limits)?;
+        let advice = self.answer(kernel, &standing, end)?;
+        self.count(&advice, node, before);
+        Ok(advice)
+    }
+
+    /// What solutions are looked for.
+    fn aim(&self) -> Aim {
+        if self.sources.has_solution() {
+            Aim::Better
+        } else {
+            Aim::Any
+        }
+    }
+
+    /// Fixes just these literals.
+    fn fix(&mut self, standing: &[Lit]) -> Result<(), AllocError> {
+        for literal in &self.fixed {
+            self.relaxation.free(literal.var);
+        }
+        self.fixed.clear();
+        self.fixed.reserve(standing.len())?;
+        for literal in standing {
+            self.fixed.push(*literal)?;
+            self.relaxation.fix(*literal);
+        }
+        Ok(())
+    }
+
+    /// What the end of a call comes to.
+    fn answer<'a, P: Propagator>(
+        &mut self,
+        kernel: &Kernel<'a, P>,
+        standing: &Standing,
+        end: End,
+    ) -> Result<Advice, AllocError>
+        ensures { (listed : List Lit) → AreAmong listed standing.now.stands.items → IfOk result (IsBorneOut kernel.now.state listed) }
+    {
+        match end {
+            End::Infeasible | End::CutOff => {
+                let found = self.sum_up(kernel, standing)?;
+                Ok(found.unwrap_or(Advice::Nothing))
+            }
+            End::Values => {
+                self.lean(standing)?;
+                if !self.relaxation.forces_a_literal() {
+                    return Ok(Advice::Values);
+                }
+                let found = self.sum_up(kernel, standing)?;
+                Ok(found.unwrap_or(Advice::Values))
+            }
+            End::Limit => Ok(Advice::Nothing),
+        }
+    }
+
+    /// The line of the multipliers of the last call, if it says something under the literals that stand.
+    fn sum_up<'a, P: Propagator>(
+        &mut self,
+        kernel: &Kernel<'a, P>,
+        standing: &Standing,
+    ) -> Result<Option<Advice>, AllocError>
+        ensures { (listed : List Lit) → AreAmong listed standing.now.stands.items
+            → IfOk result (λ found. IfSome found (IsBorneOut kernel.now.state listed)) }
+    {
+        if let Some(advice) = self.try_scale(kernel, standing, BITS)? {
+            return Ok(Some(advice));
+        }
+        if let Some(advice) = self.try_scale(kernel, standing, MORE_BITS)? {
+            return Ok(Some(advice));
+        }
+        self.figures.failed = self.figures.failed.saturating_add(1);
+        Ok(None)
+    }
+
+    /// The same where the greatest multiplier is `2^bits`. Where a number grows too large nothing is found.
+    fn try_scale<'a, P: Propagator>(
+        &self,
+        kernel: &Kernel<'a, P>,
+        standing: &Standing,
+        bits: u32,
+    ) -> Result<Option<Advice>, AllocError>
+        requires { bits ≤ 52 }
+        ensures { (listed : List Lit) → AreAmong listed standing.now.stands.items
+            → IfOk result (λ found. IfSome found (IsBorneOut kernel.now.state listed)) }
+    {
+        match self.line_at_scale(kernel, standing, bits) {
+            Ok(found) => Ok(found),
+            Err(StepFault::OutOfMemory) => Err(AllocError),
+            Err(_) => Ok(None),
+        }
+    }
+
+    /// The same, or why the line cannot be run.
+    fn line_at_scale<'a, P: Propagator>(
+        &self,
+        kernel: &Kernel<'a, P>,
+        standing: &Standing,
+        bits: u32,
+    ) -> Result<Option<Advice>, StepFault>
+        requires { bits ≤ 52 }
+        ensures { (listed : List Lit) → AreAmong listed standing.now.stands.items
+            → IfOk result (λ found. IfSome found (IsBorneOut kernel.now.state listed)) }
+    {
+        let whole = whole_multipliers(self.alloc, self.relaxation.multipliers(), bits)?;
+        let line = line_of(self.alloc, kernel, &self.sources, whole.as_slice())?;
+        let (items, constraint) = line.finish(self.alloc)?;
+        match judge(&constraint, standing) {
+            Judgement::False => Ok(Some(Advice::Conflict(items))),
+            Judgement::Forces => Ok(Some(Advice::Forcing(items))),
+            Judgement::Quiet => Ok(None),
+        }
+    }
+
+    /// Notes to which literals the values of the last call lead.
+    fn lean(&mut self, standing: &Standing) -> Result<(), AllocError> {
+        self.leanings.clear();
+        let follows_all = !self.sources.has_solution() || self.is_whole_point(standing);
+        for number in 0..self.count {
+            let variable = Var(number);
+            let value = self.relaxation.value(variable);
+            let is_clear = follows_all || distance_from_middle(value) >= CLEAR;
+            if is_clear && is_free(standing, variable) {
+                self.leanings.push(Lit {
+                    var: variable,
+                    negated: value.units() <= Fixed::HALF.units(),
+                })?;
+            }
+        }
+        Ok(())
+    }
+
+    /// Whether all free variables have whole values, about.
+    fn is_whole_point(&self, standing: &Standing) -> bool {
+        for number in 0..self.count {
+            let variable = Var(number);
+            if is_free(standing, variable) && !is_whole(self.relaxation.value(variable)) {
+                return false;
+            }
+        }
+        true
+    }
+
+    /// Counts a call, and what came of it.
+    fn count(&mut self, advice: &Advice, node: Node<'_>, before: u64) {
+        let figures = &mut self.figures;
+        figures.calls = figures.calls.saturating_add(1);
+        match advice {
+            Advice::Conflict(_) => figures.conflicts = figures.conflicts.saturating_add(1),
+            Advice::Forcing(_) => figures.forcings = figures.forcings.saturating_add(1),
+            Advice::Values | Advice::Nothing => {}
+        }
+        if node.decisions == 0 {
+            self.note_bound(advice);
+            return;
+        }
+        match advice {
+            Advice::Conflict(_) | Advice::Forcing(_) => self.effort.reward(),
+            Advice::Values | Advice::Nothing => {
+                let cost = self.relaxation.work_done().saturating_sub(before);
+                self.effort.charge(cost);
+            }
+        }
+    }
+
+    /// Notes the bound of a call at the root.
+    fn note_bound(&mut self, advice: &Advice) {
+        if let Advice::Values | Advice::Forcing(_) = advice {
+            self.bound = Some(self.relaxation.bound());
+        }
+    }
+
+    /// The literals to which the values of the last point lead: one of each variable that was free, or of some where there is a
+    /// solution and the values say little of the others.
+    pub fn leanings(&self) -> &[Lit] {
+        self.leanings.as_slice()
+    }
+
+    /// The bound of the last relaxation at the root, rounded down, if there was one. It may be wrong: for progress lines alone.
+    pub fn bound(&self) -> Option<Integer> {
+        self.bound
+    }
+
+    /// What came of the calls so far.
+    pub fn figures(&self) -> Figures {
+        self.figures
+    }
+}
+
+/// Whether neither literal of a variable stands.
+fn is_free(standing: &Standing, variable: Var) -> bool {
+    let literal = Lit {
+        var: variable,
+        negated: false,
+    };
+    !standing.has(literal) && !standing.has(literal.opposite())
+}

@@ -1,0 +1,137 @@
+//! When the relaxation is asked, and how much it may do.
+//!
+//! One call costs as much as thousands of propagations, and on many problems it says nothing that propagation does not. So it has a
+//! share of the work, which rises where it ends a descent and falls where it does not. At the root, where a bound serves the whole search,
+//! it may do more: once at the start, and then at restarts, ever more seldom. All of this is counted in multiplications and in terms that
+//! were looked at, and not by a clock.
+
+use super::advice::Node;
+use relaxation::Limits;
+
+/// One, in the units of shares.
+const WHOLE: u64 = 1 << 20;
+
+/// The share at the start: 0.3.
+const FIRST_SHARE: u64 = 314_573;
+
+/// The least share: 0.05.
+const LEAST_SHARE: u64 = 52_429;
+
+/// The greatest share: 0.8.
+const GREATEST_SHARE: u64 = 838_861;
+
+/// A term that the search looks at takes as long as so many multiplications.
+const WEIGHT_OF_SEARCH: u64 = 4;
+
+/// How many steps a call may take.
+const STEPS: u32 = 200;
+
+/// How many a call may take that is far from the root, as long as there is no solution to be better than.
+const FEW_STEPS: u32 = 60;
+
+/// From so many open decisions on a call is far from the root.
+const FAR: usize = 5;
+
+/// How much a call may do.
+const CALL_WORK: u64 = 100_000_000;
+
+/// How many steps a call at the root may take.
+const ROOT_STEPS: u32 = 1_000_000;
+
+/// How much the first call at the root may do.
+const FIRST_ROOT_WORK: u64 = 500_000_000;
+
+/// How much any later one may do at least.
+const ROOT_WORK: u64 = 20_000_000;
+
+/// So many conflicts more come before each further call at the root.
+const CONFLICTS_BETWEEN_ROOTS: u64 = 200;
+
+/// The share of the work that calls have, and when the next one at the root is due.
+#[derive(Clone, Copy, Debug)]
+pub(crate) struct Effort {
+    share: u64,
+    root_calls: u64,
+    next_root: u64,
+}
+
+impl Effort {
+    /// Nothing was done yet.
+    pub(crate) fn new() -> Self {
+        Effort {
+            share: FIRST_SHARE,
+            root_calls: 0,
+            next_root: 0,
+        }
+    }
+
+    /// What a call may do at a node where so much was done in calls so far; none where no call is due. `has_solution` says
+    /// whether there is one to be better than.
+    pub(crate) fn limits(&mut self, done: u64, node: Node<'_>, aim: Aim) -> Option<Limits> {
+        if node.decisions == 0 {
+            return self.root_limits(done, node);
+        }
+        if !self.is_within_share(done, node.work) {
+            return None;
+        }
+        let steps = match aim {
+            Aim::Better => STEPS,
+            Aim::Any if node.decisions < FAR => STEPS,
+            Aim::Any => FEW_STEPS,
+        };
+        Some(Limits {
+            steps,
+            work: CALL_WORK,
+        })
+    }
+
+    /// What a call at the root may do, where one is due.
+    fn root_limits(&mut self, done: u64, node: Node<'_>) -> Option<Limits> {
+        let work = if self.root_calls == 0 {
+            FIRST_ROOT_WORK
+        } else {
+            if node.conflicts < self.next_root
+                || !self.is_within_share(done.saturating_sub(ROOT_WORK), node.work)
+            {
+                return None;
+            }
+            ROOT_WORK.saturating_add((node.work / 10).saturating_mul(3))
+        };
+        self.root_calls = self.root_calls.saturating_add(1);
+        let pause = CONFLICTS_BETWEEN_ROOTS.saturating_mul(self.root_calls);
+        self.next_root = node.conflicts.saturating_add(pause);
+        Some(Limits {
+            steps: ROOT_STEPS,
+            work,
+        })
+    }
+
+    /// Whether calls that have done so much have done less than their share, where the search has done so much.
+    fn is_within_share(self, done: u64, searched: u64) -> bool {
+        let rest = WHOLE.saturating_sub(self.share);
+        let ours = u128::from(done).saturating_mul(u128::from(rest));
+        let weighed = WEIGHT_OF_SEARCH.saturating_mul(self.share);
+        ours < u128::from(searched).saturating_mul(u128::from(weighed))
+    }
+
+    /// A call has ended a descent.
+    pub(crate) fn reward(&mut self) {
+        let more = (self.share / 100).saturating_mul(3).saturating_add(2_097);
+        self.share = self.share.saturating_add(more).min(GREATEST_SHARE);
+    }
+
+    /// A call has cost so much, and has not.
+    pub(crate) fn charge(&mut self, cost: u64) {
+        let kept = 995_u64.saturating_sub(cost / 50_000).max(500);
+        self.share = (self.share.saturating_mul(kept) / 1_000).max(LEAST_SHARE);
+    }
+}
+
+/// What solutions are looked for.
+#[derive(Clone, Copy, Debug, PartialEq, Eq)]
+pub(crate) enum Aim {
+    /// Any.
+    Any,
+    /// One that is better than the best one.
+    Better,
+}

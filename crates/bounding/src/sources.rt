@@ -1,0 +1,175 @@
+//! Which constraints the relaxation has, and under which ids the kernel has them.
+//!
+//! Its rows are the constraints of the file, saturated: a relaxation of saturated ones is tighter, and saturating is one item of a line. A
+//! constraint that holds everywhere is no row. The objective is the cost and no row; it comes in by the constraint that the
+//! last improving solution added, whose coefficients may have a divisor in common: divided by it and multiplied again it asks for the next value
+//! that the objective can have.
+
+use cut_rules::saturate;
+use kernel::Kernel;
+use linear::Integer;
+use normal_form::Normal;
+use propagate::{Id, Propagator};
+use relaxation::{Relaxation, Row, Source};
+use std::alloc::{AllocError, Global};
+
+/// How many terms the rows may have together. Beyond that one call takes too long.
+const MOST_TERMS: usize = 60_000;
+
+/// The constraint that asks for a better solution.
+#[derive(Clone, Copy, Debug)]
+struct Improving {
+    id: Id,
+    /// What the best solution is worth.
+    value: Integer,
+    /// The greatest number that divides all coefficients, at least 1.
+    unit: u128,
+}
+
+/// A constraint as a line cites it: by its id, and by the number by which it is divided first.
+#[derive(Clone, Copy, Debug)]
+pub(crate) struct Cited {
+    pub(crate) id: Id,
+    pub(crate) unit: u128,
+}
+
+/// The ids of the rows, in their order, and the last improving constraint.
+#[derive(Debug, Drop)]
+pub(crate) struct Sources {
+    rows: Vec<Id>,
+    improving: Option<Improving>,
+}
+
+/// The greatest number that divides two others; the one where the other is 0.
+pub(crate) fn common_divisor(left: u128, right: u128) -> u128 {
+    let mut greater = left;
+    let mut smaller = right;
+    while smaller > 0 {
+        let rest = greater % smaller;
+        greater = smaller;
+        smaller = rest;
+    }
+    greater
+}
+
+/// The greatest number that divides all coefficients of a constraint, at least 1.
+fn unit_of(constraint: &Normal) -> u128 {
+    let mut unit = 0;
+    for place in 0..constraint.len() {
+        unit = common_divisor(unit, constraint.term(place).coef);
+    }
+    unit.max(1)
+}
+
+/// Whether a coefficient of a constraint is above its degree.
+pub(crate) fn exceeds_degree(constraint: &Normal) -> bool {
+    for place in 0..constraint.len() {
+        if constraint.term(place).coef > constraint.degree() {
+            return true;
+        }
+    }
+    false
+}
+
+/// Adds the row of a constraint.
+fn add_saturated(
+    alloc: Global,
+    relaxation: &mut Relaxation,
+    constraint: &Normal,
+) -> Result<Row, AllocError> {
+    if !exceeds_degree(constraint) {
+        return relaxation.add_row(constraint);
+    }
+    match saturate(alloc, constraint) {
+        Ok(saturated) => relaxation.add_row(&saturated),
+        Err(_) => Err(AllocError),
+    }
+}
+
+impl Sources {
+    /// No row, and no solution.
+    pub(crate) fn new(alloc: Global) -> Self {
+        Sources {
+            rows: Vec::new(alloc),
+            improving: None,
+        }
+    }
+
+    /// Adds the rows of the file's constraints. False where they have too many terms.
+    pub(crate) fn add_file<'a, P: Propagator>(
+        &mut self,
+        alloc: Global,
+        kernel: &Kernel<'a, P>,
+        relaxation: &mut Relaxation,
+    ) -> Result<bool, AllocError> {
+        let mut left = MOST_TERMS;
+        for number in 0..kernel.problem_ids() {
+            let Ok(id) = Id::try_from(number.saturating_add(1)) else {
+                return Ok(false);
+            };
+            if let Some(constraint) = kernel.constraint(id) {
+                let Some(rest) = left.checked_sub(constraint.len()) else {
+                    return Ok(false);
+                };
+                left = rest;
+                self.add_row(alloc, relaxation, id, constraint)?;
+            }
+        }
+        Ok(true)
+    }
+
+    /// Adds the row of a constraint, unless that holds everywhere.
+    fn add_row(
+        &mut self,
+        alloc: Global,
+        relaxation: &mut Relaxation,
+        id: Id,
+        constraint: &Normal,
+    ) -> Result<(), AllocError> {
+        if constraint.degree() > 0 {
+            self.rows.reserve(1)?;
+            add_saturated(alloc, relaxation, constraint)?;
+            self.rows.push(id)?;
+        }
+        Ok(())
+    }
+
+    /// Notes the constraint that the newest improving solution added, and what that solution is worth.
+    pub(crate) fn improve(&mut self, id: Id, value: Integer, constraint: &Normal) {
+        self.improving = Some(Improving {
+            id,
+            value,
+            unit: unit_of(constraint),
+        });
+    }
+
+    /// Whether there is a solution to be better than.
+    pub(crate) fn has_solution(&self) -> bool {
+        self.improving.is_some()
+    }
+
+    /// What a better solution is worth at most.
+    pub(crate) fn upper(&self) -> Option<Integer> {
+        match self.improving {
+            Some(improving) => {
+                let unit = Integer::try_from(improving.unit).unwrap_or(Integer::MAX);
+                Some(improving.value.saturating_sub(unit))
+            }
+            None => None,
+        }
+    }
+
+    /// The constraint that a multiplier belongs to.
+    pub(crate) fn cited(&self, source: Source) -> Option<Cited> {
+        match source {
+            Source::Row(Row(place)) => match self.rows.get(place) {
+                Some(id) => Some(Cited { id: *id, unit: 1 }),
+                None => None,
+            },
+            Source::Improving => match self.improving {
+                Some(Improving { id, value: _, unit }) => Some(Cited { id, unit }),
+                None => None,
+            },
+        }
+    }
+}

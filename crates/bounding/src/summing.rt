@@ -1,0 +1,91 @@
+//! The line of some multipliers: each constraint, saturated or divided as its row was, times its whole number, summed up.
+//!
+//! Whole numbers with a divisor in common are divided by it first: the sum says the same in smaller numbers, and a line of sums without
+//! factors is the shortest.
+
+ghost use Rattle.std.specs.Prelude.{◌<◌, IfOk, OnOk};
+ghost use Rattle.proof_rules.specs.Running.{LeavesStack};
+ghost use Rattle.proof_rules.specs.State.{constraint_of};
+
+use super::line::Line;
+use super::sources::{Sources, common_divisor, exceeds_degree};
+use kernel::Kernel;
+use proof_rules::StepFault;
+use propagate::Propagator;
+use relaxation::{Source, WholeMultiplier};
+use std::alloc::Global;
+
+/// The greatest number that divides all factors, at least 1.
+fn common_factor(multipliers: &[WholeMultiplier]) -> u128
+    ensures { 0 < result }
+{
+    let mut common = 0;
+    for multiplier in multipliers {
+        common = common_divisor(common, u128::from(multiplier.factor));
+    }
+    common.max(1)
+}
+
+/// Puts the constraint of a multiplier on a line, times a factor.
+fn put<'k, 'a, P: Propagator>(
+    alloc: Global,
+    kernel: &'k Kernel<'a, P>,
+    sources: &Sources,
+    line: &mut Line<'k>,
+    source: Source,
+    factor: u128,
+) -> Result<(), StepFault>
+    requires { LeavesStack (constraint_of kernel.now.state) line.old.items.items line.old.stack }
+    ensures { OnOk result (LeavesStack (constraint_of kernel.now.state) line.new.items.items line.new.stack) }
+{
+    let Some(cited) = sources.cited(source) else {
+        return Err(StepFault::DeadId);
+    };
+    let Some(constraint) = kernel.constraint(cited.id) else {
+        return Err(StepFault::DeadId);
+    };
+    line.cite(cited.id, constraint)?;
+    if source != Source::Improving && exceeds_degree(constraint) {
+        line.saturate(alloc)?;
+    }
+    line.divide(alloc, cited.unit)?;
+    line.multiply(alloc, factor.saturating_mul(cited.unit))
+}
+
+/// Adds the constraint of a multiplier to a line, times a factor.
+fn add<'k, 'a, P: Propagator>(
+    alloc: Global,
+    kernel: &'k Kernel<'a, P>,
+    sources: &Sources,
+    line: &mut Line<'k>,
+    source: Source,
+    factor: u128,
+) -> Result<(), StepFault>
+    requires { LeavesStack (constraint_of kernel.now.state) line.old.items.items line.old.stack }
+    ensures { OnOk result (LeavesStack (constraint_of kernel.now.state) line.new.items.items line.new.stack) }
+{
+    let is_first = line.is_empty();
+    put(alloc, kernel, sources, line, source, factor)?;
+    if is_first {
+        return Ok(());
+    }
+    line.add(alloc)
+}
+
+/// The line of some multipliers.
+pub(crate) fn line_of<'k, 'a, P: Propagator>(
+    alloc: Global,
+    kernel: &'k Kernel<'a, P>,
+    sources: &Sources,
+    multipliers: &[WholeMultiplier],
+) -> Result<Line<'k>, StepFault>
+    ensures { IfOk result (λ line. LeavesStack (constraint_of kernel.now.state) line.items.items line.stack) }
+{
+    let common = common_factor(multipliers);
+    let mut line = Line::new(alloc);
+    for multiplier in multipliers {
+        let factor = u128::from(multiplier.factor) / common;
+        add(alloc, kernel, sources, &mut line, multiplier.source, factor)?;
+    }
+    Ok(line)
+}
