@@ -32,9 +32,9 @@ judgement_of l p = record { conclusion = l.conclusion; best = p.entitled.0 }
 
 log_proved : (l : Logbook) (proof : List ℕ) (p : IsProof l) → IsWritten l proof → IsProved l.problem proof (judgement_of l p)
 log_proved l proof p w = record {
-  steps = l.steps;
-  spelled = w;
-  legal = record { start = p.start; end = l.state; starts = p.starts; leads = p.leads; justified = p.entitled.1 };
+  steps = w.steps;
+  spelled = w.spelled;
+  legal = record { start = w.start; end = l.state; starts = w.starts; leads = w.leads; justified = p.entitled.1 };
 }
 
 accepted_alone : (opb proof : List ℕ) (l : Logbook) (p : IsProof l) → Spells opb l.problem → IsWithin l.problem → IsWritten l proof → (v : Verdict) → IsVerdictOf opb proof v

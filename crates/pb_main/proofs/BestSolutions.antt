@@ -81,11 +81,11 @@ sat_is_outdone limit l bears fails = by l.problem.objective refl bears
 
 pub log_preserved : (l : Logbook) → IsProof l → IsPreserved l.problem l.state
 log_preserved l p =
-    (steps_preserve l.problem p.start l.steps l.state (start_preserved l.problem p.start p.starts) (start_normal l.problem p.start p.starts) p.leads).0
+    (steps_preserve l.problem p.start p.steps l.state (start_preserved l.problem p.start p.starts) (start_normal l.problem p.start p.starts) p.leads).0
 
 log_claims : (l : Logbook) (p : IsProof l) → Claim l.problem l.conclusion p.entitled.0
 log_claims l p =
-    let kept = steps_preserve l.problem p.start l.steps l.state (start_preserved l.problem p.start p.starts) (start_normal l.problem p.start p.starts) p.leads in
+    let kept = steps_preserve l.problem p.start p.steps l.state (start_preserved l.problem p.start p.starts) (start_normal l.problem p.start p.starts) p.leads in
     justified_claim l.problem l.state l.conclusion p.entitled.0 kept.0 kept.1 p.entitled.1
 
 -- there is nothing to show without an objective
@@ -161,7 +161,7 @@ improved_to l p values least = by l.problem.objective refl least
   where
     by : (o : Option (List Term)) → l.problem.objective ≡ o → MatchOption o ⊤ (λ _. l.state.least ≡ Some (worth_of l.problem values))
         → MatchOption o (l.improved ≡ []) (λ _. IsFalling l.improved × (last_of l.improved ≡ Some (worth_of l.problem values)))
-    by None none least = nothing_improves l.problem p.start l.state l.steps l.improved none p.improves
+    by None none least = nothing_improves l.problem p.start l.state p.steps l.improved none p.improves
     by (Some objective) is least = let falls = values_fall l p in (falls.0, falls.1 ∙ least)
 
 -- what is handed out is the best solution, and what the log improved to

@@ -1,12 +1,13 @@
--- What is said where no more came of a search than that memory ran out, or nothing that can be checked.
-use Rattle.std.proofs.Common.{◌≡◌, inl, inr, ℕ, List, [], refl, subst, sym}
-use Rattle.search.specs.Log.{Logbook}
-use Rattle.search.specs.Solving.{BearsOut}
-use Rattle.search.specs.declared.found.Found.TheVariants as founds
-use Rattle.search.specs.declared.found.Unfinished.{Unfinished}
-use Rattle.search.specs.declared.found.Unfinished.TheVariants as ends
-use Rattle.pb_main.specs.Checked.{IsLogOf, IsProofOrNone, IsUnwritten, IsWrittenOrNone}
-use Rattle.pb_main.specs.Outcome.{IsNothingFound, IsOutcomeOf, unwritable}
+-- What is said of what was found, where it is not said with what was accepted.
+use Rattle.std.proofs.Common.{◌≡◌, inl, inr, ℕ, List, [], subst, sym}
+use Rattle.linear.specs.Limits.{IsWithin}
+use Rattle.opb_read.specs.Spells.{Spells}
+use Rattle.search.specs.Log.{IsProof, Logbook}
+use Rattle.pb_main.specs.Checked.{IsLogOf, IsProofOrNone, IsWrittenOrNone}
+use Rattle.pb_main.specs.Finding.{IsFindingOf}
+use Rattle.pb_main.specs.Outcome.{IsBestOf, IsNoOptimum, IsOutcomeOf}
+use Rattle.pb_main.specs.Solution.{NamedValues}
+use Rattle.pb_main.specs.declared.finding.Finding.TheVariants as findings
 use Rattle.pb_main.specs.declared.outcome.Outcome.{Outcome}
 use Rattle.pb_main.specs.declared.outcome.Outcome.TheVariants as outcomes
 use Rattle.pb_main.specs.declared.outcome.Unanswered.{Unanswered}
@@ -18,19 +19,22 @@ pub without_bytes : (opb bytes : List ℕ) (limit : ℕ) (outcome said : Outcome
 without_bytes opb bytes limit outcome said same none h =
     subst (λ b. IsOutcomeOf opb b limit outcome) (sym none) (subst (λ o. IsOutcomeOf opb [] limit o) (sym same) h)
 
+pub log_of : (opb : List ℕ) (l : Logbook) → Spells opb l.problem → IsWithin l.problem → IsProof l → IsLogOf opb l
+log_of opb l spelled within legal = record { spelled = spelled; within = within; legal = legal }
+
 -- the bytes of a log are those of some log
 pub bytes_of : (opb proof : List ℕ) (l : Logbook) → IsLogOf opb l → IsWrittenOrNone l proof → IsProofOrNone opb proof
 bytes_of opb proof l of_text (inl written) = inl (l, of_text, written)
 bytes_of opb proof l of_text (inr none) = inr none
 
--- without the proof of a log of which nothing was found, nothing is said
-pub unsaid : (opb : List ℕ) (limit : ℕ) (l : Logbook) (why : Unanswered) → IsLogOf opb l → IsNothingFound limit l → IsUnwritten l why
-    → IsOutcomeOf opb [] limit (outcomes.Unknown why)
-unsaid opb limit l reasons.Limit of_text none h = absurd h
-unsaid opb limit l reasons.Memory of_text none h = inr refl
-unsaid opb limit l reasons.Unchecked of_text none h = record { log = l; of_text = of_text; bytes = inr refl; why = unwritable none h }
+-- a log's best solution
+pub solution_said : (opb proof : List ℕ) (limit : ℕ) (l : Logbook) (s : NamedValues) → IsLogOf opb l → IsWrittenOrNone l proof → IsBestOf l s → IsNoOptimum limit l
+    → IsOutcomeOf opb proof limit (outcomes.Satisfiable s)
+solution_said opb proof limit l s of_text bytes best why = record { log = l; of_text = of_text; bytes = bytes; from_log = best; why = why }
 
--- where the search stopped without a solution, nothing was found
-pub left_open : (limit : ℕ) (l : Logbook) (end : Unfinished) → BearsOut limit l (founds.Unknown end) → IsNothingFound limit l
-left_open limit l ends.Limit bears = inr bears
-left_open limit l ends.Memory bears = absurd bears
+-- a solution that is not handed out
+pub untold : (opb proof : List ℕ) (limit : ℕ) (l : Logbook) (why : Unanswered) → IsLogOf opb l → IsWrittenOrNone l proof → IsFindingOf limit l (findings.Untold why)
+    → IsOutcomeOf opb proof limit (outcomes.Unknown why)
+untold opb proof limit l reasons.Limit of_text bytes h = absurd h
+untold opb proof limit l reasons.Memory of_text bytes h = bytes_of opb proof l of_text bytes
+untold opb proof limit l reasons.Unchecked of_text bytes h = record { log = l; of_text = of_text; bytes = bytes; why = h }

@@ -1,20 +1,15 @@
 -- The log that an answer rests on, the text of its proof, and what it is for the checker to accept that.
-use Rattle.std.specs.Prelude.{◌≡◌, ◌⊎◌, ℕ, pos, List, [], Bool, Option, None, All, length, ⊤}
+use Rattle.std.specs.Prelude.{◌≡◌, ◌⊎◌, ℕ, List, [], Bool, Option, None}
 use Rattle.linear.specs.Limits.{IsWithin}
 use Rattle.opb_read.specs.Spells.{Spells}
 use Rattle.kernel.specs.Accepted.{Judgement}
-use Rattle.proof_rules.specs.Forms.{problem_ids}
 use Rattle.proof_rules.specs.Justified.{IsBest, hint_of}
-use Rattle.proof_text.specs.ProofSpells.{SpellsProof}
-use Rattle.proof_text.specs.Writable.{IsStepWritable}
 use Rattle.checker.specs.Verdicts.{IsTrueOf}
-use Rattle.search.specs.Log.{Logbook, IsProof}
+use Rattle.search.specs.Log.{Logbook, IsProof, IsSpelledBy}
 use Rattle.search.specs.Solving.{BearsOut}
 use Rattle.search.specs.declared.found.Found.{Found}
-use Rattle.pb_main.specs.declared.outcome.Unanswered.{Unanswered}
-use Rattle.pb_main.specs.declared.outcome.Unanswered.TheVariants as reasons
 
--- A log of the problem that the text spells: its steps are legal, and entitle to what it concludes.
+-- A log of the problem that the text spells: its text is that of legal steps, which entitle to what it concludes.
 pub record IsLogOf (opb : List ℕ) (l : Logbook) : Type 0 where
   pub spelled : Spells opb l.problem
   pub within : IsWithin l.problem
@@ -26,8 +21,7 @@ IsBorneOut l found = (limit : ℕ) × BearsOut limit l found
 
 -- the text spells the steps and the conclusion of the log
 abbrev pub IsWritten : Logbook → List ℕ → Type 0
-IsWritten l proof =
-    SpellsProof proof l.problem.names (pos (problem_ids l.problem.constraints)) l.steps l.conclusion
+IsWritten l proof = IsSpelledBy l proof
 
 -- the text is the log's proof, or there is none, as where there is no memory for it
 abbrev pub IsWrittenOrNone : Logbook → List ℕ → Type 0
@@ -36,16 +30,6 @@ IsWrittenOrNone l proof = IsWritten l proof ⊎ (proof ≡ [])
 -- the text is the proof of some log of the problem, or there is none, as where there is no log
 abbrev pub IsProofOrNone : List ℕ → List ℕ → Type 0
 IsProofOrNone opb proof = ((l : Logbook) × IsLogOf opb l × IsWritten l proof) ⊎ (proof ≡ [])
-
--- the steps of the log can be written: their integers are at most 2^120 in size, and their variables are the problem's
-abbrev pub AreStepsWritable : Logbook → Type 0
-AreStepsWritable l = All (IsStepWritable (length l.problem.names)) l.steps
-
--- why the proof of a log is not written: there is no memory for it, or some step cannot be written
-abbrev pub IsUnwritten : Logbook → Unanswered → Type 0
-IsUnwritten l reasons.Limit = ⊥
-IsUnwritten l reasons.Memory = ⊤
-IsUnwritten l reasons.Unchecked = AreStepsWritable l → ⊥
 
 -- The checker accepted this text as a proof of the log's problem and conclusion. Where the conclusion has no hint, the
 -- best assignment that it hands out is the best that was logged.

@@ -1,4 +1,5 @@
 pub mod Answer
 pub mod Checked
+pub mod Finding
 pub mod Outcome
 pub mod Solution

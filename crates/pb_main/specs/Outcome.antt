@@ -1,5 +1,5 @@
 -- What the solver's program answers about a problem's text, and what is so then.
-use Rattle.std.specs.Prelude.{◌≡◌, ◌⊎◌, ℕ, ℤ, List, [], Bool, None, Some, MatchOption, ⊤}
+use Rattle.std.specs.Prelude.{◌≡◌, ℕ, ℤ, List, [], Bool, None, Some, MatchOption, ⊤}
 use Rattle.linear.specs.Opb.{Opb}
 use Rattle.opb_read.specs.declared.fault.OpbCode.{OpbCode}
 use Rattle.opb_read.specs.declared.fault.OpbCode.TheVariants as codes
@@ -15,7 +15,7 @@ use Rattle.search.specs.Log.{Logbook, IsFalling, last_of}
 use Rattle.search.specs.Solving.{IsBestSoFar, IsOpen, IsOptimum, IsSolvedByAny}
 use Rattle.pb_main.specs.declared.outcome.Outcome.{Outcome}
 use Rattle.pb_main.specs.declared.outcome.Outcome.TheVariants as outcomes
-use Rattle.pb_main.specs.Checked.{AreStepsWritable, IsLogOf, IsWritten, IsWrittenOrNone, IsProofOrNone}
+use Rattle.pb_main.specs.Checked.{IsLogOf, IsWritten, IsWrittenOrNone, IsProofOrNone}
 use Rattle.pb_main.specs.Solution.{NamedValues}
 use Rattle.pb_main.specs.declared.outcome.Unanswered.TheVariants as reasons
 
@@ -64,7 +64,7 @@ pub record IsCheckedUnsat (opb proof : List ℕ) (accepted : Judgement) : Type 0
   pub conclusion : accepted.conclusion ≡ conclusions.Unsat
 
 -- Why the best solution of a log is not called an optimum: without an objective any solution serves; the search
--- stopped; or it is one, and the proof of that is not written, or there was no memory to check it.
+-- stopped; or it is one, and there was no memory to write the proof of that, or to check it.
 pub data IsNoOptimum (limit : ℕ) (l : Logbook) : Type 0 where
   any_serves : l.problem.objective ≡ None → IsSolvedByAny l → IsNoOptimum limit l
   stopped : IsBestSoFar limit l → IsNoOptimum limit l
@@ -86,14 +86,8 @@ pub record IsLeftOpen (opb proof : List ℕ) (limit : ℕ) : Type 0 where
   pub written : IsWritten log proof
   pub stopped : IsOpen limit log
 
--- nothing was found: there is no solution, or none so far, where the search stopped
-abbrev pub IsNothingFound : ℕ → Logbook → Type 0
-IsNothingFound limit l = (l.conclusion ≡ conclusions.Unsat) ⊎ IsOpen limit l
-
--- Why what a search found cannot be checked: nothing was found, and the log of that cannot be written; or the search
--- stopped, and its best solution is not the last improving one.
+-- Why what a search found cannot be checked: it stopped, and its best solution is not the last improving one.
 pub data IsUncheckable (limit : ℕ) (l : Logbook) : Type 0 where
-  unwritable : IsNothingFound limit l → (AreStepsWritable l → ⊥) → IsUncheckable limit l
   outdone : IsBestSoFar limit l → (BestIsLeast l → ⊥) → IsUncheckable limit l
 
 -- A log of which what was found cannot be checked. The bytes are the log's proof, or none.

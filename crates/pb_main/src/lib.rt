@@ -7,10 +7,10 @@ mod answer;
 mod best;
 pub mod cases;
 mod deciding;
+mod finding;
 mod outcome;
 mod proof;
 mod solution;
-mod writable;
 
 pub use answer::{answer_text, status};
 pub use deciding::{Decided, decide};

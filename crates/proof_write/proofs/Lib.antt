@@ -6,3 +6,4 @@ pub mod PartsBack
 pub mod StepsBack
 pub mod ConclusionsBack
 pub mod WholeBack
+pub mod TextGrows

@@ -14,7 +14,7 @@ pub more_words : (a b c : List ℕ) (vs ws : List (List ℕ)) → b ≡ a ++ spa
 more_words a b c vs ws e f =
     f ∙ ap (λ x. x ++ spaced ws) e ∙ append_assoc a (spaced vs) (spaced ws) ∙ ap (λ x. a ++ x) (sym (spaced-append vs ws))
 
-flat_map-last : {X Y : Type 0} (f : X → List Y) (xs : List X) (x : X) → flat_map f (xs ++ x ∷ []) ≡ flat_map f xs ++ f x
+pub flat_map-last : {X Y : Type 0} (f : X → List Y) (xs : List X) (x : X) → flat_map f (xs ++ x ∷ []) ≡ flat_map f xs ++ f x
 flat_map-last f [] x = append-nil (f x)
 flat_map-last f (y ∷ xs) x = ap (λ z. f y ++ z) (flat_map-last f xs x) ∙ sym (append_assoc (f y) (flat_map f xs) (f x))
 

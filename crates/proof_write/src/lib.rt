@@ -9,8 +9,10 @@
 
 mod cases;
 mod whole;
+mod writable;
 mod write;
 mod writer;
 
-pub use whole::write_proof;
+pub use whole::{write_proof, write_start};
+pub use writable::is_step_writable;
 pub use write::{write_end, write_step};

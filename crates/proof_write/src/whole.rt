@@ -3,7 +3,7 @@
 //! A solver writes its proof into memory and has it checked before it answers. What it may count on is the law here: the
 //! text spells just the steps and the conclusion that it was made of, so whoever reads it judges what was logged.
 
-ghost use Rattle.std.specs.Prelude.{◌≡◌, ◌++◌, length, All, pos, OnOk, IfOk};
+ghost use Rattle.std.specs.Prelude.{◌≡◌, ◌++◌, length, All, pos, OnOk, OnErr, IfOk};
 ghost use Rattle.std.specs.List.{flat_map};
 ghost use Rattle.proof_text.specs.ProofSpells.{SpellsProof};
 ghost use Rattle.proof_text.specs.Steps.{IsProper};
@@ -26,6 +26,22 @@ fn first(out: &mut Vec<u8>, count: u64) -> Result<(), AllocError>
     begin(out, b"f")?;
     number(out, i128::from(count))?;
     begin(out, b"\n")
+}
+
+/// Writes the first two lines of a proof: the header, and the line `f` and how many constraints the file has. Where a growth
+/// is refused, nothing is written.
+pub fn write_start(count: u64, out: &mut Vec<u8>) -> Result<(), AllocError>
+    ensures lines { OnOk result (out.new.items ≡ out.old.items ++ first_lines count) }
+    ensures err { OnErr result (out.new.items ≡ out.old.items) }
+{
+    let before = out.len();
+    match first(out, count) {
+        Ok(()) => Ok(()),
+        Err(refused) => {
+            out.truncate(before);
+            Err(refused)
+        }
+    }
 }
 
 /// A line for each step.

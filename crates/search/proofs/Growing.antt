@@ -1,15 +1,16 @@
 -- A proof grows by a legal step, and then nothing is concluded from it yet.
-use Rattle.std.proofs.Common.{◌≡◌, inl, inr, ℕ, ◌+◌, ◌-◌, ◌≤◌, ℤ, append_assoc, List, [], ◌∷◌, ◌++◌, Bool, length, set, take, true, Option, Result, Ok, Err, OnOk, refl, sym, ap, subst, ◌∙◌, arith}
-use Rattle.std.specs.Result.{is_ok}
-use Rattle.std.proofs.Math.Seq.{set-append_seam, take-append_seam}
+use Rattle.std.proofs.Common.{◌≡◌, inl, inr, ℕ, ◌+◌, ◌-◌, ◌≤◌, ℤ, pos, append_assoc, List, [], ◌∷◌, ◌++◌, Bool, length, set, Option, refl, sym, ap, subst, ◌∙◌, arith}
+use Rattle.std.proofs.Math.Seq.{set-append_seam}
 use Rattle.std.proofs.lemmas.List.{append-nil, length-append}
-use Rattle.std.proofs.lemmas.Bool.{false≢true}
+use Rattle.pb_text.specs.Number.{largest_number}
 use Rattle.linear.specs.Opb.{Opb}
+use Rattle.linear.specs.Table.{IsTable}
 use Rattle.proof_steps.specs.declared.conclusion.Conclusion.{Conclusion}
 use Rattle.proof_steps.specs.declared.conclusion.Conclusion.TheVariants.{Nothing}
 use Rattle.proof_steps.specs.declared.step.Step.{Step}
 use Rattle.proof_steps.specs.declared.step.Step.TheVariants as kinds
 use Rattle.proof_rules.specs.Claim.{Claim}
+use Rattle.proof_rules.specs.Forms.{problem_ids}
 use Rattle.proof_rules.specs.Justified.{IsLegalProof}
 use Rattle.proof_rules.proofs.Concluding.{justified_claim}
 use Rattle.proof_rules.proofs.FileForms.{start_preserved, start_normal}
@@ -17,18 +18,13 @@ use Rattle.proof_rules.proofs.Preserving.{steps_preserve}
 use Rattle.proof_rules.specs.Legal.{Legal, Leads}
 use Rattle.proof_rules.specs.State.{State, IsStart}
 use Rattle.proof_rules.proofs.ConclusionJudged.{conclusion_judged}
-use Rattle.search.specs.Log.{Logbook, StepBites, LeadsBiting, LeadsImproving, improvement, ImprovesNothing, IsEntitled, IsProof}
-
--- what a value says of what was done
-pub of_ok : {T E : Type 0} (P : Type 0) (r : Result T E) → true ≡ is_ok r → OnOk r P → P
-of_ok P (Ok x) h p = p
-of_ok P (Err e) h p = absurd (false≢true (sym h))
-
--- what was put at the end is taken off again
-pub taken_off : {T : Type 0} (xs ys zs : List T) (x : T) (n : ℕ) → ys ≡ xs ++ x ∷ [] → n ≡ length ys → zs ≡ take (n - 1) ys → zs ≡ xs
-taken_off xs ys zs x n is long rest =
-    let count : n - 1 ≡ length xs = omega (arith, long, ap length is, length-append xs (x ∷ [])) in
-    rest ∙ ap (λ k. take k ys) count ∙ ap (take (length xs)) is ∙ take-append_seam xs (x ∷ [])
+use Rattle.proof_text.specs.ProofSpells.{SpellsProof}
+use Rattle.proof_text.specs.Steps.{IsProper}
+use Rattle.proof_text.specs.Writable.{IsConclusionWritable, IsStepWritable}
+use Rattle.proof_write.specs.Whole.{AreWritten, first_lines, last_lines, step_line}
+use Rattle.proof_write.specs.Writing.{line_text, step_words}
+use Rattle.proof_write.proofs.TextGrows.{nothing_written, no_more_steps, one_more_written, written_spells}
+use Rattle.search.specs.Log.{IsSpelledBy, Logbook, StepBites, LeadsBiting, LeadsImproving, improvement, ImprovesNothing, IsEntitled, IsProof}
 
 -- the last element is changed
 pub put_last : (xs ys : List ℤ) (z v : ℤ) (n : ℕ) → ys ≡ xs ++ z ∷ [] → n ≡ length ys → set ys (n - 1) v ≡ xs ++ v ∷ []
@@ -96,45 +92,84 @@ no_more_bites p a b (x ∷ xs) count (between, first, inl rest) = omega (arith, 
 no_more_bites p a b (x ∷ xs) count (between, first, inr (fewer, is, here, rest)) = omega (arith, is, no_more_bites p between b xs fewer rest)
 
 -- a log with this conclusion
-abbrev pub logbook : Opb → List Step → State → List ℤ → ℕ → Conclusion → Logbook
-logbook p steps state values count conclusion = record { problem = p; steps = steps; state = state; improved = values; biting = count; conclusion = conclusion }
+abbrev pub logbook : Opb → List ℕ → State → List ℤ → ℕ → Conclusion → Logbook
+logbook p text state values count conclusion = record { problem = p; text = text; state = state; improved = values; biting = count; conclusion = conclusion }
 
-pub starts : (p : Opb) (s : State) (none : List Step) (values : List ℤ) → none ≡ [] → values ≡ [] → IsStart p s → IsProof (logbook p none s values 0 Nothing)
-starts p s none values empty nothing start = subst (λ xs. IsProof (logbook p xs s values 0 Nothing)) (sym empty) (record {
+pub starts : (p : Opb) (s : State) (text : List ℕ) (values : List ℤ) → text ≡ first_lines (problem_ids p.constraints) → values ≡ [] → IsTable p.names → problem_ids p.constraints ≤ largest_number → IsStart p s
+    → IsProof (logbook p text s values 0 Nothing)
+starts p s text values first nothing table few start = record {
+  steps = [];
+  written = nothing_written text p.names (problem_ids p.constraints) first table few;
   start = s;
   starts = start;
   leads = refl;
   improves = (refl, nothing);
   bites = (refl, refl);
   entitled = nothing_justified p s;
-})
+}
 
-pub grows : (p : Opb) (before : List Step) (s t : State) (values : List ℤ) (count : ℕ) (conclusion : Conclusion) (step : Step) → IsProof (logbook p before s values count conclusion)
-    → Legal p s step t → IsProof (logbook p (before ++ step ∷ []) t (values ++ improvement step t) count Nothing)
-grows p before s t values count conclusion step proof legal = record {
+-- one more step, which can be written
+abbrev pub IsWrittenBehind : Opb → List ℕ → Step → List ℕ → Type 0
+IsWrittenBehind p text step new = (new ≡ text ++ step_line p.names step) × IsStepWritable (length p.names) step × IsProper step
+
+pub written_behind : (p : Opb) (text : List ℕ) (step : Step) (new : List ℕ) (names : List (List ℕ)) → names ≡ p.names → new ≡ text ++ step_line names step → IsStepWritable (length names) step → IsProper step
+    → IsWrittenBehind p text step new
+written_behind p text step new names same is writable proper =
+    (is ∙ ap (λ ns. text ++ step_line ns step) same, subst (λ ns. IsStepWritable (length ns) step) same writable, proper)
+
+one_more : (l : Logbook) (step : Step) (new : List ℕ) → (proof : IsProof l) → IsWrittenBehind l.problem l.text step new
+    → AreWritten new l.problem.names (problem_ids l.problem.constraints) (proof.steps ++ step ∷ [])
+one_more l step new proof (is, writable, proper) =
+    let count = problem_ids l.problem.constraints in
+    subst (λ t. AreWritten t l.problem.names count (proof.steps ++ step ∷ [])) (sym is)
+    (one_more_written l.text l.problem.names count proof.steps step proof.written writable proper)
+
+pub grows : (p : Opb) (text new : List ℕ) (s t : State) (values : List ℤ) (count : ℕ) (conclusion : Conclusion) (step : Step) → IsProof (logbook p text s values count conclusion)
+    → IsWrittenBehind p text step new → Legal p s step t → IsProof (logbook p new t (values ++ improvement step t) count Nothing)
+grows p text new s t values count conclusion step proof behind legal = record {
+  steps = proof.steps ++ step ∷ [];
+  written = one_more (logbook p text s values count conclusion) step new proof behind;
   start = proof.start;
   starts = proof.starts;
-  leads = leads_push p proof.start s t before step proof.leads legal;
-  improves = improves_push p proof.start s t before step values proof.improves legal;
-  bites = bites_push p proof.start s t before step count proof.bites legal;
+  leads = leads_push p proof.start s t proof.steps step proof.leads legal;
+  improves = improves_push p proof.start s t proof.steps step values proof.improves legal;
+  bites = bites_push p proof.start s t proof.steps step count proof.bites legal;
   entitled = nothing_justified p t;
 }
 
-pub grows_biting : (p : Opb) (before : List Step) (s t : State) (values : List ℤ) (count : ℕ) (conclusion : Conclusion) (step : Step) → IsProof (logbook p before s values count conclusion)
-    → Legal p s step t → StepBites s step → IsProof (logbook p (before ++ step ∷ []) t (values ++ improvement step t) (count + 1) Nothing)
-grows_biting p before s t values count conclusion step proof legal here = record {
+pub grows_biting : (p : Opb) (text new : List ℕ) (s t : State) (values : List ℤ) (count : ℕ) (conclusion : Conclusion) (step : Step) → IsProof (logbook p text s values count conclusion)
+    → IsWrittenBehind p text step new → Legal p s step t → StepBites s step → IsProof (logbook p new t (values ++ improvement step t) (count + 1) Nothing)
+grows_biting p text new s t values count conclusion step proof behind legal here = record {
+  steps = proof.steps ++ step ∷ [];
+  written = one_more (logbook p text s values count conclusion) step new proof behind;
   start = proof.start;
   starts = proof.starts;
-  leads = leads_push p proof.start s t before step proof.leads legal;
-  improves = improves_push p proof.start s t before step values proof.improves legal;
-  bites = bites_push_one p proof.start s t before step count proof.bites legal here;
+  leads = leads_push p proof.start s t proof.steps step proof.leads legal;
+  improves = improves_push p proof.start s t proof.steps step values proof.improves legal;
+  bites = bites_push_one p proof.start s t proof.steps step count proof.bites legal here;
   entitled = nothing_justified p t;
 }
+
+-- each step that bites takes a byte at least
+pub biting_within : (l : Logbook) → IsProof l → l.biting ≤ length l.text
+biting_within l proof =
+    let few = no_more_bites l.problem proof.start l.state proof.steps l.biting proof.bites in
+    let long = no_more_steps l.text l.problem.names (problem_ids l.problem.constraints) proof.steps proof.written in
+    omega (arith, few, long)
+
+-- and the line of a step is longer than nothing
+pub line_longer : (names : List (List ℕ)) (old new : List ℕ) (step : Step) → new ≡ old ++ step_line names step → length old + 1 ≤ length new
+line_longer names old new step is =
+    let all = ap length is ∙ length-append old (step_line names step) in
+    let line = length-append (line_text (step_words names step)) (10 ∷ []) in
+    omega (arith, all, line)
 
 -- a conclusion that the state entitles to
-pub concluded : (p : Opb) (before : List Step) (s : State) (values : List ℤ) (count : ℕ) (old new : Conclusion) → IsProof (logbook p before s values count old) → IsEntitled p s new
-    → IsProof (logbook p before s values count new)
-concluded p before s values count old new proof entitled = record {
+pub concluded : (p : Opb) (text : List ℕ) (s : State) (values : List ℤ) (count : ℕ) (old new : Conclusion) → IsProof (logbook p text s values count old) → IsEntitled p s new
+    → IsProof (logbook p text s values count new)
+concluded p text s values count old new proof entitled = record {
+  steps = proof.steps;
+  written = proof.written;
   start = proof.start;
   starts = proof.starts;
   leads = proof.leads;
@@ -149,12 +184,27 @@ leads_of p a b [] count (same, none) = same
 leads_of p a b (x ∷ xs) count (between, first, inl rest) = (between, first, leads_of p between b xs count rest)
 leads_of p a b (x ∷ xs) count (between, first, inr (fewer, is, here, rest)) = (between, first, leads_of p between b xs fewer rest)
 
-pub proves : (l : Logbook) → IsProof l → (best : Option (List Bool)) × IsLegalProof l.problem l.steps l.conclusion best
-proves l proof =
-    (proof.entitled.0, record { start = proof.start; end = l.state; starts = proof.starts; leads = proof.leads; justified = proof.entitled.1 })
+-- with the last lines, the text of a log spells its steps
+pub spells : (l : Logbook) (proof : List ℕ) → IsProof l → IsConclusionWritable (length l.problem.names) l.conclusion → proof ≡ l.text ++ last_lines l.problem.names l.conclusion → IsSpelledBy l proof
+spells l proof p writable is = record {
+  steps = p.steps;
+  spelled = subst (λ t. SpellsProof t l.problem.names (pos (problem_ids l.problem.constraints)) p.steps l.conclusion) (sym is)
+      (written_spells l.text l.problem.names (problem_ids l.problem.constraints) p.steps l.conclusion p.written writable);
+  start = p.start;
+  starts = p.starts;
+  leads = p.leads;
+}
+
+pub legal_steps : (l : Logbook) (p : IsProof l) → IsLegalProof l.problem p.steps l.conclusion p.entitled.0
+legal_steps l p = record { start = p.start; end = l.state; starts = p.starts; leads = p.leads; justified = p.entitled.1 }
+
+-- so what spells a log spells a legal proof of its conclusion
+pub proves : (l : Logbook) (proof : List ℕ) → IsProof l → (w : IsSpelledBy l proof) → (best : Option (List Bool)) × IsLegalProof l.problem w.steps l.conclusion best
+proves l proof p w =
+    (p.entitled.0, record { start = w.start; end = l.state; starts = w.starts; leads = w.leads; justified = p.entitled.1 })
 
 -- what it concludes is true
 pub proved_true : (l : Logbook) → IsProof l → (best : Option (List Bool)) × Claim l.problem l.conclusion best
 proved_true l proof =
-    let kept = steps_preserve l.problem proof.start l.steps l.state (start_preserved l.problem proof.start proof.starts) (start_normal l.problem proof.start proof.starts) proof.leads in
+    let kept = steps_preserve l.problem proof.start proof.steps l.state (start_preserved l.problem proof.start proof.starts) (start_normal l.problem proof.start proof.starts) proof.leads in
     (proof.entitled.0, justified_claim l.problem l.state l.conclusion proof.entitled.0 kept.0 kept.1 proof.entitled.1)

@@ -82,4 +82,4 @@ from_start start end values none f =
 pub values_fall : (l : Logbook) → IsProof l → IsFalling l.improved × (last_of l.improved ≡ l.state.least)
 values_fall l proof =
     from_start proof.start.least l.state.least l.improved (ap (λ (u : State). u.least) proof.starts.2)
-    (falls l.problem proof.start l.state l.steps l.improved proof.improves)
+    (falls l.problem proof.start l.state proof.steps l.improved proof.improves)

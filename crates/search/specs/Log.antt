@@ -1,22 +1,29 @@
 -- A solver's log: a proof that grows, and how much of it says something new.
-use Rattle.std.specs.Prelude.{◌≡◌, ℕ, ◌+◌, ◌⊎◌, ℤ, ◌<ℤ◌, Bool, List, [], ◌∷◌, ◌++◌, Option, None, Some, All}
+use Rattle.std.specs.Prelude.{◌≡◌, ℕ, ◌+◌, ◌⊎◌, ℤ, pos, ◌<ℤ◌, Bool, List, [], ◌∷◌, ◌++◌, Option, None, Some, All, length}
 use Rattle.linear.specs.Opb.{Opb}
 use Rattle.normal_form.specs.Normal.{NormalConstraint}
 use Rattle.normal_form.specs.NormalOf.{IsNormalOf}
 use Rattle.propagate.specs.Biting.{Bites}
 use Rattle.proof_rules.specs.Expression.{IsPostfixOf}
+use Rattle.proof_rules.specs.Fault.{OrMemory, IsStepFault}
+use Rattle.proof_rules.specs.Forms.{problem_ids}
 use Rattle.proof_rules.specs.Justified.{IsJustified}
 use Rattle.proof_rules.specs.Legal.{Legal, Leads}
 use Rattle.proof_rules.specs.State.{State, constraints, constraint_of, IsStart}
 use Rattle.proof_steps.specs.declared.conclusion.Conclusion.{Conclusion}
 use Rattle.proof_steps.specs.declared.step.Step.{Step}
 use Rattle.proof_steps.specs.declared.step.Step.TheVariants as kinds
+use Rattle.proof_text.specs.ProofSpells.{SpellsProof}
+use Rattle.proof_text.specs.Writable.{IsStepWritable}
+use Rattle.proof_write.specs.Whole.{AreWritten, step_line}
+use Rattle.search.specs.declared.fault.SearchFault.{SearchFault}
+use Rattle.search.specs.declared.fault.SearchFault.TheVariants as faults
 
 pub record Logbook : Type 0 where
   pub problem : Opb
-  -- the steps so far
-  pub steps : List Step
-  -- the state that they lead to
+  -- the text of the proof as far as it has come: its first lines, and a line for each step
+  pub text : List ℕ
+  -- the state that the steps lead to
   pub state : State
   -- the values of the improving solutions, the first one first
   pub improved : List ℤ
@@ -86,14 +93,42 @@ ImprovesNothing (kinds.Del ids) = Unit {0}
 abbrev pub IsEntitled : Opb → State → Conclusion → Type 0
 IsEntitled p s c = (best : Option (List Bool)) × IsJustified p s c best
 
--- what every log is: its steps lead from the file to its state, which entitles to its conclusion
+-- What every log is: its text is that of steps which lead from the file to its state, and that entitles to its conclusion.
 pub record IsProof (l : Logbook) : Type 0 where
+  pub steps : List Step
+  pub written : AreWritten l.text l.problem.names (problem_ids l.problem.constraints) steps
   pub start : State
   pub starts : IsStart l.problem start
-  pub leads : Leads l.problem start l.steps l.state
-  pub improves : LeadsImproving l.problem start l.steps l.state l.improved
-  pub bites : LeadsBiting l.problem start l.steps l.state l.biting
+  pub leads : Leads l.problem start steps l.state
+  pub improves : LeadsImproving l.problem start steps l.state l.improved
+  pub bites : LeadsBiting l.problem start steps l.state l.biting
   pub entitled : IsEntitled l.problem l.state l.conclusion
+
+-- A text spells a log as a whole proof: steps that lead from the file to the log's state, and its conclusion.
+pub record IsSpelledBy (l : Logbook) (proof : List ℕ) : Type 0 where
+  pub steps : List Step
+  pub spelled : SpellsProof proof l.problem.names (pos (problem_ids l.problem.constraints)) steps l.conclusion
+  pub start : State
+  pub starts : IsStart l.problem start
+  pub leads : Leads l.problem start steps l.state
+
+-- the step can be written: its integers are at most 2^120 in size, its relation is `>=`, and its variables are the problem's
+abbrev pub CanBeWritten : Logbook → Step → Type 0
+CanBeWritten l step = IsStepWritable (length l.problem.names) step
+
+-- the text of a log has one line more, that of a step
+abbrev pub Keeps : Logbook → Step → Logbook → Type 0
+Keeps old step new = new.text ≡ old.text ++ step_line old.problem.names step
+
+-- why a step is not taken: the kernel refuses it, or memory ran out; or it cannot be written by these names
+abbrev pub IsRefusedBy : List (List ℕ) → Opb → State → Step → SearchFault → Type 0
+IsRefusedBy names p s step (faults.Kernel f) = OrMemory f (IsStepFault p s step f)
+IsRefusedBy names p s step faults.Unwritable = IsStepWritable (length names) step → ⊥
+IsRefusedBy names p s step faults.Unimproved = ⊥
+
+-- why a log does not take a step
+abbrev pub IsRefused : Logbook → Step → SearchFault → Type 0
+IsRefused l step f = IsRefusedBy l.problem.names l.problem l.state step f
 
 -- the same with another conclusion
 abbrev pub with_conclusion : Conclusion → Logbook → Logbook

@@ -1,5 +1,5 @@
 -- What a search puts into its log before it looks for solutions.
-use Rattle.std.specs.Prelude.{◌≡◌, ◌⊎◌, false, true, pos, List, [], ◌∷◌, ◌++◌, if◌then◌else◌}
+use Rattle.std.specs.Prelude.{◌≡◌, ◌≢◌, ◌⊎◌, false, true, pos, List, [], ◌∷◌, if◌then◌else◌}
 use Rattle.linear.specs.declared.constraint.Relation.TheVariants.{AtLeast}
 use Rattle.linear.specs.declared.constraint.Signed.{Signed}
 use Rattle.linear.specs.declared.term.Lit.{Lit}
@@ -9,12 +9,13 @@ use Rattle.substitution.specs.declared.image.Image.{Image}
 use Rattle.substitution.specs.declared.image.Image.TheVariants as images
 use Rattle.substitution.specs.declared.image.Image.TheVariants.{Zero, One}
 use Rattle.presolve.specs.declared.swapping.Swap.{Swap}
-use Rattle.proof_rules.specs.Fault.{IsStepFault}
 use Rattle.proof_rules.specs.Legal.{Legal}
-use Rattle.proof_rules.specs.declared.fault.StepFault.{StepFault}
+use Rattle.proof_rules.specs.declared.fault.StepFault.TheVariants.{OutOfMemory}
 use Rattle.proof_steps.specs.declared.step.Step.{Step}
 use Rattle.proof_steps.specs.declared.step.Step.TheVariants as kinds
-use Rattle.search.specs.Log.{Logbook}
+use Rattle.search.specs.Log.{Logbook, IsRefused, Keeps}
+use Rattle.search.specs.declared.fault.SearchFault.{SearchFault}
+use Rattle.search.specs.declared.fault.SearchFault.TheVariants as logs
 
 -- 1 l >= 1
 abbrev pub is_true : Lit → Signed
@@ -51,18 +52,19 @@ swapping s = kinds.Red (in_order s) (exchange s)
 -- a legal step stands at the end of a log, and nothing else that a search goes by has changed
 pub record Enters (step : Step) (old new : Logbook) : Type 0 where
   pub legal : Legal old.problem old.state step new.state
-  pub steps : new.steps ≡ old.steps ++ step ∷ []
+  pub text : Keeps old step new
   pub problem : new.problem ≡ old.problem
   pub improved : new.improved ≡ old.improved
   pub biting : new.biting ≡ old.biting
 
--- a step has a fault, and the log is as it was
+-- a step has a fault, or cannot be written, and the log is as it was
 pub record IsLeft (step : Step) (old new : Logbook) : Type 0 where
-  pub fault : StepFault
-  pub refused : IsStepFault old.problem old.state step fault
+  pub fault : SearchFault
+  pub refused : IsRefused old step fault
+  pub other : fault ≢ logs.Kernel OutOfMemory
   pub same : new ≡ old
 
--- a step enters a log where it is legal, and is left where it has a fault
+-- a step enters a log where it is legal, and is left where it has a fault or cannot be written
 abbrev pub Tries : Step → Logbook → Logbook → Type 0
 Tries step old new = Enters step old new ⊎ IsLeft step old new
 

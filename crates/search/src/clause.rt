@@ -6,17 +6,19 @@
 //! decision stands against what is known, and the clause would say nothing new; so it is undone, and the search goes on.
 //! This cannot happen to decisions that were made since the last constraint came, so it comes to an end.
 
-ghost use Rattle.std.specs.Prelude.{◌≡◌, ◌↔◌, ◌<◌, ◌≤◌, ◌+◌, ◌-◌, IfOk, IsErrOf, IsTrue, OnErr, OnOk, length, take};
+ghost use Rattle.std.specs.Prelude.{◌≡◌, ◌↔◌, ◌<◌, ◌≤◌, ◌+◌, ◌-◌, All, IfOk, IsErrOf, IsTrue, OnErr, OnOk, length, take};
 ghost use Rattle.normal_form.specs.Normal.{largest_sum};
 ghost use Rattle.propagate.specs.Chain.{IsImpossible, LeadsToConflict};
 ghost use Rattle.propagate.specs.Literals.{IsConsistent, lists};
 ghost use Rattle.proof_rules.specs.State.{HasRoom, constraints};
+ghost use Rattle.proof_text.specs.Writable.{IsLitWritable};
 ghost use Rattle.search.specs.Clause.{negated_clause, opposite_term};
 ghost use Rattle.search.specs.Log.{StepBites};
 ghost use Rattle.search.specs.Solving.{TakesId};
 ghost use Rattle.search.specs.Undoing.{IsOvertaken};
 
 use super::brancher::Brancher;
+use super::fault::SearchFault;
 use super::log::Log;
 use linear::{Lit, Relation, Seq, Signed, Term, Var};
 use proof_rules::StepFault;
@@ -93,13 +95,13 @@ pub(crate) fn least_conflict<'a, P: Propagator>(
 }
 
 /// Logs that some literals do not all hold, where they lead to a conflict, and tells the brancher. It fails only where memory
-/// runs out.
+/// runs out, or where a literal's variable is none of the problem's.
 fn log_clause<'a, P: Propagator>(
     alloc: Global,
     log: &mut Log<'a, P>,
     literals: &[Lit],
     brancher: &mut Box<dyn Brancher>,
-) -> Result<(), StepFault>
+) -> Result<(), SearchFault>
     requires consistent { IsConsistent literals.now }
     requires conflict { LeadsToConflict (constraints log.old.state) literals.now }
     requires few { length literals.now < largest_sum }
@@ -108,7 +110,7 @@ fn log_clause<'a, P: Propagator>(
     ensures problem { log.new.problem ≡ log.old.problem }
     ensures biting { OnOk result (log.new.biting ≡ log.old.biting + 1) }
     ensures id { OnOk result (TakesId log.old.state log.new.state) }
-    ensures memory { OnErr result (IsErrOf result StepFault.OutOfMemory) }
+    ensures memory { All (IsLitWritable (length log.old.problem.names)) literals.now → OnErr result (IsErrOf result (SearchFault.Kernel StepFault.OutOfMemory)) }
 {
     let clause = clause_of(alloc, literals)?;
     let variables = variables_of(alloc, literals)?;
@@ -128,14 +130,14 @@ pub(crate) enum ConflictEnd {
 
 /// Undoes the last one of the first `count` decisions, and all after it, where it takes just these for a conflict. That they do
 /// not all hold is learned, unless it would say nothing new: what was learned since may force the opposite of the last one
-/// already. It fails only where memory runs out.
+/// already. It fails only where memory runs out, or where the variable of a decision is none of the problem's.
 pub(crate) fn learn_clause<'a, P: Propagator>(
     alloc: Global,
     log: &mut Log<'a, P>,
     decisions: &mut Vec<Lit>,
     count: usize,
     brancher: &mut Box<dyn Brancher>,
-) -> Result<ConflictEnd, StepFault>
+) -> Result<ConflictEnd, SearchFault>
     requires consistent { IsConsistent decisions.old.items }
     requires some { 0 < count }
     requires within { count ≤ length decisions.old.items }
@@ -149,7 +151,7 @@ pub(crate) fn learn_clause<'a, P: Propagator>(
     ensures overtaken { IfOk result (λ conflict_end. conflict_end ≡ ConflictEnd.Undone → IsOvertaken (constraints log.old.state) decisions.old.items (count - 1)) }
     ensures consistent { OnOk result (IsConsistent decisions.new.items) }
     ensures undone { OnOk result (decisions.new.items ≡ take (count - 1) decisions.old.items) }
-    ensures memory { OnErr result (IsErrOf result StepFault.OutOfMemory) }
+    ensures memory { All (IsLitWritable (length log.old.problem.names)) decisions.old.items → OnErr result (IsErrOf result (SearchFault.Kernel StepFault.OutOfMemory)) }
 {
     let kept = count - 1;
     let last = decisions[kept];

@@ -10,11 +10,11 @@ ghost use Rattle.search.specs.Solving.{TakesId};
 ghost use Rattle.search.specs.Undoing.{IsUndone};
 
 use super::brancher::Brancher;
+use super::fault::SearchFault;
 use super::log::Log;
 use analysis::{Analyser, Entry, Learned, bites_under};
 use linear::{Lit, Var};
 use normal_form::Normal;
-use proof_rules::StepFault;
 use proof_steps::Step;
 use propagate::{Id, Propagator, Reach};
 use std::alloc::{AllocError, Global};
@@ -38,7 +38,7 @@ pub(crate) fn learn_constraint<'a, P: Propagator>(
     conflict: Id,
     analyser: &mut Analyser,
     brancher: &mut Box<dyn Brancher>,
-) -> Result<bool, StepFault>
+) -> Result<bool, SearchFault>
     requires { IsConsistent decisions.old.items }
     ensures problem { log.new.problem ≡ log.old.problem }
     ensures learned { IfOk result (λ yes. IsTrue yes → TakesId log.old.state log.new.state) }

@@ -4,6 +4,7 @@ ghost use Rattle.std.specs.Prelude.{◌≡◌, ℕ, false, IfOk, IsTrue, None};
 ghost use Rattle.proof_rules.specs.State.{HasRoom};
 ghost use Rattle.search.specs.Solving.{BearsOut, MayStop};
 
+use super::fault::SearchFault;
 use super::found::{Found, Unfinished};
 use super::log::Log;
 use proof_rules::StepFault;
@@ -46,17 +47,17 @@ pub(crate) fn may_stop<'a, P: Propagator>(log: &Log<'a, P>, limit: u64) -> bool
 pub(crate) fn end_stopped<'a, P: Propagator>(
     log: &mut Log<'a, P>,
     limit: u64,
-) -> Result<Found, StepFault>
+) -> Result<Found, SearchFault>
     requires { MayStop limit log.old }
     ensures problem { log.new.problem ≡ log.old.problem }
     ensures found { IfOk result (BearsOut limit log.new) }
 {
-    if log.best().is_none() {
+    if log.best()?.is_none() {
         log.conclude(Conclusion::Nothing)?;
         return Ok(Found::Unknown(Unfinished::Limit));
     }
     let Some(best) = log.least_value() else {
-        return Err(StepFault::UpperNotLogged);
+        return Err(SearchFault::Unimproved);
     };
     log.conclude(Conclusion::Bounds(Lower::MinusInf, Upper::At(best), None))?;
     Ok(Found::Sat)

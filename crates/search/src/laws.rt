@@ -3,7 +3,7 @@
 //! A log cannot hold a wrong step, so the only way in which a search could fail is that a step which it needs is not legal,
 //! or that its conclusion is not accepted. These laws say of each of them that it is.
 
-ghost use Rattle.std.specs.Prelude.{◌≡◌, ◌<◌, ◌≤◌, ℕ, ℤ, Bool, [], List, None, Option, Some, length};
+ghost use Rattle.std.specs.Prelude.{◌≡◌, ◌<◌, ◌≤◌, ◌++◌, ℕ, ℤ, Bool, [], List, None, Option, Some, length};
 ghost use Rattle.linear.specs.Limits.{IsWithin};
 ghost use Rattle.linear.specs.Opb.{Opb};
 ghost use Rattle.linear.specs.declared.term.Lit.{Lit};
@@ -13,6 +13,7 @@ ghost use Rattle.normal_form.specs.NormalOf.{IsNormalOf};
 ghost use Rattle.propagate.specs.Chain.{IsRefuted, IsFixpoint, LeadsToConflict};
 ghost use Rattle.propagate.specs.Literals.{IsConsistent};
 ghost use Rattle.proof_rules.specs.Claim.{Claim};
+ghost use Rattle.proof_rules.specs.Forms.{problem_ids};
 ghost use Rattle.proof_rules.specs.Justified.{IsLegalProof};
 ghost use Rattle.proof_rules.specs.Legal.{Leads, LegalRup, LegalSol, LegalSoli};
 ghost use Rattle.proof_rules.specs.Preserved.{IsPreserved};
@@ -23,8 +24,10 @@ ghost use Rattle.proof_steps.specs.declared.conclusion.Conclusion.TheVariants.{U
 ghost use Rattle.proof_steps.specs.declared.conclusion.Lower.TheVariants as lowers;
 ghost use Rattle.proof_steps.specs.declared.conclusion.Upper.TheVariants as uppers;
 ghost use Rattle.proof_steps.specs.declared.step.Step.{Step};
+ghost use Rattle.proof_text.specs.Writable.{IsConclusionWritable};
+ghost use Rattle.proof_write.specs.Whole.{begun_text, last_lines};
 ghost use Rattle.search.specs.Clause.{negated_clause};
-ghost use Rattle.search.specs.Log.{Logbook, IsEntitled, IsProof, LeadsBiting};
+ghost use Rattle.search.specs.Log.{Logbook, IsEntitled, IsProof, IsSpelledBy, LeadsBiting};
 ghost use Rattle.search.specs.Solving.{FileIsLive, ImprovementIsLive};
 
 /// Where literals lead to a conflict, the clause that one of them is false is shown; so it may be logged by `rup`, as long as
@@ -72,10 +75,16 @@ pub fn improvement_stays_live()
         → Leads p s steps t → ImprovementIsLive objective t }
 {}
 
-/// A log is a legal proof of its conclusion. Its count of biting steps is no more than the steps that bite, and so no more
-/// than there are steps.
+/// The text of a log is that of steps which are a legal proof of its conclusion; with the lines behind the steps it spells them and
+/// the conclusion, where that can be written. Its count of biting steps is no more than the steps that bite, and so no more than
+/// there are steps.
 pub fn log_is_legal_proof()
-    ensures legal { (l : Logbook) → IsProof l → (best : Option (List Bool)) × IsLegalProof l.problem l.steps l.conclusion best }
+    ensures legal { (l : Logbook) → IsProof l → (steps : List Step) × (best : Option (List Bool)) × IsLegalProof l.problem steps l.conclusion best
+        × (l.text ≡ begun_text l.problem.names (problem_ids l.problem.constraints) steps) }
+    ensures spelled { (l : Logbook) → IsProof l → IsConclusionWritable (length l.problem.names) l.conclusion
+        → IsSpelledBy l (l.text ++ last_lines l.problem.names l.conclusion) }
+    ensures spells_proof { (l : Logbook) → (proof : List ℕ) → IsProof l → (spelled : IsSpelledBy l proof)
+        → (best : Option (List Bool)) × IsLegalProof l.problem spelled.steps l.conclusion best }
     ensures true_of_problem { (l : Logbook) → IsProof l → (best : Option (List Bool)) × Claim l.problem l.conclusion best }
     ensures leads { (p : Opb) → (s t : State) → (steps : List Step) → (count : ℕ) → LeadsBiting p s steps t count → Leads p s steps t }
     ensures count { (p : Opb) → (s t : State) → (steps : List Step) → (count : ℕ) → LeadsBiting p s steps t count → count ≤ length steps }

@@ -9,10 +9,10 @@ ghost use Rattle.std.specs.Prelude.{◌≡◌, All, IfOk, IfSome, OnOk};
 ghost use Rattle.propagate.specs.Ids.{HasId};
 ghost use Rattle.search.specs.Undoing.{IsNoReason};
 
+use super::fault::SearchFault;
 use super::log::Log;
 use analysis::Entry;
 use linear::{Integer, Seq};
-use proof_rules::StepFault;
 use proof_steps::Step;
 use propagate::{Id, Ids, Propagator};
 use std::alloc::{AllocError, Global};
@@ -187,7 +187,7 @@ impl LearnedConstraints {
         alloc: Global,
         log: &mut Log<'a, P>,
         trail: &[Entry],
-    ) -> Result<(), StepFault>
+    ) -> Result<(), SearchFault>
         ensures problem { log.new.problem ≡ log.old.problem }
         ensures next { OnOk result (log.new.state.next ≡ log.old.state.next) }
     {

@@ -14,6 +14,7 @@ mod clause;
 mod cutting;
 mod descent;
 mod endings;
+mod fault;
 mod found;
 mod heap;
 pub mod laws;
@@ -27,6 +28,7 @@ mod trail;
 
 pub use activity::Activity;
 pub use brancher::{Brancher, First, Value};
+pub use fault::SearchFault;
 pub use found::{Found, Unfinished};
 pub use log::Log;
 pub use solver::{Solved, Solver};

@@ -1,30 +1,40 @@
 //! A proof that grows with the search.
 //!
-//! The log keeps no database beside the kernel: a step enters it only where the kernel applies it. So that its steps are
-//! legal, that they lead from the file to the kernel's state, and that this state entitles to the conclusion are facts of
-//! its type, and hold whatever the search does. Beside the steps stands a count of those that are known to bite, that is
-//! to say more than propagation over the live constraints before them: a search that learns nothing cannot count up.
+//! The log keeps no database beside the kernel, and no list of steps: a step enters it as the line by which it is written, and
+//! only where the kernel applies it. So that its text is that of legal steps, that these lead from the file to the kernel's
+//! state, and that this state entitles to the conclusion are facts of its type, and hold whatever the search does. What is
+//! handed out is this very text: a proof of millions of steps stands in memory once. Beside the text stands a count of the
+//! steps that are known to bite, that is to say more than propagation over the live constraints before them: a search that
+//! learns nothing cannot count up.
 
-ghost use Rattle.std.specs.Prelude.{◌≡◌, [], ◌∷◌, ◌++◌, IfOk, IfErr, OnOk, OnErr};
+ghost use Rattle.std.specs.Prelude.{◌≡◌, ◌++◌, length, IfOk, IfErr, OnOk, OnErr};
 ghost use Rattle.kernel.specs.Held.{HasAtLeast, given_id};
 ghost use Rattle.proof_rules.specs.Fault.{OrMemory, IsStepFault};
 ghost use Rattle.proof_rules.specs.Legal.{Legal};
+ghost use Rattle.proof_text.specs.Steps.{IsProper};
+ghost use Rattle.proof_text.specs.Writable.{IsStepWritable};
+ghost use Rattle.proof_write.specs.Whole.{step_line};
+ghost use Rattle.search.specs.Log.{IsRefusedBy};
 
+use super::fault::SearchFault;
 use kernel::{Applied, Kernel};
 use linear::{Assignment, Lit, Names, Problem, Seq};
 use proof_rules::StepFault;
 use proof_steps::{Conclusion, Step};
+use proof_write::{is_step_writable, write_end, write_start, write_step};
 use propagate::{Propagator, Reach, Trace};
 use std::alloc::{AllocError, Global};
 use std::marker::Model;
 use std::mem;
 
-/// The steps of a proof of a problem, the state that they lead to, and a conclusion that the state entitles to.
+/// The text of a proof of a problem as far as it has come, the state that its steps lead to, and a conclusion that the state
+/// entitles to.
 #[derive(Drop)]
 pub struct Log<'a, P: Propagator> {
+    allocator: Global,
     source: &'a Problem,
     kernel: Kernel<'a, P>,
-    steps: Vec<Step>,
+    text: Vec<u8>,
     improved: Vec<i128>,
     biting: u64,
     conclusion: Conclusion,
@@ -40,67 +50,80 @@ impl<'a, P: Propagator> Model for Log<'a, P> {
 
     ghost coded = { Prim.hlevel (codes, state_code) };
 
-    ghost view = { λ l. record { problem = l.source.now; steps = l.steps.items; state = l.kernel.state; improved = l.improved.items; biting = l.biting; conclusion = l.conclusion } };
+    ghost view = { λ l. record { problem = l.source.now; text = l.text.items; state = l.kernel.state; improved = l.improved.items; biting = l.biting; conclusion = l.conclusion } };
 
     ghost invariant = { λ l. (l.kernel.problem ≡ l.source.now)
-        × IsProof (record { problem = l.source.now; steps = l.steps.items; state = l.kernel.state; improved = l.improved.items; biting = l.biting; conclusion = l.conclusion }) };
+        × IsProof (record { problem = l.source.now; text = l.text.items; state = l.kernel.state; improved = l.improved.items; biting = l.biting; conclusion = l.conclusion }) };
 }
 
-/// Applies a step to a kernel and keeps it behind the others, or does neither.
+/// Applies a step to a kernel and keeps its line behind the others, or does neither.
 fn keep<'a, P: Propagator>(
-    steps: &mut Vec<Step>,
+    text: &mut Vec<u8>,
+    names: &Names,
     kernel: &mut Kernel<'a, P>,
-    step: Step,
-) -> Result<Applied, StepFault>
-    requires relation { HasAtLeast step }
+    step: &Step,
+) -> Result<Applied, SearchFault>
+    requires relation { HasAtLeast step.now }
     ensures problem { kernel.new.problem ≡ kernel.old.problem }
-    ensures ok { OnOk result (Legal kernel.old.problem kernel.old.state step kernel.new.state) }
-    ensures kept { OnOk result (steps.new.items ≡ steps.old.items ++ step ∷ []) }
-    ensures id { IfOk result (λ applied. applied.id ≡ given_id step kernel.old.state) }
-    ensures fault { IfErr result (λ f. OrMemory f (IsStepFault kernel.old.problem kernel.old.state step f)) }
-    ensures dropped { OnErr result (steps.new.items ≡ steps.old.items) }
+    ensures ok { OnOk result (Legal kernel.old.problem kernel.old.state step.now kernel.new.state) }
+    ensures kept { OnOk result (text.new.items ≡ text.old.items ++ step_line names.now step.now) }
+    ensures writable { OnOk result (IsStepWritable (length names.now) step.now) }
+    ensures proper { OnOk result (IsProper step.now) }
+    ensures id { IfOk result (λ applied. applied.id ≡ given_id step.now kernel.old.state) }
+    ensures fault { IfErr result (IsRefusedBy names.now kernel.old.problem kernel.old.state step.now) }
+    ensures dropped { OnErr result (text.new.items ≡ text.old.items) }
     ensures err { OnErr result (kernel.new ≡ kernel.old) }
 {
-    // The room is taken before the kernel is asked, so that no step is applied and not kept.
-    steps.push(step)?;
-    let Some(last) = steps.last() else {
-        unreachable!()
-    };
-    let judged = kernel.apply(last);
-    if judged.is_err() {
-        drop(steps.pop());
+    if !is_step_writable(names.len(), step) {
+        return Err(SearchFault::Unwritable);
     }
-    judged
+    // The line is written before the kernel is asked, so that no step is applied and not kept.
+    let before = text.len();
+    write_step(step, names, text)?;
+    match kernel.apply(step) {
+        Ok(applied) => Ok(applied),
+        Err(fault) => {
+            text.truncate(before);
+            Err(SearchFault::Kernel(fault))
+        }
+    }
 }
 
 impl<'a, P: Propagator> Log<'a, P> {
-    ghost use Rattle.std.specs.Prelude.{◌≡◌, ◌↔◌, ◌+◌, [], ◌∷◌, ◌++◌, IfOk, IfErr, IfSome, IsTrue, OnOk, OnErr, IsErrOf};
-    ghost use Rattle.std.specs.Option.{option_copied};
+    ghost use Rattle.std.specs.Prelude.{◌≡◌, ◌↔◌, ◌+◌, [], ◌∷◌, ◌++◌, IfOk, IfErr, IfSome, IsTrue, OnOk, OnErr, IsErrOf, length};
     ghost use Rattle.kernel.specs.Held.{HasAtLeast, given_id};
     ghost use Rattle.propagate.specs.Content.{IsTrace, IsTraceOfLast};
     ghost use Rattle.propagate.specs.Literals.{IsConsistent};
     ghost use Rattle.propagate.specs.Reach.{IsReach};
     ghost use Rattle.proof_rules.specs.Claim.{IsSolution};
-    ghost use Rattle.proof_rules.specs.Fault.{OrMemory, IsStepFault, IsConclusionFault};
+    ghost use Rattle.proof_rules.specs.Fault.{OrMemory, IsConclusionFault};
+    ghost use Rattle.proof_rules.specs.Forms.{problem_ids};
     ghost use Rattle.proof_rules.specs.Justified.{IsBest};
     ghost use Rattle.proof_rules.specs.Legal.{Legal};
     ghost use Rattle.proof_rules.specs.State.{HasRoom, IsStart, constraints};
-    ghost use Rattle.search.specs.Log.{IsProof, IsEntitled, IsFalling, ImprovesNothing, StepBites, improvement, last_of, with_conclusion};
+    ghost use Rattle.proof_text.specs.Writable.{IsConclusionWritable};
+    ghost use Rattle.proof_write.specs.Whole.{first_lines, last_lines};
+    ghost use Rattle.search.specs.Log.{CanBeWritten, ImprovesNothing, IsEntitled, IsFalling, IsProof, IsRefused, IsSpelledBy, Keeps, StepBites, improvement, last_of, with_conclusion};
 
     /// The log of a problem's file, with no step. Running out of memory is the only fault.
     pub fn new(alloc: Global, problem: &'a Problem) -> Result<Self, StepFault>
         ensures problem { IfOk result (λ l. l.problem ≡ problem.now) }
-        ensures steps { IfOk result (λ l. l.steps ≡ []) }
+        ensures text { IfOk result (λ l. l.text ≡ first_lines (problem_ids problem.now.constraints)) }
         ensures start { IfOk result (λ l. IsStart problem.now l.state) }
         ensures biting { IfOk result (λ l. l.biting ≡ 0) }
         ensures conclusion { IfOk result (λ l. l.conclusion ≡ Conclusion.Nothing) }
         ensures memory { OnErr result (IsErrOf result StepFault.OutOfMemory) }
     {
         let kernel = Kernel::new(alloc, problem)?;
+        // That the problem is within the limits is known by its type; this makes it known here.
+        problem.reveal();
+        let mut text = Vec::new(alloc);
+        write_start(kernel.problem_ids(), &mut text)?;
         Ok(Log {
+            allocator: alloc,
             source: problem,
             kernel,
-            steps: Vec::new(alloc),
+            text,
             improved: Vec::new(alloc),
             biting: 0,
             conclusion: Conclusion::Nothing,
@@ -108,59 +131,64 @@ impl<'a, P: Propagator> Log<'a, P> {
     }
 
     /// Applies a step that logs no improving solution, whole or not at all, and keeps it. Nothing is concluded from the new
-    /// state yet. A refusal is the kernel's, or that memory ran out, and leaves the log as before.
-    pub fn apply(&mut self, step: Step) -> Result<Applied, StepFault>
+    /// state yet. A refusal is the kernel's, or that memory ran out, or that the step cannot be written, and leaves the log as
+    /// before.
+    pub fn apply(&mut self, step: Step) -> Result<Applied, SearchFault>
         requires relation { HasAtLeast step }
         requires other { ImprovesNothing step }
         ensures problem { self.new.problem ≡ self.old.problem }
         ensures ok { OnOk result (Legal self.old.problem self.old.state step self.new.state) }
-        ensures kept { OnOk result (self.new.steps ≡ self.old.steps ++ step ∷ []) }
+        ensures kept { OnOk result (Keeps self.old step self.new) }
+        ensures writable { OnOk result (CanBeWritten self.old step) }
         ensures improved { OnOk result (self.new.improved ≡ self.old.improved) }
         ensures biting { OnOk result (self.new.biting ≡ self.old.biting) }
         ensures conclusion { OnOk result (self.new.conclusion ≡ Conclusion.Nothing) }
         ensures id { IfOk result (λ applied. applied.id ≡ given_id step self.old.state) }
-        ensures fault { IfErr result (λ f. OrMemory f (IsStepFault self.old.problem self.old.state step f)) }
+        ensures fault { IfErr result (IsRefused self.old step) }
         ensures err { OnErr result (self.new ≡ self.old) }
     {
-        let applied = keep(&mut self.steps, &mut self.kernel, step)?;
+        let applied = keep(&mut self.text, self.source.names(), &mut self.kernel, &step)?;
         drop(mem::replace(&mut self.conclusion, Conclusion::Nothing));
         Ok(applied)
     }
 
-    /// Applies a step whose constraint bites on the live ones, and counts it.
-    pub fn learn(&mut self, step: Step) -> Result<Applied, StepFault>
+    /// Applies a step whose constraint bites on the live ones, and counts it. It is refused as by `apply`.
+    pub fn learn(&mut self, step: Step) -> Result<Applied, SearchFault>
         requires relation { HasAtLeast step }
         requires bites { StepBites self.old.state step }
         ensures problem { self.new.problem ≡ self.old.problem }
         ensures ok { OnOk result (Legal self.old.problem self.old.state step self.new.state) }
-        ensures kept { OnOk result (self.new.steps ≡ self.old.steps ++ step ∷ []) }
+        ensures kept { OnOk result (Keeps self.old step self.new) }
+        ensures writable { OnOk result (CanBeWritten self.old step) }
         ensures improved { OnOk result (self.new.improved ≡ self.old.improved) }
         ensures biting { OnOk result (self.new.biting ≡ self.old.biting + 1) }
         ensures conclusion { OnOk result (self.new.conclusion ≡ Conclusion.Nothing) }
         ensures id { IfOk result (λ applied. applied.id ≡ given_id step self.old.state) }
-        ensures fault { IfErr result (λ f. OrMemory f (IsStepFault self.old.problem self.old.state step f)) }
+        ensures fault { IfErr result (IsRefused self.old step) }
         ensures err { OnErr result (self.new ≡ self.old) }
     {
-        let applied = keep(&mut self.steps, &mut self.kernel, step)?;
+        let applied = keep(&mut self.text, self.source.names(), &mut self.kernel, &step)?;
         self.biting += 1;
         drop(mem::replace(&mut self.conclusion, Conclusion::Nothing));
         Ok(applied)
     }
 
-    /// Logs a solution that is better than all improving ones before, and keeps its value.
-    pub fn improve(&mut self, assigned: Seq<Lit>) -> Result<(), StepFault>
+    /// Logs a solution that is better than all improving ones before, and keeps its value. It is refused as by `apply`.
+    pub fn improve(&mut self, assigned: Seq<Lit>) -> Result<(), SearchFault>
         ensures problem { self.new.problem ≡ self.old.problem }
         ensures ok { OnOk result (Legal self.old.problem self.old.state (Step.Soli assigned) self.new.state) }
-        ensures kept { OnOk result (self.new.steps ≡ self.old.steps ++ Step.Soli assigned ∷ []) }
+        ensures kept { OnOk result (Keeps self.old (Step.Soli assigned) self.new) }
+        ensures writable { OnOk result (CanBeWritten self.old (Step.Soli assigned)) }
         ensures improved { OnOk result (self.new.improved ≡ self.old.improved ++ improvement (Step.Soli assigned) self.new.state) }
         ensures biting { OnOk result (self.new.biting ≡ self.old.biting) }
         ensures conclusion { OnOk result (self.new.conclusion ≡ Conclusion.Nothing) }
-        ensures fault { IfErr result (λ f. OrMemory f (IsStepFault self.old.problem self.old.state (Step.Soli assigned) f)) }
+        ensures fault { IfErr result (IsRefused self.old (Step.Soli assigned)) }
         ensures err { OnErr result (self.new ≡ self.old) }
     {
-        // The room for the value is taken first, as that for the step is.
+        // The room for the value is taken first, as that for the line is.
         self.improved.push(0)?;
-        if let Err(fault) = keep(&mut self.steps, &mut self.kernel, Step::Soli(assigned)) {
+        let step = Step::Soli(assigned);
+        if let Err(fault) = keep(&mut self.text, self.source.names(), &mut self.kernel, &step) {
             self.improved.pop();
             return Err(fault);
         }
@@ -192,12 +220,39 @@ impl<'a, P: Propagator> Log<'a, P> {
         self.source.names()
     }
 
-    /// The steps, the first one first. They are a legal proof of the conclusion.
-    pub fn steps(&self) -> &[Step]
-        ensures steps { result.now ≡ self.now.steps }
+    /// What holds of every log, for a proof that needs it where nothing else of the log is asked.
+    pub fn reveal(&self)
+        ensures { IsProof self.now }
+    {
+        let _ = &self.source;
+    }
+
+    /// The text of the proof as far as it has come: the first lines, and a line for each step.
+    pub fn text(&self) -> &[u8]
+        ensures text { result.now ≡ self.now.text }
         ensures proof { IsProof self.now }
     {
-        self.steps.as_slice()
+        self.text.as_slice()
+    }
+
+    /// The text of the whole proof: what there is of it, and the lines behind the steps with the conclusion. Nothing else is
+    /// left of the log then, the kernel least of all. Running out of memory is the only fault.
+    pub fn into_proof(self) -> Result<Vec<u8>, AllocError>
+        requires { IsConclusionWritable (length self.problem.names) self.conclusion }
+        ensures text { IfOk result (λ proof. proof.items ≡ self.entry.text ++ last_lines self.entry.problem.names self.entry.conclusion) }
+        ensures spelled { IfOk result (λ proof. IsSpelledBy self.entry proof.items) }
+        ensures proof { IsProof self.entry }
+    {
+        let Log {
+            source,
+            kernel,
+            mut text,
+            conclusion,
+            ..
+        } = self;
+        drop(kernel);
+        write_end(&conclusion, source.names(), &mut text)?;
+        Ok(text)
     }
 
     /// So many steps, at least, are `pol` or `rup` steps whose constraint bites on the live ones before it.
@@ -242,12 +297,19 @@ impl<'a, P: Propagator> Log<'a, P> {
         self.kernel.least_value()
     }
 
-    /// The logged solution of the least value, the earliest among equals; none where nothing is logged.
-    pub fn best(&self) -> Option<&Assignment>
-        ensures best { IsBest self.now.problem self.now.state.logged (option_copied result) }
-        ensures solution { IfSome (option_copied result) (IsSolution self.now.problem) }
+    /// A copy of the logged solution of the least value, the earliest among equals; none where nothing is logged. Running out of
+    /// memory is the only fault.
+    pub fn best(&self) -> Result<Option<Assignment>, AllocError>
+        ensures best { IfOk result (IsBest self.now.problem self.now.state.logged) }
+        ensures solution { IfOk result (λ best. IfSome best (IsSolution self.now.problem)) }
     {
-        self.kernel.best_logged()
+        match self.kernel.best_logged() {
+            Some(best) => {
+                let values = Vec::from_slice(self.allocator, best.as_slice())?;
+                Ok(Some(Assignment::from_vec(values)))
+            }
+            None => Ok(None),
+        }
     }
 
     /// Whether an id is left for one more constraint.

@@ -1,8 +1,8 @@
 //! What is put into the log before any search: that literals are true which may be made true at no cost, and that of two
 //! variables which may change places the first one is true wherever the second is.
 //!
-//! A candidate is not believed. Each is put to the kernel as a step of redundance, and one that the kernel refuses is left
-//! out, as one is for which no id is left; so nothing but speed rests on which candidates there are. Their constraints are no
+//! A candidate is not believed. Each is put to the kernel as a step of redundance, and one that the kernel refuses, or that cannot
+//! be written, is left out, as one is for which no id is left; so nothing but speed rests on which candidates there are. Their constraints are no
 //! lessons: they stand for as long as the search goes on, and are not counted as what a conflict has taught.
 
 ghost use Rattle.std.specs.Prelude.{◌≡◌, ◌≢◌, ◌<◌, ◌++◌, List, All, map, IfOk, OnOk};
@@ -14,6 +14,7 @@ ghost use Rattle.presolve.specs.declared.swapping.Swap.{Swap};
 ghost use Rattle.search.specs.Log.{ImprovesNothing};
 ghost use Rattle.search.specs.Presolving.{Tries, TriesAll, exchange, fixing, in_order, is_true, made_true, swapping, variable};
 
+use super::fault::SearchFault;
 use super::log::Log;
 use linear::{Lit, Relation, Seq, Signed, Term, Var};
 use presolve::{Swap, fixable, swappable};
@@ -102,18 +103,18 @@ fn exchange(alloc: Global, swap: Swap) -> Result<Substitution, AllocError>
     Ok(witness)
 }
 
-/// Hands on that memory ran out; any other fault says only that a step is not legal.
-fn unless_refused(fault: StepFault) -> Result<(), StepFault>
-    ensures { OnOk result (fault ≢ StepFault.OutOfMemory) }
+/// Hands on that memory ran out; any other fault says only that a step is not legal, or cannot be written.
+fn unless_refused(fault: SearchFault) -> Result<(), SearchFault>
+    ensures { OnOk result (fault ≢ SearchFault.Kernel StepFault.OutOfMemory) }
 {
     match fault {
-        StepFault::OutOfMemory => Err(StepFault::OutOfMemory),
+        SearchFault::Kernel(StepFault::OutOfMemory) => Err(fault),
         _ => Ok(()),
     }
 }
 
-/// Puts a step into the log where it is legal.
-fn attempt<'a, P: Propagator>(log: &mut Log<'a, P>, step: Step) -> Result<(), StepFault>
+/// Puts a step into the log where it is legal and can be written.
+fn attempt<'a, P: Propagator>(log: &mut Log<'a, P>, step: Step) -> Result<(), SearchFault>
     requires relation { HasAtLeast step }
     requires other { ImprovesNothing step }
     ensures problem { log.new.problem ≡ log.old.problem }
@@ -130,7 +131,7 @@ fn fix<'a, P: Propagator>(
     alloc: Global,
     log: &mut Log<'a, P>,
     literals: &[Lit],
-) -> Result<(), StepFault>
+) -> Result<(), SearchFault>
     ensures problem { log.new.problem ≡ log.old.problem }
     ensures tried { OnOk result (TriesAll (map fixing literals.now) log.old log.new) }
 {
@@ -146,7 +147,7 @@ fn order<'a, P: Propagator>(
     alloc: Global,
     log: &mut Log<'a, P>,
     swaps: &[Swap],
-) -> Result<(), StepFault>
+) -> Result<(), SearchFault>
     requires { All (λ s. s.first.0 < s.second.0) swaps.now }
     ensures problem { log.new.problem ≡ log.old.problem }
     ensures tried { OnOk result (TriesAll (map swapping swaps.now) log.old log.new) }
@@ -163,7 +164,7 @@ fn order<'a, P: Propagator>(
 pub(crate) fn presolve<'a, P: Propagator>(
     alloc: Global,
     log: &mut Log<'a, P>,
-) -> Result<(), StepFault>
+) -> Result<(), SearchFault>
     ensures problem { log.new.problem ≡ log.old.problem }
     ensures tried { OnOk result ((ls : List Lit) × (ss : List Swap) × AreFixed log.old.problem ls × AreUsed log.old.problem ls ss
         × TriesAll (map fixing ls ++ map swapping ss) log.old log.new) }

@@ -12,6 +12,7 @@ use super::clause::{ConflictEnd, learn_clause, least_conflict};
 use super::cutting::learn_constraint;
 use super::descent::{Descent, descend};
 use super::endings::{end_exhausted, end_solved, end_stopped, may_stop};
+use super::fault::SearchFault;
 use super::found::{Found, Unfinished};
 use super::learned::LearnedConstraints;
 use super::log::Log;
@@ -20,7 +21,6 @@ use super::restarts::Restarts;
 use super::trail::{Trail, level_of};
 use analysis::Analyser;
 use linear::{Lit, Problem, Seq};
-use proof_rules::StepFault;
 use proof_steps::Step;
 use propagate::{Id, Propagator};
 use std::alloc::Global;
@@ -38,7 +38,7 @@ fn accept<'a, P: Propagator>(
     log: &mut Log<'a, P>,
     assigned: Seq<Lit>,
     limit: u64,
-) -> Result<Option<Found>, StepFault>
+) -> Result<Option<Found>, SearchFault>
     ensures problem { log.new.problem ≡ log.old.problem }
     ensures found { IfOk result (λ end. IfSome end (BearsOut limit log.new)) }
     ensures improved { IfOk result (λ end. IsNone end → TakesId log.old.state log.new.state) }
@@ -78,7 +78,7 @@ impl<'a, P: Propagator> Run<'a, P> {
     ghost use Rattle.search.specs.Undoing.{AreUpToDate, IsUndone, NearsEnd};
 
     /// Learns from a conflict under the decisions, as long as an id is left; none where no decision is needed for it.
-    fn resolve(&mut self, conflict: Id) -> Result<Option<ConflictEnd>, StepFault>
+    fn resolve(&mut self, conflict: Id) -> Result<Option<ConflictEnd>, SearchFault>
         requires consistent { IsConsistent self.old.decisions.items }
         requires conflict { LeadsToConflict (constraints self.old.log.state) self.old.decisions.items }
         requires room { HasRoom self.old.log.state }
@@ -128,7 +128,7 @@ impl<'a, P: Propagator> Run<'a, P> {
     }
 
     /// Counts a conflict that was learned from; forgets half of what was learned, and begins anew, where that is due.
-    fn count_conflict(&mut self) -> Result<(), StepFault>
+    fn count_conflict(&mut self) -> Result<(), SearchFault>
         requires { IsConsistent self.old.decisions.items }
         ensures problem { self.new.log.problem ≡ self.old.log.problem }
         ensures next { OnOk result (self.new.log.state.next ≡ self.old.log.state.next) }
@@ -151,7 +151,7 @@ impl<'a, P: Propagator> Run<'a, P> {
     }
 
     /// Decides until there is a conflict or a solution, and learns from that.
-    fn turn(&mut self, limit: u64) -> Result<Option<Found>, StepFault>
+    fn turn(&mut self, limit: u64) -> Result<Option<Found>, SearchFault>
         requires { IsConsistent self.old.decisions.items }
         ensures problem { self.new.log.problem ≡ self.old.log.problem }
         ensures found { IfOk result (λ end. IfSome end (BearsOut limit self.new.log)) }
@@ -198,13 +198,11 @@ fn search<'a, P: Propagator>(
     problem: &'a Problem,
     limit: u64,
     brancher: Box<dyn Brancher>,
-) -> Result<Solved<'a, P>, StepFault>
+) -> Result<Solved<'a, P>, SearchFault>
     ensures { IfOk result (λ solved. IsSolved problem.now limit solved.found solved.log) }
 {
     let mut log = Log::new(alloc, problem)?;
-    let Ok(count) = u32::try_from(log.names().len()) else {
-        return Err(StepFault::TooLarge);
-    };
+    let count = problem.names().len() as u32;
     presolve(alloc, &mut log)?;
     let mut brancher = brancher;
     brancher.begin(problem);

@@ -6,8 +6,8 @@ use Rattle.pb_main.proofs.best.best_solution.Goals as goal
 pub returns : goal.returns
 returns g c =
     let made = c.new.ensures in
-    let best = c.best_of-best.ensures in
+    let best = c.in_ok-values.ensures in
     let names = ap (λ (s : NamedValues). s.names) made ∙ c.in_ok-names.ensures ∙ c.names.ensures in
-    let values = ap (λ (s : NamedValues). s.values) made ∙ c.in_ok-values.ensures in
+    let values = ap (λ (s : NamedValues). s.values) made in
     let improved = ap (λ (s : NamedValues). s.improved) made ∙ c.in_ok-improved.ensures.items ∙ c.improved.ensures.improved in
-    handed_out c.args.log.now c.best_of-best.result.now c.new.result c.improved.ensures.proof best.best best.solution c.requires.least names values improved
+    handed_out c.args.log.now c.in_ok-values.values c.new.result c.improved.ensures.proof best.best best.solution c.requires.least names values improved

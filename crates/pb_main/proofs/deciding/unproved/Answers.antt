@@ -1,25 +1,18 @@
-use Rattle.std.proofs.Common.{inl, inr, [], refl, subst}
-use Rattle.search.specs.Solving.{BearsOut}
+use Rattle.std.proofs.Common.{[], inr, refl, subst}
+use Rattle.pb_main.specs.Finding.{IsFindingOf}
 use Rattle.pb_main.specs.Outcome.{unchecked}
-use Rattle.pb_main.proofs.BestSolutions.{optimum_least}
-use Rattle.pb_main.proofs.Outcomes.{left_open, unsaid}
+use Rattle.pb_main.proofs.Outcomes.{solution_said, untold}
 use Rattle.pb_main.proofs.deciding.unproved.Goals as goal
 
-pub satisfiable-requires-clause-least : goal.satisfiable-requires-clause-least
-satisfiable-requires-clause-least g c =
-    let l = c.args.log.now in
-    optimum_least l c.requires.legal (subst (BearsOut c.requires.borne_out.0 l) c.in-Optimum.is c.requires.borne_out.1)
-
 pub returns-in-Optimum : goal.returns-in-Optimum
-returns-in-Optimum g c opb limit of_text bears =
-    c.satisfiable.ensures opb [] limit of_text (inr refl) (unchecked (subst (BearsOut limit c.args.log.now) c.in-Optimum.is bears))
+returns-in-Optimum c opb l limit of_text found =
+    let optimum = subst (IsFindingOf limit l) c.in-Optimum.is found in
+    solution_said opb [] limit l c.in-Optimum.solution of_text (inr refl) optimum.0 (unchecked optimum.1)
 
-pub returns-in-Unsat : goal.returns-in-Unsat
-returns-in-Unsat g c opb limit of_text bears =
-    let l = c.args.log.now in
-    unsaid opb limit l c.args.why of_text (inl (subst (BearsOut limit l) c.in-Unsat.is bears)) c.requires.unwritten
+pub returns-in-Satisfiable : goal.returns-in-Satisfiable
+returns-in-Satisfiable c opb l limit of_text found =
+    let some = subst (IsFindingOf limit l) c.in-Satisfiable.is found in
+    solution_said opb [] limit l c.in-Satisfiable.solution of_text (inr refl) some.0 some.1
 
-pub returns-in-Unknown : goal.returns-in-Unknown
-returns-in-Unknown g c opb limit of_text bears =
-    let l = c.args.log.now in
-    unsaid opb limit l c.args.why of_text (left_open limit l c.in-Unknown.field-0 (subst (BearsOut limit l) c.in-Unknown.is bears)) c.requires.unwritten
+pub returns-in-Untold : goal.returns-in-Untold
+returns-in-Untold c opb l limit of_text found = untold opb [] limit l c.in-Untold.why of_text (inr refl) (subst (IsFindingOf limit l) c.in-Untold.is found)

@@ -1,8 +1,16 @@
-use Rattle.search.proofs.Growing.{proves, proved_true, leads_of, no_more_bites}
+use Rattle.std.proofs.Common.{◌++◌, refl}
+use Rattle.proof_write.specs.Whole.{last_lines}
+use Rattle.search.proofs.Growing.{legal_steps, proves, proved_true, leads_of, no_more_bites, spells}
 use Rattle.search.proofs.laws.log_is_legal_proof.Goals as goal
 
 pub returns-clause-legal : goal.returns-clause-legal
-returns-clause-legal _ = proves
+returns-clause-legal _ l proof = (proof.steps, proof.entitled.0, legal_steps l proof, proof.written.lines)
+
+pub returns-clause-spelled : goal.returns-clause-spelled
+returns-clause-spelled _ l proof writable = spells l (l.text ++ last_lines l.problem.names l.conclusion) proof writable refl
+
+pub returns-clause-spells_proof : goal.returns-clause-spells_proof
+returns-clause-spells_proof _ = proves
 
 pub returns-clause-true_of_problem : goal.returns-clause-true_of_problem
 returns-clause-true_of_problem _ = proved_true

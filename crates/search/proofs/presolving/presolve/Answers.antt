@@ -1,4 +1,4 @@
-use Rattle.std.proofs.Common.{◌<◌, List, All, Contains, map, get_or, sym, subst, ◌∙◌}
+use Rattle.std.proofs.Common.{◌<◌, List, All, map, get_or, sym, subst, ◌∙◌}
 use Rattle.std.proofs.lemmas.List.Elements.{Contains-get_or}
 use Rattle.std.proofs.lemmas.Result.{on_ok_weaker}
 use Rattle.linear.specs.Opb.{Opb}

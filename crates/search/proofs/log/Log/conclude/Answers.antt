@@ -12,11 +12,11 @@ invariant_of-self-2 g c =
     let same : c.conclude.new.self ≡ log.kernel = c.conclude.ensures.same in
     let judged : IsEntitled log.kernel.problem log.kernel.state c.args.conclusion = (c.in_ok-conclude.field-0.best, c.in_ok-conclude.ensures.justified) in
     let entitled : IsEntitled p log.kernel.state c.args.conclusion = subst (λ q. IsEntitled q log.kernel.state c.args.conclusion) c.self.invariant.0 judged in
-    let proof : IsProof (logbook p log.steps.items log.kernel.state log.improved.items log.biting c.args.conclusion) =
-    concluded p log.steps.items log.kernel.state log.improved.items log.biting log.conclusion c.args.conclusion c.self.invariant.1 entitled in (
+    let proof : IsProof (logbook p log.text.items log.kernel.state log.improved.items log.biting c.args.conclusion) =
+    concluded p log.text.items log.kernel.state log.improved.items log.biting log.conclusion c.args.conclusion c.self.invariant.1 entitled in (
       ap (λ (k : Held). k.problem) same ∙ c.self.invariant.0,
-      subst (λ x. IsProof (logbook p log.steps.items c.conclude.new.self.state log.improved.items log.biting x)) (sym c.replace.ensures.after)
-          (subst (λ (k : Held). IsProof (logbook p log.steps.items k.state log.improved.items log.biting c.args.conclusion)) (sym same) proof),
+      subst (λ x. IsProof (logbook p log.text.items c.conclude.new.self.state log.improved.items log.biting x)) (sym c.replace.ensures.after)
+          (subst (λ (k : Held). IsProof (logbook p log.text.items k.state log.improved.items log.biting c.args.conclusion)) (sym same) proof),
     )
 
 pub returns-clause-justified : goal.returns-clause-justified

@@ -1,29 +1,29 @@
-use Rattle.std.proofs.Common.{◌≡◌, [], ◌∷◌, ◌++◌, Some, length, sym, ap, subst, ◌∙◌, rules}
+use Rattle.std.proofs.Common.{◌≡◌, ◌-◌, ℕ, ℤ, pos, List, ◌++◌, Some, length, set, FitsSigned, to_z, of_z, sym, ap, subst, ◌∙◌, rules}
+use Rattle.std.specs.Prelude.{vec_len}
+use Rattle.std.proofs.lemmas.Int.{to_z-of_z}
+use mir.Syntax.{w128}
 use Rattle.linear.specs.Opb.{Opb}
 use Rattle.proof_steps.specs.declared.conclusion.Conclusion.TheVariants.{Nothing}
 use Rattle.proof_steps.specs.declared.step.Step.{Step}
 use Rattle.proof_steps.specs.declared.step.Step.TheVariants as kinds
-use Rattle.proof_rules.specs.Fault.{OrMemory, IsSoliFault}
 use Rattle.proof_rules.specs.Legal.{Legal}
 use Rattle.proof_rules.specs.State.{State}
-use Rattle.search.specs.Log.{Logbook, IsProof, improvement, value_list}
-use Rattle.search.proofs.Growing.{grows, logbook, put_last}
-use Rattle.std.proofs.Common.{◌-◌, ℤ, pos, List, set, FitsSigned, to_z, of_z}
-use Rattle.std.specs.Prelude.{vec_len}
-use Rattle.std.proofs.lemmas.Int.{to_z-of_z}
-use mir.Syntax.{w128}
+use Rattle.search.specs.Log.{Logbook, IsProof, IsRefused, IsRefusedBy, improvement, value_list}
+use Rattle.search.proofs.Growing.{grows, logbook, put_last, written_behind}
 use Rattle.search.proofs.log.Log.improve.Given.{Over}
 use Rattle.search.proofs.log.Log.improve.Goals as goal
+use Rattle.search.proofs.log.Log.improve.Goals.{Joined-step-2}
 
 pub returns-in-Err-clause-fault : goal.returns-in-Err-clause-fault
 returns-in-Err-clause-fault g c =
     let log = c.self.inside in
     let f = c.in-Err.fault in
-    subst (λ (l : Logbook). OrMemory f (IsSoliFault l.problem l.state c.args.assigned f)) c.self.view_is
-    (subst (λ q. OrMemory f (IsSoliFault q log.kernel.state c.args.assigned f)) c.self.invariant.0 c.in-Err.ensures.fault)
+    let step : Step = kinds.Soli c.args.assigned in
+    let by_names = subst (λ names. IsRefusedBy names log.kernel.problem log.kernel.state step f) c.names.ensures.names c.in-Err.ensures.fault in
+    subst (λ (l : Logbook). IsRefused l step f) c.self.view_is (subst (λ p. IsRefusedBy log.source.now.names p log.kernel.state step f) c.self.invariant.0 by_names)
 
 -- the value that was kept is the least one now
-value_kept : (g : Over) (c : goal.After-drop g)
+value_kept : (g : Over) (c : Joined-step-2 g)
     → set c.push.new.self.items (c.len-place.result - 1) (to_z w128 (of_z w128 c.in-Some.value))
     ≡ c.self.inside.improved.items ++ improvement (kinds.Soli c.args.assigned) c.keep.new.kernel.state
 value_kept g c =
@@ -41,15 +41,17 @@ invariant_of-self-2 g c =
     let log = c.self.inside in
     let p : Opb = log.source.now in
     let new : State = c.keep.new.kernel.state in
+    let text : List ℕ = c.keep.new.text.items in
     let step : Step = kinds.Soli c.args.assigned in
     let values : List ℤ = set c.push.new.self.items (c.len-place.result - 1) (to_z w128 (of_z w128 c.in-Some.value)) in
-    let legal : Legal p log.kernel.state step new = subst (λ q. Legal q log.kernel.state step new) c.self.invariant.0 c.in_default.ensures.ok in
-    let grown = grows p log.steps.items log.kernel.state new log.improved.items log.biting log.conclusion step c.self.invariant.1 legal in
-    let proof : IsProof (logbook p c.keep.new.steps.items new values log.biting Nothing) =
-    subst (λ xs. IsProof (logbook p xs new values log.biting Nothing)) (sym c.in_default.ensures.kept)
-    (subst (λ vs. IsProof (logbook p (log.steps.items ++ step ∷ []) new vs log.biting Nothing)) (sym (value_kept g c)) grown) in (
+    let kept = c.in_default.ensures in
+    let legal : Legal p log.kernel.state step new = subst (λ q. Legal q log.kernel.state step new) c.self.invariant.0 kept.ok in
+    let behind = written_behind p log.text.items step text c.names.result.now c.names.ensures.names kept.kept kept.writable kept.proper in
+    let grown = grows p log.text.items text log.kernel.state new log.improved.items log.biting log.conclusion step c.self.invariant.1 behind legal in
+    let proof : IsProof (logbook p text new values log.biting Nothing) =
+    subst (λ vs. IsProof (logbook p text new vs log.biting Nothing)) (sym (value_kept g c)) grown in (
       c.keep.ensures.problem ∙ c.self.invariant.0,
-      subst (λ x. IsProof (logbook p c.keep.new.steps.items new values log.biting x)) (sym c.replace.ensures.after) proof,
+      subst (λ x. IsProof (logbook p text new values log.biting x)) (sym c.replace.ensures.after) proof,
     )
 
 pub returns-clause-improved : goal.returns-clause-improved

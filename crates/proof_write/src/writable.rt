@@ -1,7 +1,7 @@
-//! Whether the steps of a log can be written as the text of a proof.
+//! Whether a step can be written as a line of a proof.
 //!
-//! The format bounds integers by 2^120 and names variables by the file's table. Every step of a solver is within these
-//! bounds, but a log is no text and takes steps beyond them, so this is looked at once, before the proof is written.
+//! The format bounds integers by 2^120 and names variables by the file's table, and a step is written only within these
+//! bounds. A step of a solver is no text yet, and whoever does not know that its steps are within them asks here first.
 
 ghost use Rattle.std.specs.Prelude.{◌↔◌, ◌<◌, All, IsTrue};
 ghost use Rattle.proof_text.specs.Writable.{IsConstraintWritable, IsImageWritable, IsItemWritable};
@@ -78,7 +78,9 @@ fn are_literals_writable(count: usize, literals: &[Lit]) -> bool
     literals.iter().all(|lit| is_named(count, lit.var))
 }
 
-fn is_step_writable(count: usize, step: &Step) -> bool
+/// Whether a table of `count` names has all variables of a step, its integers are at most 2^120 in size, and its relation
+/// is `>=`.
+pub fn is_step_writable(count: usize, step: &Step) -> bool
     ensures { IsTrue result ↔ IsStepWritable count step.now }
 {
     match step {
@@ -98,11 +100,4 @@ fn is_step_writable(count: usize, step: &Step) -> bool
         Step::Soli(literals) => are_literals_writable(count, literals.as_slice()),
         Step::Del(ids) => ids.as_slice().iter().all(|id| is_writable(*id)),
     }
-}
-
-/// Whether all integers of the steps are at most 2^120 in size, and all their variables below the count.
-pub(crate) fn are_steps_writable(count: usize, steps: &[Step]) -> bool
-    ensures { IsTrue result ↔ All (IsStepWritable count) steps.now }
-{
-    steps.iter().all(|step| is_step_writable(count, step))
 }
