@@ -10,9 +10,14 @@ mod deciding;
 mod finding;
 mod outcome;
 mod proof;
+mod pushing;
+mod run_fault;
+mod running;
 mod solution;
 
 pub use answer::{answer_text, status};
 pub use deciding::{Decided, decide};
 pub use outcome::{Outcome, Unanswered};
+pub use run_fault::RunFault;
+pub use running::run;
 pub use solution::Solution;

@@ -1,14 +1,16 @@
-//! `pbcheck FILE PROOF`: prints the verdict about a proof of a problem, and ends with the status that stands for it.
+//! `pbcheck FILE PROOF`: prints the verdict about a proof of a problem, and ends with the status that stands for it. The proof is
+//! read piece by piece, from a file or from standard input, and never held as a whole.
 #![tactic(auto)]
 
-use checker::{check, verdict_status, verdict_text};
+use checker::{StreamVerdict, Verdict, check_stream, verdict_status, verdict_text};
 use clap::{Arg, ArgAction, Command, Error};
-use command_line::{ended, refused};
+use command_line::{DeviceFailed, STANDARD_OUTPUT, ended, given_by, refused, words};
+use devices::ReaderSource;
 use std::alloc::Global;
-use std::io::Write;
+use std::io::{ErrorKind, Read, Write};
 use std::process::ExitCode;
 use std::rt::{Env, Files};
-use std::{env, fs, io};
+use std::{fs, io};
 
 /// The status where memory runs out.
 const NO_MEMORY: u8 = 4;
@@ -21,10 +23,16 @@ const EXPLANATION: &str = "Standard output has one verdict:
   refused line L code C NAME  1: line L of the proof is the first that cannot be read or is not legal
   bad problem line L ..       2: FILE is no problem in the format
   no memory                   4: nothing is said
-A command line that is refused ends with 64. A read or write that fails ends with 3 and
-`device failed` on standard error.
+A command line that is refused ends with 64. A read or write that fails ends with 3; on standard
+error a line says which and how, and the next one is `device failed`.
 
-Example: pbcheck examples/pigeons.opb examples/pigeons.pbp";
+The proof is read piece by piece, and `-` reads it from standard input.
+
+Example: pbcheck examples/pigeons.opb examples/pigeons.pbp
+         zstdcat proof.pbp.zst | pbcheck problem.opb -";
+
+/// The word for standard input in the place of a file.
+const STANDARD_INPUT: &str = "-";
 
 /// The file of the problem.
 fn file<'a>(alloc: Global) -> Arg<'a> {
@@ -39,7 +47,7 @@ fn proof<'a>(alloc: Global) -> Arg<'a> {
     Arg::new(alloc, "PROOF")
         .required(true)
         .action(ArgAction::Set)
-        .help("The proof, whoever wrote it (VeriPB, version 2.0)")
+        .help("The proof, whoever wrote it (VeriPB, version 2.0); - is standard input")
 }
 
 /// What the command line may be.
@@ -54,22 +62,55 @@ fn command<'a>(alloc: Global) -> Result<Command<'a>, Error> {
     )
 }
 
-/// Reads the two files, judges the proof and prints the verdict. The result is the exit status.
-fn judge<R: Files + Print + AllocGlobal>(rt: &R, problem: &str, proof: &str) -> io::Result<u8> {
-    let opb = fs::read(rt, problem)?;
-    let lines = fs::read(rt, proof)?;
-    let verdict = check(rt.alloc(), opb.as_slice(), lines.as_slice());
-    let Ok(text) = verdict_text(rt.alloc(), opb.as_slice(), &verdict) else {
+/// The verdict about a proof that a reader gives, or how reading it failed.
+fn judged<P: Read + Drop>(alloc: Global, opb: &[u8], proof: P) -> io::Result<Verdict> {
+    let mut source = ReaderSource::new(proof);
+    match check_stream(alloc, opb, &mut source) {
+        StreamVerdict::Judged(verdict) => Ok(verdict),
+        StreamVerdict::ReadFailed => match source.into_error() {
+            Some(error) => Err(error),
+            None => Err(io::Error::from(ErrorKind::Other)),
+        },
+    }
+}
+
+/// Reads the proof from its file, or from standard input, and judges it.
+fn judge_proof<R: Files + Input + AllocGlobal>(
+    rt: &R,
+    opb: &[u8],
+    proof: &str,
+) -> io::Result<Verdict> {
+    if proof == STANDARD_INPUT {
+        judged(rt.alloc(), opb, rt.reader())
+    } else {
+        judged(rt.alloc(), opb, fs::open(rt, proof)?)
+    }
+}
+
+/// Prints the verdict; where there is no memory for its text, that. The result is the exit status.
+fn print<R: Print + AllocGlobal>(rt: &R, opb: &[u8], verdict: &Verdict) -> io::Result<u8> {
+    let Ok(text) = verdict_text(rt.alloc(), opb, verdict) else {
         io::writer(rt).write_all(b"no memory\n")?;
         return Ok(NO_MEMORY);
     };
     io::writer(rt).write_all(text.as_slice())?;
-    Ok(verdict_status(&verdict))
+    Ok(verdict_status(verdict))
+}
+
+/// Reads the problem, judges the proof and prints the verdict. The result is the exit status.
+fn judge<R: Files + Input + Print + Eprint + AllocGlobal>(
+    rt: &R,
+    problem: &str,
+    proof: &str,
+) -> Result<u8, DeviceFailed> {
+    let opb = given_by(rt, problem, fs::read(rt, problem))?;
+    let verdict = given_by(rt, proof, judge_proof(rt, opb.as_slice(), proof))?;
+    given_by(rt, STANDARD_OUTPUT, print(rt, opb.as_slice(), &verdict))
 }
 
 /// Takes the command line, and does what it asks for. The result is the exit status.
-fn run<R: Env + Files + Print + Eprint + AllocGlobal>(rt: &R) -> io::Result<u8> {
-    let words: Vec<String> = env::args(rt)?.collect(rt.alloc())?;
+fn run<R: Env + Files + Input + Print + Eprint + AllocGlobal>(rt: &R) -> Result<u8, DeviceFailed> {
+    let words = words(rt)?;
     let command = match command(rt.alloc()) {
         Ok(command) => command,
         Err(error) => return refused(rt, &error),

@@ -1,15 +1,18 @@
 //! `pbopt FILE [--proof FILE] [--conflicts N]`: prints the answer about a problem, and ends with the status that stands for it.
 #![tactic(auto)]
 
+ghost use Rattle.std.specs.Prelude.{◌≡◌, IfOk, IfSome};
+
 use clap::{Arg, ArgAction, Command, Error};
-use command_line::{ended, refused};
-use pb_main::{Decided, answer_text, decide, status};
-use search::{Activity, Brancher};
+use command_line::{DeviceFailed, STANDARD_OUTPUT, device_failed, ended, given_by, refused, words};
+use devices::WriterSink;
+use pb_main::{RunFault, run, status};
+use search::Activity;
 use std::alloc::Global;
-use std::io::Write;
+use std::io::{ErrorKind, Write};
 use std::process::ExitCode;
 use std::rt::{Env, Files};
-use std::{env, fs, io};
+use std::{fs, io};
 
 /// How many conflicts a search may meet, where the command line does not say.
 const CONFLICTS: &str = "1000000";
@@ -22,8 +25,8 @@ const EXPLANATION: &str = "Standard output has the answer, in the competition's 
   s UNSUPPORTED     0: a `c` line says what FILE has that is not supported
   c refused ..      2, and no `s` line: FILE is no problem in the format
 Before an optimum or that there is no solution is said, the proof of it is checked.
-A command line that is refused ends with 64. A read or write that fails ends with 3 and
-`device failed` on standard error.
+A command line that is refused ends with 64. A read or write that fails ends with 3; on standard
+error a line says which and how, and the next one is `device failed`.
 
 Example: pbopt examples/cover.opb --proof cover.pbp ; pbcheck examples/cover.opb cover.pbp";
 
@@ -68,42 +71,75 @@ fn command<'a>(alloc: Global) -> Result<Command<'a>, Error> {
     )
 }
 
-/// Prints the answer; where there is no memory for its text, that.
-fn print<R: Print + AllocGlobal>(rt: &R, decided: &Decided) -> io::Result<u8> {
-    let Ok(text) = answer_text(rt.alloc(), &decided.outcome) else {
-        io::writer(rt).write_all(b"c memory\ns UNKNOWN\n")?;
-        return Ok(0);
-    };
-    io::writer(rt).write_all(text.as_slice())?;
-    Ok(status(&decided.outcome))
+/// Says how a write failed.
+fn write_failed<R: Eprint, W: Write + Drop>(
+    rt: &R,
+    device: &str,
+    sink: WriterSink<W>,
+) -> DeviceFailed {
+    match sink.into_error() {
+        Some(error) => device_failed(rt, device, &error),
+        None => device_failed(rt, device, &io::Error::from(ErrorKind::Other)),
+    }
+}
+
+/// Makes the file of the proof, where one is asked for.
+fn proof_file<R: Files + Eprint>(
+    rt: &R,
+    path: Option<&str>,
+) -> Result<Option<WriterSink<R::File>>, DeviceFailed>
+    ensures { IfOk result (λ file. IfSome file (λ sink. sink.failures ≡ 0)) }
+{
+    match path {
+        Some(path) => {
+            let file = given_by(rt, path, fs::create(rt, path))?;
+            Ok(Some(WriterSink::new(file)))
+        }
+        None => Ok(None),
+    }
+}
+
+/// What is said where there is no memory to begin.
+fn without_memory<R: Print + Eprint>(rt: &R) -> Result<u8, DeviceFailed> {
+    let written = io::writer(rt).write_all(b"c memory\ns UNKNOWN\n");
+    given_by(rt, STANDARD_OUTPUT, written)?;
+    Ok(0)
 }
 
 /// Reads the problem, makes the proof's file, solves, and writes the proof and then the answer. The result is the exit status.
-fn solve<R: Files + Print + AllocGlobal>(
+fn solve<R: Files + Print + Eprint + AllocGlobal>(
     rt: &R,
     problem: &str,
     proof: Option<&str>,
     limit: u64,
-) -> io::Result<u8> {
-    let opb = fs::read(rt, problem)?;
-    let file = match proof {
-        Some(path) => Some(fs::create(rt, path)?),
-        None => None,
-    };
+) -> Result<u8, DeviceFailed> {
+    let opb = given_by(rt, problem, fs::read(rt, problem))?;
+    let mut proof_out = proof_file(rt, proof)?;
+    let mut out = WriterSink::new(io::writer(rt));
     let Ok(brancher) = Box::new(rt.alloc(), Activity::new(rt.alloc())) else {
-        io::writer(rt).write_all(b"c memory\ns UNKNOWN\n")?;
-        return Ok(0);
+        return without_memory(rt);
     };
-    let decided = decide(rt.alloc(), opb.as_slice(), limit.max(1), brancher);
-    if let Some(mut file) = file {
-        file.write_all(decided.proof.as_slice())?;
+    let limit = limit.max(1);
+    match run(
+        rt.alloc(),
+        opb.as_slice(),
+        limit,
+        brancher,
+        &mut out,
+        &mut proof_out,
+    ) {
+        Ok(outcome) => Ok(status(&outcome)),
+        Err(RunFault::AnswerWrite(_)) => Err(write_failed(rt, STANDARD_OUTPUT, out)),
+        Err(RunFault::ProofWrite) => match (proof, proof_out) {
+            (Some(path), Some(sink)) => Err(write_failed(rt, path, sink)),
+            _ => Err(DeviceFailed),
+        },
     }
-    print(rt, &decided)
 }
 
 /// Takes the command line, and does what it asks for. The result is the exit status.
-fn run<R: Env + Files + Print + Eprint + AllocGlobal>(rt: &R) -> io::Result<u8> {
-    let words: Vec<String> = env::args(rt)?.collect(rt.alloc())?;
+fn take_command<R: Env + Files + Print + Eprint + AllocGlobal>(rt: &R) -> Result<u8, DeviceFailed> {
+    let words = words(rt)?;
     let command = match command(rt.alloc()) {
         Ok(command) => command,
         Err(error) => return refused(rt, &error),
@@ -120,5 +156,5 @@ fn run<R: Env + Files + Print + Eprint + AllocGlobal>(rt: &R) -> io::Result<u8> 
 }
 
 fn main(rt: HostRuntime) -> ExitCode {
-    ended(&rt, run(&rt))
+    ended(&rt, take_command(&rt))
 }

@@ -31,7 +31,6 @@ use std::mem;
 /// entitles to.
 #[derive(Drop)]
 pub struct Log<'a, P: Propagator> {
-    allocator: Global,
     source: &'a Problem,
     kernel: Kernel<'a, P>,
     text: Vec<u8>,
@@ -120,7 +119,6 @@ impl<'a, P: Propagator> Log<'a, P> {
         let mut text = Vec::new(alloc);
         write_start(kernel.problem_ids(), &mut text)?;
         Ok(Log {
-            allocator: alloc,
             source: problem,
             kernel,
             text,
@@ -303,13 +301,7 @@ impl<'a, P: Propagator> Log<'a, P> {
         ensures best { IfOk result (IsBest self.now.problem self.now.state.logged) }
         ensures solution { IfOk result (λ best. IfSome best (IsSolution self.now.problem)) }
     {
-        match self.kernel.best_logged() {
-            Some(best) => {
-                let values = Vec::from_slice(self.allocator, best.as_slice())?;
-                Ok(Some(Assignment::from_vec(values)))
-            }
-            None => Ok(None),
-        }
+        self.kernel.best_logged()
     }
 
     /// Whether an id is left for one more constraint.

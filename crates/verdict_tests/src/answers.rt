@@ -1,7 +1,9 @@
-//! What is asked of each case of these tests: what is printed, that what is claimed is so, and that no propagator answers otherwise.
+//! What is asked of each case of these tests: what is printed, that what is claimed is so, that no propagator answers otherwise, and that
+//! the answer is the same in whatever pieces the proof comes.
 
 use super::agreement::agree_on;
 use super::claims::is_claim_true;
+use super::pieces::agree_in_pieces;
 use checker::{Verdict, check, verdict_status, verdict_text};
 use std::alloc::Global;
 use std::process::Abort;
@@ -16,14 +18,16 @@ struct Answer {
     agree: bool,
 }
 
-/// Judges a proof, and, where it is accepted, the claim by all assignments; and has its steps judged over each propagator.
+/// Judges a proof, and, where it is accepted, the claim by all assignments; has it judged in pieces, and its steps over each propagator.
 fn judge(alloc: Global, opb: &[u8], proof: &[u8]) -> Result<Answer, Fail> {
     let verdict = check(alloc, opb, proof);
+    let printed = verdict_text(alloc, opb, &verdict)?;
+    let in_pieces = agree_in_pieces(alloc, opb, proof, printed.as_slice())?;
     Ok(Answer {
-        printed: verdict_text(alloc, opb, &verdict)?,
+        printed,
         status: verdict_status(&verdict),
         is_true: is_true(alloc, opb, &verdict)?,
-        agree: agree_on(alloc, opb, proof)?,
+        agree: in_pieces && agree_on(alloc, opb, proof)?,
     })
 }
 

@@ -14,6 +14,8 @@ mod damaged;
 #[cfg(test)]
 mod kernels;
 #[cfg(test)]
+mod pieces;
+#[cfg(test)]
 mod redundance;
 #[cfg(test)]
 mod rows;

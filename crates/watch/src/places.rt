@@ -13,6 +13,10 @@ use propagate::Id;
 use std::alloc::{AllocError, Global};
 use std::marker::Model;
 
+/// How many ids a table has room for from its first one on. So large a block is mapped by itself, and grows without being copied: of a table
+/// that grew from nothing, among all else, the older half would stay behind as a hole.
+const FIRST_ROOM: usize = 1 << 16;
+
 /// The places of ids. They take 32 bits, like ids.
 #[derive(Drop)]
 pub(crate) struct Places {
@@ -52,6 +56,9 @@ fn make_room(numbers: &mut Vec<u32>, id: Id) -> Result<(), AllocError>
     ensures long { OnOk result (id < length numbers.new.items) }
     ensures no_longer { length numbers.new.items ≤ length numbers.old.items ⊎ length numbers.new.items ≤ id + 1 }
 {
+    if numbers.capacity() == 0 {
+        numbers.reserve(FIRST_ROOM)?;
+    }
     while numbers.len() <= id as usize {
         numbers.push(0)?;
     }
