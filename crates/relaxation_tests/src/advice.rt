@@ -1,0 +1,196 @@
+//! An adviser over a kernel, on problems that are worked out by hand: each line that it hands out is legal, and its constraint says under
+//! what stands what the answer calls it.
+
+use bounding::{Advice, Adviser, Node};
+use kernel::Kernel;
+use linear::{Lit, Problem, Seq, Var};
+use normal_form::Normal;
+use opb_read::read;
+use proof_rules::StepFault;
+use proof_steps::{Item, Step};
+use propagate::{Id, ScanPropagator};
+use std::alloc::{AllocError, Global};
+use std::process::Abort;
+
+/// Four pigeons in three holes.
+const PIGEONS: &str = "1 a1 1 a2 1 a3 >= 1 ;
+1 b1 1 b2 1 b3 >= 1 ;
+1 c1 1 c2 1 c3 >= 1 ;
+1 d1 1 d2 1 d3 >= 1 ;
+-1 a1 -1 b1 -1 c1 -1 d1 >= -1 ;
+-1 a2 -1 b2 -1 c2 -1 d2 >= -1 ;
+-1 a3 -1 b3 -1 c3 -1 d3 >= -1 ;
+";
+
+/// One of three, at prices with 2 as their divisor: the cheapest one is at 4.
+const PRICES: &str = "min: 4 x1 6 x2 18 x3 ;
+1 x1 1 x2 1 x3 >= 1 ;
+";
+
+/// The corners of a triangle, of which each side wants one.
+const TRIANGLE: &str = "min: 2 x1 3 x2 4 x3 ;
+1 x1 1 x2 >= 1 ;
+1 x2 1 x3 >= 1 ;
+1 x1 1 x3 >= 1 ;
+";
+
+/// A literal of a variable, by its place in the file.
+fn literal(place: u32, negated: bool) -> Lit {
+    Lit {
+        var: Var(place),
+        negated,
+    }
+}
+
+/// A node below the root of a search that has done so much that a call is due.
+fn below_root(standing: &[Lit]) -> Node<'_> {
+    Node {
+        standing,
+        decisions: 1,
+        conflicts: 0,
+        work: 1 << 40,
+    }
+}
+
+/// The root of a search.
+fn root() -> Node<'static> {
+    Node {
+        standing: &[],
+        decisions: 0,
+        conflicts: 0,
+        work: 0,
+    }
+}
+
+/// What the literals that are not false come to, less the degree.
+fn slack(constraint: &Normal, standing: &[Lit]) -> i128 {
+    let mut slack = (constraint.degree().min(1 << 120) as i128).saturating_neg();
+    for place in 0..constraint.len() {
+        let term = constraint.term(place);
+        if standing
+            .iter()
+            .all(|literal| *literal != term.literal().opposite())
+        {
+            slack = slack.saturating_add(term.coef.min(1 << 120) as i128);
+        }
+    }
+    slack
+}
+
+/// The greatest coefficient of a literal whose variable does not stand.
+fn greatest_free(constraint: &Normal, standing: &[Lit]) -> i128 {
+    let mut greatest: i128 = 0;
+    for place in 0..constraint.len() {
+        let term = constraint.term(place);
+        if standing.iter().all(|literal| literal.var != term.var) {
+            greatest = greatest.max(term.coef.min(1 << 120) as i128);
+        }
+    }
+    greatest
+}
+
+/// Applies a line; the slack of its constraint under what stands, and the greatest coefficient of a free literal.
+fn apply<'a>(
+    kernel: &mut Kernel<'a, ScanPropagator>,
+    items: Seq<Item>,
+    standing: &[Lit],
+) -> Result<(i128, i128), StepFault> {
+    kernel.apply(&Step::Pol(items))?;
+    let Ok(id) = Id::try_from(kernel.last_id()) else {
+        return Err(StepFault::TooManyIds);
+    };
+    match kernel.constraint(id) {
+        Some(constraint) => Ok((
+            slack(constraint, standing),
+            greatest_free(constraint, standing),
+        )),
+        None => Err(StepFault::DeadId),
+    }
+}
+
+/// Logs an improving solution, and tells the adviser.
+fn improve<'a>(
+    alloc: Global,
+    kernel: &mut Kernel<'a, ScanPropagator>,
+    adviser: &mut Adviser,
+    solution: &[Lit],
+) -> Result<(), StepFault> {
+    kernel.apply(&Step::Soli(Seq::from_vec(solution.to_vec(alloc)?)))?;
+    adviser.improve(kernel);
+    Ok(())
+}
+
+/// The adviser of a problem.
+fn adviser_of<'a>(
+    rt: &impl Abort,
+    alloc: Global,
+    problem: &'a Problem,
+) -> Result<(Kernel<'a, ScanPropagator>, Adviser), AllocError> {
+    let kernel = Kernel::new(alloc, problem).expect(rt, "memory");
+    let adviser = Adviser::new(alloc, problem, &kernel)?.expect(rt, "an adviser");
+    Ok((kernel, adviser))
+}
+
+#[test]
+fn pigeons_contradict_each_other(rt: HostRuntime) {
+    let alloc = rt.alloc();
+    let problem = read(alloc, PIGEONS.as_bytes()).expect(&rt, "a problem");
+    let (mut kernel, mut adviser) = adviser_of(&rt, alloc, &problem).expect(&rt, "memory");
+    let advice = adviser.ask(&kernel, root()).expect(&rt, "memory");
+    let Advice::Conflict(items) = advice else {
+        panic!(&rt; "no conflict");
+    };
+    let (slack, _) = apply(&mut kernel, items, &[]).expect(&rt, "a legal line");
+    assert_eq!(&rt; slack, -1);
+    assert_eq!(&rt; adviser.figures().conflicts, 1);
+    assert_eq!(&rt; adviser.figures().failed, 0);
+}
+
+#[test]
+fn prices_force_literals(rt: HostRuntime) {
+    let alloc = rt.alloc();
+    let problem = read(alloc, PRICES.as_bytes()).expect(&rt, "a problem");
+    let (mut kernel, mut adviser) = adviser_of(&rt, alloc, &problem).expect(&rt, "memory");
+    let solution = [literal(0, true), literal(1, false), literal(2, true)];
+    improve(alloc, &mut kernel, &mut adviser, &solution).expect(&rt, "a solution");
+    let advice = adviser.ask(&kernel, root()).expect(&rt, "memory");
+    let Advice::Forcing(items) = advice else {
+        panic!(&rt; "nothing is forced");
+    };
+    let (slack, greatest) = apply(&mut kernel, items, &[]).expect(&rt, "a legal line");
+    assert!(&rt; slack >= 0 && greatest > slack);
+    assert_eq!(&rt; adviser.bound(), Some(4));
+    let turned = [literal(0, true)];
+    let advice = adviser
+        .ask(&kernel, below_root(&turned))
+        .expect(&rt, "memory");
+    let (Advice::Conflict(items) | Advice::Forcing(items)) = advice else {
+        panic!(&rt; "nothing is said");
+    };
+    let (slack, greatest) = apply(&mut kernel, items, &turned).expect(&rt, "a legal line");
+    assert!(&rt; greatest > slack);
+}
+
+#[test]
+fn corners_lean(rt: HostRuntime) {
+    let alloc = rt.alloc();
+    let problem = read(alloc, TRIANGLE.as_bytes()).expect(&rt, "a problem");
+    let (_, mut adviser) = adviser_of(&rt, alloc, &problem).expect(&rt, "memory");
+    let node = root();
+    let quiet = Node {
+        standing: &[],
+        decisions: 1,
+        conflicts: 0,
+        work: 0,
+    };
+    let kernel: Kernel<'_, ScanPropagator> = Kernel::new(alloc, &problem).expect(&rt, "memory");
+    assert!(&rt; matches!(adviser.ask(&kernel, node), Ok(Advice::Values)));
+    assert_eq!(&rt; adviser.bound(), Some(4));
+    assert_eq!(&rt; adviser.leanings().len(), 3);
+    assert!(&rt; matches!(adviser.ask(&kernel, quiet), Ok(Advice::Nothing)));
+    let first = [literal(0, false)];
+    let asked = adviser.ask(&kernel, below_root(&first));
+    assert!(&rt; matches!(asked, Ok(Advice::Values)));
+    assert_eq!(&rt; adviser.leanings().len(), 2);
+    assert_eq!(&rt; adviser.figures().calls, 2);
+}
