@@ -3,7 +3,7 @@ use Rattle.std.specs.Prelude.{List}
 use Rattle.linear.specs.declared.term.Lit.{Lit}
 use Rattle.normal_form.specs.Normal.{NormalConstraint}
 use Rattle.proof_steps.specs.declared.step.Item.{Item}
-use Rattle.propagate.specs.Slack.{IsFalsified}
+use Rattle.propagate.specs.Slack.{IsFalsified, IsForced}
 use Rattle.proof_rules.specs.Expression.{IsPostfixOf}
 use Rattle.proof_rules.specs.State.{State, constraint_of}
 use Rattle.bounding.specs.declared.advice.Advice.{Advice}
@@ -13,9 +13,9 @@ use Rattle.bounding.specs.declared.advice.Advice.TheVariants.{Conflict, Forcing,
 abbrev pub Derives : State → List Item → NormalConstraint → Type 0
 Derives s items n = IsPostfixOf (constraint_of s) items n
 
--- a conflict derives a constraint that has negative slack under the literals that stand, and what forces derives a constraint
+-- a conflict derives a constraint that has negative slack under the literals that stand, and what forces one that forces a literal there
 abbrev pub IsBorneOut : State → List Lit → Advice → Type 0
 IsBorneOut s standing (Conflict items) = (n : NormalConstraint) × Derives s items n × IsFalsified standing n
-IsBorneOut s standing (Forcing items) = (n : NormalConstraint) × Derives s items n
+IsBorneOut s standing (Forcing items) = (n : NormalConstraint) × (l : Lit) × Derives s items n × IsForced standing l n
 IsBorneOut s standing Values = Unit {0}
 IsBorneOut s standing Nothing = Unit {0}

@@ -1,2 +1,3 @@
 pub mod Advice
+pub mod Judging
 pub mod Standing

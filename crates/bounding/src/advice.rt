@@ -12,8 +12,8 @@ pub struct Node<'a> {
     pub decisions: usize,
     /// From how many conflicts the search has learned so far.
     pub conflicts: u64,
-    /// How much the search has done so far: terms of constraints that it has looked at, about.
-    pub work: u64,
+    /// How many literals were decided or forced so far, those among them that were undone and came back.
+    pub literals: u64,
 }
 
 /// What an adviser answers.

@@ -76,10 +76,8 @@ fn relaxation_of(alloc: Global, problem: &Problem, count: usize) -> Result<Relax
 }
 
 impl Adviser {
-    ghost use Rattle.std.specs.Prelude.{◌≡◌, ◌≤◌, List, IfOk, IfSome, OnOk};
-    ghost use Rattle.linear.specs.declared.term.Lit.{Lit};
+    ghost use Rattle.std.specs.Prelude.{◌≤◌, IfOk, IfSome};
     ghost use Rattle.bounding.specs.Advice.{IsBorneOut};
-    ghost use Rattle.bounding.specs.Standing.{AreAmong};
 
     /// The adviser of a problem whose file's constraints a kernel has. None where the problem is too large for one: above 20,000 variables or
     /// 60,000 terms.
@@ -94,14 +92,14 @@ impl Adviser {
         }
         let mut relaxation = relaxation_of(alloc, problem, names)?;
         let mut sources = Sources::new(alloc);
-        if !sources.add_file(alloc, kernel, &mut relaxation)? {
+        let Some(terms) = sources.add_file(alloc, kernel, &mut relaxation)? else {
             return Ok(None);
-        }
+        };
         Ok(Some(Adviser {
             alloc,
             relaxation,
             sources,
-            effort: Effort::new(),
+            effort: Effort::new(terms as u64, names as u64),
             count: names as u32,
             fixed: Vec::new(alloc),
             leanings: Vec::new(alloc),
@@ -126,7 +124,7 @@ impl Adviser {
     }
 
     /// Solves the relaxation at a node, where that is due. The line of a conflict derives a constraint that has negative slack under
-    /// what stands, and that of a forcing one derives a constraint.
+    /// what stands, and that of a forcing one a constraint that forces a literal there.
     ///
     /// `AllocError` comes where a growth was refused. The adviser may be asked again then.
     pub fn ask<'a, P: Propagator>(
@@ -176,10 +174,10 @@ impl Adviser {
     fn answer<'a, P: Propagator>(
         &mut self,
         kernel: &Kernel<'a, P>,
-        standing: &Standing,
+        standing: &Standing<'_>,
         end: End,
     ) -> Result<Advice, AllocError>
-        ensures { (listed : List Lit) → AreAmong listed standing.now.stands.items → IfOk result (IsBorneOut kernel.now.state listed) }
+        ensures { IfOk result (IsBorneOut kernel.now.state standing.now) }
     {
         match end {
             End::Infeasible | End::CutOff => {
@@ -202,10 +200,9 @@ impl Adviser {
     fn sum_up<'a, P: Propagator>(
         &mut self,
         kernel: &Kernel<'a, P>,
-        standing: &Standing,
+        standing: &Standing<'_>,
     ) -> Result<Option<Advice>, AllocError>
-        ensures { (listed : List Lit) → AreAmong listed standing.now.stands.items
-            → IfOk result (λ found. IfSome found (IsBorneOut kernel.now.state listed)) }
+        ensures { IfOk result (λ found. IfSome found (IsBorneOut kernel.now.state standing.now)) }
     {
         if let Some(advice) = self.try_scale(kernel, standing, BITS)? {
             return Ok(Some(advice));
@@ -221,12 +218,11 @@ impl Adviser {
     fn try_scale<'a, P: Propagator>(
         &self,
         kernel: &Kernel<'a, P>,
-        standing: &Standing,
+        standing: &Standing<'_>,
         bits: u32,
     ) -> Result<Option<Advice>, AllocError>
         requires { bits ≤ 52 }
-        ensures { (listed : List Lit) → AreAmong listed standing.now.stands.items
-            → IfOk result (λ found. IfSome found (IsBorneOut kernel.now.state listed)) }
+        ensures { IfOk result (λ found. IfSome found (IsBorneOut kernel.now.state standing.now)) }
     {
         match self.line_at_scale(kernel, standing, bits) {
             Ok(found) => Ok(found),
@@ -239,12 +235,11 @@ impl Adviser {
     fn line_at_scale<'a, P: Propagator>(
         &self,
         kernel: &Kernel<'a, P>,
-        standing: &Standing,
+        standing: &Standing<'_>,
         bits: u32,
     ) -> Result<Option<Advice>, StepFault>
         requires { bits ≤ 52 }
-        ensures { (listed : List Lit) → AreAmong listed standing.now.stands.items
-            → IfOk result (λ found. IfSome found (IsBorneOut kernel.now.state listed)) }
+        ensures { IfOk result (λ found. IfSome found (IsBorneOut kernel.now.state standing.now)) }
     {
         let whole = whole_multipliers(self.alloc, self.relaxation.multipliers(), bits)?;
         let line = line_of(self.alloc, kernel, &self.sources, whole.as_slice())?;
@@ -257,7 +252,7 @@ impl Adviser {
     }
 
     /// Notes to which literals the values of the last call lead.
-    fn lean(&mut self, standing: &Standing) -> Result<(), AllocError> {
+    fn lean(&mut self, standing: &Standing<'_>) -> Result<(), AllocError> {
         self.leanings.clear();
         let follows_all = !self.sources.has_solution() || self.is_whole_point(standing);
         for number in 0..self.count {
@@ -275,7 +270,7 @@ impl Adviser {
     }
 
     /// Whether all free variables have whole values, about.
-    fn is_whole_point(&self, standing: &Standing) -> bool {
+    fn is_whole_point(&self, standing: &Standing<'_>) -> bool {
         for number in 0..self.count {
             let variable = Var(number);
             if is_free(standing, variable) && !is_whole(self.relaxation.value(variable)) {
@@ -332,7 +327,7 @@ impl Adviser {
 }
 
 /// Whether neither literal of a variable stands.
-fn is_free(standing: &Standing, variable: Var) -> bool {
+fn is_free(standing: &Standing<'_>, variable: Var) -> bool {
     let literal = Lit {
         var: variable,
         negated: false,

@@ -3,14 +3,16 @@
 //! It has negative slack, and whatever makes these literals true breaks it; or the slack is below the coefficient of a literal that is
 //! free, which it forces; or it says nothing.
 
-ghost use Rattle.std.specs.Prelude.{◌≡◌, ◌+◌, ◌<◌, List, MatchOption, length, take};
+ghost use Rattle.std.specs.Prelude.{◌≡◌, ◌+◌, ◌<◌, IsTrue, length, take};
 ghost use Rattle.linear.specs.declared.term.Lit.{Lit};
 ghost use Rattle.normal_form.specs.Normal.{sum_over};
-ghost use Rattle.propagate.specs.Slack.{IsFalsified};
-ghost use Rattle.bounding.specs.Standing.{AreAmong, open_in};
+ghost use Rattle.propagate.specs.Slack.{IsForced, not_false};
+ghost use Rattle.propagate.specs.Walk.{CanForce};
+ghost use Rattle.bounding.specs.Judging.{Says};
 
 use super::standing::Standing;
-use normal_form::{Normal, NormalTerm};
+use linear::Lit;
+use normal_form::Normal;
 
 /// What a constraint says.
 #[derive(Clone, Copy, Debug, PartialEq, Eq)]
@@ -24,10 +26,10 @@ pub(crate) enum Judgement {
 }
 
 /// What the term at a place adds to the sum of the literals that are not made false.
-fn counted(constraint: &Normal, standing: &Standing, place: usize) -> u128
+fn counted(constraint: &Normal, standing: &Standing<'_>, place: usize) -> u128
     requires { place < length constraint.now.terms }
-    ensures { sum_over (open_in standing.now.stands.items) (take (place + 1) constraint.now.terms)
-        ≡ sum_over (open_in standing.now.stands.items) (take place constraint.now.terms) + result }
+    ensures { sum_over (not_false standing.now) (take (place + 1) constraint.now.terms)
+        ≡ sum_over (not_false standing.now) (take place constraint.now.terms) + result }
 {
     let term = constraint.term(place);
     if standing.has(term.literal().opposite()) {
@@ -38,8 +40,8 @@ fn counted(constraint: &Normal, standing: &Standing, place: usize) -> u128
 }
 
 /// The sum of the coefficients of the literals that are not made false.
-fn open_sum(constraint: &Normal, standing: &Standing) -> u128
-    ensures { result ≡ sum_over (open_in standing.now.stands.items) constraint.now.terms }
+fn open_sum(constraint: &Normal, standing: &Standing<'_>) -> u128
+    ensures { result ≡ sum_over (not_false standing.now) constraint.now.terms }
 {
     let mut sum: u128 = 0;
     for place in 0..constraint.len() {
@@ -48,15 +50,21 @@ fn open_sum(constraint: &Normal, standing: &Standing) -> u128
     sum
 }
 
-/// Whether a term is of a literal that is free and has more than the slack.
-fn is_forced(standing: &Standing, term: NormalTerm, slack: u128) -> bool {
-    term.coef > slack && !standing.has(term.literal()) && !standing.has(term.literal().opposite())
+/// Whether a literal is free and has more than the slack.
+fn is_forced(standing: &Standing<'_>, literal: Lit, coef: u128, slack: u128) -> bool
+    ensures { IsTrue result → CanForce standing.now slack coef literal }
+{
+    coef > slack && !standing.has(literal) && !standing.has(literal.opposite())
 }
 
 /// Whether a constraint of this slack forces a literal.
-fn forces(constraint: &Normal, standing: &Standing, slack: u128) -> bool {
+fn forces(constraint: &Normal, standing: &Standing<'_>, slack: u128) -> bool
+    requires { sum_over (not_false standing.now) constraint.now.terms ≡ constraint.now.degree + slack }
+    ensures { IsTrue result → (l : Lit) × IsForced standing.now l constraint.now }
+{
     for place in 0..constraint.len() {
-        if is_forced(standing, constraint.term(place), slack) {
+        let term = constraint.term(place);
+        if is_forced(standing, term.literal(), term.coef, slack) {
             return true;
         }
     }
@@ -64,8 +72,8 @@ fn forces(constraint: &Normal, standing: &Standing, slack: u128) -> bool {
 }
 
 /// What a constraint says under the literals that stand.
-pub(crate) fn judge(constraint: &Normal, standing: &Standing) -> Judgement
-    ensures { (listed : List Lit) → AreAmong listed standing.now.stands.items → result ≡ Judgement.False → IsFalsified listed constraint.now }
+pub(crate) fn judge(constraint: &Normal, standing: &Standing<'_>) -> Judgement
+    ensures { Says standing.now constraint.now result }
 {
     match open_sum(constraint, standing).checked_sub(constraint.degree()) {
         None => Judgement::False,

@@ -95,27 +95,27 @@ impl Sources {
         }
     }
 
-    /// Adds the rows of the file's constraints. False where they have too many terms.
+    /// Adds the rows of the file's constraints. How many terms these constraints have; none where they are too many.
     pub(crate) fn add_file<'a, P: Propagator>(
         &mut self,
         alloc: Global,
         kernel: &Kernel<'a, P>,
         relaxation: &mut Relaxation,
-    ) -> Result<bool, AllocError> {
+    ) -> Result<Option<usize>, AllocError> {
         let mut left = MOST_TERMS;
         for number in 0..kernel.problem_ids() {
             let Ok(id) = Id::try_from(number.saturating_add(1)) else {
-                return Ok(false);
+                return Ok(None);
             };
             if let Some(constraint) = kernel.constraint(id) {
                 let Some(rest) = left.checked_sub(constraint.len()) else {
-                    return Ok(false);
+                    return Ok(None);
                 };
                 left = rest;
                 self.add_row(alloc, relaxation, id, constraint)?;
             }
         }
-        Ok(true)
+        Ok(Some(MOST_TERMS.saturating_sub(left)))
     }
 
     /// Adds the row of a constraint, unless that holds everywhere.

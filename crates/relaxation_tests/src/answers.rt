@@ -11,7 +11,7 @@ use std::process::Abort;
 /// How many problems are made.
 const PROBLEMS: u32 = 2_000;
 
-/// Of 4,000 calls so many end in each way at least.
+/// Of 6,000 calls so many end in each way at least.
 const ENOUGH: u32 = 400;
 
 /// So few reach their limits, or are not borne out: fixed point is rough.
@@ -287,7 +287,7 @@ fn answers_of_random_relaxations(rt: HostRuntime) {
     for _ in 0..PROBLEMS {
         let problem = problem(alloc, &mut numbers).expect(&rt, "memory");
         let mut relaxation = relaxation_of(alloc, &problem).expect(&rt, "a relaxation");
-        for _ in 0..2 {
+        for _ in 0..3 {
             ask(
                 &rt,
                 alloc,

@@ -106,7 +106,7 @@ pub(crate) enum Planted {
 
 /// A problem.
 pub(crate) fn problem(alloc: Global, numbers: &mut Numbers) -> Result<PlainProblem, AllocError> {
-    let count = 1 + numbers.below(12).min(numbers.below(12)) as usize;
+    let count = 1 + numbers.below(12) as usize;
     let planted = if numbers.once_in(4) {
         Planted::No
     } else {

@@ -1,8 +1,8 @@
 -- The sum so far is that of the terms before this place.
 use Rattle.std.proofs.Common.{◌≡◌, take}
 use Rattle.normal_form.specs.Normal.{sum_over}
-use Rattle.bounding.specs.Standing.{open_in}
+use Rattle.propagate.specs.Slack.{not_false}
 use Rattle.bounding.proofs.judgement.open_sum.Given as goal
 
 abbrev pub invariant-loop-place : goal.invariant-loop-place
-invariant-loop-place l = l.sum ≡ sum_over (open_in l.standing.stands.items) (take l.place l.constraint.terms)
+invariant-loop-place l = l.sum ≡ sum_over (not_false l.standing) (take l.place l.constraint.terms)
