@@ -6,8 +6,8 @@
 //! the relaxation loses more by turning it than the best solution leaves (reduced-cost fixing).
 //!
 //! This crate is an adviser and may be wrong: which constraints and which numbers it takes is found in fixed point. But what it hands out
-//! was summed up exactly, by the stack that a kernel runs, and a sum that it calls false is false under the literals that it was
-//! asked about: that is the contract of `Adviser::ask`. How much it may do is counted beside what the search does, with no clock, so
+//! was summed up exactly, by the stack that a kernel runs, and has negative slack or forces a literal, as the answer says, under the literals
+//! that it was asked about: that is the contract of `Adviser::ask`. How much it may do is counted beside what the search does, with no clock, so
 //! that runs repeat exactly.
 //!
 //! `adviser` has the calls, `effort` says when they are due, `sources` keeps which constraint is which row, `summing` writes the line of some
