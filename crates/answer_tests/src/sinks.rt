@@ -26,9 +26,9 @@ enum End {
     AnswerFailed(u8),
 }
 
-/// How a result is to be seen.
-fn end_of(result: &Result<Outcome, RunFault>) -> End {
-    match result {
+/// How a run ended, for comparison.
+fn end_of(ended: &Result<Outcome, RunFault>) -> End {
+    match ended {
         Ok(outcome) => End::Written(status(outcome)),
         Err(RunFault::ProofWrite) => End::ProofFailed,
         Err(RunFault::AnswerWrite(outcome)) => End::AnswerFailed(status(outcome)),
@@ -43,8 +43,8 @@ fn end_into(
     proof_out: &mut Option<MemSink>,
 ) -> Result<End, Fail> {
     let brancher = brancher(alloc, Rule::First)?;
-    let result = run(alloc, opb.as_bytes(), 1000000, brancher, out, proof_out);
-    Ok(end_of(&result))
+    let ended = run(alloc, opb.as_bytes(), 1000000, brancher, out, proof_out);
+    Ok(end_of(&ended))
 }
 
 /// Whether a run that writes by so many bytes ends well, with this status, this end of its answer, and the proof that is handed out
