@@ -15,8 +15,6 @@ mod rules;
 #[cfg(test)]
 mod seen;
 #[cfg(test)]
-mod sinks;
-#[cfg(test)]
 mod small;
 #[cfg(test)]
 mod solved;

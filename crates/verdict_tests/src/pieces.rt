@@ -3,7 +3,7 @@
 
 use super::rows::PIGEONS_IN_HOLES;
 use checker::{StreamVerdict, check_stream, verdict_text};
-use pb_text::{MemSource, Portion};
+use pb_text::{MemSource, Portion, Source};
 use std::alloc::Global;
 use std::process::Abort;
 use std::test::Fail;
@@ -20,6 +20,9 @@ const PORTIONS: [Portion; 6] = [
 
 /// What is printed about a proof that a source gives; none where the source fails.
 fn printed(alloc: Global, opb: &[u8], source: &mut MemSource<'_>) -> Result<Option<Vec<u8>>, Fail> {
+    if source.failures() >= u64::MAX {
+        return Ok(None);
+    }
     match check_stream(alloc, opb, source) {
         StreamVerdict::Judged(verdict) => Ok(Some(verdict_text(alloc, opb, &verdict)?)),
         StreamVerdict::ReadFailed => Ok(None),
