@@ -11,6 +11,7 @@
 #![tactic(auto)]
 
 mod analysis;
+mod bite;
 mod biting;
 pub mod cases;
 mod derivation;
@@ -28,6 +29,7 @@ mod under;
 mod walk;
 
 pub use analysis::Analyser;
+pub use bite::{Bite, bite_on};
 pub use entry::Entry;
 pub use learned::Learned;
 pub use met::Met;

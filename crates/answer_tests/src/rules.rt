@@ -2,7 +2,7 @@
 //! there is one.
 
 use linear::{Lit, Problem, Var};
-use search::{Activity, Brancher, First, Value};
+use search::{Activity, Brancher, First, Progress, Value};
 use std::alloc::{AllocError, Global};
 
 /// Answers the first variable that is set.
@@ -34,6 +34,10 @@ impl Brancher for Stubborn {
     fn solution(&mut self, _literals: &[Lit]) {}
 
     fn restarted(&mut self) {}
+
+    fn lean(&mut self, _literals: &[Lit]) {}
+
+    fn progress(&mut self, _progress: Progress) {}
 }
 
 /// A rule of choice.

@@ -1,5 +1,7 @@
-//! `pbopt FILE [--proof FILE] [--conflicts N]`: prints the answer about a problem, and ends with the status that stands for it.
+//! `pbopt FILE [--proof FILE] [--conflicts N] [--progress]`: prints the answer about a problem, and ends with the status that stands for it.
 #![tactic(auto)]
+
+mod reporting;
 
 ghost use Rattle.std.specs.Prelude.{◌≡◌, IfOk, IfSome};
 
@@ -7,8 +9,9 @@ use clap::{Arg, ArgAction, Command, Error};
 use command_line::{DeviceFailed, STANDARD_OUTPUT, device_failed, ended, given_by, refused, words};
 use devices::WriterSink;
 use pb_main::{RunFault, run, status};
-use search::Activity;
-use std::alloc::Global;
+use reporting::Reporting;
+use search::{Activity, Brancher};
+use std::alloc::{AllocError, Global};
 use std::io::{ErrorKind, Write};
 use std::process::ExitCode;
 use std::rt::{Env, Files};
@@ -58,6 +61,14 @@ fn conflicts<'a>(alloc: Global) -> Arg<'a> {
         .help("Stop at the conflict of this number, from 1")
 }
 
+/// Whether to say how far the search has come.
+fn progress<'a>(alloc: Global) -> Arg<'a> {
+    Arg::new(alloc, "progress")
+        .long("progress")
+        .action(ArgAction::SetTrue)
+        .help("Say on standard error how far the search has come")
+}
+
 /// What the command line may be.
 fn command<'a>(alloc: Global) -> Result<Command<'a>, Error> {
     Ok(
@@ -67,7 +78,8 @@ fn command<'a>(alloc: Global) -> Result<Command<'a>, Error> {
             .after_help(EXPLANATION)
             .arg(file(alloc))?
             .arg(proof(alloc))?
-            .arg(conflicts(alloc))?,
+            .arg(conflicts(alloc))?
+            .arg(progress(alloc))?,
     )
 }
 
@@ -106,20 +118,43 @@ fn without_memory<R: Print + Eprint>(rt: &R) -> Result<u8, DeviceFailed> {
     Ok(0)
 }
 
-/// Reads the problem, makes the proof's file, solves, and writes the proof and then the answer. The result is the exit status.
-fn solve<R: Files + Print + Eprint + AllocGlobal>(
-    rt: &R,
-    problem: &str,
-    proof: Option<&str>,
+/// What the command line asks for.
+#[derive(Clone, Copy, Debug)]
+struct Wanted<'a> {
+    /// The file of the problem.
+    problem: &'a str,
+    /// Where the proof goes, if anywhere.
+    proof: Option<&'a str>,
+    /// At the conflict of this number the search stops.
     limit: u64,
+    /// Whether to say how far the search has come.
+    shows_progress: bool,
+}
+
+/// The rule of choice, which says how far the search has come where that is wanted.
+fn brancher<R: Eprint + AllocGlobal + Clone + Drop>(
+    rt: &R,
+    wanted: &Wanted<'_>,
+) -> Result<Box<dyn Brancher>, AllocError> {
+    let rules = Activity::new(rt.alloc());
+    if wanted.shows_progress {
+        return Ok(Box::new(rt.alloc(), Reporting::new(rules, rt.clone()?))?);
+    }
+    Ok(Box::new(rt.alloc(), rules)?)
+}
+
+/// Reads the problem, makes the proof's file, solves, and writes the proof and then the answer. The result is the exit status.
+fn solve<R: Files + Print + Eprint + AllocGlobal + Clone + Drop>(
+    rt: &R,
+    wanted: &Wanted<'_>,
 ) -> Result<u8, DeviceFailed> {
-    let opb = given_by(rt, problem, fs::read(rt, problem))?;
-    let mut proof_out = proof_file(rt, proof)?;
+    let opb = given_by(rt, wanted.problem, fs::read(rt, wanted.problem))?;
+    let mut proof_out = proof_file(rt, wanted.proof)?;
     let mut out = WriterSink::new(io::writer(rt));
-    let Ok(brancher) = Box::new(rt.alloc(), Activity::new(rt.alloc())) else {
+    let Ok(brancher) = brancher(rt, wanted) else {
         return without_memory(rt);
     };
-    let limit = limit.max(1);
+    let limit = wanted.limit.max(1);
     match run(
         rt.alloc(),
         opb.as_slice(),
@@ -130,7 +165,7 @@ fn solve<R: Files + Print + Eprint + AllocGlobal>(
     ) {
         Ok(outcome) => Ok(status(&outcome)),
         Err(RunFault::AnswerWrite(_)) => Err(write_failed(rt, STANDARD_OUTPUT, out)),
-        Err(RunFault::ProofWrite) => match (proof, proof_out) {
+        Err(RunFault::ProofWrite) => match (wanted.proof, proof_out) {
             (Some(path), Some(sink)) => Err(write_failed(rt, path, sink)),
             _ => Err(DeviceFailed),
         },
@@ -138,7 +173,7 @@ fn solve<R: Files + Print + Eprint + AllocGlobal>(
 }
 
 /// Takes the command line, and does what it asks for. The result is the exit status.
-fn take_command<R: Env + Files + Print + Eprint + AllocGlobal>(rt: &R) -> Result<u8, DeviceFailed> {
+fn take_command<R: Env + Files + Print + Eprint + AllocGlobal + Clone + Drop>(rt: &R) -> Result<u8, DeviceFailed> {
     let words = words(rt)?;
     let command = match command(rt.alloc()) {
         Ok(command) => command,
@@ -146,10 +181,13 @@ fn take_command<R: Env + Files + Print + Eprint + AllocGlobal>(rt: &R) -> Result
     };
     match command.try_get_matches_from(words.as_slice()) {
         Ok(matches) => {
-            let problem = matches.get_str("FILE").unwrap_or("");
-            let proof = matches.get_str("proof");
-            let limit = matches.get_one::<u64>("conflicts").unwrap_or(1);
-            solve(rt, problem, proof, limit)
+            let wanted = Wanted {
+                problem: matches.get_str("FILE").unwrap_or(""),
+                proof: matches.get_str("proof"),
+                limit: matches.get_one::<u64>("conflicts").unwrap_or(1),
+                shows_progress: matches.get_flag("progress"),
+            };
+            solve(rt, &wanted)
         }
         Err(error) => refused(rt, &error),
     }

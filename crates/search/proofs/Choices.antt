@@ -10,8 +10,8 @@ use Rattle.propagate.specs.Literals.{among, lists}
 use Rattle.propagate.proofs.Consistency.{only_here}
 use Rattle.propagate.proofs.Assignments.{among_cases, among_head, among_left, among_right}
 use Rattle.propagate.proofs.SearchEnds.{fewer_unset, unset_below}
-use Rattle.search.specs.declared.brancher.Value.{Value}
-use Rattle.search.specs.declared.brancher.Value.TheVariants.{True, False, Free}
+use Rattle.branching.specs.declared.brancher.Value.{Value}
+use Rattle.branching.specs.declared.brancher.Value.TheVariants.{True, False, Free}
 use Rattle.search.specs.Values.{AreValuesUnder, IsFree, IsValueUnder, unlisted_below, value_given}
 
 -- a place behind the table is not free

@@ -13,7 +13,7 @@ use Rattle.propagate.specs.Literals.{IsConsistent, among}
 use Rattle.propagate.proofs.Consistency.{push_consistent}
 use Rattle.search.specs.Undoing.{AreUpToDate, IsOvertaken}
 use Rattle.search.specs.Values.{AreValuesUnder, IsFree, unlisted_below}
-use Rattle.search.specs.declared.brancher.Value.{Value}
+use Rattle.branching.specs.declared.brancher.Value.{Value}
 use Rattle.search.proofs.Choices.{LeavesFree, fewer, values_leave_free}
 
 -- no decision stands behind the first ones

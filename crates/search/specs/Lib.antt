@@ -1,3 +1,4 @@
+pub mod Advised
 pub mod Clause
 pub mod Descents
 pub mod Log

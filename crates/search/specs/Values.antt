@@ -2,8 +2,8 @@
 use Rattle.std.specs.Prelude.{◌≡◌, ℕ, zero, suc, ◌+◌, ◌<◌, ◌||◌, true, false, List, length, slice_index_or, if◌then◌else◌}
 use Rattle.linear.specs.declared.term.Lit.{Lit}
 use Rattle.propagate.specs.Literals.{among}
-use Rattle.search.specs.declared.brancher.Value.{Value}
-use Rattle.search.specs.declared.brancher.Value.TheVariants.{True, False, Free}
+use Rattle.branching.specs.declared.brancher.Value.{Value}
+use Rattle.branching.specs.declared.brancher.Value.TheVariants.{True, False, Free}
 
 -- the value of each of the first variables
 abbrev pub Table : Type 0

@@ -17,8 +17,8 @@ ghost use Rattle.search.specs.Clause.{negated_clause};
 ghost use Rattle.search.specs.Log.{ImprovesNothing, IsFalling, LeadsBiting, LeadsImproving, Logbook, StepBites, improvement, last_of};
 ghost use Rattle.search.specs.Solving.{BearsOut, MayStop};
 ghost use Rattle.search.specs.Values.{AreValuesUnder, IsValueUnder};
-ghost use Rattle.search.specs.declared.brancher.Value.{Value};
-ghost use Rattle.search.specs.declared.brancher.Value.TheVariants as values;
+ghost use Rattle.branching.specs.declared.brancher.Value.{Value};
+ghost use Rattle.branching.specs.declared.brancher.Value.TheVariants as values;
 ghost use Rattle.search.specs.declared.found.Found.TheVariants as founds;
 ghost use Rattle.search.specs.declared.found.Unfinished.TheVariants as reasons;
 

@@ -6,7 +6,7 @@
 ghost use Rattle.std.specs.Prelude.{◌<◌, IfSome, IsTrue, length};
 ghost use Rattle.search.specs.Values.{IsFree};
 
-use super::brancher::Value;
+use branching::Value;
 use linear::{Lit, Var};
 
 /// Whether a variable is free.

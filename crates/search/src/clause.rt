@@ -17,9 +17,9 @@ ghost use Rattle.search.specs.Log.{StepBites};
 ghost use Rattle.search.specs.Solving.{TakesId};
 ghost use Rattle.search.specs.Undoing.{IsOvertaken};
 
-use super::brancher::Brancher;
 use super::fault::SearchFault;
 use super::log::Log;
+use branching::Brancher;
 use linear::{Lit, Relation, Seq, Signed, Term, Var};
 use proof_rules::StepFault;
 use proof_steps::Step;

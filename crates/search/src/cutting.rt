@@ -9,10 +9,10 @@ ghost use Rattle.propagate.specs.Literals.{IsConsistent};
 ghost use Rattle.search.specs.Solving.{TakesId};
 ghost use Rattle.search.specs.Undoing.{IsUndone};
 
-use super::brancher::Brancher;
 use super::fault::SearchFault;
 use super::log::Log;
 use analysis::{Analyser, Entry, Learned, bites_under};
+use branching::Brancher;
 use linear::{Lit, Var};
 use normal_form::Normal;
 use proof_steps::Step;
@@ -20,7 +20,7 @@ use propagate::{Id, Propagator, Reach};
 use std::alloc::{AllocError, Global};
 
 /// The variables of a constraint.
-fn variables_of(alloc: Global, constraint: &Normal) -> Result<Vec<Var>, AllocError> {
+pub(crate) fn variables_of(alloc: Global, constraint: &Normal) -> Result<Vec<Var>, AllocError> {
     let mut variables = Vec::with_capacity(alloc, constraint.len())?;
     for place in 0..constraint.len() {
         variables.push(constraint.term(place).var)?;

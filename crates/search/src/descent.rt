@@ -1,4 +1,4 @@
-//! Deciding one literal after another, until there is a conflict or every variable has a value.
+//! Deciding one literal after another, until there is a conflict, or an adviser comes to a line, or every variable has a value.
 //!
 //! What the open decisions force is asked once. From there on each question is about one literal more, and its answer, and
 //! what is noted of it, are as long as what that literal forces.
@@ -8,10 +8,10 @@ ghost use Rattle.propagate.specs.Chain.{LeadsToConflict};
 ghost use Rattle.propagate.specs.Content.{IsEnd};
 ghost use Rattle.propagate.specs.Literals.{IsConsistent};
 ghost use Rattle.proof_rules.specs.State.{constraints};
-ghost use Rattle.search.specs.Descents.{IfConflict};
+ghost use Rattle.search.specs.Descents.{IfAdvised, IfConflict, IsAdvisedUnder};
 ghost use Rattle.search.specs.Undoing.{AreUpToDate};
 
-use super::brancher::Brancher;
+use super::advisers::{Advisers, Line};
 use super::choice::choose;
 use super::log::Log;
 use super::standing::Standing;
@@ -25,6 +25,8 @@ use std::alloc::{AllocError, Global};
 pub(crate) enum Descent {
     /// The constraint of this id has negative slack.
     Conflict(Id),
+    /// This line derives a constraint that says something under what stands.
+    Advised(Line),
     /// Every variable has a value, by these literals, and there is no conflict.
     Fixpoint(Seq<Lit>),
 }
@@ -80,27 +82,32 @@ fn decide<'a, P: Propagator>(
     Ok(trace.conflict)
 }
 
-/// Decides until there is a conflict or every variable has a value.
+/// Decides until there is a conflict, or an adviser comes to a line, or every variable has a value.
 pub(crate) fn descend<'a, P: Propagator>(
     alloc: Global,
     log: &mut Log<'a, P>,
     decisions: &mut Vec<Lit>,
     trail: &mut Trail,
     count: u32,
-    brancher: &mut Box<dyn Brancher>,
+    advisers: &mut Advisers,
 ) -> Result<Descent, AllocError>
     requires { IsConsistent decisions.old.items }
     ensures same { log.new ≡ log.old }
     ensures consistent { OnOk result (IsConsistent decisions.new.items) }
     ensures up_to_date { OnOk result (AreUpToDate (constraints log.old.state) (length decisions.old.items) decisions.new.items) }
     ensures conflict { IfOk result (λ end. IfConflict end (LeadsToConflict (constraints log.old.state) decisions.new.items)) }
+    ensures advised { IfOk result (λ end. IfAdvised end (IsAdvisedUnder log.old.state decisions.new.items)) }
 {
     let mut standing = Standing::new(alloc, count)?;
     if let Some(conflict) = stand(log, decisions.as_slice(), &mut standing, trail)? {
         return Ok(Descent::Conflict(conflict));
     }
     loop {
-        let picked = brancher.pick(standing.values());
+        let found = advisers.ask(log, standing.assigned(), decisions.len(), trail.pushed())?;
+        if let Some(line) = found {
+            return Ok(Descent::Advised(line));
+        }
+        let picked = advisers.brancher.pick(standing.values());
         let Some(literal) = choose(standing.values(), count, picked) else {
             return Ok(Descent::Fixpoint(standing.into_assigned()));
         };

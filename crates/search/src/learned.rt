@@ -93,14 +93,23 @@ impl LearnedConstraints {
         }
     }
 
-    /// A conflict taught one more, of so many literals, which are of so many levels. A number beyond all ids is none.
+    /// How many are live.
+    pub(crate) fn count(&self) -> usize {
+        self.all.len()
+    }
+
+    /// Counts a conflict.
+    pub(crate) fn count_conflict(&mut self) {
+        self.conflicts = self.conflicts.saturating_add(1);
+    }
+
+    /// One more was learned, of so many literals, which are of so many levels. A number beyond all ids is none.
     pub(crate) fn push(
         &mut self,
         number: u64,
         literals: usize,
         levels: u32,
     ) -> Result<(), AllocError> {
-        self.conflicts = self.conflicts.saturating_add(1);
         if let Ok(id) = Id::try_from(number) {
             self.all.push(LearnedConstraint {
                 id,

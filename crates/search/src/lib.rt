@@ -6,8 +6,8 @@
 //! left to say of the search is that what it needs is never refused: these are the laws of `laws`.
 #![tactic(auto)]
 
-mod activity;
-mod brancher;
+mod advice;
+mod advisers;
 pub mod cases;
 mod choice;
 mod clause;
@@ -16,18 +16,17 @@ mod descent;
 mod endings;
 mod fault;
 mod found;
-mod heap;
 pub mod laws;
 mod learned;
 mod log;
 mod presolving;
 mod restarts;
+mod run;
 mod solver;
 mod standing;
 mod trail;
 
-pub use activity::Activity;
-pub use brancher::{Brancher, First, Value};
+pub use branching::{Activity, Brancher, First, Progress, Value};
 pub use fault::SearchFault;
 pub use found::{Found, Unfinished};
 pub use log::Log;

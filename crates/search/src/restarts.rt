@@ -14,6 +14,8 @@ pub(crate) struct Restarts {
     counter: u64,
     multiple: u64,
     left: u64,
+    /// How many there were.
+    count: u64,
 }
 
 impl Restarts {
@@ -22,7 +24,13 @@ impl Restarts {
             counter: 1,
             multiple: 1,
             left: CONFLICTS,
+            count: 0,
         }
+    }
+
+    /// How many there were.
+    pub(crate) fn count(self) -> u64 {
+        self.count
     }
 
     /// The next number of the sequence: where the last one was the greatest power of two that divides the counter the sequence
@@ -44,6 +52,7 @@ impl Restarts {
             return false;
         }
         self.advance();
+        self.count = self.count.saturating_add(1);
         self.left = CONFLICTS.saturating_mul(self.multiple);
         true
     }

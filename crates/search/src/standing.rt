@@ -5,7 +5,7 @@
 ghost use Rattle.std.specs.Prelude.{◌≡◌, length, slice_set};
 ghost use Rattle.search.specs.Values.{value_given};
 
-use super::brancher::Value;
+use branching::Value;
 use linear::{Lit, Seq};
 use propagate::Id;
 use std::alloc::{AllocError, Global};
@@ -104,6 +104,13 @@ impl Standing {
         ensures exact { AreValuesUnder self.now.0 self.now.1 }
     {
         self.values.as_slice()
+    }
+
+    /// The literals.
+    pub(crate) fn assigned(&self) -> &[Lit]
+        ensures { result.now ≡ self.now.0 }
+    {
+        self.assigned.as_slice()
     }
 
     /// The literals.

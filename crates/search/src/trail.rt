@@ -3,8 +3,8 @@
 //! It is kept for the analysis of conflicts alone, from one decision to the next. Nothing rests on it: what an analysis comes
 //! to is a derivation whatever the trail says, and whether it bites is asked of propagation again. So a trail has no contract.
 
-use super::brancher::Brancher;
 use analysis::Entry;
+use branching::Brancher;
 use linear::Lit;
 use propagate::Id;
 use std::alloc::{AllocError, Global};
@@ -19,6 +19,8 @@ pub(crate) fn level_of(decisions: &[Lit]) -> u32 {
 pub(crate) struct Trail {
     entries: Vec<Entry>,
     stands: Vec<bool>,
+    /// How many literals came so far, those among them that were undone and came back.
+    pushed: u64,
 }
 
 impl Trail {
@@ -26,6 +28,7 @@ impl Trail {
         Ok(Trail {
             entries: Vec::new(alloc),
             stands: vec![in alloc; false; count as usize]?,
+            pushed: 0,
         })
     }
 
@@ -35,6 +38,7 @@ impl Trail {
         if place < self.stands.len() && !self.stands[place] {
             self.entries.push(entry)?;
             self.stands[place] = true;
+            self.pushed = self.pushed.saturating_add(1);
         }
         Ok(())
     }
@@ -73,6 +77,11 @@ impl Trail {
             brancher.unassigned(literal);
         }
         self.entries.truncate(kept);
+    }
+
+    /// How many literals came so far.
+    pub(crate) fn pushed(&self) -> u64 {
+        self.pushed
     }
 
     /// The entries, the first one first.

@@ -1,4 +1,4 @@
-use Rattle.std.proofs.Common.{◌≤◌, length}
+use Rattle.std.proofs.Common.{◌≤◌}
 use Rattle.analysis.proofs.walk.latest_false.Given as goal
 
 abbrev pub invariant-loop-place : goal.invariant-loop-place

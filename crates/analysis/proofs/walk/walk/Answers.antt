@@ -1,6 +1,5 @@
 -- What is learned derives as what the walk has does, and the walk goes on from what it has.
-use Rattle.std.proofs.Common.{List, Option, MatchOption, subst, arith}
-use Rattle.normal_form.specs.Normal.{NormalConstraint}
+use Rattle.std.proofs.Common.{Option, MatchOption, subst, arith}
 use Rattle.proof_rules.specs.Expression.{Given, IsPostfixOf}
 use Rattle.proof_rules.specs.State.{constraint_of}
 use Rattle.analysis.specs.declared.learned.Learned.{Learned}

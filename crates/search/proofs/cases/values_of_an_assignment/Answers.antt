@@ -2,7 +2,7 @@ use Rattle.std.proofs.Common.{◌≡◌, ℕ, zero, suc, true, false, List, refl
 use Rattle.std.proofs.lemmas.Bool.{false≢true}
 use Rattle.linear.specs.declared.term.Lit.{Lit}
 use Rattle.propagate.specs.Literals.{IsConsistent, among}
-use Rattle.search.specs.declared.brancher.Value.TheVariants.{True, False, Free}
+use Rattle.branching.specs.declared.brancher.Value.TheVariants.{True, False, Free}
 use Rattle.search.proofs.cases.values_of_an_assignment.Goals as goal
 
 pub returns-clause-told : goal.returns-clause-told

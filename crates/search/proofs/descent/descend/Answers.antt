@@ -14,54 +14,58 @@ use Rattle.search.proofs.descent.descend.Goals as goal
 
 pub returns-in_default-choose-clause-up_to_date : goal.returns-in_default-choose-clause-up_to_date
 returns-in_default-choose-clause-up_to_date g c =
-    subst (λ (x : Logbook). AreUpToDate (constraints x.state) (length c.args.decisions.now.items) c.loop-literal.decisions.items) (c.loop-literal.invariant.0 ∙ c.stand.ensures.same) c.loop-literal.invariant.4
+    subst (λ (x : Logbook). AreUpToDate (constraints x.state) (length c.args.decisions.now.items) c.loop-standing.decisions.items) (c.loop-standing.invariant.0 ∙ c.stand.ensures.same) c.loop-standing.invariant.4
 
 pub decide-requires-clause-consistent : goal.decide-requires-clause-consistent
 decide-requires-clause-consistent g c =
-    (chosen c.loop-literal.log.state.live c.loop-literal.decisions.items c.loop-literal.standing.0 c.loop-literal.standing.1 c.values-in-loop-literal.result.now c.in-Some-choose.literal c.args.count
-    c.loop-literal.invariant.3 c.values-in-loop-literal.ensures.exact c.values-in-loop-literal.ensures.values c.in-Some-choose.ensures.free c.in-Some-choose.ensures.inside c.loop-literal.invariant.2 c.loop-literal.invariant.1).consistent
+    (chosen c.loop-standing.log.state.live c.loop-standing.decisions.items c.loop-standing.standing.0 c.loop-standing.standing.1 c.values-in-loop-standing.result.now c.in-Some-choose.literal c.args.count
+    c.loop-standing.invariant.3 c.values-in-loop-standing.ensures.exact c.values-in-loop-standing.ensures.values c.in-Some-choose.ensures.free c.in-Some-choose.ensures.inside c.loop-standing.invariant.2 c.loop-standing.invariant.1).consistent
 
 -- the same where the decision led to a conflict, and where it did not
-ended : (g : Over) (c : goal.After-drop-standing-inside-in-Some-2-3 g) → IsChosen c.loop-literal.log.state.live c.loop-literal.decisions.items c.in-Some-choose.literal c.args.count
+ended : (g : Over) (c : goal.After-drop-standing-inside-in-Some-2-3 g) → IsChosen c.loop-standing.log.state.live c.loop-standing.decisions.items c.in-Some-choose.literal c.args.count
 ended g c =
-    chosen c.loop-literal.log.state.live c.loop-literal.decisions.items c.loop-literal.standing.0 c.loop-literal.standing.1 c.values-in-loop-literal.result.now c.in-Some-choose.literal c.args.count
-    c.loop-literal.invariant.3 c.values-in-loop-literal.ensures.exact c.values-in-loop-literal.ensures.values c.in-Some-choose.ensures.free c.in-Some-choose.ensures.inside c.loop-literal.invariant.2 c.loop-literal.invariant.1
+    chosen c.loop-standing.log.state.live c.loop-standing.decisions.items c.loop-standing.standing.0 c.loop-standing.standing.1 c.values-in-loop-standing.result.now c.in-Some-choose.literal c.args.count
+    c.loop-standing.invariant.3 c.values-in-loop-standing.ensures.exact c.values-in-loop-standing.ensures.values c.in-Some-choose.ensures.free c.in-Some-choose.ensures.inside c.loop-standing.invariant.2 c.loop-standing.invariant.1
 
-going : (g : Over) (c : goal.In_default-2 g) → IsChosen c.loop-literal.log.state.live c.loop-literal.decisions.items c.in-Some-choose.literal c.args.count
+going : (g : Over) (c : goal.In_default-2 g) → IsChosen c.loop-standing.log.state.live c.loop-standing.decisions.items c.in-Some-choose.literal c.args.count
 going g c =
-    chosen c.loop-literal.log.state.live c.loop-literal.decisions.items c.loop-literal.standing.0 c.loop-literal.standing.1 c.values-in-loop-literal.result.now c.in-Some-choose.literal c.args.count
-    c.loop-literal.invariant.3 c.values-in-loop-literal.ensures.exact c.values-in-loop-literal.ensures.values c.in-Some-choose.ensures.free c.in-Some-choose.ensures.inside c.loop-literal.invariant.2 c.loop-literal.invariant.1
+    chosen c.loop-standing.log.state.live c.loop-standing.decisions.items c.loop-standing.standing.0 c.loop-standing.standing.1 c.values-in-loop-standing.result.now c.in-Some-choose.literal c.args.count
+    c.loop-standing.invariant.3 c.values-in-loop-standing.ensures.exact c.values-in-loop-standing.ensures.values c.in-Some-choose.ensures.free c.in-Some-choose.ensures.inside c.loop-standing.invariant.2 c.loop-standing.invariant.1
 
 pub returns-in-Some-2-clause-consistent : goal.returns-in-Some-2-clause-consistent
 returns-in-Some-2-clause-consistent g c = subst IsConsistent (sym c.in_ok-conflict-2.ensures.decided) (ended g c).consistent
 
 pub returns-in-Some-2-clause-up_to_date : goal.returns-in-Some-2-clause-up_to_date
 returns-in-Some-2-clause-up_to_date g c =
-    let decisions : List Lit = c.loop-literal.decisions.items in
+    let decisions : List Lit = c.loop-standing.decisions.items in
     let l : Lit = c.in-Some-choose.literal in
     let first = length c.args.decisions.now.items in
-    let live = constraints c.loop-literal.log.state in
-    subst (λ (x : Logbook). AreUpToDate (constraints x.state) first c.decide.new.decisions.items) (c.loop-literal.invariant.0 ∙ c.stand.ensures.same)
-    (subst (AreUpToDate live first) (sym c.in_ok-conflict-2.ensures.decided) (one_behind live first decisions l c.loop-literal.invariant.4 (ended g c).not_reached))
+    let live = constraints c.loop-standing.log.state in
+    subst (λ (x : Logbook). AreUpToDate (constraints x.state) first c.decide.new.decisions.items) (c.loop-standing.invariant.0 ∙ c.stand.ensures.same)
+    (subst (AreUpToDate live first) (sym c.in_ok-conflict-2.ensures.decided) (one_behind live first decisions l c.loop-standing.invariant.4 (ended g c).not_reached))
 
-pub loop-literal-smaller : goal.loop-literal-smaller
-loop-literal-smaller g c =
-    subst (λ (xs : List Lit). unlisted_below c.args.count xs < unlisted_below c.args.count c.loop-literal.decisions.items) (sym c.in_ok-conflict-2.ensures.decided) (going g c).fewer
+pub loop-standing-smaller : goal.loop-standing-smaller
+loop-standing-smaller g c =
+    subst (λ (xs : List Lit). unlisted_below c.args.count xs < unlisted_below c.args.count c.loop-standing.decisions.items) (sym c.in_ok-conflict-2.ensures.decided) (going g c).fewer
 
-pub loop-literal-preserved : goal.loop-literal-preserved
-loop-literal-preserved g c =
-    let old : Logbook = c.loop-literal.log in
-    let decisions : List Lit = c.loop-literal.decisions.items in
+pub loop-standing-preserved : goal.loop-standing-preserved
+loop-standing-preserved g c =
+    let old : Logbook = c.loop-standing.log in
+    let decisions : List Lit = c.loop-standing.decisions.items in
     let new : List Lit = c.decide.new.decisions.items in
     let l : Lit = c.in-Some-choose.literal in
     let first = length c.args.decisions.now.items in
     let decided = c.in_ok-conflict-2.ensures.decided in
     let end : IsEnd old.state.live new c.decide.new.standing.0 =
     subst (λ o. MatchOption o (IsEnd old.state.live new c.decide.new.standing.0) (λ id. LeadsToConflict (constraints old.state) new)) c.in_default-2.is c.in_ok-conflict-2.ensures.end in
-    let fresh : AreUpToDate (constraints old.state) first new = subst (AreUpToDate (constraints old.state) first) (sym decided) (one_behind (constraints old.state) first decisions l c.loop-literal.invariant.4 (going g c).not_reached) in (
-      c.decide.ensures.same ∙ c.loop-literal.invariant.0,
+    let fresh : AreUpToDate (constraints old.state) first new = subst (AreUpToDate (constraints old.state) first) (sym decided) (one_behind (constraints old.state) first decisions l c.loop-standing.invariant.4 (going g c).not_reached) in (
+      c.decide.ensures.same ∙ c.loop-standing.invariant.0,
       subst IsConsistent (sym decided) (going g c).consistent,
-      c.decide.ensures.count ∙ c.loop-literal.invariant.2,
+      c.decide.ensures.count ∙ c.loop-standing.invariant.2,
       subst (λ (x : Logbook). IsEnd x.state.live new c.decide.new.standing.0) (sym c.decide.ensures.same) end,
       subst (λ (x : Logbook). AreUpToDate (constraints x.state) first new) (sym c.decide.ensures.same) fresh,
     )
+
+pub returns-in-Some-found-clause-up_to_date : goal.returns-in-Some-found-clause-up_to_date
+returns-in-Some-found-clause-up_to_date g c =
+    subst (λ (x : Logbook). AreUpToDate (constraints x.state) (length c.args.decisions.now.items) c.loop-standing.decisions.items) (c.loop-standing.invariant.0 ∙ c.stand.ensures.same) c.loop-standing.invariant.4

@@ -6,11 +6,11 @@ use Rattle.search.specs.Undoing.{AreUpToDate}
 use Rattle.search.specs.Values.{unlisted_below}
 use Rattle.search.proofs.descent.descend.Given as goal
 
-abbrev pub invariant-loop-literal : goal.invariant-loop-literal
-invariant-loop-literal g l =
+abbrev pub invariant-loop-standing : goal.invariant-loop-standing
+invariant-loop-standing g l =
     (l.log ≡ l.initial.log) × IsConsistent l.decisions.items × (length l.standing.1 ≡ l.count)
     × IsEnd l.log.state.live l.decisions.items l.standing.0
     × AreUpToDate (constraints l.log.state) (length l.initial.decisions.items) l.decisions.items
 
-abbrev pub decreases-loop-literal : goal.decreases-loop-literal
-decreases-loop-literal g l = unlisted_below l.count l.decisions.items
+abbrev pub decreases-loop-standing : goal.decreases-loop-standing
+decreases-loop-standing g l = unlisted_below l.count l.decisions.items

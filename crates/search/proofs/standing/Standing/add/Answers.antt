@@ -2,7 +2,7 @@
 use Rattle.std.proofs.Common.{◌++◌, ◌∷◌, [], List, sym, subst}
 use Rattle.linear.specs.declared.term.Lit.{Lit}
 use Rattle.search.specs.Values.{AreValuesUnder}
-use Rattle.search.specs.declared.brancher.Value.{Value}
+use Rattle.branching.specs.declared.brancher.Value.{Value}
 use Rattle.search.proofs.Choices.{values_more}
 use Rattle.search.proofs.standing.Standing.add.Goals as goal
 

@@ -3,10 +3,11 @@
 //! A brancher advises and no more: whatever it answers, the steps that are logged are legal, since an answer that is no
 //! free variable's literal is replaced. So it has no contract but that its calls return, anybody may write one, and it is
 //! handed in as a `Box<dyn Brancher>`. It is told of what rules of choice live on: what an analysis met, what was learned, what is
-//! no more assigned, solutions and restarts.
+//! no more assigned, solutions, restarts, and to what the linear relaxation leads; and how far the search has come.
 
 ghost use Rattle.std.specs.Prelude.{◌≡◌, None};
 
+use super::progress::Progress;
 use linear::{Lit, Problem, Var};
 
 /// What a search knows of a variable at a time.
@@ -42,6 +43,14 @@ pub trait Brancher: Drop {
 
     /// The search began anew: no decision is open.
     fn restarted(&mut self);
+
+    /// The linear relaxation of the problem has a best point under what stands, which leads to these literals: each of a variable that was
+    /// free.
+    fn lean(&mut self, literals: &[Lit]);
+
+    /// So far the search has come: it is told with each solution that is better than those before, and every so many conflicts. Nothing
+    /// is asked; a line may be printed.
+    fn progress(&mut self, progress: Progress);
 }
 
 /// Leaves every choice to the search, which takes the first free variable and sets it to false.
@@ -67,4 +76,8 @@ impl Brancher for First {
     fn solution(&mut self, _literals: &[Lit]) {}
 
     fn restarted(&mut self) {}
+
+    fn lean(&mut self, _literals: &[Lit]) {}
+
+    fn progress(&mut self, _progress: Progress) {}
 }

@@ -9,7 +9,7 @@ use Rattle.search.specs.Log.{Logbook}
 use Rattle.search.specs.Undoing.{IsOvertaken}
 use Rattle.search.specs.declared.clause.ConflictEnd.TheVariants as lessons
 use Rattle.search.proofs.UpToDate.{overtaken_first}
-use Rattle.search.proofs.solver.Run.resolve.Goals as goal
+use Rattle.search.proofs.run.Run.resolve.Goals as goal
 
 pub learn_clause-requires-clause-conflict : goal.learn_clause-requires-clause-conflict
 learn_clause-requires-clause-conflict g c =

@@ -1,4 +1,4 @@
-use Rattle.search.proofs.heap.Heap.rise.Given as goal
+use Rattle.branching.proofs.heap.Heap.rise.Given as goal
 
 abbrev pub decreases-loop-place : goal.decreases-loop-place
 decreases-loop-place l = l.place

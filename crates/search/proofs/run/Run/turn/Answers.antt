@@ -4,7 +4,7 @@ use Rattle.linear.specs.declared.term.Lit.{Lit}
 use Rattle.proof_rules.specs.State.{constraints}
 use Rattle.search.specs.Log.{Logbook}
 use Rattle.search.specs.Undoing.{AreUpToDate}
-use Rattle.search.proofs.solver.Run.turn.Goals as goal
+use Rattle.search.proofs.run.Run.turn.Goals as goal
 
 pub returns-then-is_empty-clause-found : goal.returns-then-is_empty-clause-found
 returns-then-is_empty-clause-found g c = c.in_ok-end_exhausted-in-Conflict.ensures.found c.args.limit

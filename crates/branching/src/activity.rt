@@ -7,10 +7,11 @@
 //!
 //! A variable takes the sign that it had last, since that is where the search was before it went back (Pipatsrisawat and
 //! Darwiche, 2007); at first the one that the objective likes; and after a restart that of the best solution, so that the search
-//! goes on near it.
+//! goes on near it. Where the linear relaxation has a best point, its variables take the signs that are nearest to that.
 
 use super::brancher::{Brancher, Value};
 use super::heap::Heap;
+use super::progress::Progress;
 use linear::{Integer, Lit, Problem, Term, Var};
 use std::alloc::{AllocError, Global};
 
@@ -169,4 +170,15 @@ impl Brancher for Activity {
             *phase = *best;
         }
     }
+
+    fn lean(&mut self, literals: &[Lit]) {
+        for literal in literals {
+            let place = literal.var.0 as usize;
+            if place < self.phases.len() {
+                self.phases[place] = !literal.negated;
+            }
+        }
+    }
+
+    fn progress(&mut self, _progress: Progress) {}
 }

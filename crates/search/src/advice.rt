@@ -1,0 +1,117 @@
+//! What a search does with a line of its advisers.
+//!
+//! The line is logged, so its constraint is live, and what it forces is forced from the next turn on. Where it has negative slack under
+//! what stands, the search goes back to where it says something first, as behind an analysis. If it forces a literal there it
+//! has taught what a conflict teaches. If it has negative slack there, an analysis begins with it, and what that comes to says more: then
+//! it goes, for sums of many constraints make each later propagation dearer.
+
+ghost use Rattle.std.specs.Prelude.{◌≡◌};
+
+use super::advisers::{Effect, Line};
+use super::cutting::variables_of;
+use super::fault::SearchFault;
+use super::run::Run;
+use analysis::{Bite, bite_on};
+use linear::{Seq, Var};
+use proof_steps::Step;
+use propagate::{Id, Propagator};
+use std::alloc::{AllocError, Global};
+
+/// A constraint that forces a literal where an adviser came to it is kept as if its literals were of so many levels.
+const LEVELS_OF_FORCING: u32 = 2;
+
+/// What is to be known of an advised constraint.
+#[derive(Drop)]
+struct Advised {
+    id: Id,
+    variables: Vec<Var>,
+    /// Where it says something first, if it does at all.
+    bite: Option<Bite>,
+}
+
+impl<'a, P: Propagator> Run<'a, P> {
+    ghost use Rattle.std.specs.Prelude.{◌≡◌, OnOk};
+    ghost use Rattle.propagate.specs.Literals.{IsConsistent};
+    ghost use Rattle.search.specs.Solving.{TakesId};
+
+    /// What is to be known of the constraint that was logged last.
+    fn last_advised(&self) -> Result<Option<Advised>, AllocError> {
+        let Ok(id) = Id::try_from(self.log.kernel().last_id()) else {
+            return Ok(None);
+        };
+        let Some(constraint) = self.log.kernel().constraint(id) else {
+            return Ok(None);
+        };
+        Ok(Some(Advised {
+            id,
+            variables: variables_of(self.alloc, constraint)?,
+            bite: bite_on(self.alloc, constraint, self.trail.entries())?,
+        }))
+    }
+
+    /// Logs a line, and goes on from what it says.
+    pub(crate) fn take_advice(&mut self, line: Line) -> Result<(), SearchFault>
+        requires { IsConsistent self.old.decisions.items }
+        ensures problem { self.new.log.problem ≡ self.old.log.problem }
+        ensures id { OnOk result (TakesId self.old.log.state self.new.log.state) }
+        ensures consistent { OnOk result (IsConsistent self.new.decisions.items) }
+    {
+        let Line { items, effect } = line;
+        self.log.apply(Step::Pol(items))?;
+        let Some(advised) = self.last_advised()? else {
+            return Ok(());
+        };
+        match effect {
+            Effect::Forcing => self.keep(&advised, LEVELS_OF_FORCING),
+            Effect::Conflict => self.take_conflict(&advised),
+        }
+    }
+
+    /// Keeps an advised constraint among what was learned, until it is forgotten.
+    fn keep(&mut self, advised: &Advised, levels: u32) -> Result<(), SearchFault>
+        ensures log { self.new.log ≡ self.old.log }
+        ensures decisions { self.new.decisions.items ≡ self.old.decisions.items }
+    {
+        let number = u64::from(advised.id);
+        Ok(self.learned.push(number, advised.variables.len(), levels)?)
+    }
+
+    /// Goes back to where an advised constraint with negative slack says something first.
+    fn take_conflict(&mut self, advised: &Advised) -> Result<(), SearchFault>
+        requires { IsConsistent self.old.decisions.items }
+        ensures problem { self.new.log.problem ≡ self.old.log.problem }
+        ensures next { OnOk result (self.new.log.state.next ≡ self.old.log.state.next) }
+        ensures consistent { OnOk result (IsConsistent self.new.decisions.items) }
+    {
+        self.advisers.brancher.met(advised.variables.as_slice());
+        let Some(bite) = advised.bite else {
+            return self.keep(advised, LEVELS_OF_FORCING);
+        };
+        self.decisions.truncate(bite.level as usize);
+        self.go_back();
+        if bite.is_falsified {
+            self.passing = Some(advised.id);
+            return Ok(());
+        }
+        self.advisers
+            .brancher
+            .conflict(advised.variables.as_slice());
+        self.keep(advised, bite.levels)?;
+        self.count_conflict()
+    }
+
+    /// Deletes the advised constraint that waited for an analysis, if there is one.
+    pub(crate) fn drop_passing(&mut self) -> Result<(), SearchFault>
+        ensures problem { self.new.log.problem ≡ self.old.log.problem }
+        ensures next { OnOk result (self.new.log.state.next ≡ self.old.log.state.next) }
+        ensures decisions { self.new.decisions.items ≡ self.old.decisions.items }
+    {
+        let Some(id) = self.passing else {
+            return Ok(());
+        };
+        self.passing = None;
+        let ids = vec![in self.alloc; i128::from(id); 1]?;
+        self.log.apply(Step::Del(Seq::from_vec(ids)))?;
+        Ok(())
+    }
+}

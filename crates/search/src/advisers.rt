@@ -1,0 +1,124 @@
+//! Who advises a search: a rule of choice, and the relaxation of its problem.
+//!
+//! Neither is believed. A literal that is picked is looked up before it is decided, and a line that the relaxation comes to is summed up
+//! exactly before it is handed out, and judged again by the log. So what they say costs time at most.
+
+ghost use Rattle.std.specs.Prelude.{IfOk, IfSome};
+ghost use Rattle.search.specs.Advised.{IsAdvised};
+
+use super::log::Log;
+use bounding::{Advice, Adviser, Node};
+use branching::Brancher;
+use linear::{Integer, Lit, Seq};
+use proof_steps::Item;
+use propagate::Propagator;
+use std::alloc::{AllocError, Global};
+
+/// A line that the relaxation comes to where a search stands.
+#[derive(Debug, Drop)]
+pub(crate) struct Line {
+    /// The items of the `pol` line.
+    pub(crate) items: Seq<Item>,
+    pub(crate) effect: Effect,
+}
+
+/// What a line says where the search stands.
+#[derive(Clone, Copy, Debug, PartialEq, Eq)]
+pub(crate) enum Effect {
+    /// Its constraint has negative slack.
+    Conflict,
+    /// Its constraint forces a literal.
+    Forcing,
+}
+
+/// The advisers of one search.
+#[derive(Drop)]
+pub(crate) struct Advisers {
+    pub(crate) brancher: Box<dyn Brancher>,
+    /// None where the problem is too large for one.
+    relaxation: Option<Adviser>,
+    /// From how many conflicts the search has learned.
+    conflicts: u64,
+}
+
+impl Advisers {
+    /// Those of a search that begins, whose log has the file's constraints.
+    pub(crate) fn new<'a, P: Propagator>(
+        alloc: Global,
+        log: &Log<'a, P>,
+        brancher: Box<dyn Brancher>,
+    ) -> Result<Self, AllocError> {
+        let mut brancher = brancher;
+        brancher.begin(log.problem());
+        Ok(Advisers {
+            brancher,
+            relaxation: Adviser::new(alloc, log.problem(), log.kernel())?,
+            conflicts: 0,
+        })
+    }
+
+    /// A line that says something under the literals that stand, where the relaxation is asked and comes to one. They came with so many open
+    /// decisions, and so many came since the search began.
+    pub(crate) fn ask<'a, P: Propagator>(
+        &mut self,
+        log: &Log<'a, P>,
+        standing: &[Lit],
+        decisions: usize,
+        literals: u64,
+    ) -> Result<Option<Line>, AllocError>
+        ensures { IfOk result (λ found. IfSome found (IsAdvised log.now.state standing.now)) }
+    {
+        let Some(adviser) = &mut self.relaxation else {
+            return Ok(None);
+        };
+        let node = Node {
+            standing,
+            decisions,
+            conflicts: self.conflicts,
+            literals,
+        };
+        match adviser.ask(log.kernel(), node)? {
+            Advice::Conflict(items) => Ok(Some(Line {
+                items,
+                effect: Effect::Conflict,
+            })),
+            Advice::Forcing(items) => {
+                self.brancher.lean(adviser.leanings());
+                Ok(Some(Line {
+                    items,
+                    effect: Effect::Forcing,
+                }))
+            }
+            Advice::Values => {
+                self.brancher.lean(adviser.leanings());
+                Ok(None)
+            }
+            Advice::Nothing => Ok(None),
+        }
+    }
+
+    /// An improving solution was logged last.
+    pub(crate) fn improve<'a, P: Propagator>(&mut self, log: &Log<'a, P>) {
+        if let Some(adviser) = &mut self.relaxation {
+            adviser.improve(log.kernel());
+        }
+    }
+
+    /// From how many conflicts the search has learned.
+    pub(crate) fn conflicts(&self) -> u64 {
+        self.conflicts
+    }
+
+    /// The search has learned from a conflict.
+    pub(crate) fn count_conflict(&mut self) {
+        self.conflicts = self.conflicts.saturating_add(1);
+    }
+
+    /// The bound of the relaxation at the root, where there is one. It may be wrong.
+    pub(crate) fn bound(&self) -> Option<Integer> {
+        match &self.relaxation {
+            Some(adviser) => adviser.bound(),
+            None => None,
+        }
+    }
+}

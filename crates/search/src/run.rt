@@ -1,0 +1,252 @@
+//! A run of the search: decisions, propagation, and what conflicts teach, a turn at a time.
+
+ghost use Rattle.std.specs.Prelude.{◌≡◌, IfOk, IfSome, IsNone};
+ghost use Rattle.search.specs.Solving.{BearsOut, TakesId};
+
+use super::advisers::Advisers;
+use super::clause::{ConflictEnd, learn_clause, least_conflict};
+use super::cutting::learn_constraint;
+use super::descent::{Descent, descend};
+use super::endings::{end_exhausted, end_solved, end_stopped, may_stop};
+use super::fault::SearchFault;
+use super::found::Found;
+use super::learned::LearnedConstraints;
+use super::log::Log;
+use super::restarts::Restarts;
+use super::trail::{Trail, level_of};
+use analysis::Analyser;
+use branching::Progress;
+use linear::{Lit, Seq};
+use proof_steps::Step;
+use propagate::{Id, Propagator};
+use std::alloc::{AllocError, Global};
+
+/// Logs a solution. Where there is an objective the search goes on for a better one, with no decision open.
+fn accept<'a, P: Propagator>(
+    log: &mut Log<'a, P>,
+    assigned: Seq<Lit>,
+    limit: u64,
+) -> Result<Option<Found>, SearchFault>
+    ensures problem { log.new.problem ≡ log.old.problem }
+    ensures found { IfOk result (λ end. IfSome end (BearsOut limit log.new)) }
+    ensures improved { IfOk result (λ end. IsNone end → TakesId log.old.state log.new.state) }
+{
+    if log.problem().objective().is_none() {
+        log.apply(Step::Sol(assigned))?;
+        return Ok(Some(end_solved(log)?));
+    }
+    if !log.has_room() {
+        return Ok(Some(end_stopped(log, limit)?));
+    }
+    log.improve(assigned)?;
+    Ok(None)
+}
+
+/// After so many conflicts each it is told how far the search has come.
+const CONFLICTS_BETWEEN_LINES: u64 = 1000;
+
+/// A run of the search, as it stands between two turns.
+#[derive(Drop)]
+pub(crate) struct Run<'a, P: Propagator> {
+    pub(crate) alloc: Global,
+    pub(crate) log: Log<'a, P>,
+    /// The number of the file's variables.
+    count: u32,
+    pub(crate) decisions: Vec<Lit>,
+    pub(crate) trail: Trail,
+    restarts: Restarts,
+    pub(crate) learned: LearnedConstraints,
+    analyser: Analyser,
+    pub(crate) advisers: Advisers,
+    /// An advised constraint that has negative slack where it came, and forces nothing sooner: one analysis begins with it, and then it
+    /// goes.
+    pub(crate) passing: Option<Id>,
+}
+
+impl<'a, P: Propagator> Run<'a, P> {
+    ghost use Rattle.std.specs.Prelude.{◌≡◌, ◌<◌, ℕ, [], IfOk, IfSome, IsNone, IsSome, OnOk, Some, length};
+    ghost use Rattle.propagate.specs.Chain.{LeadsToConflict};
+    ghost use Rattle.propagate.specs.Literals.{IsConsistent};
+    ghost use Rattle.proof_rules.specs.State.{HasRoom, constraints};
+    ghost use Rattle.search.specs.Solving.{BearsOut, TakesId};
+    ghost use Rattle.search.specs.Undoing.{AreUpToDate, IsUndone, NearsEnd};
+
+    /// A run that begins, with no decision.
+    pub(crate) fn new(
+        alloc: Global,
+        log: Log<'a, P>,
+        advisers: Advisers,
+    ) -> Result<Self, AllocError>
+        ensures log { IfOk result (λ run. run.log ≡ log.entry) }
+        ensures decisions { IfOk result (λ run. run.decisions.items ≡ []) }
+    {
+        let count = log.names().len() as u32;
+        Ok(Run {
+            alloc,
+            log,
+            count,
+            decisions: Vec::new(alloc),
+            trail: Trail::new(alloc, count)?,
+            restarts: Restarts::new(),
+            learned: LearnedConstraints::new(alloc),
+            analyser: Analyser::new(alloc),
+            advisers,
+            passing: None,
+        })
+    }
+
+    /// Learns from a conflict under the decisions, as long as an id is left; none where no decision is needed for it.
+    fn resolve(&mut self, conflict: Id) -> Result<Option<ConflictEnd>, SearchFault>
+        requires consistent { IsConsistent self.old.decisions.items }
+        requires conflict { LeadsToConflict (constraints self.old.log.state) self.old.decisions.items }
+        requires room { HasRoom self.old.log.state }
+        ensures problem { self.new.log.problem ≡ self.old.log.problem }
+        ensures learned { IfOk result (λ conflict_end. conflict_end ≡ Some ConflictEnd.Learned → TakesId self.old.log.state self.new.log.state) }
+        ensures same { IfOk result (λ conflict_end. conflict_end ≡ Some ConflictEnd.Undone → self.new.log ≡ self.old.log) }
+        ensures fewer { (first : ℕ) → AreUpToDate (constraints self.old.log.state) first self.old.decisions.items
+            → IfOk result (λ conflict_end. conflict_end ≡ Some ConflictEnd.Undone → length self.new.decisions.items < first) }
+        ensures consistent { OnOk result (IsConsistent self.new.decisions.items) }
+        ensures undone { IfOk result (λ conflict_end. IsSome conflict_end → IsUndone self.old.decisions.items self.new.decisions.items) }
+    {
+        let learned = learn_constraint(
+            self.alloc,
+            &mut self.log,
+            &mut self.decisions,
+            self.trail.entries(),
+            conflict,
+            &mut self.analyser,
+            &mut self.advisers.brancher,
+        )?;
+        if learned {
+            self.go_back();
+            return Ok(Some(ConflictEnd::Learned));
+        }
+        let count = least_conflict(&mut self.log, self.decisions.as_slice())?;
+        if count == 0 {
+            return Ok(None);
+        }
+        let conflict_end = learn_clause(
+            self.alloc,
+            &mut self.log,
+            &mut self.decisions,
+            count,
+            &mut self.advisers.brancher,
+        )?;
+        self.go_back();
+        Ok(Some(conflict_end))
+    }
+
+    /// Takes off the trail what came with decisions that are undone.
+    pub(crate) fn go_back(&mut self)
+        ensures log { self.new.log ≡ self.old.log }
+        ensures decisions { self.new.decisions.items ≡ self.old.decisions.items }
+    {
+        let level = level_of(self.decisions.as_slice());
+        self.trail.go_back(level, &mut self.advisers.brancher);
+    }
+
+    /// Notes what an analysis came by, and counts its conflict.
+    fn count_analysed(&mut self) -> Result<(), SearchFault>
+        requires { IsConsistent self.old.decisions.items }
+        ensures problem { self.new.log.problem ≡ self.old.log.problem }
+        ensures next { OnOk result (self.new.log.state.next ≡ self.old.log.state.next) }
+        ensures consistent { OnOk result (IsConsistent self.new.decisions.items) }
+    {
+        let met = &self.analyser.met;
+        self.learned
+            .push(self.log.kernel().last_id(), met.literals, met.levels)?;
+        self.learned.meet(met.ids.as_slice());
+        self.drop_passing()?;
+        self.count_conflict()
+    }
+
+    /// Tells how far the search has come.
+    fn tell_progress(&mut self)
+        ensures log { self.new.log ≡ self.old.log }
+        ensures decisions { self.new.decisions.items ≡ self.old.decisions.items }
+    {
+        let progress = Progress {
+            conflicts: self.advisers.conflicts(),
+            restarts: self.restarts.count(),
+            kept: self.learned.count() as u64,
+            best: self.log.least_value(),
+            bound: self.advisers.bound(),
+        };
+        self.advisers.brancher.progress(progress);
+    }
+
+    /// Counts a conflict that taught something; forgets half of what was learned, and begins anew, where that is due.
+    pub(crate) fn count_conflict(&mut self) -> Result<(), SearchFault>
+        requires { IsConsistent self.old.decisions.items }
+        ensures problem { self.new.log.problem ≡ self.old.log.problem }
+        ensures next { OnOk result (self.new.log.state.next ≡ self.old.log.state.next) }
+        ensures consistent { IsConsistent self.new.decisions.items }
+    {
+        self.advisers.count_conflict();
+        self.learned.count_conflict();
+        if self.advisers.conflicts() % CONFLICTS_BETWEEN_LINES == 0 {
+            self.tell_progress();
+        }
+        if self.learned.is_due() {
+            self.learned
+                .forget(self.alloc, &mut self.log, self.trail.entries())?;
+        }
+        if self.restarts.is_due() {
+            self.decisions.clear();
+            self.go_back();
+            self.advisers.brancher.restarted();
+        }
+        Ok(())
+    }
+
+    /// Decides until there is a conflict, a line of an adviser or a solution, and learns from that.
+    pub(crate) fn turn(&mut self, limit: u64) -> Result<Option<Found>, SearchFault>
+        requires { IsConsistent self.old.decisions.items }
+        ensures problem { self.new.log.problem ≡ self.old.log.problem }
+        ensures found { IfOk result (λ end. IfSome end (BearsOut limit self.new.log)) }
+        ensures goes_on { IfOk result (λ end. IsNone end
+            → NearsEnd self.old.log self.old.decisions.items self.new.log self.new.decisions.items) }
+        ensures consistent { OnOk result (IsConsistent self.new.decisions.items) }
+    {
+        let end = descend(
+            self.alloc,
+            &mut self.log,
+            &mut self.decisions,
+            &mut self.trail,
+            self.count,
+            &mut self.advisers,
+        )?;
+        match end {
+            Descent::Conflict(conflict) => {
+                if self.decisions.is_empty() {
+                    return Ok(Some(end_exhausted(&mut self.log)?));
+                }
+                if may_stop(&self.log, limit) {
+                    return Ok(Some(end_stopped(&mut self.log, limit)?));
+                }
+                match self.resolve(conflict)? {
+                    None => return Ok(Some(end_exhausted(&mut self.log)?)),
+                    Some(ConflictEnd::Learned) => self.count_analysed()?,
+                    Some(ConflictEnd::Undone) => {}
+                }
+                Ok(None)
+            }
+            Descent::Advised(line) => {
+                if !self.log.has_room() {
+                    return Ok(Some(end_stopped(&mut self.log, limit)?));
+                }
+                self.take_advice(line)?;
+                Ok(None)
+            }
+            Descent::Fixpoint(assigned) => {
+                self.decisions.clear();
+                self.advisers.brancher.solution(assigned.as_slice());
+                self.go_back();
+                let end = accept(&mut self.log, assigned, limit)?;
+                self.advisers.improve(&self.log);
+                self.tell_progress();
+                Ok(end)
+            }
+        }
+    }
+}
