@@ -15,10 +15,11 @@ pub(crate) struct Reporting<R: Eprint + Drop> {
 }
 
 /// A number that may not be known.
+#[derive(Clone, Copy, Debug)]
 struct Known(Option<Integer>);
 
 impl fmt::Display for Known {
-    fn fmt(&self, f: &mut fmt::Formatter<'_>) -> fmt::Result {
+    fn fmt<W: fmt::Write>(&self, f: &mut fmt::Formatter<W>) -> fmt::Result {
         match self.0 {
             Some(number) => write!(f, "{number}"),
             None => write!(f, "-"),
