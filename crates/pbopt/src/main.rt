@@ -132,7 +132,7 @@ struct Wanted<'a> {
 }
 
 /// The rule of choice, which says how far the search has come where that is wanted.
-fn brancher<R: Eprint + AllocGlobal + Clone + Drop>(
+fn brancher<R: Eprint + AllocGlobal + Clone + Drop + 'static>(
     rt: &R,
     wanted: &Wanted<'_>,
 ) -> Result<Box<dyn Brancher>, AllocError> {
@@ -144,7 +144,7 @@ fn brancher<R: Eprint + AllocGlobal + Clone + Drop>(
 }
 
 /// Reads the problem, makes the proof's file, solves, and writes the proof and then the answer. The result is the exit status.
-fn solve<R: Files + Print + Eprint + AllocGlobal + Clone + Drop>(
+fn solve<R: Files + Print + Eprint + AllocGlobal + Clone + Drop + 'static>(
     rt: &R,
     wanted: &Wanted<'_>,
 ) -> Result<u8, DeviceFailed> {
@@ -173,7 +173,7 @@ fn solve<R: Files + Print + Eprint + AllocGlobal + Clone + Drop>(
 }
 
 /// Takes the command line, and does what it asks for. The result is the exit status.
-fn take_command<R: Env + Files + Print + Eprint + AllocGlobal + Clone + Drop>(rt: &R) -> Result<u8, DeviceFailed> {
+fn take_command<R: Env + Files + Print + Eprint + AllocGlobal + Clone + Drop + 'static>(rt: &R) -> Result<u8, DeviceFailed> {
     let words = words(rt)?;
     let command = match command(rt.alloc()) {
         Ok(command) => command,
