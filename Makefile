@@ -2,7 +2,7 @@
 # does so for the checker alone; `make test` runs the gate: every proof from nothing, the edits that must fail, and the tests;
 # `make demo` finds an optimum and has its proof checked, and runs the checker on three pigeons in two holes, an optimum, a
 # symmetry and a new name; `make install` puts both programs and their manual pages under PREFIX.
-.PHONY: FORCE all test demo check install layout refused-growths statuses bench differential optima pigeons wrong-edits wrong-definitions wrong-bodies gate-minutes
+.PHONY: FORCE all test demo check install layout refused-growths statuses bench differential optima pigeons wrong-edits wrong-definitions wrong-bodies gate-minutes links picture sizes shared-names
 
 PREFIX ?= /usr/local
 
@@ -83,10 +83,24 @@ wrong-edits:
 wrong-definitions:
 	scripts/wrong-edits definitions
 
-# Writes the lists of docs/wrong-bodies.md anew from the edits.
+# Prints all edits that the prover must refuse, those of the gate and those beside it.
 wrong-bodies:
-	scripts/wrong-bodies > docs/wrong-bodies.md
+	@scripts/wrong-bodies
 
 # Runs the gate in a fresh clone, and prints its processor minutes crate by crate.
 gate-minutes:
 	scripts/gate-minutes
+
+# Asks whether the pages are still so: paths, links, commands, definitions, quoted contracts, the list of crates, the version.
+links:
+	scripts/links
+
+# Draws the crates by levels from crates.txt.
+picture:
+	scripts/layers-picture > docs/figures/layers.svg
+
+# How large the crates are, and which names several of them define.
+sizes:
+	@scripts/sizes
+shared-names:
+	@scripts/shared-names
