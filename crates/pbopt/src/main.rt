@@ -10,7 +10,7 @@ use command_line::{DeviceFailed, STANDARD_OUTPUT, device_failed, ended, given_by
 use devices::WriterSink;
 use pb_main::{RunFault, run, status};
 use reporting::Reporting;
-use search::{Activity, Brancher};
+use search::Activity;
 use std::alloc::{AllocError, Global};
 use std::io::{ErrorKind, Write};
 use std::process::ExitCode;
@@ -131,27 +131,28 @@ struct Wanted<'a> {
     shows_progress: bool,
 }
 
-/// The rule of choice, which says how far the search has come where that is wanted.
-fn brancher<R: Eprint + AllocGlobal + Clone + Drop + 'static>(
-    rt: &R,
-    wanted: &Wanted<'_>,
-) -> Result<Box<dyn Brancher>, AllocError> {
-    let rules = Activity::new(rt.alloc());
+/// Where lines about the progress go, if they are wanted.
+fn lines(rt: &HostRuntime, wanted: &Wanted<'_>) -> Result<Option<HostRuntime>, AllocError> {
     if wanted.shows_progress {
-        return Ok(Box::new(rt.alloc(), Reporting::new(rules, rt.clone()?))?);
+        Ok(Some(rt.clone()?))
+    } else {
+        Ok(None)
     }
-    Ok(Box::new(rt.alloc(), rules)?)
 }
 
 /// Reads the problem, makes the proof's file, solves, and writes the proof and then the answer. The result is the exit status.
-fn solve<R: Files + Print + Eprint + AllocGlobal + Clone + Drop + 'static>(
-    rt: &R,
+fn solve(
+    rt: &HostRuntime,
     wanted: &Wanted<'_>,
 ) -> Result<u8, DeviceFailed> {
     let opb = given_by(rt, wanted.problem, fs::read(rt, wanted.problem))?;
     let mut proof_out = proof_file(rt, wanted.proof)?;
     let mut out = WriterSink::new(io::writer(rt));
-    let Ok(brancher) = brancher(rt, wanted) else {
+    let Ok(lines) = lines(rt, wanted) else {
+        return without_memory(rt);
+    };
+    let rules = Reporting::new(Activity::new(rt.alloc()), lines);
+    let Ok(brancher) = Box::new(rt.alloc(), rules) else {
         return without_memory(rt);
     };
     let limit = wanted.limit.max(1);
@@ -173,7 +174,7 @@ fn solve<R: Files + Print + Eprint + AllocGlobal + Clone + Drop + 'static>(
 }
 
 /// Takes the command line, and does what it asks for. The result is the exit status.
-fn take_command<R: Env + Files + Print + Eprint + AllocGlobal + Clone + Drop + 'static>(rt: &R) -> Result<u8, DeviceFailed> {
+fn take_command(rt: &HostRuntime) -> Result<u8, DeviceFailed> {
     let words = words(rt)?;
     let command = match command(rt.alloc()) {
         Ok(command) => command,

@@ -1,4 +1,4 @@
-//! A rule of choice that also says how far the search has come, on standard error.
+//! A rule of choice that also says how far the search has come, on standard error, where that is wanted.
 //!
 //! Who waits wants to know whether it goes on: from how many conflicts the search has learned, and how far apart the best solution and the
 //! bound are. What is printed is for looking at: where it cannot be printed the search goes on all the same.
@@ -7,11 +7,11 @@ use linear::{Integer, Lit, Problem, Var};
 use search::{Activity, Brancher, Progress, Value};
 use std::fmt;
 
-/// Chooses by the conflicts, and prints a line with each solution, and every so many conflicts.
+/// Chooses by the conflicts, and prints a line with each solution, and every so many conflicts, where there is a place for lines.
 #[derive(Drop)]
-pub(crate) struct Reporting<R: Eprint + Drop> {
+pub(crate) struct Reporting {
     rules: Activity,
-    rt: R,
+    lines: Option<HostRuntime>,
 }
 
 /// A number that may not be known.
@@ -27,14 +27,14 @@ impl fmt::Display for Known {
     }
 }
 
-impl<R: Eprint + Drop> Reporting<R> {
-    /// The same choices, and lines on standard error.
-    pub(crate) fn new(rules: Activity, rt: R) -> Self {
-        Reporting { rules, rt }
+impl Reporting {
+    /// The same choices, and lines where there is a place for them.
+    pub(crate) fn new(rules: Activity, lines: Option<HostRuntime>) -> Self {
+        Reporting { rules, lines }
     }
 }
 
-impl<R: Eprint + Drop> Brancher for Reporting<R> {
+impl Brancher for Reporting {
     fn begin(&mut self, problem: &Problem) {
         self.rules.begin(problem);
     }
@@ -68,6 +68,9 @@ impl<R: Eprint + Drop> Brancher for Reporting<R> {
     }
 
     fn progress(&mut self, progress: Progress) {
+        let Some(rt) = &self.lines else {
+            return;
+        };
         let Progress {
             conflicts,
             restarts,
@@ -76,7 +79,7 @@ impl<R: Eprint + Drop> Brancher for Reporting<R> {
             bound,
         } = progress;
         let _ = eprintln!(
-            self.rt;
+            rt;
             "c conflicts {conflicts} restarts {restarts} kept {kept} best {} bound {}",
             Known(best),
             Known(bound)
