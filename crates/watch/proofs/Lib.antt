@@ -13,6 +13,7 @@ pub mod MadeAnew
 pub mod NamedChains
 pub mod NamedPlaces
 pub mod Placed
+pub mod PlacedRows
 pub mod Propagating
 pub mod Reasoned
 pub mod TakenBack
