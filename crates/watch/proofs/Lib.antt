@@ -16,6 +16,7 @@ pub mod Placed
 pub mod PlacedRows
 pub mod Propagating
 pub mod Reasoned
+pub mod Settling
 pub mod TakenBack
 pub mod ToldTail
 pub mod ToldTrail
