@@ -20,5 +20,6 @@ pub mod WatchMoves
 pub mod WatchedPlaces
 pub mod WatchedQuiet
 pub mod LastLiteral
+pub mod Latest
 pub mod TrailLiterals
 pub mod FalsifiedClauses

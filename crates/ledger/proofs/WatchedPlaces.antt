@@ -6,9 +6,9 @@ use Rattle.linear.specs.declared.term.Lit.{Lit}
 use Rattle.normal_form.specs.Normal.{NormalConstraint}
 use Rattle.ledger.specs.declared.pair.Pair.{Pair}
 use Rattle.linear.specs.Literal.{code}
-use Rattle.ledger.specs.Watched.{AreWatched, IsOpen, IsPairOf, IsPairWithin, IsWatched, StandsIn, Watching}
+use Rattle.ledger.specs.Watched.{AreWatched, IsPairOf, IsPairWithin, IsWatched, StandsIn, Tell, Watching}
 use Rattle.ledger.proofs.Attaching.{place_cases}
-use Rattle.ledger.proofs.FallingRows.{open_earlier, some_there}
+use Rattle.ledger.proofs.FallingRows.{some_there}
 
 abbrev Slots : Type 0
 Slots = List (Option NormalConstraint)
@@ -19,11 +19,11 @@ none_is_not_some x e = cc
 some_same : {X : Type 0} (x y : X) (o : Option X) → o ≡ Some x → o ≡ Some y → x ≡ y
 some_same x y o e f = cc
 
--- what watches the clause of a new place: nothing, or two of its open literals, in whose rows the place stands
+-- what watches the clause of a new place: nothing, or two of its literals that tell of it, in whose rows the place stands
 abbrev pub IsNewWatch : List (List ℕ) → List Lit → ℕ → ℕ → NormalConstraint → Option Pair → Type 0
 IsNewWatch rows assigned variables place n None = Unit {0}
 IsNewWatch rows assigned variables place n (Some p) =
-    IsPairOf n p × IsPairWithin variables p × IsOpen assigned p.first × IsOpen assigned p.second × StandsIn rows p.first place × StandsIn rows p.second place
+    IsPairOf n p × IsPairWithin variables p × ((h : ℕ) → Tell (take h assigned) n p) × StandsIn rows p.first place × StandsIn rows p.second place
 
 pair_cases : (pairs : List (Option Pair)) (o : Option Pair) (p : Pair) (k : ℕ) → get_or (pairs ++ o ∷ []) k None ≡ Some p → ((k < length pairs) × (get_or pairs k None ≡ Some p)) ⊎ ((k ≡ length pairs) × (o ≡ Some p))
 pair_cases pairs o p k e = elim (cases_eq k (length pairs)) [
@@ -38,7 +38,7 @@ new_watch : (rows : List (List ℕ)) (assigned : List Lit) (variables place : �
 new_watch rows assigned variables place n None p w e = absurd (none_is_not_some p e)
 new_watch rows assigned variables place n (Some q) p w e =
     subst (λ (r : Pair). IsWatched rows assigned place n r × IsPairWithin variables r) (some_same q p (Some q) refl e) (
-      record { of_it = w.0; first = w.4; second = w.5; tell = λ h. inl (open_earlier assigned q.first h w.2, open_earlier assigned q.second h w.3) },
+      record { of_it = w.0; first = w.3; second = w.4; tell = w.2 },
       w.1,
     )
 

@@ -1,9 +1,11 @@
 -- Clauses that are watched by two of their literals.
 use Rattle.std.specs.Prelude.{◌≡◌, ◌⊎◌, ℕ, ◌*◌, ◌<◌, ◌≤◌, true, false, List, [], Option, Some, None, Contains, length, take, is_some, slice_index_or}
 use Rattle.linear.specs.declared.term.Lit.{Lit}
+use Rattle.normal_form.specs.declared.term.NormalTerm.{NormalTerm}
 use Rattle.normal_form.specs.Normal.{NormalConstraint}
 use Rattle.linear.specs.Literal.{opposite}
 use Rattle.propagate.specs.Literals.{coefficient_of, lists}
+use Rattle.propagate.specs.Passes.{literal_of}
 use Rattle.ledger.specs.declared.pair.Pair.{Pair}
 use Rattle.linear.specs.Literal.{code}
 
@@ -42,6 +44,14 @@ pub record IsOpenBeside (assigned : List Lit) (n : NormalConstraint) (p : Pair) 
 abbrev pub Tell : List Lit → NormalConstraint → Pair → Type 0
 Tell assigned n p = (IsOpen assigned p.first × IsOpen assigned p.second)
     ⊎ ((lists assigned p.first ≡ true) ⊎ (lists assigned p.second ≡ true)) ⊎ AreOthersFalse assigned n p
+
+-- a literal is open under each beginning of the assignment under which another one is
+abbrev pub Outlasts : List Lit → Lit → Lit → Type 0
+Outlasts assigned l other = (h : ℕ) → IsOpen (take h assigned) other → IsOpen (take h assigned) l
+
+-- the same of the literals of two terms
+abbrev pub OutlastsTerm : List Lit → List NormalTerm → ℕ → ℕ → Type 0
+OutlastsTerm assigned terms k other = (d : NormalTerm) → Outlasts assigned (literal_of (slice_index_or terms k d)) (literal_of (slice_index_or terms other d))
 
 -- a place is in the row of a literal
 abbrev pub StandsIn : List (List ℕ) → Lit → ℕ → Type 0

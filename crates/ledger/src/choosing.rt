@@ -1,11 +1,11 @@
-//! Literals of a constraint that are still open, for a clause to be watched by.
+//! Literals of a constraint for a clause to be watched by: those that are still open, and of those that fell the last ones.
 
-ghost use Rattle.std.specs.Prelude.{◌≡◌, ◌<◌, ◌≤◌, ◌⊎◌, IfSome, IsTrue, MatchOption, length, slice_index_or};
+ghost use Rattle.std.specs.Prelude.{◌≡◌, ◌<◌, ◌≤◌, ◌⊎◌, ℕ, false, IfSome, IsTrue, MatchOption, length, slice_index_or, take};
 ghost use Rattle.normal_form.specs.declared.term.NormalTerm.{NormalTerm};
 ghost use Rattle.normal_form.specs.Normal.{Rises, variable_bound};
 ghost use Rattle.propagate.specs.Passes.{literal_of};
 ghost use Rattle.ledger.specs.Trails.{on_trail};
-ghost use Rattle.ledger.specs.Watched.{AreOthersFalse, IsClause, IsFalseBeside, IsOpen, IsOpenBeside, IsPairOf};
+ghost use Rattle.ledger.specs.Watched.{AreOthersFalse, IsClause, IsFalseBeside, IsOpen, IsOpenBeside, IsPairOf, Outlasts, OutlastsTerm, Tell};
 
 use super::assignment::Assignment;
 use super::pair::Pair;
@@ -69,24 +69,62 @@ pub(crate) fn open_beside(constraint: &Normal, trail: &Assignment, others: Pair)
     chosen
 }
 
-/// The place of the first term from a place on whose literal is open.
-fn open_term(constraint: &Normal, trail: &Assignment, from: usize) -> Option<usize>
-    requires { variable_bound constraint.now.terms ≤ trail.now.1 }
-    ensures { IfSome result (λ k. (from ≤ k) × (k < length constraint.now.terms) × ((d : NormalTerm)
-        → IsOpen trail.now.0 (literal_of (slice_index_or constraint.now.terms k d)))) }
+/// Whether a literal stays open as long as another one, while the literals that were propagated came.
+fn outlasts(trail: &Assignment, literal: Lit, other: Lit) -> bool
+    requires literal { literal.var.0 < trail.now.1 }
+    requires other { other.var.0 < trail.now.1 }
+    ensures yes { IsTrue result → Outlasts trail.now.0 literal other }
+    ensures no { result ≡ false → Outlasts trail.now.0 other literal }
 {
-    for index in from..constraint.len() {
-        if !trail.has(constraint.term(index).literal().opposite()) {
-            return Some(index);
-        }
+    if !trail.has(literal.opposite()) {
+        return true;
     }
-    None
+    if !trail.has(other.opposite()) {
+        return false;
+    }
+    trail.position(other.var.0 as usize) <= trail.position(literal.var.0 as usize)
 }
 
-/// Two open literals by which a constraint can be watched: it is a clause that asks for one, and has two.
-pub(crate) fn open_pair(constraint: &Normal, trail: &Assignment) -> Option<Pair>
+/// Of two terms the one whose literal stays open longer.
+fn later_of(constraint: &Normal, trail: &Assignment, one: usize, other: usize) -> usize
+    requires variables { variable_bound constraint.now.terms ≤ trail.now.1 }
+    requires one { one < length constraint.now.terms }
+    requires other { other < length constraint.now.terms }
+    ensures either { (result ≡ one) ⊎ (result ≡ other) }
+    ensures one { OutlastsTerm trail.now.0 constraint.now.terms result one }
+    ensures other { OutlastsTerm trail.now.0 constraint.now.terms result other }
+{
+    let first = constraint.term(one).literal();
+    let second = constraint.term(other).literal();
+    if outlasts(trail, first, second) {
+        one
+    } else {
+        other
+    }
+}
+
+/// Of the terms but for one, that whose literal stays open longest.
+fn latest_but(constraint: &Normal, trail: &Assignment, excluded: usize) -> usize
+    requires variables { variable_bound constraint.now.terms ≤ trail.now.1 }
+    requires two { 2 ≤ length constraint.now.terms }
+    ensures there { result < length constraint.now.terms }
+    ensures apart { result ≡ excluded → ⊥ }
+    ensures latest { (k : ℕ) → k < length constraint.now.terms → (k ≡ excluded → ⊥) → OutlastsTerm trail.now.0 constraint.now.terms result k }
+{
+    let mut latest = if excluded == 0 { 1 } else { 0 };
+    for index in 0..constraint.len() {
+        if index != excluded {
+            latest = later_of(constraint, trail, latest, index);
+        }
+    }
+    latest
+}
+
+/// Two literals by which a constraint can be watched, if it is a clause of two literals or more that asks for one: those that stay
+/// open longest while the literals that were propagated come, so that under each beginning of those the two tell of it.
+pub(crate) fn latest_pair(constraint: &Normal, trail: &Assignment) -> Option<Pair>
     requires { variable_bound constraint.now.terms ≤ trail.now.1 }
-    ensures { IfSome result (λ p. IsPairOf constraint.now p × IsOpen trail.now.0 p.first × IsOpen trail.now.0 p.second) }
+    ensures { IfSome result (λ p. IsPairOf constraint.now p × ((h : ℕ) → Tell (take h trail.now.0) constraint.now p)) }
 {
     if constraint.len() < 2 {
         return None;
@@ -97,8 +135,8 @@ pub(crate) fn open_pair(constraint: &Normal, trail: &Assignment) -> Option<Pair>
     if !is_clause(constraint) {
         return None;
     }
-    let first = open_term(constraint, trail, 0)?;
-    let second = open_term(constraint, trail, first + 1)?;
+    let first = latest_but(constraint, trail, constraint.len());
+    let second = latest_but(constraint, trail, first);
     Some(Pair {
         first: constraint.term(first).literal(),
         second: constraint.term(second).literal(),

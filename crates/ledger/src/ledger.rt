@@ -25,10 +25,10 @@ ghost use Rattle.propagate.specs.Walk.{IsQuiet};
 ghost use Rattle.ledger.specs.Hints.{IsHint, IsHintWithin};
 ghost use Rattle.ledger.specs.Entered.{AreEntriesOf, all_of};
 ghost use Rattle.ledger.specs.Ledgers.{AreReasons, HasSlack, IsPropagation, IsReason, constraint_at, open_sum, shown};
-ghost use Rattle.ledger.specs.Watched.{IsOpen, IsPairOf};
+ghost use Rattle.ledger.specs.Watched.{IsOpen, IsPairOf, Tell};
 
 use super::assignment::Assignment;
-use super::choosing::open_pair;
+use super::choosing::latest_pair;
 use super::entry_lists::{enter_counted, enter_watched, leave};
 use super::hint::{Hint, hint_of};
 use super::lowering::{lower, queue_below, raise};
@@ -402,12 +402,11 @@ impl Ledger {
         Ok(())
     }
 
-    /// Adds a clause at the next place, to be watched by two open literals.
+    /// Adds a clause at the next place, to be watched by two literals that tell of it under each beginning of the trail.
     fn attach_watched(&mut self, constraint: Normal, pair: Pair) -> Result<(), AllocError>
         requires variables { variable_bound constraint.terms ≤ self.old.variables }
         requires pair { IsPairOf constraint pair }
-        requires first { IsOpen self.old.propagated pair.first }
-        requires second { IsOpen self.old.propagated pair.second }
+        requires tell { (h : ℕ) → Tell (take h self.old.propagated) constraint pair }
         ensures ok { OnOk result (self.new ≡ record self.old { slots = self.old.slots ++ Some constraint ∷ [] }) }
         ensures err { OnErr result (self.new ≡ self.old) }
     {
@@ -426,7 +425,7 @@ impl Ledger {
         ensures ok { OnOk result (self.new ≡ record self.old { slots = self.old.slots ++ Some constraint ∷ [] }) }
         ensures err { OnErr result (self.new ≡ self.old) }
     {
-        match open_pair(&constraint, &self.trail) {
+        match latest_pair(&constraint, &self.trail) {
             None => self.attach_counted(constraint),
             Some(pair) => self.attach_watched(constraint, pair),
         }

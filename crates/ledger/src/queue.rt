@@ -6,7 +6,7 @@
 //! A place that is known to be falsified comes before all others, also where it waits already: a walk ends there, and what
 //! else waits is not forced in vain.
 
-ghost use Rattle.std.specs.Prelude.{◌≡◌, ◌+◌, ◌<◌, ◌≤◌, ◌∷◌, [], ℕ, IfSome, OnOk, OnErr, MatchOption, Contains, length};
+ghost use Rattle.std.specs.Prelude.{◌≡◌, ◌↔◌, ◌+◌, ◌<◌, ◌≤◌, ◌∷◌, [], ℕ, IfSome, IsTrue, OnOk, OnErr, MatchOption, Contains, length};
 ghost use Rattle.std.specs.VecDeque.{deque_capacity};
 
 use std::alloc::{AllocError, Global};
@@ -53,6 +53,13 @@ impl Queue {
         ensures { length self.now.0 ≤ self.now.1 + 1 }
     {
         let _ = &self.places;
+    }
+
+    /// Whether nothing waits.
+    pub fn is_empty(&self) -> bool
+        ensures { IsTrue result ↔ (self.now.0 ≡ []) }
+    {
+        self.first.is_none() && self.places.is_empty()
     }
 
     /// Adds a place, unless it waits already.

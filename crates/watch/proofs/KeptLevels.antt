@@ -1,19 +1,21 @@
 -- Levels of given literals, when the trail grows and when it is backtracked.
-use Rattle.std.proofs.Common.{◌≡◌, ℕ, suc, ◌+◌, ◌-◌, ◌<◌, ◌≤◌, inl, inr, true, false, Option, None, Some, List, [], ◌∷◌, ◌++◌, length, get_or, map, take, refl, ap, sym, subst, ◌∙◌, length-append, arith}
+use Rattle.std.proofs.Common.{◌≡◌, ℕ, suc, ◌+◌, ◌<◌, ◌≤◌, inl, inr, true, false, Contains, OnErr, OnOk, Result, Ok, Err, Option, None, Some, List, [], ◌∷◌, ◌++◌, length, get_or, map, take, refl, ap, sym, subst, ◌∙◌, length-append, arith}
 use Rattle.std.proofs.lemmas.Bool.{false≢true, cases_lt}
 use Rattle.std.proofs.lemmas.List.{get_or-take, get_or_append_left, get_or_default, get_or_past, get_or_push, length-take-le, take-append-le, take-take, take_more}
-use Rattle.std.proofs.Math.Seq.{take-append_seam, take-length}
+use Rattle.std.proofs.Math.Seq.{take-length}
 use Rattle.linear.specs.declared.term.Lit.{Lit}
 use Rattle.normal_form.specs.Normal.{NormalConstraint}
 use Rattle.propagate.specs.Literals.{lists}
+use Rattle.propagate.specs.Walk.{IsQuiet}
 use Rattle.propagate.proofs.Assignments.{among_cases, among_left, among_right}
 use Rattle.watch.specs.Givens.{HasAll, IsGiven}
-use Rattle.watch.specs.Keeping.{AreLevels, IsKept, IsLevel, height_of}
-use Rattle.ledger.specs.Ledgers.{State, shown}
+use Rattle.watch.specs.Keeping.{AreLevels, AreSettled, IsKept, IsLevel, height_of}
+use Rattle.ledger.specs.Ledgers.{State, constraint_at, shown}
 use Rattle.watch.specs.Looking.{AreLookedAt, GoesOn}
 use Rattle.watch.specs.Roots.{AllForced, IsRoot}
 use Rattle.watch.specs.Steps.{AreGiven}
 use Rattle.watch.proofs.GivenOnes.{one_within}
+use Rattle.watch.proofs.Settling.{looked_late, none_settled, settled_back, settled_more, settled_on, settled_pushed}
 use Rattle.watch.proofs.GivenReasons.{given_added, given_root, given_walked, take_within}
 
 -- a level that ends below what is added
@@ -141,6 +143,11 @@ height_back assigned heights level count j h k e low = elim (cases_lt j level) [
       get_or_past (take level heights) j (length (take count assigned)) (omega (arith, same, length-take-le level heights k)) ∙ length-take-le count assigned low ∙ e ∙ ap (height_of assigned heights) (sym is)
 ]
 
+-- the levels below one begin below it
+under_level : (assigned : List Lit) (reasons : List (Option ℕ)) (given : List Lit) (heights : List ℕ) (level count j : ℕ) → j < level → level < length given → ((end : ℕ) → count ≡ get_or heights level end) → AreLevels assigned reasons given heights → get_or heights j 0 ≤ count
+under_level assigned reasons given heights level count j low h is v =
+    omega (arith, v.rise j level (omega (arith, low)) (omega (arith, h)), is (length assigned), get_or_default heights j 0 (length assigned) (omega (arith, low, h, v.as_many)))
+
 pub levels_back : (assigned : List Lit) (reasons : List (Option ℕ)) (given : List Lit) (heights : List ℕ) (level count : ℕ) → level ≤ length given → count ≡ height_of assigned heights level → AreLevels assigned reasons given heights
     → AreLevels (take count assigned) (take count reasons) (take level given) (take level heights)
 levels_back assigned reasons given heights level count h e v =
@@ -169,8 +176,8 @@ levels_back assigned reasons given heights level count h e v =
     }
 
 -- what is kept, after each change of the trail
-pub kept_fixpoint : (old new : State) (levels : List Lit × List ℕ) (q q' : List ℕ) (c c' : ℕ) → length old.reasons ≡ length old.assigned → length new.reasons ≡ length new.assigned → GoesOn old new → c' ≡ c → AreLookedAt (shown old.slots) new.propagated q' → IsKept old levels q c → IsKept new levels q' c'
-kept_fixpoint old new levels q q' c c' many all g e looked k =
+pub kept_fixpoint : (old new : State) (levels : List Lit × List ℕ × List ℕ) (q q' : List ℕ) (c c' : ℕ) → length old.reasons ≡ length old.assigned → length new.reasons ≡ length new.assigned → GoesOn old new → take (length old.propagated) new.propagated ≡ old.propagated → c' ≡ c → AreLookedAt (shown old.slots) new.propagated q' → IsKept old levels q c → IsKept new levels q' c'
+kept_fixpoint old new levels q q' c c' many all g first e looked k =
     let added : List (Option ℕ) = map Some g.reasons.0 in
     let lengths : length (old.reasons ++ added) ≡ length (old.assigned ++ g.assigned.0) = ap (length {A = Option ℕ}) (sym g.reasons.1) ∙ all ∙ ap (length {A = Lit}) g.assigned.2 in
     let given = given_walked old.assigned g.assigned.0 old.reasons g.reasons.0 levels.0 many lengths (top_given old.assigned old.reasons levels.0 levels.1 many k.levels_are) in
@@ -178,14 +185,16 @@ kept_fixpoint old new levels q q' c c' many all g e looked k =
       places = e ∙ k.places ∙ ap (length {A = Option NormalConstraint}) (sym g.slots);
       looked_at = subst (λ (os : List (Option NormalConstraint)). AreLookedAt (shown os) new.propagated q') (sym g.slots) looked;
       levels_are = rw (g.assigned.2, g.reasons.1) (levels_grown old.assigned g.assigned.0 old.reasons added levels.0 levels.1 many lengths k.levels_are given);
+      settled = rw g.slots (settled_on (shown old.slots) old.propagated new.propagated levels.1 levels.2 first k.settled);
     }
 
 given_more : (xs : List Lit) (rs : List (Option ℕ)) (given : List Lit) (l : Lit) → AreGiven xs rs given → AreGiven xs rs (given ++ l ∷ [])
 given_more xs rs given l a k d low none = among_left given (l ∷ []) ((get_or xs k d).var.0) (get_or xs k d).negated (a k d low none)
 
-pub kept_opened : (old new : State) (levels pushed : List Lit × List ℕ) (l : Lit) (height : ℕ) (q q' : List ℕ) (c c' : ℕ) → length old.reasons ≡ length old.assigned → length new.reasons ≡ length new.assigned → IsGiven old new (l ∷ []) → lists new.assigned l ≡ true → c' ≡ c → AreLookedAt (shown old.slots) new.propagated q'
-    → pushed ≡ (levels.0 ++ l ∷ [], levels.1 ++ height ∷ []) → height ≡ length old.assigned → IsKept old levels q c → IsKept new pushed q' c'
-kept_opened old new levels pushed l height q q' c c' many all g here e looked is low k =
+pub kept_opened : (old new : State) (levels pushed : List Lit × List ℕ × List ℕ) (l : Lit) (height count : ℕ) (q q' : List ℕ) (c c' : ℕ) → length old.reasons ≡ length old.assigned → length new.reasons ≡ length new.assigned → IsGiven old new (l ∷ []) → lists new.assigned l ≡ true → c' ≡ c → AreLookedAt (shown old.slots) new.propagated q'
+    → pushed ≡ (levels.0 ++ l ∷ [], levels.1 ++ height ∷ [], levels.2 ++ count ∷ []) → height ≡ length old.assigned → new.propagated ≡ old.propagated
+    → ((k : ℕ) → k < count → (k < length (shown old.slots)) × (old.propagated ≡ old.assigned) × IsQuiet old.propagated (constraint_at (shown old.slots) k)) → IsKept old levels q c → IsKept new pushed q' c'
+kept_opened old new levels pushed l height count q q' c c' many all g here e looked is low same settled k =
     let rest : List (Option ℕ) = g.reasons.0 in
     let lengths : length (old.reasons ++ rest) ≡ length (old.assigned ++ g.added) = ap (length {A = Option ℕ}) (sym g.reasons.1) ∙ all ∙ ap (length {A = Lit}) g.assigned in
     let before = given_more old.assigned old.reasons levels.0 l (top_given old.assigned old.reasons levels.0 levels.1 many k.levels_are) in
@@ -195,25 +204,30 @@ kept_opened old new levels pushed l height q q' c c' many all g here e looked is
       places = e ∙ k.places ∙ ap (length {A = Option NormalConstraint}) (sym g.slots);
       looked_at = subst (λ (os : List (Option NormalConstraint)). AreLookedAt (shown os) new.propagated q') (sym g.slots) looked;
       levels_are = rw (g.assigned, g.reasons.1, is, low) there;
+      settled = rw (g.slots, same, is, low) (settled_pushed (shown old.slots) old.propagated old.assigned levels.1 levels.2 count settled k.settled);
     }
 
-pub kept_back : (old new : State) (levels back : List Lit × List ℕ) (level count : ℕ) (q q' : List ℕ) (c c' : ℕ) → level ≤ length levels.0 → count ≡ height_of old.assigned levels.1 level → new.slots ≡ old.slots → new.assigned ≡ take count old.assigned → new.reasons ≡ take count old.reasons → c' ≡ c
-    → AreLookedAt (shown old.slots) new.propagated q' → back ≡ (take level levels.0, take level levels.1) → IsKept old levels q c → IsKept new back q' c'
-kept_back old new levels back level count q q' c c' h is slots assigned reasons e looked f k = record {
-  places = e ∙ k.places ∙ ap (length {A = Option NormalConstraint}) (sym slots);
-  looked_at = subst (λ (os : List (Option NormalConstraint)). AreLookedAt (shown os) new.propagated q') (sym slots) looked;
-  levels_are = rw (assigned, reasons, f) (levels_back old.assigned old.reasons levels.0 levels.1 level count h is k.levels_are);
-}
+pub kept_back : (old new : State) (levels back : List Lit × List ℕ × List ℕ) (level count : ℕ) (q q' : List ℕ) (c c' : ℕ) → level < length levels.0 → ((end : ℕ) → count ≡ get_or levels.1 level end) → new.slots ≡ old.slots → new.assigned ≡ take count old.assigned → new.propagated ≡ take count old.propagated → new.reasons ≡ take count old.reasons → c' ≡ c
+    → ((k : ℕ) → get_or levels.2 level 0 ≤ k → k < length old.slots → Contains q' k) → back ≡ (take level levels.0, take level levels.1, take level levels.2) → IsKept old levels q c → IsKept new back q' c'
+kept_back old new levels back level count q q' c c' h is slots assigned propagated reasons e queued f k =
+    let there : level < length levels.1 = omega (arith, h, k.levels_are.as_many) in
+    record {
+      places = e ∙ k.places ∙ ap (length {A = Option NormalConstraint}) (sym slots);
+      looked_at = rw (slots, propagated) (looked_late old.slots old.propagated levels.1 levels.2 level count q' (is 0) queued k.settled);
+      levels_are = rw (assigned, reasons, f) (levels_back old.assigned old.reasons levels.0 levels.1 level count (omega (arith, h)) (is (length old.assigned)) k.levels_are);
+      settled = rw (slots, propagated, f) (settled_back (shown old.slots) old.propagated levels.1 levels.2 level count (is 0) there (λ j low. under_level old.assigned old.reasons levels.0 levels.1 level count j low h is k.levels_are) k.settled);
+    }
 
-pub height_low : (s : State) (levels : List Lit × List ℕ) (q : List ℕ) (c level : ℕ) → IsKept s levels q c → level ≤ length levels.0 → height_of s.assigned levels.1 level ≤ length s.assigned
+pub height_low : (s : State) (levels : List Lit × List ℕ × List ℕ) (q : List ℕ) (c level : ℕ) → IsKept s levels q c → level ≤ length levels.0 → height_of s.assigned levels.1 level ≤ length s.assigned
 height_low s levels q c level k h = below_end s.assigned s.reasons levels.0 levels.1 level k.levels_are h
 
 -- other constraints, the trail as it was
-pub kept_same : (old new : State) (levels : List Lit × List ℕ) (q q' : List ℕ) (c c' : ℕ) → new.assigned ≡ old.assigned → new.reasons ≡ old.reasons → c' ≡ length new.slots → AreLookedAt (shown new.slots) new.propagated q' → IsKept old levels q c → IsKept new levels q' c'
-kept_same old new levels q q' c c' assigned reasons e looked k = record {
+pub kept_same : (old new : State) (levels : List Lit × List ℕ × List ℕ) (q q' : List ℕ) (c c' : ℕ) → new.assigned ≡ old.assigned → new.reasons ≡ old.reasons → c' ≡ length new.slots → AreLookedAt (shown new.slots) new.propagated q' → AreSettled (shown new.slots) new.propagated levels.1 levels.2 → IsKept old levels q c → IsKept new levels q' c'
+kept_same old new levels q q' c c' assigned reasons e looked settled k = record {
   places = e;
   looked_at = looked;
   levels_are = rw (assigned, reasons) k.levels_are;
+  settled = settled;
 }
 
 -- where nothing is given, all is forced
@@ -227,16 +241,16 @@ all_forced (Some p ∷ rs) h =
     let rest = all_forced rs (λ k low. h (suc k) (omega (arith, low))) in
     (p ∷ rest.0, ap (λ (os : List (Option ℕ)). Some p ∷ os) rest.1)
 
-pub root_kept : (s : State) (levels : List Lit × List ℕ) (q : List ℕ) (c : ℕ) → length s.reasons ≡ length s.assigned → levels ≡ ([], []) → IsKept s levels q c → IsRoot s q c
+pub root_kept : (s : State) (levels : List Lit × List ℕ × List ℕ) (q : List ℕ) (c : ℕ) → length s.reasons ≡ length s.assigned → levels ≡ ([], [], []) → IsKept s levels q c → IsRoot s q c
 root_kept s levels q c many e k =
-    let none : AreLevels s.assigned s.reasons [] [] = subst (λ (p : List Lit × List ℕ). AreLevels s.assigned s.reasons p.0 p.1) e k.levels_are in
+    let none : AreLevels s.assigned s.reasons [] [] = subst (λ (p : List Lit × List ℕ × List ℕ). AreLevels s.assigned s.reasons p.0 p.1) e k.levels_are in
     record {
       places = k.places;
       looked_at = k.looked_at;
       forced = all_forced s.reasons (nothing_given s.assigned s.reasons (top_given s.assigned s.reasons [] [] many none) many);
     }
 
-pub kept_root : (s : State) (levels : List Lit × List ℕ) (q : List ℕ) (c : ℕ) → length s.reasons ≡ length s.assigned → levels ≡ ([], []) → IsRoot s q c → IsKept s levels q c
+pub kept_root : (s : State) (levels : List Lit × List ℕ × List ℕ) (q : List ℕ) (c : ℕ) → length s.reasons ≡ length s.assigned → levels ≡ ([], [], []) → IsRoot s q c → IsKept s levels q c
 kept_root s levels q c many e r =
     let none : AreLevels s.assigned s.reasons [] [] = record {
       as_many = refl;
@@ -251,38 +265,49 @@ kept_root s levels q c many e r =
     record {
       places = r.places;
       looked_at = r.looked_at;
-      levels_are = subst (λ (p : List Lit × List ℕ). AreLevels s.assigned s.reasons p.0 p.1) (sym e) none;
+      levels_are = subst (λ (p : List Lit × List ℕ × List ℕ). AreLevels s.assigned s.reasons p.0 p.1) (sym e) none;
+      settled = subst (λ (p : List Lit × List ℕ × List ℕ). AreSettled (shown s.slots) s.propagated p.1 p.2) (sym e) (none_settled (shown s.slots) s.propagated);
     }
 
-pub kept_wider : (old new : State) (levels : List Lit × List ℕ) (q : List ℕ) (c : ℕ) → new.slots ≡ old.slots → new.assigned ≡ old.assigned → new.propagated ≡ old.propagated → new.reasons ≡ old.reasons → IsKept old levels q c → IsKept new levels q c
+pub kept_wider : (old new : State) (levels : List Lit × List ℕ × List ℕ) (q : List ℕ) (c : ℕ) → new.slots ≡ old.slots → new.assigned ≡ old.assigned → new.propagated ≡ old.propagated → new.reasons ≡ old.reasons → IsKept old levels q c → IsKept new levels q c
 kept_wider old new levels q c slots assigned propagated reasons k =
     let looked : AreLookedAt (shown new.slots) new.propagated q = rw (slots, propagated) k.looked_at in
-    kept_same old new levels q q c c assigned reasons (k.places ∙ ap (length {A = Option NormalConstraint}) (sym slots)) looked k
+    let settled : AreSettled (shown new.slots) new.propagated levels.1 levels.2 = rw (slots, propagated) k.settled in
+    kept_same old new levels q q c c assigned reasons (k.places ∙ ap (length {A = Option NormalConstraint}) (sym slots)) looked settled k
 
 -- the first literals of an assignment are among it
 pub firsts_within : (xs given : List Lit) (k : ℕ) → xs ≡ take k given → (l : Lit) → lists xs l ≡ true → lists given l ≡ true
 firsts_within xs given k e l h = take_within given k (l.var.0) l.negated (ap (λ (ys : List Lit). lists ys l) (sym e) ∙ h)
 
-pub kept_given : (s : State) (levels : List Lit × List ℕ) (q : List ℕ) (c k : ℕ) (given : List Lit) → length s.reasons ≡ length s.assigned → levels.0 ≡ take k given → IsKept s levels q c → AreGiven s.assigned s.reasons given
+pub kept_given : (s : State) (levels : List Lit × List ℕ × List ℕ) (q : List ℕ) (c k : ℕ) (given : List Lit) → length s.reasons ≡ length s.assigned → levels.0 ≡ take k given → IsKept s levels q c → AreGiven s.assigned s.reasons given
 kept_given s levels q c k given many e kept j d low none =
     firsts_within levels.0 given k e (get_or s.assigned j d) (top_given s.assigned s.reasons levels.0 levels.1 many kept.levels_are j d low none)
 
 pub next_first : (xs given : List Lit) (k : ℕ) (d : Lit) → k < length given → xs ≡ take k given → xs ++ get_or given k d ∷ [] ≡ take (k + 1) given
 next_first xs given k d low e = ap (λ (ys : List Lit). ys ++ get_or given k d ∷ []) e ∙ sym (take_more given k d low)
 
-pub kept_has : (s : State) (levels : List Lit × List ℕ) (q : List ℕ) (c : ℕ) (given : List Lit) → levels.0 ≡ given → IsKept s levels q c → HasAll given s.assigned
+pub kept_has : (s : State) (levels : List Lit × List ℕ × List ℕ) (q : List ℕ) (c : ℕ) (given : List Lit) → levels.0 ≡ given → IsKept s levels q c → HasAll given s.assigned
 kept_has s levels q c given e k = subst (λ (xs : List Lit). HasAll xs s.assigned) e (top_has s.assigned s.reasons levels.0 levels.1 k.levels_are)
 
--- a level that was opened, and closed again
-pub level_closed : (old mid new : List Lit × List ℕ) (l : Lit) (height count : ℕ) → mid ≡ (old.0 ++ l ∷ [], old.1 ++ height ∷ []) → count ≡ length mid.0 → length old.1 ≡ length old.0 → new ≡ (take (count - 1) mid.0, take (count - 1) mid.1) → new ≡ old
-level_closed old mid new l height count e counts many is =
-    let first : mid.0 ≡ old.0 ++ l ∷ [] = ap (λ (p : List Lit × List ℕ). p.0) e in
-    let second : mid.1 ≡ old.1 ++ height ∷ [] = ap (λ (p : List Lit × List ℕ). p.1) e in
-    let short : count - 1 ≡ length old.0 = omega (arith, counts, ap (length {A = Lit}) first, length-append old.0 (l ∷ [])) in
-    let left : take (count - 1) mid.0 ≡ old.0 = ap (λ (n : ℕ). take n mid.0) short ∙ ap (take (length old.0)) first ∙ take-append_seam old.0 (l ∷ []) in
-    let right : take (count - 1) mid.1 ≡ old.1 = ap (λ (n : ℕ). take n mid.1) (short ∙ sym many) ∙ ap (take (length old.1)) second ∙ take-append_seam old.1 (height ∷ []) in
-    is ∙ ap (λ (xs : List Lit). (xs, take (count - 1) mid.1)) left ∙ ap (λ (ys : List ℕ). (old.0, ys)) right
+-- one constraint more
+pub kept_attached : (old new : State) (levels : List Lit × List ℕ × List ℕ) (q q' : List ℕ) (c c' : ℕ) (n : NormalConstraint) → new.slots ≡ old.slots ++ Some n ∷ [] → new.assigned ≡ old.assigned → new.propagated ≡ old.propagated → new.reasons ≡ old.reasons → c' ≡ length new.slots → AreLookedAt (shown new.slots) new.propagated q' → IsKept old levels q c → IsKept new levels q' c'
+kept_attached old new levels q q' c c' n slots assigned propagated reasons e looked k =
+    kept_same old new levels q q' c c' assigned reasons e looked (rw (slots, propagated) (settled_more old.slots n old.propagated levels.1 levels.2 k.settled)) k
 
--- more waits
-pub kept_longer : (s : State) (levels : List Lit × List ℕ) (q q' : List ℕ) (count after : ℕ) → after ≡ count → AreLookedAt (shown s.slots) s.propagated q' → IsKept s levels q count → IsKept s levels q' after
-kept_longer s levels q q' count after e looked k = record { places = e ∙ k.places; looked_at = looked; levels_are = k.levels_are }
+pub kept_waiting : (old new : State) (levels : List Lit × List ℕ × List ℕ) (q q' : List ℕ) (c c' : ℕ) → new.slots ≡ old.slots → new.assigned ≡ old.assigned → new.propagated ≡ old.propagated → new.reasons ≡ old.reasons → c' ≡ length new.slots → AreLookedAt (shown new.slots) new.propagated q' → IsKept old levels q c → IsKept new levels q' c'
+kept_waiting old new levels q q' c c' slots assigned propagated reasons e looked k =
+    kept_same old new levels q q' c c' assigned reasons e looked (rw (slots, propagated) k.settled) k
+
+-- back to the last level is nowhere
+pub all_levels : (s : State) (levels : List Lit × List ℕ × List ℕ) (q : List ℕ) (c level : ℕ) → level ≡ length levels.0 → IsKept s levels q c → levels ≡ (take level levels.0, take level levels.1, take level levels.2)
+all_levels s levels q c level e k =
+    let first : take level levels.0 ≡ levels.0 = ap (λ (n : ℕ). take n levels.0) e ∙ take-length levels.0 in
+    let second : take level levels.1 ≡ levels.1 = ap (λ (n : ℕ). take n levels.1) (e ∙ sym k.levels_are.as_many) ∙ take-length levels.1 in
+    let third : take level levels.2 ≡ levels.2 = ap (λ (n : ℕ). take n levels.2) (e ∙ sym k.levels_are.as_many ∙ sym k.settled.as_many) ∙ take-length levels.2 in
+    sym (ap (λ (xs : List Lit). (xs, take level levels.1, take level levels.2)) first ∙ ap (λ (ys : List ℕ). (levels.0, ys, take level levels.2)) second ∙ ap (λ (ys : List ℕ). (levels.0, levels.1, ys)) third)
+
+-- one constraint more, or none where memory ended
+pub kept_maybe_attached : {X E : Type 0} (r : Result X E) (old new : State) (levels : List Lit × List ℕ × List ℕ) (q q' : List ℕ) (c c' : ℕ) (n : NormalConstraint) → OnOk r (new.slots ≡ old.slots ++ Some n ∷ []) → OnErr r (new.slots ≡ old.slots)
+    → new.assigned ≡ old.assigned → new.propagated ≡ old.propagated → new.reasons ≡ old.reasons → c' ≡ length new.slots → AreLookedAt (shown new.slots) new.propagated q' → IsKept old levels q c → IsKept new levels q' c'
+kept_maybe_attached (Ok x) old new levels q q' c c' n more same = kept_attached old new levels q q' c c' n more
+kept_maybe_attached (Err e) old new levels q q' c c' n more same = kept_waiting old new levels q q' c c' same

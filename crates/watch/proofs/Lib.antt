@@ -13,8 +13,10 @@ pub mod MadeAnew
 pub mod NamedChains
 pub mod NamedPlaces
 pub mod Placed
+pub mod PlacedRows
 pub mod Propagating
 pub mod Reasoned
+pub mod Settling
 pub mod TakenBack
 pub mod ToldTail
 pub mod ToldTrail

@@ -1,11 +1,11 @@
--- Which place a table by id gives.
+-- Which place a row gives.
 use Rattle.std.proofs.Common.{◌≡◌, ◌++◌, ◌+◌, ◌<◌, ◌≤◌, ℕ, zero, suc, Bool, cond, List, [], ◌∷◌, Option, None, Some, length, get_or, set, refl, sym, ap, subst, ◌∙◌, inl, inr, arith}
 use Rattle.std.specs.BTreeMap.{is_at}
 use Rattle.std.specs.Ordering.{nat_cmp}
 use Rattle.std.proofs.lemmas.Bool.{cases_eq, cases_lt}
 use Rattle.std.proofs.lemmas.List.{get_or_default, get_or_past, get_or-set_other, get_or-set_same}
-use Rattle.watch.specs.Named.{IsNextPlaced, place_of}
-use Rattle.watch.specs.Placed.{before, entries_from}
+use Rattle.watch.specs.Named.{IsFirstPlaced, place_of}
+use Rattle.watch.specs.Placed.{before, entries_from, one_if_placed}
 use Rattle.watch.proofs.NamedPlaces.{other_id, own_id}
 
 -- what a table that begins with an id gives another
@@ -81,20 +81,52 @@ zero_is : (n : ℕ) → n ≤ 0 → before n ≡ None
 zero_is zero h = refl
 zero_is (suc k) h = absurd (omega (arith, h))
 
--- going through the table from one id to the next
-pub none_more : (ns : List ℕ) (id next n : ℕ) → next < length ns → n ≡ get_or ns next n → n ≤ 0
-    → ((q : ℕ) → id < q → q < next → place_of (entries_from 0 ns) q ≡ None) → (q : ℕ) → id < q → q < next + 1 → place_of (entries_from 0 ns) q ≡ None
-none_more ns id next n h is none so_far q above below = elim (cases_lt q next) [
+-- going through the row from one offset to the next
+pub none_more : (ns : List ℕ) (from next n : ℕ) → next < length ns → n ≡ get_or ns next n → n ≤ 0
+    → ((q : ℕ) → from ≤ q → q < next → place_of (entries_from 0 ns) q ≡ None) → (q : ℕ) → from ≤ q → q < next + 1 → place_of (entries_from 0 ns) q ≡ None
+none_more ns from next n h is none so_far q above below = elim (cases_lt q next) [
   | inl low ↦ so_far q above low
   | inr high ↦ subst (λ r. place_of (entries_from 0 ns) r ≡ None) (omega (arith, below, high)) (sym (placed_there ns next n h is) ∙ zero_is n none)
 ]
 
-pub found_next : (ns : List ℕ) (id next n : ℕ) → id < next → next < length ns → n ≡ get_or ns next n → 0 < n
-    → ((q : ℕ) → id < q → q < next → place_of (entries_from 0 ns) q ≡ None) → IsNextPlaced (entries_from 0 ns) id next
-found_next ns id next n above h is some so_far = let it = positive n some in (above, (it.0, sym (placed_there ns next n h is) ∙ it.1), so_far)
+pub found_next : (ns : List ℕ) (from next n : ℕ) → from ≤ next → next < length ns → n ≡ get_or ns next n → 0 < n
+    → ((q : ℕ) → from ≤ q → q < next → place_of (entries_from 0 ns) q ≡ None) → IsFirstPlaced (entries_from 0 ns) from next
+found_next ns from next n above h is some so_far = let it = positive n some in (above, (it.0, sym (placed_there ns next n h is) ∙ it.1), so_far)
 
-pub none_found : (ns : List ℕ) (id next : ℕ) → length ns ≤ next → ((q : ℕ) → id < q → q < next → place_of (entries_from 0 ns) q ≡ None) → (q : ℕ) → id < q → place_of (entries_from 0 ns) q ≡ None
-none_found ns id next h so_far q above = elim (cases_lt q next) [
+pub none_found : (ns : List ℕ) (from next : ℕ) → length ns ≤ next → ((q : ℕ) → from ≤ q → q < next → place_of (entries_from 0 ns) q ≡ None) → (q : ℕ) → from ≤ q → place_of (entries_from 0 ns) q ≡ None
+none_found ns from next h so_far q above = elim (cases_lt q next) [
   | inl low ↦ so_far q above low
   | inr high ↦ not_placed ns q (omega (arith, high, h))
 ]
+
+-- how many have a place
+first_counted : (id n : ℕ) (ns : List ℕ) → length (entries_from id (n ∷ ns)) ≡ one_if_placed n + length (entries_from (id + 1) ns)
+first_counted id zero ns = omega arith
+first_counted id (suc place) ns = omega arith
+
+at_most_one : (n : ℕ) → one_if_placed n ≤ 1
+at_most_one zero = omega arith
+at_most_one (suc place) = omega arith
+
+pub few_placed : (id : ℕ) (ns : List ℕ) → length (entries_from id ns) ≤ length ns
+few_placed id [] = omega arith
+few_placed id (n ∷ ns) = omega (arith, first_counted id n ns, at_most_one n, few_placed (id + 1) ns)
+
+pub counted : (id : ℕ) (ns : List ℕ) (k n : ℕ) → k < length ns → length (entries_from id (set ns k n)) + one_if_placed (get_or ns k 0) ≡ length (entries_from id ns) + one_if_placed n
+counted id [] k n h = absurd (omega (arith, h))
+counted id (m ∷ ns) zero n h = omega (arith, first_counted id m ns, first_counted id n ns)
+counted id (m ∷ ns) (suc k) n h = omega (arith, first_counted id m ns, first_counted id m (set ns k n), counted (id + 1) ns k n (omega (arith, h)))
+
+pub all_gone : (es : List (ℕ × ℕ)) → length es ≡ 0 → es ≡ []
+all_gone [] e = refl
+all_gone (x ∷ es) e = absurd (omega (arith, e))
+
+-- the number at an offset is one of those counted
+pub one_counted : (ns : List ℕ) (k number one placed : ℕ) → k < length ns → number ≡ get_or ns k number → one ≡ one_if_placed number → placed ≡ length (entries_from 0 ns)
+    → (n : ℕ) → length (entries_from 0 (set ns k n)) + one ≡ placed + one_if_placed n
+one_counted ns k number one placed h is e f n =
+    omega (arith, counted 0 ns k n h, ap one_if_placed (is ∙ sym (get_or_default ns k 0 number h)), e, f)
+
+pub one_behind : (n place : ℕ) → n ≡ place + 1 → one_if_placed n ≡ 1
+one_behind zero place e = absurd (omega (arith, e))
+one_behind (suc m) place e = refl

@@ -1,13 +1,13 @@
 -- Given literals that are kept between calls, one above the other, each with what is forced then.
-use Rattle.std.specs.Prelude.{◌≡◌, ℕ, ◌≤◌, List, Option, None, Some, MatchOption, length, slice_index_or, take}
+use Rattle.std.specs.Prelude.{◌≡◌, ℕ, ◌<◌, ◌≤◌, List, Option, None, Some, MatchOption, length, slice_index_or, take}
 use Rattle.linear.specs.declared.term.Lit.{Lit}
 use Rattle.normal_form.specs.Normal.{NormalConstraint}
 use Rattle.propagate.specs.Chain.{IsFixpoint}
-use Rattle.propagate.specs.Walk.{IsFalsifiedAt}
+use Rattle.propagate.specs.Walk.{IsFalsifiedAt, IsQuiet}
 use Rattle.watch.specs.declared.ascent.Ascent.{Ascent}
 use Rattle.watch.specs.declared.ascent.Ascent.TheVariants as ascents
 use Rattle.watch.specs.Givens.{HasAll}
-use Rattle.ledger.specs.Ledgers.{State, shown}
+use Rattle.ledger.specs.Ledgers.{State, constraint_at, shown}
 use Rattle.watch.specs.Looking.{AreLookedAt}
 use Rattle.watch.specs.Steps.{AreGiven, Clashes}
 
@@ -27,11 +27,19 @@ pub record AreLevels (assigned : List Lit) (reasons : List (Option ℕ)) (given 
   pub levels : (j : ℕ) → j ≤ length given → IsLevel assigned reasons (take j given) (height_of assigned heights j)
   pub rise : (i j : ℕ) → i ≤ j → j ≤ length given → height_of assigned heights i ≤ height_of assigned heights j
 
+-- Of the constraints that were there when a level began, so many were quiet under what stood below it, all propagated. Since then
+-- constraints only came, so they are quiet under it still.
+pub record AreSettled (constraints : List NormalConstraint) (propagated : List Lit) (heights counts : List ℕ) : Type 0 where
+  pub as_many : length counts ≡ length heights
+  pub settled : (j k : ℕ) → k < slice_index_or counts j 0
+      → (k < length constraints) × (slice_index_or heights j 0 ≤ length propagated) × IsQuiet (take (slice_index_or heights j 0) propagated) (constraint_at constraints k)
+
 -- what is kept between calls: what does not wait is looked at, and what is not given is forced
-pub record IsKept (s : State) (levels : List Lit × List ℕ) (waiting : List ℕ) (count : ℕ) : Type 0 where
+pub record IsKept (s : State) (levels : List Lit × List ℕ × List ℕ) (waiting : List ℕ) (count : ℕ) : Type 0 where
   pub places : count ≡ length s.slots
   pub looked_at : AreLookedAt (shown s.slots) s.propagated waiting
   pub levels_are : AreLevels s.assigned s.reasons levels.0 levels.1
+  pub settled : AreSettled (shown s.slots) s.propagated levels.1 levels.2
 
 -- where a way up over given literals ended
 abbrev pub IsAscent : List NormalConstraint → List Lit → List Lit → Ascent → Type 0

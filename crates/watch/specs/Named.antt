@@ -1,5 +1,5 @@
 -- Places of constraints by their ids.
-use Rattle.std.specs.Prelude.{◌≡◌, ℕ, ◌<◌, List, Option, None, Some, length, map, slice_index_or}
+use Rattle.std.specs.Prelude.{◌≡◌, ℕ, ◌<◌, ◌≤◌, List, Option, None, Some, length, map, slice_index_or}
 use Rattle.std.specs.BTreeMap.{is_at}
 use Rattle.std.specs.FinMap as fin
 use Rattle.std.specs.Map.{lookup}
@@ -15,6 +15,10 @@ place_of places id = lookup (is_at (nat_cmp id)) places
 -- the least id above another that has a place
 abbrev pub IsNextPlaced : List (ℕ × ℕ) → ℕ → ℕ → Type 0
 IsNextPlaced places id next = (id < next) × ((k : ℕ) × (place_of places next ≡ Some k)) × ((q : ℕ) → id < q → q < next → place_of places q ≡ None)
+
+-- the least one from another on that has a place
+abbrev pub IsFirstPlaced : List (ℕ × ℕ) → ℕ → ℕ → Type 0
+IsFirstPlaced places from next = (from ≤ next) × ((k : ℕ) × (place_of places next ≡ Some k)) × ((q : ℕ) → from ≤ q → q < next → place_of places q ≡ None)
 
 -- the constraints by their ids
 abbrev pub content_at : List (Option NormalConstraint) → List (ℕ × ℕ) → Content

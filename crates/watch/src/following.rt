@@ -1,40 +1,56 @@
 //! Given literals, followed from where an assignment parts from the one before.
 //!
-//! Literals above that are backtracked with what they forced, and each constraint that they leave to force something
-//! waits again; the others are given one by one, each with what it forces. So what is kept never depends on what a
-//! assignment had in place of another.
+//! Literals above that are backtracked with what they forced. What was settled when the first of them was given is settled again,
+//! and only constraints that came since wait; the other literals are given one by one, each with what it forces. So what is kept never
+//! depends on what an assignment had in place of another.
 
-ghost use Rattle.std.specs.Prelude.{◌≡◌, ◌<◌, ◌≤◌, ◌⊎◌, ◌++◌, ◌∷◌, [], ℕ, List, false, All, IfOk, OnErr, OnOk, length, take};
+ghost use Rattle.std.specs.Prelude.{◌≡◌, ◌<◌, ◌≤◌, ◌⊎◌, ◌++◌, ◌∷◌, [], ℕ, List, false, All, Contains, IfOk, OnErr, OnOk, length, take};
 ghost use Rattle.linear.specs.declared.term.Lit.{Lit};
 ghost use Rattle.linear.specs.Literal.{opposite};
 ghost use Rattle.propagate.specs.Literals.{lists};
 ghost use Rattle.watch.specs.Givens.{IsDecided, IsPushed};
 ghost use Rattle.watch.specs.Looking.{AreLookedAt, GoesOn};
 ghost use Rattle.watch.specs.Keeping.{IsAscent, IsKept, IsFixpointOrFalsified, falsified_place};
-ghost use Rattle.ledger.specs.Ledgers.{shown};
+ghost use Rattle.ledger.specs.Ledgers.{constraint_at, shown};
+ghost use Rattle.propagate.specs.Walk.{IsQuiet};
 ghost use Rattle.watch.specs.Steps.{AreGiven};
 ghost use Rattle.propagate.specs.Chain.{IsFixpoint};
 
 use super::ascent::Ascent;
 use super::giving::give;
 use super::levels::Levels;
-use super::release::backtrack_to;
-use super::walk::propagate_all;
+use super::walk::{backtrack_quietly, propagate_all};
 use ledger::{Ledger, Queue};
 use linear::Lit;
 use std::alloc::AllocError;
 
-/// Takes back what stands above the first levels.
+/// Queues the constraints from a place on.
+fn queue_from(ledger: &Ledger, queue: &mut Queue, first: usize)
+    requires { queue.old.1 ≡ length ledger.now.slots }
+    ensures count { queue.new.1 ≡ queue.old.1 }
+    ensures queued { (k : ℕ) → first ≤ k → k < length ledger.now.slots → Contains queue.new.0 k }
+{
+    for place in first..ledger.count() {
+        queue.add(place);
+    }
+}
+
+/// Takes back what stands above the first levels. What was settled when the next one began is settled again, and what came since
+/// waits.
 pub(crate) fn go_back(ledger: &mut Ledger, queue: &mut Queue, levels: &mut Levels, level: usize)
     requires kept { IsKept ledger.old levels.old queue.old.0 queue.old.1 }
     requires level { level ≤ length levels.old.0 }
     ensures slots { ledger.new.slots ≡ ledger.old.slots }
     ensures variables { ledger.new.variables ≡ ledger.old.variables }
-    ensures levels { levels.new ≡ (take level levels.old.0, take level levels.old.1) }
+    ensures levels { levels.new ≡ (take level levels.old.0, take level levels.old.1, take level levels.old.2) }
     ensures kept { IsKept ledger.new levels.new queue.new.0 queue.new.1 }
 {
-    let end = ledger.len();
-    backtrack_to(ledger, queue, levels.height(level, end));
+    if level == levels.count() {
+        return;
+    }
+    backtrack_quietly(ledger, levels.height(level));
+    queue.clear(ledger.count());
+    queue_from(ledger, queue, levels.settled(level));
     levels.truncate(level);
 }
 
@@ -45,10 +61,10 @@ fn propagate_kept(ledger: &mut Ledger, queue: &mut Queue) -> Result<Ascent, Allo
     ensures slots { ledger.new.slots ≡ ledger.old.slots }
     ensures variables { ledger.new.variables ≡ ledger.old.variables }
     ensures goes_on { GoesOn ledger.old ledger.new }
-    ensures kept { (levels : List Lit × List ℕ) → IsKept ledger.old levels queue.old.0 queue.old.1
+    ensures kept { (levels : List Lit × List ℕ × List ℕ) → IsKept ledger.old levels queue.old.0 queue.old.1
         → IsKept ledger.new levels queue.new.0 queue.new.1 }
     ensures falsified { IfOk result (λ a. IsFixpointOrFalsified (shown ledger.old.slots) ledger.new.assigned (falsified_place a)) }
-    ensures end { (levels : List Lit × List ℕ) → IsKept ledger.old levels queue.old.0 queue.old.1
+    ensures end { (levels : List Lit × List ℕ × List ℕ) → IsKept ledger.old levels queue.old.0 queue.old.1
         → IfOk result (IsAscent (shown ledger.old.slots) levels.0 ledger.new.assigned) }
 {
     ledger.reveal();
@@ -60,8 +76,27 @@ fn propagate_kept(ledger: &mut Ledger, queue: &mut Queue) -> Result<Ascent, Allo
     }
 }
 
+/// How many constraints are settled, so that they force nothing more: all, where nothing waits, and else none is known to be.
+fn settled_count(ledger: &Ledger, queue: &Queue) -> usize
+    requires { AreLookedAt (shown ledger.now.slots) ledger.now.propagated queue.now.0 }
+    ensures { (k : ℕ) → k < result → (k < length (shown ledger.now.slots)) × (ledger.now.propagated ≡ ledger.now.assigned)
+        × IsQuiet ledger.now.propagated (constraint_at (shown ledger.now.slots) k) }
+{
+    if ledger.is_propagated() && queue.is_empty() {
+        ledger.count()
+    } else {
+        0
+    }
+}
+
 /// One level more, where the opposite of its literal is not there.
-fn open_level(ledger: &mut Ledger, levels: &mut Levels, literal: Lit) -> Result<(), AllocError>
+fn open_level(
+    ledger: &mut Ledger,
+    queue: &Queue,
+    levels: &mut Levels,
+    literal: Lit,
+) -> Result<(), AllocError>
+    requires kept { IsKept ledger.old levels.old queue.now.0 queue.now.1 }
     requires variable { literal.var.0 < ledger.old.variables }
     requires free { lists ledger.old.assigned (opposite literal) ≡ false }
     ensures slots { ledger.new.slots ≡ ledger.old.slots }
@@ -69,10 +104,10 @@ fn open_level(ledger: &mut Ledger, levels: &mut Levels, literal: Lit) -> Result<
     ensures levels { OnOk result (levels.new.0 ≡ levels.old.0 ++ literal ∷ []) }
     ensures no_levels { OnErr result (levels.new ≡ levels.old) }
     ensures pushed { OnOk result (lists ledger.old.assigned literal ≡ false → IsPushed ledger.old ledger.new literal) }
-    ensures kept { (queue : List ℕ × ℕ) → IsKept ledger.old levels.old queue.0 queue.1
-        → IsKept ledger.new levels.new queue.0 queue.1 }
+    ensures kept { IsKept ledger.new levels.new queue.now.0 queue.now.1 }
 {
-    levels.push(literal, ledger.len())?;
+    let settled = settled_count(ledger, queue);
+    levels.push(literal, ledger.len(), settled)?;
     give(ledger, literal);
     ledger.reveal();
     Ok(())
@@ -97,7 +132,7 @@ fn step_up(
     if ledger.has(literal.opposite()) {
         return Ok(Ascent::Clash);
     }
-    open_level(ledger, levels, literal)?;
+    open_level(ledger, queue, levels, literal)?;
     propagate_kept(ledger, queue)
 }
 
@@ -117,7 +152,7 @@ pub(crate) fn decide(
     ensures decided { OnOk result (IsDecided ledger.old ledger.new literal) }
     ensures falsified { IfOk result (λ a. IsFixpointOrFalsified (shown ledger.old.slots) ledger.new.assigned (falsified_place a)) }
 {
-    open_level(ledger, levels, literal)?;
+    open_level(ledger, queue, levels, literal)?;
     propagate_kept(ledger, queue)
 }
 

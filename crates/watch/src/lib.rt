@@ -23,6 +23,7 @@ mod naming;
 mod places;
 mod refutation;
 mod release;
+mod row;
 mod telling;
 mod tracing;
 mod walk;

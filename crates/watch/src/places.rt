@@ -1,66 +1,73 @@
 //! Where the constraint of each id stands.
 //!
-//! Ids are given in order, so that a table by id is short, and each question costs one look; to search an ordered map costs more than all
-//! else that is done for a constraint which comes and goes. An id that is gone costs four bytes.
+//! Ids are given in order, so that a table by id is short, and each question costs two looks; to search an ordered map costs more than
+//! all else that is done for a constraint which comes and goes. The table is a list of rows: of a long proof, with little that is
+//! there at a time, only rows with something in them take memory, and a table that is made anew costs what is there. The last row
+//! keeps its memory while it is the last, since the next id comes into it.
 
-ghost use Rattle.std.specs.Prelude.{◌≡◌, ◌<◌, ◌≤◌, ◌⊎◌, ◌+◌, ◌^◌, ℕ, [], cond, length, MatchOption, None, OnErr, OnOk, Some};
+ghost use Rattle.std.specs.Prelude.{◌≡◌, ◌<◌, ◌≤◌, ◌⊎◌, ◌+◌, ◌/◌, ◌%◌, ℕ, [], cond, length, MatchOption, None, OnErr, OnOk, Some};
 ghost use Rattle.std.specs.BTreeMap.{is_at};
 ghost use Rattle.std.specs.Ordering.{nat_cmp};
 ghost use Rattle.watch.specs.Named.{IsNextPlaced, place_of};
-ghost use Rattle.watch.specs.Placed.{before, entries_from};
+ghost use Rattle.watch.specs.Placed.{AreRows, rows_from};
 
+use super::row::{ROW_LENGTH, Row};
 use propagate::Id;
 use std::alloc::{AllocError, Global};
 use std::marker::Model;
 
-/// How many ids a table has room for from its first one on. So large a block is mapped by itself, and grows without being copied: of a table
-/// that grew from nothing, among all else, the older half would stay behind as a hole.
-const FIRST_ROOM: usize = 1 << 16;
-
-/// The places of ids. They take 32 bits, like ids.
+/// The places of ids.
 #[derive(Drop)]
 pub(crate) struct Places {
-    /// By id the number behind its place, 0 where it has none.
-    numbers: Vec<u32>,
+    rows: Vec<Row>,
+    alloc: Global,
 }
 
 impl Model for Places {
     ghost use Rattle.std.specs.Prelude.{◌≤◌, ◌^◌, ℕ, List, length};
-    ghost use Rattle.watch.specs.Placed.{entries_from};
+    ghost use Rattle.watch.specs.Placed.{AreRows, rows_from};
 
     ghost Value = { List (ℕ × ℕ) };
 
-    ghost view = { λ p. entries_from 0 p.numbers.items };
+    ghost view = { λ p. rows_from 0 p.rows.items };
 
-    ghost invariant = { λ p. length p.numbers.items ≤ 2 ^ 32 };
+    ghost invariant = { λ p. (length p.rows.items ≤ 2 ^ 22) × AreRows p.rows.items };
 }
 
-/// The number behind a place; none where 32 bits are too few for it.
-fn number_behind(place: usize) -> Option<u32>
-    ensures { MatchOption result (2 ^ 32 < place + 2) (λ number. number ≡ place + 1) }
+/// The row of an id.
+fn row_of(id: Id) -> usize
+    ensures { result ≡ id / 1024 }
 {
-    u32::try_from(place).ok()?.checked_add(1)
+    id as usize / ROW_LENGTH
 }
 
-/// The place that a number stands behind.
-fn place_before(number: u32) -> Option<usize>
-    ensures { result ≡ before number }
+/// Where an id stands in its row.
+fn offset_of(id: Id) -> usize
+    ensures { result ≡ id % 1024 }
 {
-    let place = number.checked_sub(1)?;
-    Some(place as usize)
+    id as usize % ROW_LENGTH
 }
 
-/// Makes a table so long that an id has a number in it.
-fn make_room(numbers: &mut Vec<u32>, id: Id) -> Result<(), AllocError>
-    ensures same { (first : ℕ) → entries_from first numbers.new.items ≡ entries_from first numbers.old.items }
-    ensures long { OnOk result (id < length numbers.new.items) }
-    ensures no_longer { length numbers.new.items ≤ length numbers.old.items ⊎ length numbers.new.items ≤ id + 1 }
+/// Gives the memory of a row back, if nothing is in it and it is not the last one.
+fn leave(rows: &mut Vec<Row>, index: usize)
+    ensures { rows.new.items ≡ rows.old.items }
 {
-    if numbers.capacity() == 0 {
-        numbers.reserve(FIRST_ROOM)?;
+    if index < rows.len().saturating_sub(1) {
+        rows[index].give_back();
     }
-    while numbers.len() <= id as usize {
-        numbers.push(0)?;
+}
+
+/// Makes a table so long that a row is in it. The one that was the last is left.
+fn make_room(rows: &mut Vec<Row>, alloc: Global, row: usize) -> Result<(), AllocError>
+    ensures same { (first : ℕ) → rows_from first rows.new.items ≡ rows_from first rows.old.items }
+    ensures are_rows { AreRows rows.old.items → AreRows rows.new.items }
+    ensures long { OnOk result (row < length rows.new.items) }
+    ensures no_longer { length rows.new.items ≤ length rows.old.items ⊎ length rows.new.items ≤ row + 1 }
+{
+    while rows.len() <= row {
+        rows.push(Row::new(alloc))?;
+        let before = rows.len().saturating_sub(2);
+        leave(rows, before);
     }
     Ok(())
 }
@@ -71,7 +78,8 @@ impl Places {
         ensures { result ≡ [] }
     {
         Places {
-            numbers: Vec::new(alloc),
+            rows: Vec::new(alloc),
+            alloc,
         }
     }
 
@@ -79,10 +87,11 @@ impl Places {
     pub(crate) fn get(&self, id: Id) -> Option<usize>
         ensures { result ≡ place_of self.now id }
     {
-        if self.numbers.len() <= id as usize {
+        let row = row_of(id);
+        if self.rows.len() <= row {
             return None;
         }
-        place_before(self.numbers[id as usize])
+        self.rows[row].get(offset_of(id))
     }
 
     /// Gives an id a place. A place that 32 bits are too few for is refused as a growth is.
@@ -90,12 +99,12 @@ impl Places {
         ensures given { OnOk result ((q : ℕ) → place_of self.new q ≡ cond (is_at (nat_cmp id) q) (Some place) (place_of self.old q)) }
         ensures err { OnErr result (self.new ≡ self.old) }
     {
-        let Some(number) = number_behind(place) else {
-            return Err(AllocError);
-        };
-        make_room(&mut self.numbers, id)?;
-        self.numbers[id as usize] = number;
-        Ok(())
+        let row = row_of(id);
+        make_room(&mut self.rows, self.alloc, row)?;
+        match self.rows[row].insert(offset_of(id), place) {
+            Err(_) => return Err(AllocError),
+            Ok(()) => return Ok(()),
+        }
     }
 
     /// Takes the place of an id away, if it has one.
@@ -103,11 +112,12 @@ impl Places {
         ensures value { result ≡ place_of self.old id }
         ensures taken { (q : ℕ) → place_of self.new q ≡ cond (is_at (nat_cmp id) q) None (place_of self.old q) }
     {
-        if self.numbers.len() <= id as usize {
+        let row = row_of(id);
+        if self.rows.len() <= row {
             return None;
         }
-        let place = place_before(self.numbers[id as usize]);
-        self.numbers[id as usize] = 0;
+        let place = self.rows[row].remove(offset_of(id));
+        leave(&mut self.rows, row);
         place
     }
 
@@ -115,10 +125,12 @@ impl Places {
     pub(crate) fn after(&self, id: Id) -> Option<Id>
         ensures { MatchOption result ((k : ℕ) → id < k → place_of self.now k ≡ None) (IsNextPlaced self.now id) }
     {
-        for next in id as usize + 1..self.numbers.len() {
-            if self.numbers[next] > 0 {
-                return Some(next as u32);
+        let mut offset = offset_of(id) + 1;
+        for row in row_of(id)..self.rows.len() {
+            if let Some(next) = self.rows[row].first_from(offset) {
+                return Some((ROW_LENGTH * row + next) as u32);
             }
+            offset = 0;
         }
         None
     }

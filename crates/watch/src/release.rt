@@ -37,7 +37,7 @@ fn backtrack_one(ledger: &mut Ledger, queue: &mut Queue)
 }
 
 /// Takes all literals but the first ones back, and queues the constraints that may force one of them.
-pub(crate) fn backtrack_to(ledger: &mut Ledger, queue: &mut Queue, count: usize)
+fn backtrack_to(ledger: &mut Ledger, queue: &mut Queue, count: usize)
     requires count { count ≤ length ledger.old.assigned }
     requires places { queue.old.1 ≡ length ledger.old.slots }
     requires looked_at { AreLookedAt (shown ledger.old.slots) ledger.old.propagated queue.old.0 }

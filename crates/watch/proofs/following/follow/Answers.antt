@@ -13,13 +13,13 @@ use Rattle.watch.proofs.following.follow.Goals as goal
 pub returns-in_err-ascent-clause-given : goal.returns-in_err-ascent-clause-given
 returns-in_err-ascent-clause-given c =
     let s = c.propagate_kept-fixpoint in
-    let first = ap (λ (p : List Lit × List ℕ). p.0) c.go_back.ensures.levels ∙ c.agreement.ensures.same in
+    let first = ap (λ (p : List Lit × List ℕ × List ℕ). p.0) c.go_back.ensures.levels ∙ c.agreement.ensures.same in
     kept_given s.new.ledger c.go_back.new.levels s.new.queue.0 s.new.queue.1 c.agreement.result c.args.given.now c.reveal.ensures.reasons.as_many first (s.ensures.kept c.go_back.new.levels c.go_back.ensures.kept)
 
 pub returns-then-not-is_whole-clause-given : goal.returns-then-not-is_whole-clause-given
 returns-then-not-is_whole-clause-given c =
     let s = c.propagate_kept-fixpoint in
-    let first = ap (λ (p : List Lit × List ℕ). p.0) c.go_back.ensures.levels ∙ c.agreement.ensures.same in
+    let first = ap (λ (p : List Lit × List ℕ × List ℕ). p.0) c.go_back.ensures.levels ∙ c.agreement.ensures.same in
     kept_given s.new.ledger c.go_back.new.levels s.new.queue.0 s.new.queue.1 c.agreement.result c.args.given.now c.reveal.ensures.reasons.as_many first (s.ensures.kept c.go_back.new.levels c.go_back.ensures.kept)
 
 pub returns-then-not-is_whole-clause-end : goal.returns-then-not-is_whole-clause-end
@@ -27,7 +27,7 @@ returns-then-not-is_whole-clause-end c =
     let s = c.propagate_kept-fixpoint in
     let a = c.in_ok-ascent.ascent in
     let given = c.args.given.now in
-    let first = ap (λ (p : List Lit × List ℕ). p.0) c.go_back.ensures.levels ∙ c.agreement.ensures.same in
+    let first = ap (λ (p : List Lit × List ℕ × List ℕ). p.0) c.go_back.ensures.levels ∙ c.agreement.ensures.same in
     let end = subst (λ (os : List (Option NormalConstraint)). IsAscent (shown os) c.go_back.new.levels.0 s.new.ledger.assigned a) c.go_back.ensures.slots (c.in_ok-ascent.ensures.end c.go_back.new.levels c.go_back.ensures.kept) in
     other_end (shown c.args.ledger.now.slots) c.go_back.new.levels.0 given s.new.ledger.assigned a (λ e. false≢true (sym c.if-not-is_whole.true ∙ c.is_whole.ensures.1 e)) (firsts_within c.go_back.new.levels.0 given c.agreement.result first) end
 

@@ -1,13 +1,22 @@
--- The trail as it was before the level.
-use Rattle.std.proofs.Common.{◌∙◌, ℕ, ap, get_or}
-use Rattle.watch.proofs.KeptLevels.{kept_back}
+-- The trail as it was before the level, and what came since waits.
+use Rattle.std.proofs.Common.{◌∙◌, ℕ, List, Option, ap, length, sym, arith}
+use Rattle.normal_form.specs.Normal.{NormalConstraint}
+use Rattle.watch.proofs.KeptLevels.{all_levels, kept_back}
 use Rattle.watch.proofs.following.go_back.Goals as goal
+
+pub returns-then-level-count-clause-levels : goal.returns-then-level-count-clause-levels
+returns-then-level-count-clause-levels c =
+    all_levels c.args.ledger.now c.args.levels.now c.args.queue.now.0 c.args.queue.now.1 c.args.level (c.if-level-count.true ∙ c.count.ensures) c.requires.kept
 
 pub returns-clause-kept : goal.returns-clause-kept
 returns-clause-kept c =
     let old = c.args.ledger.now in
+    let new = c.backtrack_quietly.new.ledger in
     let levels = c.args.levels.now in
-    let t = c.backtrack_to.ensures in
-    kept_back old c.backtrack_to.new.ledger levels c.truncate.new.self c.args.level c.height.result c.args.queue.now.0 c.backtrack_to.new.queue.0 c.args.queue.now.1 c.backtrack_to.new.queue.1 c.requires.level
-    (c.height.ensures ∙ ap (λ (n : ℕ). get_or levels.1 c.args.level n) c.len-end.ensures.value)
-    t.slots t.assigned t.reasons t.places t.looked_at c.truncate.ensures c.requires.kept
+    let t = c.backtrack_quietly.ensures in
+    let q = c.queue_from.new.queue in
+    let count = c.queue_from.ensures.count ∙ ap (λ (p : List ℕ × ℕ). p.1) c.clear.ensures ∙ c.count-2.ensures ∙ ap (length {A = Option NormalConstraint}) t.slots ∙ sym c.requires.kept.places in
+    kept_back old new levels c.truncate.new.self c.args.level c.height.result c.args.queue.now.0 q.0 c.args.queue.now.1 q.1 (omega (arith, c.requires.level, c.if-level-count.false, c.count.ensures))
+    c.height.ensures.value t.slots t.assigned t.propagated t.reasons count
+    (λ k since low. c.queue_from.ensures.queued k (omega (arith, since, c.settled.ensures.value)) (omega (arith, low, ap (length {A = Option NormalConstraint}) t.slots)))
+    c.truncate.ensures c.requires.kept

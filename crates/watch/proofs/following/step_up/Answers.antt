@@ -17,18 +17,18 @@ returns-then-has-clause-end c =
     )
 
 pub returns-in_err-open_level-clause-kept : goal.returns-in_err-open_level-clause-kept
-returns-in_err-open_level-clause-kept c = c.open_level.ensures.kept c.args.queue.now c.requires.kept
+returns-in_err-open_level-clause-kept c = c.open_level.ensures.kept
 
 pub propagate_kept-requires-clause-looked_at : goal.propagate_kept-requires-clause-looked_at
-propagate_kept-requires-clause-looked_at c = (c.open_level.ensures.kept c.args.queue.now c.requires.kept).looked_at
+propagate_kept-requires-clause-looked_at c = c.open_level.ensures.kept.looked_at
 
 pub returns-clause-kept : goal.returns-clause-kept
-returns-clause-kept c = c.propagate_kept.ensures.kept c.open_level.new.levels (c.open_level.ensures.kept c.args.queue.now c.requires.kept)
+returns-clause-kept c = c.propagate_kept.ensures.kept c.open_level.new.levels c.open_level.ensures.kept
 
 pub returns-clause-end : goal.returns-clause-end
 returns-clause-end c =
     let new = c.propagate_kept.new.ledger in
     let levels = c.open_level.new.levels in
-    let end = c.propagate_kept.ensures.end levels (c.open_level.ensures.kept c.args.queue.now c.requires.kept) in
+    let end = c.propagate_kept.ensures.end levels c.open_level.ensures.kept in
     subst (λ (xs : List Lit). IfOk c.propagate_kept.result (IsAscent (shown c.args.ledger.now.slots) xs new.assigned)) c.in_ok-open_level.ensures.levels
     (subst (λ (os : List (Option NormalConstraint)). IfOk c.propagate_kept.result (IsAscent (shown os) levels.0 new.assigned)) c.open_level.ensures.slots end)

@@ -1,10 +1,10 @@
 -- One clause more at the end of all lists.
-use Rattle.std.proofs.Common.{◌≡◌, ◌+◌, ◌<◌, ◌≤◌, ℕ, List, Option, Some, [], ◌∷◌, ◌++◌, length, refl, ap, sym, subst, ◌∙◌, arith}
+use Rattle.std.proofs.Common.{◌≡◌, ◌+◌, ◌<◌, ◌≤◌, ℕ, List, Option, Some, [], ◌∷◌, ◌++◌, length, take, refl, ap, sym, subst, ◌∙◌, arith}
 use Rattle.normal_form.specs.Normal.{NormalConstraint, variable_bound}
 use Rattle.ledger.specs.declared.pair.Pair.{Pair}
 use Rattle.ledger.specs.Trails.{on_trail}
 use Rattle.ledger.specs.Ledgers.{State}
-use Rattle.ledger.specs.Watched.{IsOpen, IsPairOf}
+use Rattle.ledger.specs.Watched.{IsPairOf, Tell}
 use Rattle.ledger.proofs.Attaching.{attached_watched, none_more, reasons_beside, unchanged, with_pairs}
 use Rattle.ledger.proofs.FallingRows.{number_inside, variable_below}
 use Rattle.ledger.proofs.WatchedPlaces.{watched_kept, watched_more}
@@ -58,8 +58,7 @@ invariant_of-self-2 c =
     let counters : c.push_reserved.new.self.items ≡ e.counters.items ++ 0 ∷ [] = c.push_reserved.ensures.items ∙ ap (λ (os : List ℕ). os ++ 0 ∷ []) room.counters in
     let limits : c.push_reserved-2.new.self.items ≡ e.limits.items ++ limit ∷ [] = c.push_reserved-2.ensures.items ∙ ap (λ (os : List ℕ). os ++ limit ∷ []) room.limits in
     let within : variable_bound n.terms ≤ e.trail.1 = omega (arith, c.requires.variables, ap (λ (s : State). s.variables) c.self.view_is) in
-    let first : IsOpen e.trail.0 p.first = subst (λ (s : State). IsOpen s.propagated p.first) (sym c.self.view_is) c.requires.first in
-    let second : IsOpen e.trail.0 p.second = subst (λ (s : State). IsOpen s.propagated p.second) (sym c.self.view_is) c.requires.second in
+    let tell : (h : ℕ) → Tell (take h e.trail.0) n p = subst (λ (s : State). (h : ℕ) → Tell (take h s.propagated) n p) (sym c.self.view_is) c.requires.tell in
     let i = c.self.invariant.0 in
     let new = c.enter_watched.new.watchers in
     let said = c.in_ok-enter_watched.ensures in
@@ -70,5 +69,5 @@ invariant_of-self-2 c =
       reasons_beside e.slots.items n (on_trail e.trail) e.reasons.items c.self.invariant.1,
       c.self.invariant.2,
       watched_more e.slots.items e.trail.0 e.trail.1 e.watchers new n (Some p) c.self.invariant.3 i.slots_are.pair_count said.pairs (omega (arith, said.row_count)) said.kept
-          (c.requires.pair, (first_below n p e.trail.1 c.requires.pair within, second_below n p e.trail.1 c.requires.pair within), first, second, said.first_there, said.second_there),
+          (c.requires.pair, (first_below n p e.trail.1 c.requires.pair within, second_below n p e.trail.1 c.requires.pair within), tell, said.first_there, said.second_there),
     )

@@ -1,16 +1,19 @@
--- The place before the number of the id.
-use Rattle.std.proofs.Common.{◌≡◌, ◌∙◌, ℕ, List, None, subst, sym, arith}
+-- The place of the offset in the row.
+use Rattle.std.proofs.Common.{◌≡◌, ◌∙◌, ℕ, List, None, ap, subst, sym, arith}
 use Rattle.watch.specs.Named.{place_of}
-use Rattle.watch.proofs.Placed.{not_placed, placed_there}
+use Rattle.watch.proofs.PlacedRows.{beyond_rows, row_at_has}
 use Rattle.watch.proofs.places.Places.get.Goals as goal
 
-pub returns-then-len-id : goal.returns-then-len-id
-returns-then-len-id c =
-    let ns = c.self.inside.numbers in
-    sym (subst (λ (es : List (ℕ × ℕ)). place_of es c.args.id ≡ None) c.self.view_is (not_placed ns.items c.args.id (omega (arith, c.if-len-id.true, c.len.ensures, ns.ok))))
+pub returns-then-len-row : goal.returns-then-len-row
+returns-then-len-row c =
+    let rows = c.self.inside.rows in
+    sym (subst (λ (es : List (ℕ × ℕ)). place_of es c.args.id ≡ None) c.self.view_is
+    (beyond_rows rows.items c.self.invariant.1 c.args.id (omega (arith, c.if-len-row.true, c.len.ensures, rows.ok, c.row_of-row.ensures))))
 
 pub returns : goal.returns
 returns c =
-    let ns = c.self.inside.numbers in
-    subst (λ (es : List (ℕ × ℕ)). c.place_before.result ≡ place_of es c.args.id) c.self.view_is
-    (c.place_before.ensures ∙ placed_there ns.items c.args.id c.index.result.now (omega (arith, c.if-len-id.false, c.len.ensures, ns.ok)) c.index.ensures)
+    let rows = c.self.inside.rows in
+    c.get.ensures
+    ∙ row_at_has rows.items c.index.result.now c.args.id c.row_of-row.result c.offset_of.result c.row_of-row.ensures c.offset_of.ensures c.self.invariant.1
+    (omega (arith, c.if-len-row.false, c.len.ensures, rows.ok)) c.index.ensures
+    ∙ ap (λ (es : List (ℕ × ℕ)). place_of es c.args.id) c.self.view_is
