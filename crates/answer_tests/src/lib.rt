@@ -15,6 +15,8 @@ mod rules;
 #[cfg(test)]
 mod seen;
 #[cfg(test)]
+mod sinks;
+#[cfg(test)]
 mod small;
 #[cfg(test)]
 mod solved;
