@@ -20,11 +20,15 @@ impl<T> Model for Seq<T> {
 }
 
 impl<T> Seq<T> {
-    /// The list of a vector's elements. Room that it does not use is given back, since lists are kept for long.
+    /// The list of a vector's elements. Much room that it does not use is given back, since lists are kept for long; little room
+    /// stays, since what gives back a few bytes leaves a hole that is too small for the next list of that length.
     pub fn from_vec(mut items: Vec<T>) -> Self
         ensures { result ≡ items.items }
     {
-        items.shrink_to_fit();
+        let unused = items.capacity().saturating_sub(items.len());
+        if unused > items.len() / 8 {
+            items.shrink_to_fit();
+        }
         Seq { items }
     }
 
