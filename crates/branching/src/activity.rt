@@ -6,13 +6,13 @@
 //! them and the increment fall by the same power of two.
 //!
 //! A variable takes the sign that it had last, since that is where the search was before it went back (Pipatsrisawat and
-//! Darwiche, 2007); at first the one that the objective likes; and after a restart that of the best solution, so that the search
-//! goes on near it. Where the linear relaxation has a best point, its variables take the signs that are nearest to that.
+//! Darwiche, 2007); at first the one that the objective likes, or, where it has no price, the one that serves more constraints; and after
+//! a restart that of the best solution, so that the search goes on near it. Where the linear relaxation has a best point, its variables take the signs that are nearest to that.
 
 use super::brancher::{Brancher, Value};
 use super::heap::Heap;
 use super::progress::Progress;
-use linear::{Integer, Lit, Problem, Term, Var};
+use linear::{Integer, Lit, Problem, Relation, Signed, Term, Var};
 use std::alloc::{AllocError, Global};
 
 /// The increment at first: small steps of it are told apart.
@@ -27,6 +27,7 @@ const FALL: u32 = 44;
 /// Picks a free variable of the highest score, the first among equals, with the sign that it had last.
 #[derive(Drop)]
 pub struct Activity {
+    alloc: Global,
     heap: Heap,
     scores: Vec<u64>,
     increment: u64,
@@ -40,6 +41,7 @@ impl Activity {
     /// Of no conflict yet.
     pub fn new(alloc: Global) -> Self {
         Activity {
+            alloc,
             heap: Heap::new(alloc),
             scores: Vec::new(alloc),
             increment: FIRST_INCREMENT,
@@ -54,6 +56,20 @@ impl Activity {
             self.scores.push(0)?;
             self.phases.push(false)?;
             self.heap.grow()?;
+        }
+        Ok(())
+    }
+
+    /// Has each variable take the value at first that serves more of some constraints than it harms.
+    fn serve(&mut self, alloc: Global, constraints: &[Signed]) -> Result<(), AllocError> {
+        let mut votes: Vec<i64> = vec![in alloc; 0; self.phases.len()]?;
+        for constraint in constraints {
+            if constraint.relation == Relation::AtLeast {
+                vote(&mut votes, constraint.terms.as_slice());
+            }
+        }
+        for (phase, balance) in self.phases.iter_mut().zip(&votes) {
+            *phase = *balance > 0;
         }
         Ok(())
     }
@@ -90,6 +106,18 @@ impl Activity {
     }
 }
 
+/// Counts for each variable of a sum that is asked to be large whether it helps as true or as false.
+fn vote(votes: &mut [i64], terms: &[Term]) {
+    let zero: Integer = 0;
+    for term in terms {
+        let place = term.var.0 as usize;
+        if place < votes.len() && term.coef != zero {
+            let step = if costs_less_as_true(*term) { -1 } else { 1 };
+            votes[place] = votes[place].saturating_add(step);
+        }
+    }
+}
+
 /// Whether a term costs less where its variable is true.
 fn costs_less_as_true(term: Term) -> bool {
     let zero: Integer = 0;
@@ -110,6 +138,8 @@ impl Brancher for Activity {
         if self.grow(problem.names().len()).is_err() {
             return;
         }
+        // Where there is no memory for the count, all variables begin as false.
+        let _ = self.serve(self.alloc, problem.constraints());
         if let Some(objective) = problem.objective() {
             self.like(objective.as_slice());
         }

@@ -16,7 +16,7 @@ use super::restarts::Restarts;
 use super::trail::{Trail, level_of};
 use analysis::Analyser;
 use branching::Progress;
-use linear::{Lit, Seq};
+use linear::{Integer, Lit, Seq};
 use proof_steps::Step;
 use propagate::{Id, Propagator};
 use std::alloc::{AllocError, Global};
@@ -160,6 +160,12 @@ impl<'a, P: Propagator> Run<'a, P> {
         self.count_conflict()
     }
 
+    /// What a solution is worth at least by the relaxation, where there is an objective and that was solved.
+    fn bound(&self) -> Option<Integer> {
+        self.log.problem().objective()?;
+        self.advisers.bound()
+    }
+
     /// Tells how far the search has come.
     fn tell_progress(&mut self)
         ensures log { self.new.log ≡ self.old.log }
@@ -170,7 +176,7 @@ impl<'a, P: Propagator> Run<'a, P> {
             restarts: self.restarts.count(),
             kept: self.learned.count() as u64,
             best: self.log.least_value(),
-            bound: self.advisers.bound(),
+            bound: self.bound(),
         };
         self.advisers.brancher.progress(progress);
     }
@@ -182,7 +188,8 @@ impl<'a, P: Propagator> Run<'a, P> {
         ensures next { OnOk result (self.new.log.state.next ≡ self.old.log.state.next) }
         ensures consistent { IsConsistent self.new.decisions.items }
     {
-        self.advisers.count_conflict();
+        let met = self.analyser.met.variables.len();
+        self.advisers.count_conflict(met, self.learned.terms());
         self.learned.count_conflict();
         if self.advisers.conflicts() % CONFLICTS_BETWEEN_LINES == 0 {
             self.tell_progress();
