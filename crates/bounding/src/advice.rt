@@ -12,8 +12,8 @@ pub struct Node<'a> {
     pub decisions: usize,
     /// From how many conflicts the search has learned so far.
     pub conflicts: u64,
-    /// How many literals were decided or forced so far, those among them that were undone and came back.
-    pub literals: u64,
+    /// How many terms the search has looked at so far, about.
+    pub searched: u64,
 }
 
 /// What an adviser answers.

@@ -92,14 +92,14 @@ impl Adviser {
         }
         let mut relaxation = relaxation_of(alloc, problem, names)?;
         let mut sources = Sources::new(alloc);
-        let Some(terms) = sources.add_file(alloc, kernel, &mut relaxation)? else {
+        if !sources.add_file(alloc, kernel, &mut relaxation)? {
             return Ok(None);
-        };
+        }
         Ok(Some(Adviser {
             alloc,
             relaxation,
             sources,
-            effort: Effort::new(terms as u64, names as u64),
+            effort: Effort::new(),
             count: names as u32,
             fixed: Vec::new(alloc),
             leanings: Vec::new(alloc),

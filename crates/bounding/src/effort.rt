@@ -3,7 +3,7 @@
 //! One call costs as much as thousands of propagations, and on many problems it says nothing that propagation does not. So it has a
 //! share of the work, which rises where it ends a descent and falls where it does not. At the root, where a bound serves the whole search,
 //! it may do more: once at the start, and then at restarts, ever more seldom. All of this is counted and not timed: multiplications of the
-//! relaxation beside terms that the search has looked at, about, which are reckoned from how many literals came and how many conflicts.
+//! relaxation beside terms that the search has looked at, about.
 
 use super::advice::Node;
 use relaxation::Limits;
@@ -22,12 +22,6 @@ const GREATEST_SHARE: u64 = 838_861;
 
 /// A term that the search looks at takes as long as so many multiplications.
 const WEIGHT_OF_SEARCH: u64 = 4;
-
-/// For each literal that comes the search looks at so many terms, and at twice as many more as the file has for a variable.
-const LOOKS: u64 = 5;
-
-/// A conflict costs as much as so many literals.
-const LITERALS_OF_CONFLICT: u64 = 40;
 
 /// How many steps a call may take.
 const STEPS: u32 = 200;
@@ -56,19 +50,15 @@ const CONFLICTS_BETWEEN_ROOTS: u64 = 200;
 /// The share of the work that calls have, and when the next one at the root is due.
 #[derive(Clone, Copy, Debug)]
 pub(crate) struct Effort {
-    /// How many terms the search looks at for each literal that comes, about.
-    looks: u64,
     share: u64,
     root_calls: u64,
     next_root: u64,
 }
 
 impl Effort {
-    /// Nothing was done yet, in a search of a file of so many terms over so many variables.
-    pub(crate) fn new(terms: u64, variables: u64) -> Self {
-        let density = terms / variables.max(1);
+    /// Nothing was done yet.
+    pub(crate) fn new() -> Self {
         Effort {
-            looks: density.saturating_mul(2).saturating_add(LOOKS),
             share: FIRST_SHARE,
             root_calls: 0,
             next_root: 0,
@@ -80,7 +70,7 @@ impl Effort {
         if node.decisions == 0 {
             return self.root_limits(done, node);
         }
-        if !self.is_within_share(done, self.searched(node)) {
+        if !self.is_within_share(done, node.searched) {
             return None;
         }
         let steps = match aim {
@@ -100,11 +90,11 @@ impl Effort {
             FIRST_ROOT_WORK
         } else {
             if node.conflicts < self.next_root
-                || !self.is_within_share(done.saturating_sub(ROOT_WORK), self.searched(node))
+                || !self.is_within_share(done.saturating_sub(ROOT_WORK), node.searched)
             {
                 return None;
             }
-            ROOT_WORK.saturating_add((self.searched(node) / 10).saturating_mul(3))
+            ROOT_WORK.saturating_add((node.searched / 10).saturating_mul(3))
         };
         self.root_calls = self.root_calls.saturating_add(1);
         let pause = CONFLICTS_BETWEEN_ROOTS.saturating_mul(self.root_calls);
@@ -113,13 +103,6 @@ impl Effort {
             steps: ROOT_STEPS,
             work,
         })
-    }
-
-    /// How many terms the search has looked at, about.
-    fn searched(self, node: Node<'_>) -> u64 {
-        let for_conflicts = node.conflicts.saturating_mul(LITERALS_OF_CONFLICT);
-        self.looks
-            .saturating_mul(node.literals.saturating_add(for_conflicts))
     }
 
     /// Whether calls that have done so much have done less than their share, where the search has done so much.

@@ -95,27 +95,27 @@ impl Sources {
         }
     }
 
-    /// Adds the rows of the file's constraints. How many terms these constraints have; none where they are too many.
+    /// Adds the rows of the file's constraints; whether these have not too many terms for it.
     pub(crate) fn add_file<'a, P: Propagator>(
         &mut self,
         alloc: Global,
         kernel: &Kernel<'a, P>,
         relaxation: &mut Relaxation,
-    ) -> Result<Option<usize>, AllocError> {
+    ) -> Result<bool, AllocError> {
         let mut left = MOST_TERMS;
         for number in 0..kernel.problem_ids() {
             let Ok(id) = Id::try_from(number.saturating_add(1)) else {
-                return Ok(None);
+                return Ok(false);
             };
             if let Some(constraint) = kernel.constraint(id) {
                 let Some(rest) = left.checked_sub(constraint.len()) else {
-                    return Ok(None);
+                    return Ok(false);
                 };
                 left = rest;
                 self.add_row(alloc, relaxation, id, constraint)?;
             }
         }
-        Ok(Some(MOST_TERMS.saturating_sub(left)))
+        Ok(true)
     }
 
     /// Adds the row of a constraint, unless that holds everywhere.

@@ -4,12 +4,13 @@
 //! inverse at hand each part of a step is a product with it. Every step changes it by one product of a column and a row (its rank-one
 //! update), whatever enters and leaves, and by one column or row that goes or comes. The errors of many updates add up, so the inverse
 //! is made anew from the rows at times (`refactorisation`), by Gauss and Jordan in place with the largest pivot of each column. That costs the
-//! third power of the kernel's size, which is asked before it is begun.
+//! third power of the kernel's size at most, and a small part of it where kernels have few entries in a row.
 
 use super::basis::Basis;
 use super::fixed::{Fixed, read, write};
 use super::rows::{Entry, Rows};
 use super::sums::{dot, sparse_dot};
+use super::work::Work;
 use std::alloc::{AllocError, Global};
 
 /// Pivots of a refactorisation up to this are taken for 0.
@@ -156,8 +157,14 @@ impl Inverse {
         }
     }
 
-    /// Makes the inverse anew; whether the kernel has one. Where it has none, or memory ends, the inverse is as it was.
-    pub(crate) fn refactor(&mut self, rows: &Rows, basis: &Basis) -> Result<bool, AllocError> {
+    /// Makes the inverse anew; whether the kernel has one. Where it has none, or memory ends, the inverse is as it was. What it does is counted
+    /// as it is done: most kernels have few entries, and then it is far less than the cube of their size.
+    pub(crate) fn refactor(
+        &mut self,
+        rows: &Rows,
+        basis: &Basis,
+        work: &mut Work,
+    ) -> Result<bool, AllocError> {
         let mut kernel = kernel(self.alloc, rows, basis)?;
         let mut pivots = Vec::with_capacity(self.alloc, basis.len())?;
         let mut is_used = Vec::from_elem(self.alloc, false, basis.len())?;
@@ -169,7 +176,8 @@ impl Inverse {
                 is_used[pivot] = true;
             }
             pivots.push(pivot)?;
-            eliminate(kernel.as_mut_slice(), pivot, column, self.alloc)?;
+            work.count(basis.len());
+            work.count(eliminate(kernel.as_mut_slice(), pivot, column, self.alloc)?);
         }
         self.rows = in_order(self.alloc, kernel.as_slice(), pivots.as_slice())?;
         Ok(true)
@@ -205,22 +213,25 @@ fn largest_pivot(kernel: &[Vec<Fixed>], is_used: &[bool], column: usize) -> Opti
     found
 }
 
-/// Solves the row of a pivot for the variable of its column, and puts that into all other rows. The column is the row's own from then on.
+/// Solves the row of a pivot for the variable of its column, and puts that into all other rows. The column is the row's own from then on. How
+/// many multiplications that took.
 fn eliminate(
     kernel: &mut [Vec<Fixed>],
     pivot: usize,
     column: usize,
     alloc: Global,
-) -> Result<(), AllocError> {
+) -> Result<usize, AllocError> {
     let entries = solved(kernel, pivot, column, alloc)?;
+    let mut changed: usize = 0;
     for (place, row) in kernel.iter_mut().enumerate() {
         let factor = read(row.as_slice(), column);
         if place != pivot && !factor.is_zero() {
             write(row.as_mut_slice(), column, Fixed::ZERO);
             add_multiple(row.as_mut_slice(), factor.negated(), entries.as_slice());
+            changed = changed.saturating_add(1);
         }
     }
-    Ok(())
+    Ok(changed.saturating_mul(entries.len()))
 }
 
 /// Divides the row of a pivot by it, and gives what is not 0 of it then.

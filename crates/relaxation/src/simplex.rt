@@ -273,21 +273,20 @@ impl Relaxation {
         Ok(None)
     }
 
-    /// Whether a refactorisation is within what a call may do.
+    /// Whether a refactorisation is within what a call may do, about: its kernel is taken to have entries in an eighth of its places.
     fn can_refactor(&self, call: Call) -> bool {
         let size = self.basis.len() as u64;
-        let cost = size.saturating_mul(size).saturating_mul(size);
+        let cost = size.saturating_mul(size).saturating_mul(size) / 8;
         self.work.done().saturating_add(cost) <= call.work
     }
 
     /// Makes the inverse anew, where the kernel has none with the empty basis.
     fn refactor(&mut self) -> Result<(), AllocError> {
         self.pivots = 0;
-        self.work.count_product(
-            self.basis.len(),
-            self.basis.len().saturating_mul(self.basis.len()),
-        );
-        if !self.inverse.refactor(&self.rows, &self.basis)? {
+        let is_regular = self
+            .inverse
+            .refactor(&self.rows, &self.basis, &mut self.work)?;
+        if !is_regular {
             self.forget_basis();
         }
         Ok(())

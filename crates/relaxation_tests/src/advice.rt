@@ -48,7 +48,7 @@ fn below_root(standing: &[Lit]) -> Node<'_> {
         standing,
         decisions: 1,
         conflicts: 0,
-        literals: 1 << 40,
+        searched: 1 << 40,
     }
 }
 
@@ -58,7 +58,7 @@ fn root() -> Node<'static> {
         standing: &[],
         decisions: 0,
         conflicts: 0,
-        literals: 0,
+        searched: 0,
     }
 }
 
@@ -181,7 +181,7 @@ fn corners_lean(rt: HostRuntime) {
         standing: &[],
         decisions: 1,
         conflicts: 0,
-        literals: 0,
+        searched: 0,
     };
     let kernel: Kernel<'_, ScanPropagator> = Kernel::new(alloc, &problem).expect(&rt, "memory");
     assert!(&rt; matches!(adviser.ask(&kernel, node), Ok(Advice::Values)));

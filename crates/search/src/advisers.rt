@@ -7,6 +7,7 @@ ghost use Rattle.std.specs.Prelude.{IfOk, IfSome};
 ghost use Rattle.search.specs.Advised.{IsAdvised};
 
 use super::log::Log;
+use super::searched::Searched;
 use bounding::{Advice, Adviser, Node};
 use branching::Brancher;
 use linear::{Integer, Lit, Seq};
@@ -39,6 +40,7 @@ pub(crate) struct Advisers {
     relaxation: Option<Adviser>,
     /// From how many conflicts the search has learned.
     conflicts: u64,
+    searched: Searched,
 }
 
 impl Advisers {
@@ -54,6 +56,7 @@ impl Advisers {
             brancher,
             relaxation: Adviser::new(alloc, log.problem(), log.kernel())?,
             conflicts: 0,
+            searched: Searched::new(log.problem()),
         })
     }
 
@@ -71,11 +74,12 @@ impl Advisers {
         let Some(adviser) = &mut self.relaxation else {
             return Ok(None);
         };
+        self.searched.follow(literals);
         let node = Node {
             standing,
             decisions,
             conflicts: self.conflicts,
-            literals,
+            searched: self.searched.terms(),
         };
         match adviser.ask(log.kernel(), node)? {
             Advice::Conflict(items) => Ok(Some(Line {
@@ -109,9 +113,11 @@ impl Advisers {
         self.conflicts
     }
 
-    /// The search has learned from a conflict.
-    pub(crate) fn count_conflict(&mut self) {
+    /// The search has learned from a conflict, whose analysis came by constraints of so many terms; what it keeps of all that it learned has so
+    /// many.
+    pub(crate) fn count_conflict(&mut self, met: usize, kept: u64) {
         self.conflicts = self.conflicts.saturating_add(1);
+        self.searched.analyse(met, kept);
     }
 
     /// The bound of the relaxation at the root, where there is one. It may be wrong.

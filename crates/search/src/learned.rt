@@ -40,6 +40,14 @@ struct LearnedConstraint {
 }
 
 impl LearnedConstraint {
+    /// How many terms it has; a clause of decisions counts for none.
+    fn terms(self) -> u64 {
+        if self.literals == usize::MAX {
+            return 0;
+        }
+        self.literals as u64
+    }
+
     /// Whether it stays whatever the others are.
     fn stays(self, conflicts: u64) -> bool {
         self.literals <= 2
@@ -67,6 +75,8 @@ pub(crate) struct LearnedConstraints {
     next: u64,
     /// How many conflicts lie between that one and the one after.
     interval: u64,
+    /// How many terms all have together.
+    terms: u64,
 }
 
 /// The ids in whose constraints literals of a trail are forced.
@@ -90,7 +100,13 @@ impl LearnedConstraints {
             conflicts: 0,
             next: CONFLICTS,
             interval: CONFLICTS,
+            terms: 0,
         }
+    }
+
+    /// How many terms all have together, but for clauses of decisions.
+    pub(crate) fn terms(&self) -> u64 {
+        self.terms
     }
 
     /// How many are live.
@@ -111,12 +127,14 @@ impl LearnedConstraints {
         levels: u32,
     ) -> Result<(), AllocError> {
         if let Ok(id) = Id::try_from(number) {
-            self.all.push(LearnedConstraint {
+            let one = LearnedConstraint {
                 id,
                 literals,
                 levels,
                 met: self.conflicts,
-            })?;
+            };
+            self.all.push(one)?;
+            self.terms = self.terms.saturating_add(one.terms());
         }
         Ok(())
     }
@@ -179,14 +197,17 @@ impl LearnedConstraints {
         let middle = self.middle_rank(alloc, &reasons)?;
         let mut gone = Vec::new(alloc);
         let mut kept = Vec::new(alloc);
+        let mut terms: u64 = 0;
         for one in &self.all {
             if one.goes(self.conflicts, middle) && !reasons.contains(one.id) {
                 gone.push(i128::from(one.id))?;
             } else {
                 kept.push(*one)?;
+                terms = terms.saturating_add(one.terms());
             }
         }
         self.all = kept;
+        self.terms = terms;
         Ok(gone)
     }
 

@@ -22,6 +22,7 @@ mod log;
 mod presolving;
 mod restarts;
 mod run;
+mod searched;
 mod solver;
 mod standing;
 mod trail;

@@ -188,7 +188,8 @@ impl<'a, P: Propagator> Run<'a, P> {
         ensures next { OnOk result (self.new.log.state.next ≡ self.old.log.state.next) }
         ensures consistent { IsConsistent self.new.decisions.items }
     {
-        self.advisers.count_conflict();
+        let met = self.analyser.met.variables.len();
+        self.advisers.count_conflict(met, self.learned.terms());
         self.learned.count_conflict();
         if self.advisers.conflicts() % CONFLICTS_BETWEEN_LINES == 0 {
             self.tell_progress();
