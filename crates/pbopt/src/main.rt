@@ -141,10 +141,7 @@ fn lines(rt: &HostRuntime, wanted: &Wanted<'_>) -> Result<Option<HostRuntime>, A
 }
 
 /// Reads the problem, makes the proof's file, solves, and writes the proof and then the answer. The result is the exit status.
-fn solve(
-    rt: &HostRuntime,
-    wanted: &Wanted<'_>,
-) -> Result<u8, DeviceFailed> {
+fn solve(rt: &HostRuntime, wanted: &Wanted<'_>) -> Result<u8, DeviceFailed> {
     let opb = given_by(rt, wanted.problem, fs::read(rt, wanted.problem))?;
     let mut proof_out = proof_file(rt, wanted.proof)?;
     let mut out = WriterSink::new(io::writer(rt));

@@ -78,8 +78,7 @@ impl Brancher for Reporting {
             best,
             bound,
         } = progress;
-        let _ = eprintln!(
-            rt;
+        let _ = eprintln!(rt;
             "c conflicts {conflicts} restarts {restarts} kept {kept} best {} bound {}",
             Known(best),
             Known(bound)
