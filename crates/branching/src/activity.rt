@@ -6,8 +6,9 @@
 //! them and the increment fall by the same power of two.
 //!
 //! A variable takes the sign that it had last, since that is where the search was before it went back (Pipatsrisawat and
-//! Darwiche, 2007); at first the one that the objective likes, or, where it has no price, the one that serves more constraints; and after
-//! a restart that of the best solution, so that the search goes on near it. Where the linear relaxation has a best point, its variables take the signs that are nearest to that.
+//! Darwiche, 2007); at first the one that the objective likes, or, where it has no price, the one that serves more constraints;
+//! and after a restart that of the best solution, so that the search goes on near it. Where the linear relaxation has a best
+//! point, its variables take the signs that are nearest to that.
 
 use super::brancher::{Brancher, Value};
 use super::heap::Heap;
