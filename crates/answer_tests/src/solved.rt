@@ -28,7 +28,22 @@ const PIGEONS: &str =
 const EIGHT_PIGEONS: &str =
     "1 x1 1 x2 1 x3 1 x4 1 x5 1 x6 1 x7 >= 1 ; 1 x8 1 x9 1 x10 1 x11 1 x12 1 x13 1 x14 >= 1 ; 1 x15 1 x16 1 x17 1 x18 1 x19 1 x20 1 x21 >= 1 ; 1 x22 1 x23 1 x24 1 x25 1 x26 1 x27 1 x28 >= 1 ; 1 x29 1 x30 1 x31 1 x32 1 x33 1 x34 1 x35 >= 1 ; 1 x36 1 x37 1 x38 1 x39 1 x40 1 x41 1 x42 >= 1 ; 1 x43 1 x44 1 x45 1 x46 1 x47 1 x48 1 x49 >= 1 ; 1 x50 1 x51 1 x52 1 x53 1 x54 1 x55 1 x56 >= 1 ; -1 x1 -1 x8 -1 x15 -1 x22 -1 x29 -1 x36 -1 x43 -1 x50 >= -1 ; -1 x2 -1 x9 -1 x16 -1 x23 -1 x30 -1 x37 -1 x44 -1 x51 >= -1 ; -1 x3 -1 x10 -1 x17 -1 x24 -1 x31 -1 x38 -1 x45 -1 x52 >= -1 ; -1 x4 -1 x11 -1 x18 -1 x25 -1 x32 -1 x39 -1 x46 -1 x53 >= -1 ; -1 x5 -1 x12 -1 x19 -1 x26 -1 x33 -1 x40 -1 x47 -1 x54 >= -1 ; -1 x6 -1 x13 -1 x20 -1 x27 -1 x34 -1 x41 -1 x48 -1 x55 >= -1 ; -1 x7 -1 x14 -1 x21 -1 x28 -1 x35 -1 x42 -1 x49 -1 x56 >= -1 ;";
 
-const CASES: [Case; 22] = [
+const CASES: [Case; 24] = [
+    // beyond 2^62, and at the limit of 2^90
+    Case {
+        opb: "4611686018427387905 x1 >= 0 ;",
+        conflicts: 1000000,
+        ends: "s SATISFIABLE\nv x1\n",
+        status: 10,
+        verdict: "accepted SAT\nv x1\n",
+    },
+    Case {
+        opb: "min: 1237940039285380274899124224 x1 1237940039285380274899124224 x2 ; 1 x1 >= 1 ; 1 x2 >= 1 ;",
+        conflicts: 1000000,
+        ends: "o 2475880078570760549798248448\ns OPTIMUM FOUND\nv x1 x2\n",
+        status: 30,
+        verdict: "accepted BOUNDS 2475880078570760549798248448 2475880078570760549798248448\n",
+    },
     Case {
         opb: FOUR_CLAUSES,
         conflicts: 1000000,
@@ -233,7 +248,7 @@ struct Refusal {
 
 const REFUSALS: [Refusal; 3] = [
     Refusal {
-        opb: "4611686018427387905 x1 >= 0 ;",
+        opb: "1237940039285380274899124225 x1 >= 0 ;",
         text: "c refused line 1 code 7 IntegerTooLarge\ns UNSUPPORTED\n",
         status: 0,
     },

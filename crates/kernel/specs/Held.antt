@@ -38,7 +38,6 @@ state_with d l = record {
   next = d.next;
   least = l.least;
   logged = l.logged;
-  improving = l.improving;
 }
 
 -- the state with one more solution, if there is one

@@ -97,8 +97,8 @@ impl<'a, P: Propagator> Kernel<'a, P> {
 
     /// Applies a step, whole or not at all: `pol`, which adds the value of an expression; `rup`, which adds a constraint that
     /// is shown from the live ones; `red`, which adds one that is redundant by a witness; `sol`, which logs a solution of the
-    /// file; `soli`, which also adds a constraint that asks for better ones; `del`, which takes out constraints that steps
-    /// derived. A refusal names the first fault in the order of judging, and leaves the kernel as before; a legal step is
+    /// file; `soli`, which also adds a constraint that asks for better ones; `del`, which takes out live constraints. A
+    /// refusal names the first fault in the order of judging, and leaves the kernel as before; a legal step is
     /// refused where memory runs out, and there alone.
     pub fn apply(&mut self, step: &Step) -> Result<Applied, StepFault>
         requires relation { HasAtLeast step.now }

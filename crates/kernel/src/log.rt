@@ -1,8 +1,7 @@
-//! What a proof has logged: its solutions, the least value of an improving one, and the ids of the constraints that improving
-//! ones added. All solutions are kept, at a bit a variable, and the best is looked up where it is asked for, at the end.
+//! What a proof has logged: its solutions, and the least value of an improving one. All solutions are kept, at a bit a
+//! variable, and the best is looked up where it is asked for, at the end.
 
 ghost use Rattle.std.specs.Prelude.{◌≡◌, [], ◌↔◌, ◌<ℤ◌, ◌≤ℤ◌, All, IfOk, IfSome, IsTrue, OnErr, OnOk};
-ghost use Rattle.std.specs.FinSet as set;
 ghost use Rattle.proof_rules.specs.Claim.{IsSolution};
 ghost use Rattle.proof_rules.specs.Justified.{IsBest};
 ghost use Rattle.proof_rules.specs.Legal.{worth_of};
@@ -10,7 +9,6 @@ ghost use Rattle.kernel.specs.Logged.{unlogged, with_logged, with_improved};
 
 use super::packed::PackedAssignment;
 use linear::{Assignment, Integer, Problem};
-use propagate::{Id, Ids};
 use std::alloc::{AllocError, Global};
 use std::marker::Model;
 
@@ -19,7 +17,6 @@ use std::marker::Model;
 pub(crate) struct Log {
     solutions: Vec<PackedAssignment>,
     least: Option<Integer>,
-    improving: Ids,
 }
 
 impl Model for Log {
@@ -29,7 +26,7 @@ impl Model for Log {
 
     ghost coded = { logged_code };
 
-    ghost view = { λ l. record { logged = l.solutions.items; least = l.least; improving = l.improving } };
+    ghost view = { λ l. record { logged = l.solutions.items; least = l.least } };
 }
 
 impl Log {
@@ -40,7 +37,6 @@ impl Log {
         Log {
             solutions: Vec::new(alloc),
             least: None,
-            improving: Ids::empty(alloc),
         }
     }
 
@@ -54,23 +50,18 @@ impl Log {
         Ok(())
     }
 
-    /// Logs an improving solution, its value and the id of the constraint that asks for better ones.
+    /// Logs an improving solution, and its value.
     pub(crate) fn improve(
         &mut self,
         alloc: Global,
         solution: &Assignment,
         value: Integer,
-        id: Id,
     ) -> Result<(), AllocError>
-        ensures ok { OnOk result (self.new ≡ with_improved solution.now value id self.old) }
+        ensures ok { OnOk result (self.new ≡ with_improved solution.now value self.old) }
         ensures err { OnErr result (self.new ≡ self.old) }
     {
         let packed = PackedAssignment::pack(alloc, solution)?;
         self.solutions.push(packed)?;
-        if let Err(refused) = self.improving.insert(id) {
-            self.solutions.pop();
-            return Err(refused);
-        }
         self.least = Some(value);
         Ok(())
     }
@@ -100,13 +91,6 @@ impl Log {
             None => true,
             Some(least) => bound <= least,
         }
-    }
-
-    /// Whether an id is that of a constraint that an improving solution added.
-    pub(crate) fn is_improving(&self, id: Id) -> bool
-        ensures { result ≡ set.contains self.now.improving id }
-    {
-        self.improving.contains(id)
     }
 
     /// Whether no solution is logged.

@@ -76,7 +76,7 @@ impl<'a, P: Propagator> Kernel<'a, P> {
         let id = self.database.push(better)?;
         if self
             .log
-            .improve(self.allocator, solution, value, id)
+            .improve(self.allocator, solution, value)
             .is_err()
         {
             self.database.take_back();

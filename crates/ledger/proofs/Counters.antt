@@ -1,8 +1,9 @@
 -- One entry of a list of occurrences: its place's counter is lowered by its coefficient.
-use Rattle.std.proofs.Common.{◌≡◌, ℕ, ◌+◌, ◌-◌, ◌<◌, ◌≤◌, ◌⊎◌, inl, inr, Contains, List, length, get_or, set, drop, take, refl, ap, sym, subst, ◌∙◌, arith}
+use Rattle.std.proofs.Common.{◌≡◌, ℕ, ◌+◌, ◌-◌, ◌<◌, ◌≤◌, ◌⊎◌, inl, inr, All, Contains, List, length, get_or, set, drop, take, refl, ap, sym, subst, ◌∙◌, arith}
 use Rattle.std.proofs.lemmas.Bool.{cases_eq}
 use Rattle.std.proofs.lemmas.Bool.Decides.{nat_tests}
 use Rattle.std.proofs.lemmas.List.{get_or_default, length-set, get_or-set_same, get_or-set_other}
+use Rattle.std.proofs.lemmas.List.Elements.{All-get_or}
 use Rattle.std.proofs.lemmas.List.Sums.{sum_by_more, sum_by-drop_more, sum_by-take-le}
 use Rattle.ledger.specs.declared.occurrence.Occurrence.{Occurrence}
 use Rattle.ledger.specs.Occurrences.{share, share_of}
@@ -146,3 +147,44 @@ queued_more counters limits q0 q q' os i d counter limit short h is its kept new
       ];
       kept = λ k x. kept k (h.kept k x);
     }
+
+-- the same of the next entry by another name
+pub enough_of : (before cs limits q0 q : List ℕ) (os : List Occurrence) (i : ℕ) (d o : Occurrence) (r : ℕ) → o ≡ get_or os i d → i < length os → o.place < length before
+    → IsLowered before cs limits q0 q os i → r ≡ get_or cs o.place r → o.coef ≤ r
+enough_of before cs limits q0 q os i d o r same short inside h is =
+    subst (λ (e : Occurrence). e.place < length before → r ≡ get_or cs e.place r → e.coef ≤ r) (sym same) (λ low there. enough_at before cs limits q0 q os i d r short low h there) inside is
+
+pub lowered_of : (before cs limits q0 q q' : List ℕ) (os : List Occurrence) (i : ℕ) (d o : Occurrence) (r limit : ℕ) → o ≡ get_or os i d → i < length os → o.place < length before
+    → IsLowered before cs limits q0 q os i
+    → r ≡ get_or cs o.place r
+    → limit ≡ get_or limits o.place 0
+    → ((k : ℕ) → Contains q k → Contains q' k)
+    → ((limit ≤ r - o.coef) ⊎ Contains q' o.place)
+    → IsLowered before (set cs o.place (r - o.coef)) limits q0 q' os (i + 1)
+lowered_of before cs limits q0 q q' os i d o r limit same short inside h is its kept new =
+    subst (λ (e : Occurrence). e.place < length before → r ≡ get_or cs e.place r → limit ≡ get_or limits e.place 0 → ((limit ≤ r - e.coef) ⊎ Contains q' e.place) → IsLowered before (set cs e.place (r - e.coef)) limits q0 q' os (i + 1)) (sym same)
+    (λ low there bound more. lowered_more before cs limits q0 q q' os i d r limit short low h there bound kept more) inside is its new
+
+pub room_of : (before cs : List ℕ) (os : List Occurrence) (i : ℕ) (d o : Occurrence) (r most : ℕ) → o ≡ get_or os i d → i < length os → o.place < length before
+    → IsRaised before cs os i → r ≡ get_or cs o.place r → ((k : ℕ) → k < length before → get_or before k 0 + share_of k os ≤ most) → r + o.coef ≤ most
+room_of before cs os i d o r most same short inside h is fits =
+    subst (λ (e : Occurrence). e.place < length before → r ≡ get_or cs e.place r → r + e.coef ≤ most) (sym same) (λ low there. room_at before cs os i d r most short low h there fits) inside is
+
+pub raised_of : (before cs : List ℕ) (os : List Occurrence) (i : ℕ) (d o : Occurrence) (r : ℕ) → o ≡ get_or os i d → i < length os → o.place < length before
+    → IsRaised before cs os i → r ≡ get_or cs o.place r → IsRaised before (set cs o.place (r + o.coef)) os (i + 1)
+raised_of before cs os i d o r same short inside h is =
+    subst (λ (e : Occurrence). e.place < length before → r ≡ get_or cs e.place r → IsRaised before (set cs e.place (r + e.coef)) os (i + 1)) (sym same) (λ low there. raised_more before cs os i d r short low h there) inside is
+
+pub queued_of : (counters limits q0 q q' : List ℕ) (os : List Occurrence) (i : ℕ) (d o : Occurrence) (counter limit : ℕ) → o ≡ get_or os i d → i < length os
+    → IsQueuedSoFar counters limits q0 q os i
+    → counter ≡ get_or counters o.place 0
+    → limit ≡ get_or limits o.place 0
+    → ((k : ℕ) → Contains q k → Contains q' k)
+    → ((limit ≤ counter) ⊎ Contains q' o.place)
+    → IsQueuedSoFar counters limits q0 q' os (i + 1)
+queued_of counters limits q0 q q' os i d o counter limit same short h is its kept new =
+    subst (λ (e : Occurrence). counter ≡ get_or counters e.place 0 → limit ≡ get_or limits e.place 0 → ((limit ≤ counter) ⊎ Contains q' e.place) → IsQueuedSoFar counters limits q0 q' os (i + 1)) (sym same)
+    (λ there bound more. queued_more counters limits q0 q q' os i d counter limit short h there bound kept more) is its new
+
+pub entry_below : (os : List Occurrence) (i bound : ℕ) (d o : Occurrence) → All (λ (e : Occurrence). e.place < bound) os → o ≡ get_or os i d → i < length os → o.place < bound
+entry_below os i bound d o all same short = subst (λ (e : Occurrence). e.place < bound) (sym same) (All-get_or (λ (e : Occurrence). e.place < bound) os i d short all)

@@ -7,6 +7,7 @@ pub mod Opening
 pub mod QueuedRows
 pub mod RowPlaces
 pub mod Rows
+pub mod JoinedRows
 pub mod EntrySums
 pub mod Entering
 pub mod ChosenLiterals

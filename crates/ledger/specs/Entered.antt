@@ -7,10 +7,11 @@ use Rattle.ledger.specs.declared.occurrence.Entries.{Entries}
 use Rattle.ledger.specs.declared.pair.Pair.{Pair}
 use Rattle.ledger.specs.Ledgers.{AreParted}
 use Rattle.ledger.specs.Occurrences.{occurrences_of}
+use Rattle.ledger.specs.Rows.{all_in}
 
 -- the entries of both kinds, those that are counted first
 abbrev pub all_of : Entries → List Occurrence
-all_of e = e.counted.now ++ e.watched.now
+all_of e = all_in e.counted ++ all_in e.watched
 
 -- the entries of a literal, those of places that are empty among them
 abbrev pub AreEntriesOf : List (Option NormalConstraint) → Lit → List Occurrence → Type 0

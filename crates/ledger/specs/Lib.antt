@@ -3,6 +3,7 @@ pub mod Falls
 pub mod Hints
 pub mod Ledgers
 pub mod Occurrences
+pub mod Rows
 pub mod Trails
 pub mod Waiting
 pub mod Watched

@@ -13,15 +13,15 @@ ghost use Rattle.linear.specs.Literal.{code};
 ghost use Rattle.ledger.specs.Occurrences.{HasMore, entries_of};
 ghost use Rattle.ledger.specs.Watched.{StandsIn};
 
+use super::entry_table::EntryTable;
 use super::occurrence::Occurrence;
 use super::pair::Pair;
-use super::table::Table;
 use super::watchers::Watchers;
 use normal_form::Normal;
 use std::alloc::AllocError;
 
 /// Puts in the entries of the first terms, as many as memory is there for.
-fn enter_some(table: &mut Table<Occurrence>, place: usize, constraint: &Normal) -> usize
+fn enter_some(table: &mut EntryTable, place: usize, constraint: &Normal) -> usize
     requires { 2 * variable_bound constraint.now.terms ≤ length table.old }
     ensures length { length table.new ≡ length table.old }
     ensures count { result ≤ length constraint.now.terms }
@@ -43,7 +43,7 @@ fn enter_some(table: &mut Table<Occurrence>, place: usize, constraint: &Normal) 
 }
 
 /// Puts in the entries of a constraint at a place, or none.
-fn enter(table: &mut Table<Occurrence>, place: usize, constraint: &Normal) -> Result<(), AllocError>
+fn enter(table: &mut EntryTable, place: usize, constraint: &Normal) -> Result<(), AllocError>
     requires { 2 * variable_bound constraint.now.terms ≤ length table.old }
     ensures length { length table.new ≡ length table.old }
     ensures ok { OnOk result (HasMore (entries_of table.old) table.new place constraint.now.terms) }
@@ -58,7 +58,7 @@ fn enter(table: &mut Table<Occurrence>, place: usize, constraint: &Normal) -> Re
 }
 
 /// Takes off the entries of a constraint's first terms, which are the last of their lists.
-pub(crate) fn leave(table: &mut Table<Occurrence>, constraint: &Normal, count: usize)
+pub(crate) fn leave(table: &mut EntryTable, constraint: &Normal, count: usize)
     requires table { 2 * variable_bound constraint.now.terms ≤ length table.old }
     requires count { count ≤ length constraint.now.terms }
     requires normal { IsNormal constraint.now }
@@ -74,7 +74,7 @@ pub(crate) fn leave(table: &mut Table<Occurrence>, constraint: &Normal, count: u
 
 /// Puts in the entries of a constraint that is counted, at the next place.
 pub(crate) fn enter_counted(
-    table: &mut Table<Occurrence>,
+    table: &mut EntryTable,
     watchers: &mut Watchers,
     constraint: &Normal,
 ) -> Result<(), AllocError>
@@ -99,7 +99,7 @@ pub(crate) fn enter_counted(
 
 /// Puts in the entries of a clause that is watched by two literals, at the next place.
 pub(crate) fn enter_watched(
-    table: &mut Table<Occurrence>,
+    table: &mut EntryTable,
     watchers: &mut Watchers,
     constraint: &Normal,
     pair: Pair,

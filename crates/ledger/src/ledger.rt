@@ -30,13 +30,13 @@ ghost use Rattle.ledger.specs.Watched.{IsOpen, IsPairOf, Tell};
 use super::assignment::Assignment;
 use super::choosing::latest_pair;
 use super::entry_lists::{enter_counted, enter_watched, leave};
+use super::entry_table::EntryTable;
 use super::hint::{Hint, hint_of};
 use super::lowering::{lower, queue_below, raise};
 use super::measures::{largest, open_sum};
-use super::occurrence::{Entries, Occurrence};
+use super::occurrence::Entries;
 use super::pair::Pair;
 use super::queue::Queue;
-use super::table::Table;
 use super::watchers::Watchers;
 use linear::Lit;
 use normal_form::{Normal, NormalTerm};
@@ -48,11 +48,11 @@ use std::marker::Model;
 pub struct Ledger {
     slots: Vec<Option<Normal>>,
     /// Where literals stand in constraints that are counted.
-    table: Table<Occurrence>,
+    table: EntryTable,
     counters: Vec<u128>,
     limits: Vec<u128>,
     /// Where literals stand in clauses that are watched.
-    clauses: Table<Occurrence>,
+    clauses: EntryTable,
     watchers: Watchers,
     trail: Assignment,
     reasons: Vec<Option<usize>>,
@@ -86,10 +86,10 @@ impl Ledger {
     {
         Ledger {
             slots: Vec::new(alloc),
-            table: Table::new(alloc),
+            table: EntryTable::new(alloc),
             counters: Vec::new(alloc),
             limits: Vec::new(alloc),
-            clauses: Table::new(alloc),
+            clauses: EntryTable::new(alloc),
             watchers: Watchers::new(alloc),
             trail: Assignment::new(alloc),
             reasons: Vec::new(alloc),
@@ -344,8 +344,8 @@ impl Ledger {
     {
         let number = literal.code();
         Entries {
-            counted: self.table.row_or_none(number),
-            watched: self.clauses.row_or_none(number),
+            counted: self.table.row(number),
+            watched: self.clauses.row(number),
         }
     }
 
@@ -378,8 +378,8 @@ impl Ledger {
         ensures more { self.old.variables ≤ self.new.variables }
         ensures ok { OnOk result (variables ≤ self.new.variables) }
     {
-        self.table.widen(alloc, variables * 2)?;
-        self.clauses.widen(alloc, variables * 2)?;
+        self.table.widen(variables * 2)?;
+        self.clauses.widen(variables * 2)?;
         self.watchers.widen(alloc, variables * 2)?;
         self.reasons
             .reserve(variables.saturating_sub(self.reasons.len()))?;

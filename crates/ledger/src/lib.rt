@@ -12,6 +12,7 @@
 mod assignment;
 mod choosing;
 mod entry_lists;
+mod entry_table;
 mod finding;
 mod hint;
 mod ledger;

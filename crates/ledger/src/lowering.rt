@@ -8,8 +8,9 @@ ghost use Rattle.std.specs.Prelude.{◌≡◌, ◌↔◌, ◌+◌, ◌<◌, ◌�
 ghost use Rattle.normal_form.specs.Normal.{largest_sum};
 ghost use Rattle.ledger.specs.Ledgers.{constraint_at, shown};
 ghost use Rattle.ledger.specs.Occurrences.{share_of};
+ghost use Rattle.ledger.specs.Rows.{all_in};
 
-use super::occurrence::Occurrence;
+use super::occurrence::Row;
 use super::queue::Queue;
 use normal_form::Normal;
 
@@ -53,22 +54,23 @@ pub(crate) fn lower(
     counters: &mut Vec<u128>,
     limits: &[u128],
     queue: &mut Queue,
-    list: &[Occurrence],
+    list: Row<'_>,
 )
-    requires places { All (λ o. o.place < length counters.old.items) list.now }
+    requires places { All (λ o. o.place < length counters.old.items) (all_in list) }
     requires limits { length limits.now ≡ length counters.old.items }
     requires queue { queue.old.1 ≡ length counters.old.items }
     requires enough { (k : ℕ) → k < length counters.old.items
-        → share_of k list.now ≤ slice_index_or counters.old.items k 0 }
+        → share_of k (all_in list) ≤ slice_index_or counters.old.items k 0 }
     ensures length { length counters.new.items ≡ length counters.old.items }
     ensures lowered { (k : ℕ) → k < length counters.old.items
-        → slice_index_or counters.new.items k 0 + share_of k list.now ≡ slice_index_or counters.old.items k 0 }
-    ensures queued { (k : ℕ) → k < length counters.old.items → 0 < share_of k list.now
+        → slice_index_or counters.new.items k 0 + share_of k (all_in list.entry) ≡ slice_index_or counters.old.items k 0 }
+    ensures queued { (k : ℕ) → k < length counters.old.items → 0 < share_of k (all_in list.entry)
         → (slice_index_or limits.now k 0 ≤ slice_index_or counters.new.items k 0) ⊎ Contains queue.new.0 k }
     ensures kept { (k : ℕ) → Contains queue.old.0 k → Contains queue.new.0 k }
     ensures count { queue.new.1 ≡ queue.old.1 }
 {
-    for occurrence in list {
+    for index in 0..list.len() {
+        let occurrence = list.get(index);
         let place = occurrence.place;
         let rest = counters[place] - occurrence.coef;
         counters[place] = rest;
@@ -89,15 +91,16 @@ fn add_below(queue: &mut Queue, place: usize, number: u128, limit: u128)
 }
 
 /// Raises the counter at each place of a list.
-pub(crate) fn raise(counters: &mut Vec<u128>, list: &[Occurrence])
-    requires places { All (λ o. o.place < length counters.old.items) list.now }
+pub(crate) fn raise(counters: &mut Vec<u128>, list: Row<'_>)
+    requires places { All (λ o. o.place < length counters.old.items) (all_in list) }
     requires room { (k : ℕ) → k < length counters.old.items
-        → slice_index_or counters.old.items k 0 + share_of k list.now ≤ largest_sum }
+        → slice_index_or counters.old.items k 0 + share_of k (all_in list) ≤ largest_sum }
     ensures length { length counters.new.items ≡ length counters.old.items }
     ensures raised { (k : ℕ) → k < length counters.old.items
-        → slice_index_or counters.new.items k 0 ≡ slice_index_or counters.old.items k 0 + share_of k list.now }
+        → slice_index_or counters.new.items k 0 ≡ slice_index_or counters.old.items k 0 + share_of k (all_in list.entry) }
 {
-    for occurrence in list {
+    for index in 0..list.len() {
+        let occurrence = list.get(index);
         let place = occurrence.place;
         let sum = counters[place] + occurrence.coef;
         counters[place] = sum;
@@ -105,21 +108,17 @@ pub(crate) fn raise(counters: &mut Vec<u128>, list: &[Occurrence])
 }
 
 /// Queues the places of a list whose counter is below its limit.
-pub(crate) fn queue_below(
-    counters: &[u128],
-    limits: &[u128],
-    queue: &mut Queue,
-    list: &[Occurrence],
-)
-    requires places { All (λ o. o.place < length counters.now) list.now }
+pub(crate) fn queue_below(counters: &[u128], limits: &[u128], queue: &mut Queue, list: Row<'_>)
+    requires places { All (λ o. o.place < length counters.now) (all_in list) }
     requires limits { length limits.now ≡ length counters.now }
     requires queue { queue.old.1 ≡ length counters.now }
-    ensures queued { (k : ℕ) → 0 < share_of k list.now
+    ensures queued { (k : ℕ) → 0 < share_of k (all_in list.entry)
         → (slice_index_or limits.now k 0 ≤ slice_index_or counters.now k 0) ⊎ Contains queue.new.0 k }
     ensures kept { (k : ℕ) → Contains queue.old.0 k → Contains queue.new.0 k }
     ensures count { queue.new.1 ≡ queue.old.1 }
 {
-    for occurrence in list {
+    for index in 0..list.len() {
+        let occurrence = list.get(index);
         let place = occurrence.place;
         add_below(queue, place, counters[place], limits[place]);
     }

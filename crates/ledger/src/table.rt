@@ -1,6 +1,6 @@
 //! Lists of entries, by the numbers of literals.
 
-ghost use Rattle.std.specs.Prelude.{◌≡◌, ◌-◌, ◌<◌, ◌≤◌, ◌++◌, ◌∷◌, [], ℕ, OnOk, OnErr, length, take, slice_index_or};
+ghost use Rattle.std.specs.Prelude.{◌≡◌, ◌-◌, ◌<◌, ◌≤◌, ◌++◌, ◌∷◌, ◌⊎◌, [], ℕ, OnOk, OnErr, length, take, slice_index_or};
 ghost use Rattle.std.specs.Prelude.{slice_set};
 ghost use Rattle.std.specs.List.{swap_remove};
 
@@ -35,12 +35,20 @@ impl<E: Copy> Table<E> {
     pub(crate) fn widen(&mut self, alloc: Global, bound: usize) -> Result<(), AllocError>
         ensures kept { (k : ℕ) → slice_index_or self.new k [] ≡ slice_index_or self.old k [] }
         ensures longer { length self.old ≤ length self.new }
+        ensures most { (length self.new ≡ length self.old) ⊎ (length self.new ≤ bound) }
         ensures ok { OnOk result (bound ≤ length self.new) }
     {
         for _ in self.rows.len()..bound {
             self.rows.push(Vec::new(alloc))?;
         }
         Ok(())
+    }
+
+    /// How many lists there are.
+    pub(crate) fn len(&self) -> usize
+        ensures { result ≡ length self.now }
+    {
+        self.rows.len()
     }
 
     /// The list of a number.

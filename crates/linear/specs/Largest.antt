@@ -5,7 +5,7 @@ use Rattle.std.specs.Prelude.{ℕ, ◌^◌, ◌*◌}
 
 -- the size of an integer
 abbrev pub largest_integer : ℕ
-largest_integer = 2 ^ 62
+largest_integer = 2 ^ 90
 
 -- the terms of a statement
 abbrev pub most_terms : ℕ

@@ -5,7 +5,7 @@
 //! reader compares with one of these, its contract speaks of the other, so that they cannot part.
 
 /// The largest size of an integer.
-pub const LARGEST_INTEGER: u128 = 1 << 62;
+pub const LARGEST_INTEGER: u128 = 1 << 90;
 
 /// How many terms a statement may have.
 pub const MOST_TERMS: usize = 1 << 20;

@@ -27,7 +27,7 @@ pub enum OpbCode {
     #[error("a form that is left out")]
     UnsupportedForm,
     /// An integer above the limit in size (`linear::LARGEST_INTEGER`).
-    #[error("an integer above 2^62 in size")]
+    #[error("an integer above 2^90 in size")]
     IntegerTooLarge,
     /// A term too many in its statement, or a variable or constraint too many in the text (`linear::MOST_TERMS` and beside it).
     #[error("too many terms, variables or constraints")]

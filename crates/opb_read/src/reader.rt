@@ -240,7 +240,7 @@ fn pass_mark(left: &mut Lookahead<'_>) -> Spot
     Spot::ObjectiveMark
 }
 
-/// The number of an integer token, where it is at most 2^62 in size.
+/// The number of an integer token, where it is at most 2^90 in size.
 fn file_integer(token: Token<'_>) -> Result<i128, OpbCode>
     requires { token.kind ≡ Kind.Integer }
     ensures value { IfOk result (λ n. n ≡ integer_value token.entry.text.now) }

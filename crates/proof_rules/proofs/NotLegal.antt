@@ -23,10 +23,10 @@ use Rattle.proof_steps.specs.declared.step.Item.{Item}
 use Rattle.proof_steps.specs.declared.step.Step.{Step}
 use Rattle.proof_steps.specs.declared.step.Step.TheVariants as steps
 use Rattle.proof_rules.specs.Fault as judging
-use Rattle.proof_rules.specs.Fault.{IsPolFault, IsAdmissionFault, IsRupFault, IsGoalFault, IsRedFault, IsSolFault, IsSoliFault, IsUndeletable, IsDelFault, IsStepFault, IsUnsatFault, IsBoundFault, IsLowerFault, IsUpperFault, IsBoundsFault, IsSatFault, IsHintFault, IsConclusionFault}
+use Rattle.proof_rules.specs.Fault.{IsPolFault, IsAdmissionFault, IsRupFault, IsGoalFault, IsRedFault, IsSolFault, IsSoliFault, IsDelFault, IsStepFault, IsUnsatFault, IsBoundFault, IsLowerFault, IsUpperFault, IsBoundsFault, IsSatFault, IsHintFault, IsConclusionFault}
 use Rattle.proof_rules.specs.Justified as justified
 use Rattle.proof_rules.specs.Justified.{IsExhausted, IsLowerBound, EntitlesLower, TakesHint, IsJustified}
-use Rattle.proof_rules.specs.Legal.{Legal, LegalPol, LegalRup, LegalRed, LegalSoli, LegalDel, IsDeletable, IsShownUnder, IsShownNotRaised, Logs, worth_of, without}
+use Rattle.proof_rules.specs.Legal.{Legal, LegalPol, LegalRup, LegalRed, LegalSoli, LegalDel, IsShownUnder, IsShownNotRaised, Logs, worth_of, without}
 use Rattle.proof_rules.specs.Shown.{IsShown, IsAdmitted}
 use Rattle.proof_rules.specs.Solution.{at_least}
 use Rattle.proof_rules.specs.State.{State, constraints, constraint_of, id_of, HasRoom}
@@ -90,28 +90,23 @@ soli_never p s t assigned faults.NotImproving (some, log, not) (objective, g, n,
 soli_never p s t assigned faults.TooManyIds (some, log, full) (objective, g, n, better, is) = full better.room
 soli_never p s t assigned f h (objective, g, n, better, is) = sol_never p s assigned g f h.1 better.logs
 
-is_some_never : {A : Type 0} (o : Option A) → o ≡ None → IsSome o → ⊥
+pub is_some_never : {A : Type 0} (o : Option A) → o ≡ None → IsSome o → ⊥
 is_some_never o h k = subst (λ x. IsSome x → ⊥) (sym h) (λ n. false≢true n) k
 
-pub undeletable_never : (p : Opb) (s : State) (id : ℕ) (f : StepFault) → IsUndeletable p s id f → IsDeletable p s id → ⊥
-undeletable_never p s id faults.DeadId none d = is_some_never (fin.get s.live id) none d.live
-undeletable_never p s id faults.FileConstraint (some, inl file) d = omega (arith, file, d.derived)
-undeletable_never p s id faults.FileConstraint (some, inr improving) d = false≢true (sym d.not_improving ∙ improving)
-undeletable_never p s id _ h d = h
+pub one_deletion : (s t u : State) (ids : List ℤ) → LegalDel s ids t → LegalDel s ids u → t ≡ u
+one_deletion s t u [] x y = x ∙ sym y
+one_deletion s t u (id ∷ ids) (d, x) (e, y) = one_deletion (without (id_of s.next id) s) t u ids x y
 
-pub one_deletion : (p : Opb) (s t u : State) (ids : List ℤ) → LegalDel p s ids t → LegalDel p s ids u → t ≡ u
-one_deletion p s t u [] x y = x ∙ sym y
-one_deletion p s t u (id ∷ ids) (d, x) (e, y) = one_deletion p (without (id_of s.next id) s) t u ids x y
+pub first_ids : (s t : State) (xs ys : List ℤ) → LegalDel s (xs ++ ys) t → (u : State) × LegalDel s xs u × LegalDel u ys t
+first_ids s t [] ys legal = (s, refl, legal)
+first_ids s t (id ∷ xs) ys (d, rest) = let r = first_ids (without (id_of s.next id) s) t xs ys rest in (r.0, (d, r.1), r.2)
 
-pub first_ids : (p : Opb) (s t : State) (xs ys : List ℤ) → LegalDel p s (xs ++ ys) t → (u : State) × LegalDel p s xs u × LegalDel p u ys t
-first_ids p s t [] ys legal = (s, refl, legal)
-first_ids p s t (id ∷ xs) ys (d, rest) = let r = first_ids p (without (id_of s.next id) s) t xs ys rest in (r.0, (d, r.1), r.2)
-
-del_never : (p : Opb) (s t : State) (ids : List ℤ) (f : StepFault) → IsDelFault p s ids f → LegalDel p s ids t → ⊥
-del_never p s t ids f (before, id, behind, between, is, legal, kept) whole =
-    let r = first_ids p s t before (id ∷ behind) (subst (λ xs. LegalDel p s xs t) is whole) in
-    let same : between ≡ r.0 = one_deletion p s between r.0 before legal r.1 in
-    undeletable_never p r.0 (id_of r.0.next id) f (subst (λ u. IsUndeletable p u (id_of u.next id) f) same kept) r.2.0
+del_never : (s t : State) (ids : List ℤ) (f : StepFault) → IsDelFault s ids f → LegalDel s ids t → ⊥
+del_never s t ids faults.DeadId (before, id, behind, between, is, legal, dead) whole =
+    let r = first_ids s t before (id ∷ behind) (subst (λ xs. LegalDel s xs t) is whole) in
+    let same : between ≡ r.0 = one_deletion s between r.0 before legal r.1 in
+    is_some_never (constraint_of r.0 id) (subst (λ u. constraint_of u id ≡ None) same dead) r.2.0
+del_never s t ids _ h whole = h
 
 pub step_never : (p : Opb) (s : State) (step : Step) (f : StepFault) (t : State) → IsStepFault p s step f → Legal p s step t → ⊥
 step_never p s (steps.Pol written) f t h legal = pol_never s t written f h legal
@@ -119,7 +114,7 @@ step_never p s (steps.Rup c) f t h legal = rup_never s t c f h legal
 step_never p s (steps.Red c images) f t h legal = red_never p s t c images f h legal
 step_never p s (steps.Sol assigned) f t h (g, logs, is) = sol_never p s assigned g f h logs
 step_never p s (steps.Soli assigned) f t h legal = soli_never p s t assigned f h legal
-step_never p s (steps.Del ids) f t h legal = del_never p s t ids f h legal
+step_never p s (steps.Del ids) f t h legal = del_never s t ids f h legal
 
 pub unsat_never : (s : State) (f : StepFault) → IsUnsatFault s f → IsExhausted s → ⊥
 unsat_never s faults.SolutionLogged some e = some e.unlogged

@@ -5,7 +5,6 @@ use Rattle.std.specs.Ordering.{nat_cmp, eq_by_cmp, is_eq}
 use Rattle.std.specs.Cmp.{nat_cmp_is}
 use Rattle.std.specs.List.{slice_get}
 use Rattle.std.specs.FinMap as fin
-use Rattle.std.specs.FinSet as set
 use Rattle.std.proofs.lemmas.Cmp.{nat_cmp_total}
 use Rattle.std.proofs.lemmas.List.{length-append}
 use Rattle.linear.specs.Limits.{IsWithin}
@@ -61,7 +60,7 @@ state_push ns n =
     ∙ fin.from_entries_push nat_cmp_total fin.nat_cmp-IsAntisymmetric (numbered 1 ns) (1 + length ns) n new
     ∙ ap (λ k. fin.insert (fin.from_entries {R = nat_cmp} (numbered 1 ns)) k n) key in
     let next : length (ns ++ n ∷ []) + 1 ≡ (length ns + 1) + 1 = omega (arith, length-append ns (n ∷ [])) in
-    λ i. record { live = live i; next = next i; least = None; logged = []; improving = set.empty }
+    λ i. record { live = live i; next = next i; least = None; logged = [] }
 
 -- one more constraint
 by_key : (live : Live) (next id : ℕ) (n m : NormalConstraint) (b : Bool) → AreNumbered live next → eq_by_cmp nat_cmp id next ≡ b
@@ -136,9 +135,9 @@ numbered_start p s within (ns, forms, is) =
 added : (s t : State) (n : NormalConstraint) → AreNumbered s.live s.next → Adds n s t → AreNumbered t.live t.next
 added s t n h (room, is) = subst (λ u. AreNumbered u.live u.next) (sym is) (numbered_more s.live s.next n h room)
 
-deleted : (p : Opb) (s t : State) (ids : List ℤ) → AreNumbered s.live s.next → LegalDel p s ids t → AreNumbered t.live t.next
-deleted p s t [] h is = subst (λ u. AreNumbered u.live u.next) (sym is) h
-deleted p s t (id ∷ ids) h (deletable, legal) = deleted p (without (id_of s.next id) s) t ids (numbered_less s.live s.next (id_of s.next id) h) legal
+deleted : (s t : State) (ids : List ℤ) → AreNumbered s.live s.next → LegalDel s ids t → AreNumbered t.live t.next
+deleted s t [] h is = subst (λ u. AreNumbered u.live u.next) (sym is) h
+deleted s t (id ∷ ids) h (live, legal) = deleted (without (id_of s.next id) s) t ids (numbered_less s.live s.next (id_of s.next id) h) legal
 
 pub numbered_step : (p : Opb) (s : State) (step : Step) (t : State) → AreNumbered s.live s.next → Legal p s step t → AreNumbered t.live t.next
 numbered_step p s (steps.Pol items) t h (n, value, adds) = added s t n h adds
@@ -147,4 +146,4 @@ numbered_step p s (steps.Red c images) t h (n, m, admitted, redundant, adds) = a
 numbered_step p s (steps.Sol assigned) t h (g, logs, is) = subst (λ u. AreNumbered u.live u.next) (sym is) h
 numbered_step p s (steps.Soli assigned) t h (objective, g, n, improves, is) =
     subst (λ u. AreNumbered u.live u.next) (sym is) (numbered_more s.live s.next n h improves.room)
-numbered_step p s (steps.Del ids) t h legal = deleted p s t ids h legal
+numbered_step p s (steps.Del ids) t h legal = deleted s t ids h legal

@@ -38,7 +38,7 @@ one_state p s t u (steps.Rup c) (n, admitted, shown, adds) (m, admitted', shown'
 one_state p s t u (steps.Red c images) (n, k, admitted, r, adds) (m, j, admitted', r', also) = one_addition s t u n m (one_admitted c n m admitted admitted') adds also
 one_state p s t u (steps.Sol assigned) (g, logs, is) (h, also, is') = is ∙ ap (λ b. with_solution b s) (one_log p s assigned g h logs also) ∙ sym is'
 one_state p s t u (steps.Soli assigned) legal also = one_improvement p s t u assigned legal also
-one_state p s t u (steps.Del ids) legal also = one_deletion p s t u ids legal also
+one_state p s t u (steps.Del ids) legal also = one_deletion s t u ids legal also
 
 -- the best of logged solutions
 

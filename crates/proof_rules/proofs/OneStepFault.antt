@@ -13,14 +13,14 @@ use Rattle.proof_rules.specs.declared.fault.StepFault.{StepFault}
 use Rattle.proof_rules.specs.declared.fault.StepFault.TheVariants as faults
 use Rattle.proof_steps.specs.declared.step.Step.{Step}
 use Rattle.proof_steps.specs.declared.step.Step.TheVariants as steps
-use Rattle.proof_rules.specs.Fault.{IsAdmissionFault, IsRupFault, IsGoalFault, IsOpenGoal, IsRedFault, IsSolFault, IsNotBetter, IsSoliFault, IsUndeletable, IsDelFault, IsStepFault}
-use Rattle.proof_rules.specs.Legal.{IsShownUnder, Logs, LegalDel, worth_of, without}
+use Rattle.proof_rules.specs.Fault.{IsAdmissionFault, IsRupFault, IsGoalFault, IsOpenGoal, IsRedFault, IsSolFault, IsNotBetter, IsSoliFault, IsDelFault, IsStepFault}
+use Rattle.proof_rules.specs.Legal.{IsShownUnder, Logs, worth_of}
 use Rattle.proof_rules.specs.Shown.{IsAdmitted}
 use Rattle.proof_rules.specs.Solution.{Completes}
-use Rattle.proof_rules.specs.State.{State, constraints, id_of, HasRoom}
+use Rattle.proof_rules.specs.State.{State, constraints, HasRoom}
 use Rattle.proof_rules.proofs.Completing.{gap_never}
 use Rattle.proof_rules.proofs.LiveConstraints.{All-get}
-use Rattle.proof_rules.proofs.NotLegal.{admitted_never, one_admitted, sol_never, less_never, undeletable_never}
+use Rattle.proof_rules.proofs.NotLegal.{admitted_never, one_admitted, sol_never, less_never}
 use Rattle.proof_rules.proofs.OnePolFault.{Case, one_of_two, one_of_three, one_pol_fault}
 
 -- a written constraint
@@ -198,40 +198,12 @@ one_soli_fault p s assigned f g h k = one_behind_objective p s assigned f g (sol
 
 -- del
 
-undeletable_is : (p : Opb) (s : State) (id : ℕ) (f : StepFault) → IsUndeletable p s id f → Case f faults.DeadId (fin.get s.live id ≡ None) ⊎ Case f faults.FileConstraint (fin.get s.live id ≢ None)
-undeletable_is p s id faults.DeadId h = inl (refl, h)
-undeletable_is p s id faults.FileConstraint h = inr (refl, h.0)
-undeletable_is p s id _ h = absurd h
+dead : (s : State) (ids : List ℤ) (f : StepFault) → IsDelFault s ids f → f ≡ faults.DeadId
+dead s ids faults.DeadId h = refl
+dead s ids _ h = absurd h
 
-one_undeletable : (p : Opb) (s : State) (id : ℕ) (f g : StepFault) → IsUndeletable p s id f → IsUndeletable p s id g → f ≡ g
-one_undeletable p s id f g h k =
-    one_of_two f g faults.DeadId faults.FileConstraint (fin.get s.live id ≡ None) (fin.get s.live id ≢ None) (λ none some. some none)
-    (undeletable_is p s id f h) (undeletable_is p s id g k)
-
--- an id of a step, in the state that the ids before it lead to
-abbrev UndeletableIn : Opb → State → ℤ → StepFault → Type 0
-UndeletableIn p s id f = IsUndeletable p s (id_of s.next id) f
-
-one_refusal : (p : Opb) (s t u : State) (xs ys bs cs : List ℤ) (i j : ℤ) (f g : StepFault) → xs ++ i ∷ bs ≡ ys ++ j ∷ cs
-    → LegalDel p s xs t → LegalDel p s ys u → UndeletableIn p t i f → UndeletableIn p u j g → f ≡ g
-one_refusal p s t u [] [] bs cs i j f g same is also h k =
-    let ids : i ≡ j = cc in
-    one_undeletable p s (id_of s.next j) f g (subst (λ x. UndeletableIn p s x f) ids (subst (λ z. UndeletableIn p z i f) is h)) (subst (λ z. UndeletableIn p z j g) also k)
-one_refusal p s t u [] (y ∷ ys) bs cs i j f g same is (d, legal) h k =
-    let ids : i ≡ y = cc in
-    absurd (undeletable_never p s (id_of s.next y) f (subst (λ x. UndeletableIn p s x f) ids (subst (λ z. UndeletableIn p z i f) is h)) d)
-one_refusal p s t u (x ∷ xs) [] bs cs i j f g same (d, legal) also h k =
-    let ids : j ≡ x = cc in
-    absurd (undeletable_never p s (id_of s.next x) g (subst (λ z. UndeletableIn p s z g) ids (subst (λ z. UndeletableIn p z j g) also k)) d)
-one_refusal p s t u (x ∷ xs) (y ∷ ys) bs cs i j f g same (d, legal) (e, legal') h k =
-    let ids : y ≡ x = cc in
-    let rest : xs ++ i ∷ bs ≡ ys ++ j ∷ cs = cc in
-    let old = without (id_of s.next x) s in
-    one_refusal p old t u xs ys bs cs i j f g rest legal (subst (λ z. LegalDel p (without (id_of s.next z) s) ys u) ids legal') h k
-
-pub one_del_fault : (p : Opb) (s : State) (ids : List ℤ) (f g : StepFault) → IsDelFault p s ids f → IsDelFault p s ids g → f ≡ g
-one_del_fault p s ids f g (before, i, behind, t, is, legal, h) (before', j, behind', u, is', legal', k) =
-    one_refusal p s t u before before' behind behind' i j f g (sym is ∙ is') legal legal' h k
+pub one_del_fault : (s : State) (ids : List ℤ) (f g : StepFault) → IsDelFault s ids f → IsDelFault s ids g → f ≡ g
+one_del_fault s ids f g h k = dead s ids f h ∙ sym (dead s ids g k)
 
 pub one_step_fault : (p : Opb) (s : State) (step : Step) (f g : StepFault) → IsStepFault p s step f → IsStepFault p s step g → f ≡ g
 one_step_fault p s (steps.Pol written) f g h k = one_pol_fault s written f g h k
@@ -239,4 +211,4 @@ one_step_fault p s (steps.Rup c) f g h k = one_rup_fault s c f g h k
 one_step_fault p s (steps.Red c images) f g h k = one_red_fault p s c images f g h k
 one_step_fault p s (steps.Sol assigned) f g h k = one_sol_fault p s assigned f g h k
 one_step_fault p s (steps.Soli assigned) f g h k = one_soli_fault p s assigned f g h k
-one_step_fault p s (steps.Del ids) f g h k = one_del_fault p s ids f g h k
+one_step_fault p s (steps.Del ids) f g h k = one_del_fault s ids f g h k

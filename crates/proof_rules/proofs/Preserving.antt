@@ -165,15 +165,15 @@ gone_preserves p s id kept = record {
   least = kept.least;
 }
 
-pub del_preserves : (p : Opb) (s t : State) (ids : List ℤ) → IsPreserved p s → LegalDel p s ids t → IsPreserved p t
+pub del_preserves : (p : Opb) (s t : State) (ids : List ℤ) → IsPreserved p s → LegalDel s ids t → IsPreserved p t
 del_preserves p s t [] kept is = subst (IsPreserved p) (sym is) kept
-del_preserves p s t (id ∷ ids) kept (deletable, rest) =
+del_preserves p s t (id ∷ ids) kept (live, rest) =
     del_preserves p (without (id_of s.next id) s) t ids (gone_preserves p s (id_of s.next id) kept) rest
 
-pub del_normal : (p : Opb) (s t : State) (ids : List ℤ) → AreNormal s → LegalDel p s ids t → AreNormal t
-del_normal p s t [] normal is = subst AreNormal (sym is) normal
-del_normal p s t (id ∷ ids) normal (deletable, rest) =
-    del_normal p (without (id_of s.next id) s) t ids (All-remove (λ e. Rises 0 e.terms) s.live (id_of s.next id) normal) rest
+pub del_normal : (s t : State) (ids : List ℤ) → AreNormal s → LegalDel s ids t → AreNormal t
+del_normal s t [] normal is = subst AreNormal (sym is) normal
+del_normal s t (id ∷ ids) normal (live, rest) =
+    del_normal (without (id_of s.next id) s) t ids (All-remove (λ e. Rises 0 e.terms) s.live (id_of s.next id) normal) rest
 
 pub step_preserves : (p : Opb) (s : State) (step : Step) (t : State) → IsPreserved p s → AreNormal s → Legal p s step t → IsPreserved p t
 step_preserves p s (steps.Pol items) t kept normal legal = pol_preserves p s t items kept legal
@@ -189,7 +189,7 @@ step_normal p s (steps.Rup c) t normal legal = rup_normal s t c normal legal
 step_normal p s (steps.Red c images) t normal legal = red_normal p s t c images normal legal
 step_normal p s (steps.Sol assigned) t normal legal = sol_normal p s t assigned normal legal
 step_normal p s (steps.Soli assigned) t normal legal = soli_normal p s t assigned normal legal
-step_normal p s (steps.Del ids) t normal legal = del_normal p s t ids normal legal
+step_normal p s (steps.Del ids) t normal legal = del_normal s t ids normal legal
 
 pub steps_preserve : (p : Opb) (s : State) (proof : List Step) (t : State) → IsPreserved p s → AreNormal s → Leads p s proof t → IsPreserved p t × AreNormal t
 steps_preserve p s [] t kept normal is = (subst (IsPreserved p) (sym is) kept, subst AreNormal (sym is) normal)

@@ -2,7 +2,6 @@
 use Rattle.std.proofs.Common.{◌≡◌, ℕ, zero, suc, ◌-◌, ◌<◌, ◌≤◌, ℤ, pos, ◌<ℤ◌, ◌≤ℤ◌, IfSome, IsSome, Option, Some, None, cond, inl, inr, Bool, true, false, List, [], ◌∷◌, map, refl, sym, ap, subst, ◌∙◌, arith}
 use Rattle.std.specs.List.{list_any}
 use Rattle.std.specs.Ordering.{nat_cmp, eq_by_cmp}
-use Rattle.std.specs.FinSet as set
 use Rattle.std.specs.FinMap as fin
 use Rattle.std.proofs.lemmas.Bool.{false≢true}
 use Rattle.std.proofs.lemmas.Cmp.{nat_cmp_total}
@@ -30,11 +29,11 @@ use Rattle.propagate.proofs.SearchIsRight.{closure_met, conflict_met, no_conflic
 use Rattle.substitution.specs.Covering.{Covers}
 use Rattle.substitution.proofs.Covered.{covers_itself}
 use Rattle.proof_rules.specs.Cases.{cover, cover_written, cover_file, least_cover, min_both, both, second_alone, cover_state, not_second_alone, derived_state, contradicting_state, full_state}
-use Rattle.proof_rules.specs.Legal.{IsDeletable, Logs, without, worth_of}
+use Rattle.proof_rules.specs.Legal.{Logs, without, worth_of}
 use Rattle.proof_rules.specs.Justified.{EntitlesLower, IsBest, IsExhausted}
 use Rattle.proof_rules.specs.Shown.{IsShown, absurdity}
 use Rattle.proof_rules.specs.Solution.{literal_for, NamesAll, value_at, Completes, at_least}
-use Rattle.proof_rules.specs.State.{State, constraints, numbered, state_of, HasRoom}
+use Rattle.proof_rules.specs.State.{State, constraints, constraint_of, numbered, state_of, HasRoom}
 use Rattle.proof_rules.specs.Fault.{IsSolFault, IsBoundFault}
 use Rattle.proof_rules.specs.declared.fault.StepFault.TheVariants.{SolutionFalse, LowerNotShown}
 use Rattle.proof_rules.proofs.Completing.{one_completion}
@@ -215,13 +214,20 @@ none_below_one ns P none (suc k) n less is = absurd (omega (arith, less))
 pub none_left : (least : Option ℤ) → HasRoom (full_state least) → ⊥
 none_left least room = omega (arith, room)
 
--- the second constraint of two may be deleted, where the file has one
-pub second_deletable : IsDeletable cover_file derived_state 2
-second_deletable = record {
-  live = subst (λ o. IsSome o) (sym (found_in (cover ∷ not_second_alone ∷ []) 2)) refl;
-  derived = omega arith;
-  not_improving = set.contains-empty nat_cmp 2;
-}
+-- both constraints are live, that of the file and the derived one
+pub first_live : IsSome (constraint_of derived_state (pos 1))
+first_live = subst (λ o. IsSome o) (sym (found_in (cover ∷ not_second_alone ∷ []) 1)) refl
+
+pub second_live : IsSome (constraint_of derived_state (pos 2))
+second_live = subst (λ o. IsSome o) (sym (found_in (cover ∷ not_second_alone ∷ []) 2)) refl
+
+-- and that of the file is, where the derived one is gone
+pub first_left : IsSome (constraint_of (without 2 derived_state) (pos 1))
+first_left = subst (λ o. IsSome o) (sym (found_without derived_state 2 1 ∙ found_in (cover ∷ not_second_alone ∷ []) 1)) refl
+
+-- an id that was never given
+pub never_given : constraint_of (without 1 derived_state) (pos 9) ≡ None
+never_given = found_without derived_state 1 9 ∙ found_in (cover ∷ not_second_alone ∷ []) 9
 
 pub derived_gone : fin.get (without 2 derived_state).live 2 ≡ None
 derived_gone = found_without derived_state 2 2

@@ -21,7 +21,7 @@ step_judged p s (steps.Rup c) normal = rup_judged s c
 step_judged p s (steps.Red c images) normal = red_judged p s c images
 step_judged p s (steps.Sol assigned) normal = sol_judged p s assigned
 step_judged p s (steps.Soli assigned) normal = soli_judged p s assigned
-step_judged p s (steps.Del ids) normal = del_judged p s ids
+step_judged p s (steps.Del ids) normal = del_judged s ids
 
 -- without a fault it is legal
 pub faultless_legal : (p : Opb) (s : State) (step : Step) → AreNormal s → ((f : StepFault) → IsStepFault p s step f → ⊥) → (t : State) × Legal p s step t

@@ -4,9 +4,8 @@
 -- A fault is a condition on the state and the step, as legality is, and not what some judge happens to find first. So the
 -- order of judging is part of each condition, and laws say that it works out: a step is legal or has one fault, never
 -- both. What is cheap is judged before what is dear: limits and ids before a search for what shows a constraint.
-use Rattle.std.specs.Prelude.{◌≡◌, ◌≢◌, ℕ, ◌<◌, ◌≤◌, ◌⊎◌, ℤ, pos, ◌<ℤ◌, ◌≤ℤ◌, Bool, true, List, [], ◌∷◌, ◌++◌, Option, None, Some, All, IfSome, length, unsigned_abs}
+use Rattle.std.specs.Prelude.{◌≡◌, ◌≢◌, ℕ, ◌<◌, ◌⊎◌, ℤ, pos, ◌<ℤ◌, ◌≤ℤ◌, Bool, List, [], ◌∷◌, ◌++◌, Option, None, Some, All, IfSome, length, unsigned_abs}
 use Rattle.std.specs.FinMap as map
-use Rattle.std.specs.FinSet as set
 use Rattle.linear.specs.declared.constraint.Signed.{Signed}
 use Rattle.linear.specs.declared.term.Lit.{Lit}
 use Rattle.linear.specs.declared.term.Term.{Term}
@@ -31,13 +30,12 @@ use Rattle.proof_steps.specs.declared.step.Item.TheVariants as items
 use Rattle.proof_steps.specs.declared.step.Step.{Step}
 use Rattle.proof_steps.specs.declared.step.Step.TheVariants as steps
 use Rattle.proof_rules.specs.Expression.{Given, IsPostfixOf}
-use Rattle.proof_rules.specs.Forms.{problem_ids}
 use Rattle.proof_rules.specs.Justified.{EntitlesLower, EntitlesUpper, TakesHint}
 use Rattle.proof_rules.specs.Legal.{IsShownUnder, IsShownNotRaised, Logs, LegalDel, worth_of}
 use Rattle.proof_rules.specs.Running.{Runs}
 use Rattle.proof_rules.specs.Shown.{IsShown, IsAdmitted, absurdity}
 use Rattle.proof_rules.specs.Solution.{literal_for, NamesAll, Completes, at_least}
-use Rattle.proof_rules.specs.State.{State, constraints, constraint_of, id_of, HasRoom}
+use Rattle.proof_rules.specs.State.{State, constraints, constraint_of, HasRoom}
 
 -- out of memory, or this
 abbrev pub OrMemory : StepFault → Type 0 → Type 0
@@ -158,17 +156,12 @@ IsSoliFault p s assigned faults.TooManyIds =
     (p.objective ≢ None) × ((g : List Bool) × Logs p s assigned g × IfSome s.least (λ least. worth_of p g <ℤ least)) × (HasRoom s → ⊥)
 IsSoliFault p s assigned f = (p.objective ≢ None) × IsSolFault p s assigned f
 
--- an id that is not live, or that is not to be deleted
-abbrev pub IsUndeletable : Opb → State → ℕ → StepFault → Type 0
-IsUndeletable p s id faults.DeadId = map.get s.live id ≡ None
-IsUndeletable p s id faults.FileConstraint = (map.get s.live id ≢ None) × ((id ≤ problem_ids p.constraints) ⊎ (set.contains s.improving id ≡ true))
-IsUndeletable p s id _ = ⊥
-
--- del id: the ids from left to right, each judged with the earlier ones gone
-abbrev pub IsDelFault : Opb → State → List ℤ → StepFault → Type 0
-IsDelFault p s ids f =
+-- del id: one of the ids is not live, those before it gone
+abbrev pub IsDelFault : State → List ℤ → StepFault → Type 0
+IsDelFault s ids faults.DeadId =
     (before : List ℤ) × (id : ℤ) × (behind : List ℤ) × (between : State)
-    × (ids ≡ before ++ id ∷ behind) × LegalDel p s before between × IsUndeletable p between (id_of between.next id) f
+    × (ids ≡ before ++ id ∷ behind) × LegalDel s before between × (constraint_of between id ≡ None)
+IsDelFault s ids _ = ⊥
 
 abbrev pub IsStepFault : Opb → State → Step → StepFault → Type 0
 IsStepFault p s (steps.Pol written) f = IsPolFault s written f
@@ -176,7 +169,7 @@ IsStepFault p s (steps.Rup c) f = IsRupFault s c f
 IsStepFault p s (steps.Red c images) f = IsRedFault p s c images f
 IsStepFault p s (steps.Sol assigned) f = IsSolFault p s assigned f
 IsStepFault p s (steps.Soli assigned) f = IsSoliFault p s assigned f
-IsStepFault p s (steps.Del ids) f = IsDelFault p s ids f
+IsStepFault p s (steps.Del ids) f = IsDelFault s ids f
 
 -- UNSAT: something is logged, then `0 >= 1` is not shown
 abbrev pub IsUnsatFault : State → StepFault → Type 0

@@ -7,11 +7,11 @@
 -- What `red` adds need not follow. Where it fails at an answer, the answer after the substitution takes that one's place:
 -- so it has to meet each live constraint and the new one, and to be worth no more. Since it is needed only where the new
 -- constraint fails, each goal may be shown beside the negation of that. A solution is judged by the file and not by the
--- live constraints, which `red` and `soli` may have made narrower. `del id` takes out what steps derived alone: less
--- than is sound here, since answers are those to the file, but the format has another rule for the file's own.
-use Rattle.std.specs.Prelude.{◌≡◌, ℕ, ◌<◌, ℤ, pos, ◌<ℤ◌, ◌-ℤ◌, Bool, false, List, [], ◌∷◌, ◌++◌, Some, All, IfSome, IsSome, length}
+-- live constraints, which `red` and `soli` may have made narrower. So `del id` may take out any live constraint, the file's
+-- own and those that improving solutions added among them: what is kept is an answer to the file, and the fewer constraints
+-- are live, the more answers meet them.
+use Rattle.std.specs.Prelude.{◌≡◌, ℕ, ℤ, pos, ◌<ℤ◌, ◌-ℤ◌, Bool, List, [], ◌∷◌, ◌++◌, Some, All, IfSome, IsSome, length}
 use Rattle.std.specs.FinMap as map
-use Rattle.std.specs.FinSet as set
 use Rattle.linear.specs.declared.constraint.Signed.{Signed}
 use Rattle.linear.specs.declared.term.Lit.{Lit}
 use Rattle.linear.specs.declared.term.Term.{Term}
@@ -27,7 +27,6 @@ use Rattle.proof_steps.specs.declared.step.Item.{Item}
 use Rattle.proof_steps.specs.declared.step.Step.{Step}
 use Rattle.proof_steps.specs.declared.step.Step.TheVariants as steps
 use Rattle.proof_rules.specs.Expression.{IsPostfixOf}
-use Rattle.proof_rules.specs.Forms.{problem_ids}
 use Rattle.proof_rules.specs.Shown.{IsShown, IsAdmitted}
 use Rattle.proof_rules.specs.Solution.{Completes, at_most}
 use Rattle.proof_rules.specs.State.{State, constraints, constraint_of, id_of, HasRoom, with_constraint}
@@ -82,7 +81,7 @@ worth_of p g = value_of (valuation_of g) p
 
 -- soli: a solution that is better than the improving ones before is logged, and a constraint is added that asks for
 -- still better ones. No limit is asked of that constraint: where the problem is within the limits of a file, its
--- coefficients add up to at most 2^82, and its degree is at most 1 above their sum; a constraint may have 2^120.
+-- coefficients add up to at most 2^110, and its degree is at most 1 above their sum; a constraint may have 2^120.
 pub record Improves (p : Opb) (old : State) (objective : List Term) (assigned : List Lit) (g : List Bool) (n : NormalConstraint) : Type 0 where
   pub minimises : p.objective ≡ Some objective
   pub logs : Logs p old assigned g
@@ -91,29 +90,20 @@ pub record Improves (p : Opb) (old : State) (objective : List Term) (assigned : 
   pub room : HasRoom old
 
 abbrev pub with_improvement : Opb → List Bool → NormalConstraint → State → State
-with_improvement p g n s = record (with_constraint n (with_solution g s)) {
-  least = Some (worth_of p g);
-  improving = set.insert s.improving s.next;
-}
+with_improvement p g n s = record (with_constraint n (with_solution g s)) { least = Some (worth_of p g) }
 
 abbrev pub LegalSoli : Opb → State → List Lit → State → Type 0
 LegalSoli p old assigned new =
     (objective : List Term) × (g : List Bool) × (n : NormalConstraint) × Improves p old objective assigned g n × (new ≡ with_improvement p g n old)
 
--- a live constraint that is neither the file's nor one that an improving solution added
-pub record IsDeletable (p : Opb) (s : State) (id : ℕ) : Type 0 where
-  pub live : IsSome (map.get s.live id)
-  pub derived : problem_ids p.constraints < id
-  pub not_improving : set.contains s.improving id ≡ false
-
 abbrev pub without : ℕ → State → State
 without id s = record s { live = map.remove s.live id }
 
--- del id: each id is deletable in its turn, and its constraint goes; by a law the ids differ, and each is deletable
--- before the step
-abbrev pub LegalDel : Opb → State → List ℤ → State → Type 0
-LegalDel p old [] new = new ≡ old
-LegalDel p old (id ∷ ids) new = IsDeletable p old (id_of old.next id) × LegalDel p (without (id_of old.next id) old) ids new
+-- del id: each id is that of a live constraint in its turn, which goes; by a law the ids differ, and each is live before the
+-- step
+abbrev pub LegalDel : State → List ℤ → State → Type 0
+LegalDel old [] new = new ≡ old
+LegalDel old (id ∷ ids) new = IsSome (constraint_of old id) × LegalDel (without (id_of old.next id) old) ids new
 
 abbrev pub Legal : Opb → State → Step → State → Type 0
 Legal p old (steps.Pol items) new = LegalPol old items new
@@ -121,7 +111,7 @@ Legal p old (steps.Rup c) new = LegalRup old c new
 Legal p old (steps.Red c images) new = LegalRed p old c images new
 Legal p old (steps.Sol assigned) new = LegalSol p old assigned new
 Legal p old (steps.Soli assigned) new = LegalSoli p old assigned new
-Legal p old (steps.Del ids) new = LegalDel p old ids new
+Legal p old (steps.Del ids) new = LegalDel old ids new
 
 -- steps lead, one after another, from one state to another
 abbrev pub Leads : Opb → State → List Step → State → Type 0

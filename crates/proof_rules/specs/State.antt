@@ -6,7 +6,6 @@
 use Rattle.std.specs.Prelude.{◌≡◌, ℕ, ◌+◌, ◌-◌, ◌<◌, ◌≤◌, ◌^◌, ℤ, pos, negsuc, Bool, List, [], ◌∷◌, Option, None, Some, length}
 use Rattle.std.specs.Ordering.{nat_cmp}
 use Rattle.std.specs.FinMap as map
-use Rattle.std.specs.FinSet as set
 use Rattle.linear.specs.Opb.{Opb}
 use Rattle.normal_form.specs.Normal.{NormalConstraint}
 use Rattle.proof_rules.specs.Forms.{AreFormsOfAll}
@@ -24,8 +23,6 @@ pub record State : Type 0 where
   pub least : Option ℤ
   -- the solutions, the first one first: the values of the file's variables
   pub logged : List (List Bool)
-  -- the ids of the constraints that improving solutions added
-  pub improving : set.FinSet nat_cmp
 
 -- the live constraints, by rising id
 abbrev pub constraints : State → List NormalConstraint
@@ -70,7 +67,6 @@ state_of ns = record {
   next = length ns + 1;
   least = None;
   logged = [];
-  improving = set.empty;
 }
 
 -- the state before the first step: the normal constraints of the file

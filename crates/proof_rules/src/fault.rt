@@ -46,7 +46,8 @@ pub enum StepFault {
     /// The file has no objective.
     #[error("no objective")]
     NoObjective,
-    /// A constraint of the file, or one that an improving solution added, is not to be deleted.
+    /// Not given: every live constraint may be deleted. The code was that of a constraint of the file, or of one that an
+    /// improving solution added, as long as these could not, and stands for nothing else.
     #[error("file constraint")]
     FileConstraint,
     /// The lower bound, or `0 >= 1`, is not shown.

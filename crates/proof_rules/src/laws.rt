@@ -72,16 +72,16 @@ pub fn soli_preserves()
     ensures normal { (p : Opb) → (s t : State) → (assigned : List Lit) → AreNormal s → LegalSoli p s assigned t → AreNormal t }
 {}
 
-/// An answer meets what is left after a deletion.
+/// An answer meets what is left after a deletion, whatever goes.
 pub fn del_preserves()
-    ensures answer { (p : Opb) → (s t : State) → (ids : List ℤ) → IsPreserved p s → LegalDel p s ids t → IsPreserved p t }
-    ensures normal { (p : Opb) → (s t : State) → (ids : List ℤ) → AreNormal s → LegalDel p s ids t → AreNormal t }
+    ensures answer { (p : Opb) → (s t : State) → (ids : List ℤ) → IsPreserved p s → LegalDel s ids t → IsPreserved p t }
+    ensures normal { (s t : State) → (ids : List ℤ) → AreNormal s → LegalDel s ids t → AreNormal t }
 {}
 
-/// A deletion is legal exactly where its ids differ and each may be deleted in the state before the step, a negative one
-/// counted from the end.
+/// A deletion is legal exactly where its ids differ and each is live in the state before the step, a negative one counted
+/// from the end.
 pub fn deletion_is_judged_at_once()
-    ensures { (p : Opb) → (s : State) → (ids : List ℤ) → ((t : State) × LegalDel p s ids t) ↔ AreDeletableAtOnce p s ids }
+    ensures { (s : State) → (ids : List ℤ) → ((t : State) × LegalDel s ids t) ↔ AreDeletableAtOnce s ids }
 {}
 
 /// Every list of legal steps preserves an answer to the problem.

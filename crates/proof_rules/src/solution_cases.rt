@@ -5,7 +5,6 @@
 //! solution draw have cases here on either side of them; that no id is left is a case of `step_fault_cases`.
 
 ghost use Rattle.std.specs.Prelude.{pos, neg_ℤ, [], ◌∷◌, Some, None};
-ghost use Rattle.std.specs.FinSet as set;
 ghost use Rattle.propagate.specs.Cases.{x, not_x};
 ghost use Rattle.proof_rules.specs.Cases.{cover_file, least_cover, greatest_cover, least_of_three, both, first_alone, second_alone, cover_state, derived_state, below_one, below_two};
 ghost use Rattle.proof_rules.specs.Fault.{IsSolFault, IsSoliFault};
@@ -53,7 +52,7 @@ pub fn solution_judged_by_the_file()
 /// no one may delete. Where 1 is the least already it does not improve, and without an objective nothing does.
 pub fn improving_solution()
     ensures improves { LegalSoli least_cover (cover_state (Some (pos 2)) (both ∷ [])) (not_x 0 ∷ [])
-        (record (with_constraint below_one (cover_state (Some (pos 1)) (both ∷ second_alone ∷ []))) { improving = set.insert set.empty 2 }) }
+        (with_constraint below_one (cover_state (Some (pos 1)) (both ∷ second_alone ∷ []))) }
     ensures equal { IsSoliFault least_cover (cover_state (Some (pos 1)) (second_alone ∷ [])) (not_x 0 ∷ []) NotImproving }
     ensures no_objective { IsSoliFault cover_file (cover_state None []) (x 0 ∷ not_x 0 ∷ []) NoObjective }
     ensures not_conflict { IsSoliFault cover_file (cover_state None []) (x 0 ∷ not_x 0 ∷ []) SolutionConflict → ⊥ }
@@ -94,6 +93,6 @@ pub fn variable_beyond_the_file()
 /// `1 ~x0 1 ~x1 >= 1` is added. The best one stays the logged one of value 1.
 pub fn first_improving_solution()
     ensures improves { LegalSoli least_cover (cover_state None (second_alone ∷ [])) (x 0 ∷ x 1 ∷ [])
-        (record (with_constraint below_two (cover_state (Some (pos 2)) (second_alone ∷ both ∷ []))) { improving = set.insert set.empty 2 }) }
+        (with_constraint below_two (cover_state (Some (pos 2)) (second_alone ∷ both ∷ []))) }
     ensures best { IsBest least_cover (second_alone ∷ both ∷ []) (Some second_alone) }
 {}

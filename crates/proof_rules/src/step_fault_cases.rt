@@ -5,7 +5,6 @@
 //! contract names the one that is, and says that the other one is not.
 
 ghost use Rattle.std.specs.Prelude.{pos, neg_ℤ, ◌≤◌, ◌-◌, ◌^◌, [], ◌∷◌, Some, None};
-ghost use Rattle.std.specs.FinSet as set;
 ghost use Rattle.normal_form.specs.Normal.{NormalConstraint, Fits, largest_sum};
 ghost use Rattle.normal_form.specs.NormalOf.{IsNormalOf, size_sum};
 ghost use Rattle.propagate.specs.Cases.{not_x};
@@ -17,20 +16,22 @@ ghost use Rattle.proof_rules.specs.declared.fault.StepFault.TheVariants.{TooLarg
 ghost use Rattle.proof_steps.specs.declared.step.Item.TheVariants.{Id, Add, Multiply, Divide};
 
 /// On a file of one constraint, with a second one derived: `del id 2 2` asks for an id that is gone by then, and
-/// `del id 1 9` for one of the file, which is judged before the 9 that never was. The second one is not deleted either
-/// where an improving solution added it.
+/// `del id 1 9` for one that never was. That of the file is at no fault.
 pub fn deletions_at_fault()
-    ensures twice { IsDelFault cover_file derived_state (pos 2 ∷ pos 2 ∷ []) DeadId }
-    ensures file { IsDelFault cover_file derived_state (pos 1 ∷ pos 9 ∷ []) FileConstraint }
-    ensures improving { IsDelFault cover_file (record derived_state { improving = set.insert set.empty 2 }) (pos 2 ∷ []) FileConstraint }
-    ensures not_dead { IsDelFault cover_file derived_state (pos 1 ∷ pos 9 ∷ []) DeadId → ⊥ }
+    ensures twice { IsDelFault derived_state (pos 2 ∷ pos 2 ∷ []) DeadId }
+    ensures never_given { IsDelFault derived_state (pos 1 ∷ pos 9 ∷ []) DeadId }
+    ensures file { IsDelFault derived_state (pos 1 ∷ []) FileConstraint → ⊥ }
+    ensures live { IsDelFault derived_state (pos 1 ∷ []) DeadId → ⊥ }
 {}
 
-/// `del id 2` removes the derived constraint, `del id -1` too, and `del id` without ids nothing.
+/// `del id 1` removes the file's constraint, `del id 2` the derived one, `del id -1` too, `del id 2 1` both, and `del id`
+/// without ids nothing.
 pub fn deletions()
-    ensures derived { LegalDel cover_file derived_state (pos 2 ∷ []) (without 2 derived_state) }
-    ensures from_the_end { LegalDel cover_file derived_state (neg_ℤ (pos 1) ∷ []) (without 2 derived_state) }
-    ensures nothing { LegalDel cover_file derived_state [] derived_state }
+    ensures file { LegalDel derived_state (pos 1 ∷ []) (without 1 derived_state) }
+    ensures derived { LegalDel derived_state (pos 2 ∷ []) (without 2 derived_state) }
+    ensures from_the_end { LegalDel derived_state (neg_ℤ (pos 1) ∷ []) (without 2 derived_state) }
+    ensures both { LegalDel derived_state (pos 2 ∷ pos 1 ∷ []) (without 1 (without 2 derived_state)) }
+    ensures nothing { LegalDel derived_state [] derived_state }
 {}
 
 /// Where all ids are taken, `rup 1 x0 1 x1 >= 1` finds none left though it is shown, `rup 1 x0 >= 1` though it is not, and

@@ -1,5 +1,5 @@
 -- A proof grows by a legal step, and then nothing is concluded from it yet.
-use Rattle.std.proofs.Common.{◌≡◌, inl, inr, ℕ, ◌+◌, ◌-◌, ◌≤◌, ℤ, pos, append_assoc, List, [], ◌∷◌, ◌++◌, Bool, length, set, Option, refl, sym, ap, subst, ◌∙◌, arith}
+use Rattle.std.proofs.Common.{◌≡◌, inl, inr, ℕ, ◌+◌, ◌-◌, ◌≤◌, ℤ, pos, append_assoc, List, [], ◌∷◌, ◌++◌, Bool, length, set, Option, None, refl, sym, ap, subst, ◌∙◌, arith}
 use Rattle.std.proofs.Math.Seq.{set-append_seam}
 use Rattle.std.proofs.lemmas.List.{append-nil, length-append}
 use Rattle.pb_text.specs.Number.{largest_number}
@@ -91,12 +91,13 @@ no_more_bites p a b [] count (same, none) = omega (arith, none)
 no_more_bites p a b (x ∷ xs) count (between, first, inl rest) = omega (arith, no_more_bites p between b xs count rest)
 no_more_bites p a b (x ∷ xs) count (between, first, inr (fewer, is, here, rest)) = omega (arith, is, no_more_bites p between b xs fewer rest)
 
--- a log with this conclusion
-abbrev pub logbook : Opb → List ℕ → State → List ℤ → ℕ → Conclusion → Logbook
-logbook p text state values count conclusion = record { problem = p; text = text; state = state; improved = values; biting = count; conclusion = conclusion }
+-- a log with this conclusion, whose constraint of this id asks for a better solution
+abbrev pub logbook : Opb → List ℕ → State → List ℤ → ℕ → Conclusion → Option ℕ → Logbook
+logbook p text state values count conclusion asking =
+    record { problem = p; text = text; state = state; improved = values; biting = count; conclusion = conclusion; asking = asking }
 
 pub starts : (p : Opb) (s : State) (text : List ℕ) (values : List ℤ) → text ≡ first_lines (problem_ids p.constraints) → values ≡ [] → IsTable p.names → problem_ids p.constraints ≤ largest_number → IsStart p s
-    → IsProof (logbook p text s values 0 Nothing)
+    → IsProof (logbook p text s values 0 Nothing None)
 starts p s text values first nothing table few start = record {
   steps = [];
   written = nothing_written text p.names (problem_ids p.constraints) first table few;
@@ -124,11 +125,12 @@ one_more l step new proof (is, writable, proper) =
     subst (λ t. AreWritten t l.problem.names count (proof.steps ++ step ∷ [])) (sym is)
     (one_more_written l.text l.problem.names count proof.steps step proof.written writable proper)
 
-pub grows : (p : Opb) (text new : List ℕ) (s t : State) (values : List ℤ) (count : ℕ) (conclusion : Conclusion) (step : Step) → IsProof (logbook p text s values count conclusion)
-    → IsWrittenBehind p text step new → Legal p s step t → IsProof (logbook p new t (values ++ improvement step t) count Nothing)
-grows p text new s t values count conclusion step proof behind legal = record {
+pub grows : (p : Opb) (text new : List ℕ) (s t : State) (values : List ℤ) (count : ℕ) (conclusion : Conclusion) (asking later : Option ℕ) (step : Step)
+    → IsProof (logbook p text s values count conclusion asking)
+    → IsWrittenBehind p text step new → Legal p s step t → IsProof (logbook p new t (values ++ improvement step t) count Nothing later)
+grows p text new s t values count conclusion asking later step proof behind legal = record {
   steps = proof.steps ++ step ∷ [];
-  written = one_more (logbook p text s values count conclusion) step new proof behind;
+  written = one_more (logbook p text s values count conclusion asking) step new proof behind;
   start = proof.start;
   starts = proof.starts;
   leads = leads_push p proof.start s t proof.steps step proof.leads legal;
@@ -137,11 +139,12 @@ grows p text new s t values count conclusion step proof behind legal = record {
   entitled = nothing_justified p t;
 }
 
-pub grows_biting : (p : Opb) (text new : List ℕ) (s t : State) (values : List ℤ) (count : ℕ) (conclusion : Conclusion) (step : Step) → IsProof (logbook p text s values count conclusion)
-    → IsWrittenBehind p text step new → Legal p s step t → StepBites s step → IsProof (logbook p new t (values ++ improvement step t) (count + 1) Nothing)
-grows_biting p text new s t values count conclusion step proof behind legal here = record {
+pub grows_biting : (p : Opb) (text new : List ℕ) (s t : State) (values : List ℤ) (count : ℕ) (conclusion : Conclusion) (asking : Option ℕ) (step : Step)
+    → IsProof (logbook p text s values count conclusion asking)
+    → IsWrittenBehind p text step new → Legal p s step t → StepBites s step → IsProof (logbook p new t (values ++ improvement step t) (count + 1) Nothing asking)
+grows_biting p text new s t values count conclusion asking step proof behind legal here = record {
   steps = proof.steps ++ step ∷ [];
-  written = one_more (logbook p text s values count conclusion) step new proof behind;
+  written = one_more (logbook p text s values count conclusion asking) step new proof behind;
   start = proof.start;
   starts = proof.starts;
   leads = leads_push p proof.start s t proof.steps step proof.leads legal;
@@ -165,9 +168,9 @@ line_longer names old new step is =
     omega (arith, all, line)
 
 -- a conclusion that the state entitles to
-pub concluded : (p : Opb) (text : List ℕ) (s : State) (values : List ℤ) (count : ℕ) (old new : Conclusion) → IsProof (logbook p text s values count old) → IsEntitled p s new
-    → IsProof (logbook p text s values count new)
-concluded p text s values count old new proof entitled = record {
+pub concluded : (p : Opb) (text : List ℕ) (s : State) (values : List ℤ) (count : ℕ) (old new : Conclusion) (asking : Option ℕ) → IsProof (logbook p text s values count old asking) → IsEntitled p s new
+    → IsProof (logbook p text s values count new asking)
+concluded p text s values count old new asking proof entitled = record {
   steps = proof.steps;
   written = proof.written;
   start = proof.start;

@@ -18,7 +18,7 @@ last_or : List ℤ → Option ℤ → Option ℤ
 last_or [] start = start
 last_or (value ∷ later) start = last_or later (Some value)
 
-improve_deleted : (p : Opb) (s t : State) (ids : List ℤ) → LegalDel p s ids t → t.least ≡ s.least
+improve_deleted : (p : Opb) (s t : State) (ids : List ℤ) → LegalDel s ids t → t.least ≡ s.least
 improve_deleted p s t [] same = ap (λ (u : State). u.least) same
 improve_deleted p s t (id ∷ ids) (deletable, rest) = improve_deleted p (without (id_of s.next id) s) t ids rest
 

@@ -7,7 +7,6 @@ pub mod Growing
 pub mod Reasons
 pub mod Improving
 pub mod Solutions
-pub mod StaysBetter
 pub mod Trying
 pub mod StaysLive
 pub mod UpToDate

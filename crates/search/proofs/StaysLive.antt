@@ -1,25 +1,28 @@
--- No legal step takes a normal constraint of the file away.
-use Rattle.std.proofs.Common.{◌≡◌, ℕ, zero, suc, ◌+◌, ◌<◌, ℤ, true, false, cond, List, [], ◌∷◌, length, get_or, Contains, Some, None, refl, sym, ap, subst, ◌∙◌, arith}
+-- Steps that spare the file's constraints, and the one that asks for a better solution, leave these live.
+use Rattle.std.proofs.Common.{◌≡◌, ◌≢◌, ℕ, zero, suc, ◌+◌, ◌<◌, ℤ, pos, ◌-ℤ◌, Bool, true, false, cond, List, [], ◌∷◌, length, get_or, All, Contains, Option, Some, None, IfSome, refl, sym, ap, subst, ◌∙◌, arith}
 use Rattle.std.specs.declared.cmp.Ordering.TheVariants.{Less, Equal, Greater}
 use Rattle.std.specs.Ordering.{nat_cmp, eq_by_cmp, is_eq}
 use Rattle.std.specs.Cmp.{nat_cmp_is}
 use Rattle.std.specs.List.{slice_get}
 use Rattle.std.specs.FinMap as fin
 use Rattle.std.proofs.lemmas.Cmp.{nat_cmp_total}
+use Rattle.std.proofs.lemmas.List.Elements.{All-head, All-tail}
 use Rattle.linear.specs.Opb.{Opb}
+use Rattle.linear.specs.declared.term.Lit.{Lit}
+use Rattle.linear.specs.declared.term.Term.{Term}
 use Rattle.normal_form.specs.Normal.{NormalConstraint}
+use Rattle.normal_form.specs.NormalOf.{IsNormalOf}
 use Rattle.proof_steps.specs.declared.step.Step.{Step}
 use Rattle.proof_steps.specs.declared.step.Step.TheVariants as kinds
 use Rattle.proof_rules.specs.Forms.{problem_ids}
-use Rattle.proof_rules.specs.Legal.{Legal, LegalDel, Leads, Adds, without}
-use Rattle.proof_rules.specs.State.{State, Live, IsStart, constraints, id_of, numbered}
+use Rattle.proof_rules.specs.Legal.{Legal, LegalDel, LegalSoli, Adds, without, with_improvement, worth_of}
+use Rattle.proof_rules.specs.Solution.{at_most}
+use Rattle.proof_rules.specs.State.{State, Live, IsStart, constraints, id_of, numbered, with_constraint}
 use Rattle.proof_rules.proofs.FileForms.{all_count}
-use Rattle.proof_rules.proofs.LiveConstraints.{Any-from_get}
-use Rattle.search.specs.Solving.{FileIsLive}
-
--- the constraints of a list stand under the ids 1, 2, .., and the next id is behind them
-abbrev Stand : List NormalConstraint → Live → ℕ → Type 0
-Stand ns live next = ((i : ℕ) (n : NormalConstraint) → slice_get ns i ≡ Some n → fin.get live (i + 1) ≡ Some n) × (length ns < next)
+use Rattle.proof_rules.proofs.LiveConstraints.{Any-from_get, key_of}
+use Rattle.search.specs.Kept.{AsksForLess, FileStands, ImprovementStands, IsSpare, KeepsLive, Spares}
+use Rattle.search.specs.Log.{ImprovesNothing, Logbook, StepBites}
+use Rattle.search.specs.Solving.{FileIsLive, ImprovementIsLive}
 
 same_key : (k q : ℕ) → k ≡ q → eq_by_cmp nat_cmp k q ≡ true
 same_key k q h = ap is_eq (sym (nat_cmp_is k q Equal h))
@@ -29,6 +32,13 @@ higher_key k q h = ap is_eq (sym (nat_cmp_is k q Greater h))
 
 lower_key : (k q : ℕ) → k < q → eq_by_cmp nat_cmp k q ≡ false
 lower_key k q h = ap is_eq (sym (nat_cmp_is k q Less h))
+
+other_key : (k q : ℕ) → (k ≡ q → ⊥) → eq_by_cmp nat_cmp k q ≡ false
+other_key k q other = by (eq_by_cmp nat_cmp k q) refl
+  where
+    by : (b : Bool) → eq_by_cmp nat_cmp k q ≡ b → eq_by_cmp nat_cmp k q ≡ false
+    by false e = e
+    by true e = absurd (other (key_of k q e))
 
 find_numbered : (id k q : ℕ) (ns : List NormalConstraint) → q ≡ id + k → fin.find nat_cmp q (numbered id ns) ≡ slice_get ns k
 find_numbered id k q [] h = refl
@@ -48,63 +58,153 @@ at_place [] i d h = absurd (omega (arith, h))
 at_place (m ∷ ms) zero d h = refl
 at_place (m ∷ ms) (suc i) d h = at_place ms i d (omega (arith, h))
 
-stand_first : (ns : List NormalConstraint) → Stand ns (fin.from_entries {R = nat_cmp} (numbered 1 ns)) (length ns + 1)
-stand_first ns = (
-  λ i n is. fin.get-from_entries nat_cmp_total (numbered 1 ns) (i + 1) ∙ find_numbered 1 i (i + 1) ns (omega arith) ∙ is,
-  omega arith,
-)
+file_first : (p : Opb) (s : State) → IsStart p s → FileStands p s
+file_first p s (ns, forms, is) =
+    subst (FileStands p) (sym is)
+    (ns, forms, omega arith, λ i n here. fin.get-from_entries nat_cmp_total (numbered 1 ns) (i + 1) ∙ find_numbered 1 i (i + 1) ns (omega arith) ∙ here)
 
 -- one more, under the next id
-stand_insert : (ns : List NormalConstraint) (live : Live) (next : ℕ) (m : NormalConstraint) → Stand ns live next → Stand ns (fin.insert live next m) (next + 1)
-stand_insert ns live next m (there, below) = (
-  λ i n is.
-      fin.get-insert nat_cmp_total live next m (i + 1)
-      ∙ ap (λ b. cond b (Some m) (fin.get live (i + 1))) (lower_key (i + 1) next (omega (arith, in_list ns i n is, below))) ∙ there i n is,
+file_added : (p : Opb) (s : State) (m : NormalConstraint) → FileStands p s → FileStands p (with_constraint m s)
+file_added p s m (ns, forms, below, there) = (
+  ns,
+  forms,
   omega (arith, below),
+  λ i n here.
+      fin.get-insert nat_cmp_total s.live s.next m (i + 1)
+      ∙ ap (λ b. cond b (Some m) (fin.get s.live (i + 1))) (lower_key (i + 1) s.next (omega (arith, in_list ns i n here, below))) ∙ there i n here,
 )
 
 -- one less, of an id behind them
-stand_remove : (ns : List NormalConstraint) (live : Live) (next id : ℕ) → Stand ns live next → length ns < id → Stand ns (fin.remove live id) next
-stand_remove ns live next id (there, below) behind = (
-  λ i n is.
-      fin.get-remove nat_cmp_total live id (i + 1)
-      ∙ ap (λ b. cond b None (fin.get live (i + 1))) (lower_key (i + 1) id (omega (arith, in_list ns i n is, behind))) ∙ there i n is,
+file_removed : (p : Opb) (s : State) (id : ℕ) → problem_ids p.constraints < id → FileStands p s → FileStands p (without id s)
+file_removed p s id behind (ns, forms, below, there) = (
+  ns,
+  forms,
   below,
+  λ i n here.
+      fin.get-remove nat_cmp_total s.live id (i + 1)
+      ∙ ap (λ b. cond b None (fin.get s.live (i + 1))) (lower_key (i + 1) id (omega (arith, in_list ns i n here, all_count p.constraints ns forms, behind))) ∙ there i n here,
 )
 
-stand_deleted : (p : Opb) (ns : List NormalConstraint) (s t : State) (ids : List ℤ) → length ns ≡ problem_ids p.constraints → Stand ns s.live s.next → LegalDel p s ids t → Stand ns t.live t.next
-stand_deleted p ns s t [] count stand same = subst (λ (u : State). Stand ns u.live u.next) (sym same) stand
-stand_deleted p ns s t (id ∷ ids) count stand (deletable, rest) =
-    stand_deleted p ns (without (id_of s.next id) s) t ids count
-    (stand_remove ns s.live s.next (id_of s.next id) stand (omega (arith, count, deletable.derived))) rest
+weaker : {X : Type 0} (o : Option X) (P Q : X → Type 0) → ((x : X) → P x → Q x) → IfSome o P → IfSome o Q
+weaker None P Q f h = tt
+weaker (Some x) P Q f h = f x h
 
-stand_added : (ns : List NormalConstraint) (s t : State) (m : NormalConstraint) → Stand ns s.live s.next → Adds m s t → Stand ns t.live t.next
-stand_added ns s t m stand (room, is) = subst (λ (u : State). Stand ns u.live u.next) (sym is) (stand_insert ns s.live s.next m stand)
+-- the constraint of this id asks for less than a value
+abbrev Asks : Option ℕ → State → List Term → ℤ → Type 0
+Asks asking s objective least = (id : ℕ) × (asking ≡ Some id) × AsksForLess objective least s id
 
-stand_step : (p : Opb) (ns : List NormalConstraint) (s t : State) (step : Step) → length ns ≡ problem_ids p.constraints → Stand ns s.live s.next → Legal p s step t → Stand ns t.live t.next
-stand_step p ns s t (kinds.Pol items) count stand (m, written, adds) = stand_added ns s t m stand adds
-stand_step p ns s t (kinds.Rup c) count stand (m, admitted, shown, adds) = stand_added ns s t m stand adds
-stand_step p ns s t (kinds.Red c images) count stand (m, k, admitted, redundant, adds) = stand_added ns s t m stand adds
-stand_step p ns s t (kinds.Sol assigned) count stand (g, logs, is) = subst (λ (u : State). Stand ns u.live u.next) (sym is) stand
-stand_step p ns s t (kinds.Soli assigned) count stand (objective, g, m, improves, is) =
-    subst (λ (u : State). Stand ns u.live u.next) (sym is) (stand_insert ns s.live s.next m stand)
-stand_step p ns s t (kinds.Del ids) count stand legal = stand_deleted p ns s t ids count stand legal
+improvement_kept : (p : Opb) (asking : Option ℕ) (s t : State) → t.least ≡ s.least
+    → ((objective : List Term) (least : ℤ) (id : ℕ) → asking ≡ Some id → AsksForLess objective least s id → AsksForLess objective least t id)
+    → ImprovementStands p asking s → ImprovementStands p asking t
+improvement_kept p asking s t same keeps h =
+    weaker p.objective (λ objective. IfSome s.least (Asks asking s objective)) (λ objective. IfSome t.least (Asks asking t objective))
+    (λ objective f. subst (λ o. IfSome o (Asks asking t objective)) (sym same)
+    (weaker s.least (Asks asking s objective) (Asks asking t objective) (λ least a. (a.0, a.1, keeps objective least a.0 a.1 a.2)) f)) h
 
-stand_steps : (p : Opb) (ns : List NormalConstraint) (s t : State) (proof : List Step) → length ns ≡ problem_ids p.constraints → Stand ns s.live s.next → Leads p s proof t → Stand ns t.live t.next
-stand_steps p ns s t [] count stand same = subst (λ (u : State). Stand ns u.live u.next) (sym same) stand
-stand_steps p ns s t (step ∷ rest) count stand (between, legal, leads) =
-    stand_steps p ns between t rest count (stand_step p ns s between step count stand legal) leads
+improvement_added : (p : Opb) (asking : Option ℕ) (s : State) (m : NormalConstraint) → ImprovementStands p asking s → ImprovementStands p asking (with_constraint m s)
+improvement_added p asking s m =
+    improvement_kept p asking s (with_constraint m s) refl (λ objective least id is a. (
+      omega (arith, a.0),
+      a.1,
+      fin.get-insert nat_cmp_total s.live s.next m id ∙ ap (λ b. cond b (Some m) (fin.get s.live id)) (lower_key id s.next a.0) ∙ a.2,
+      a.3,
+    ))
+
+improvement_removed : (p : Opb) (asking : Option ℕ) (s : State) (gone : ℕ) → asking ≢ Some gone → ImprovementStands p asking s → ImprovementStands p asking (without gone s)
+improvement_removed p asking s gone other =
+    improvement_kept p asking s (without gone s) refl (λ objective least id is a. (
+      a.0,
+      a.1,
+      fin.get-remove nat_cmp_total s.live gone id ∙ ap (λ b. cond b None (fin.get s.live id)) (other_key id gone (λ e. other (is ∙ ap Some e))) ∙ a.2,
+      a.3,
+    ))
+
+-- both stand
+abbrev Stand : Opb → Option ℕ → State → Type 0
+Stand p asking s = FileStands p s × ImprovementStands p asking s
+
+stand_added : (p : Opb) (asking : Option ℕ) (s t : State) (m : NormalConstraint) → Stand p asking s → Adds m s t → Stand p asking t
+stand_added p asking s t m (file, improvement) (room, is) =
+    subst (Stand p asking) (sym is) (file_added p s m file, improvement_added p asking s m improvement)
+
+stand_deleted : (p : Opb) (asking : Option ℕ) (s t : State) (ids : List ℤ) → All (λ id. IsSpare p asking (id_of s.next id)) ids → Stand p asking s → LegalDel s ids t → Stand p asking t
+stand_deleted p asking s t [] spare stand same = subst (Stand p asking) (sym same) stand
+stand_deleted p asking s t (id ∷ ids) spare (file, improvement) (deletable, rest) =
+    let gone = id_of s.next id in
+    let first : IsSpare p asking gone = All-head (λ k. IsSpare p asking (id_of s.next k)) id ids spare in
+    stand_deleted p asking (without gone s) t ids (All-tail (λ k. IsSpare p asking (id_of s.next k)) id ids spare)
+    (file_removed p s gone first.0 file, improvement_removed p asking s gone first.1 improvement) rest
+
+stand_step : (l : Logbook) (t : State) (step : Step) → Stand l.problem l.asking l.state → Spares l step → ImprovesNothing step → Legal l.problem l.state step t → Stand l.problem l.asking t
+stand_step l t (kinds.Pol items) stand spares other (m, written, adds) = stand_added l.problem l.asking l.state t m stand adds
+stand_step l t (kinds.Rup c) stand spares other (m, admitted, shown, adds) = stand_added l.problem l.asking l.state t m stand adds
+stand_step l t (kinds.Red c images) stand spares other (m, k, admitted, redundant, adds) = stand_added l.problem l.asking l.state t m stand adds
+stand_step l t (kinds.Sol assigned) stand spares other (g, logs, is) = subst (Stand l.problem l.asking) (sym is) stand
+stand_step l t (kinds.Soli assigned) stand spares other legal = absurd other
+stand_step l t (kinds.Del ids) stand spares other legal = stand_deleted l.problem l.asking l.state t ids spares stand legal
+
+-- what bites deletes nothing
+pub spares_biting : (l : Logbook) (step : Step) → StepBites l.state step → Spares l step
+spares_biting l (kinds.Pol items) bites = tt
+spares_biting l (kinds.Rup c) bites = tt
+spares_biting l (kinds.Red c images) bites = absurd bites
+spares_biting l (kinds.Sol assigned) bites = absurd bites
+spares_biting l (kinds.Soli assigned) bites = absurd bites
+spares_biting l (kinds.Del ids) bites = absurd bites
+
+-- where nothing was logged as an improving solution yet
+pub kept_first : (l : Logbook) → IsStart l.problem l.state → KeepsLive l
+kept_first l start = record {
+  file = file_first l.problem l.state start;
+  improvement = nothing l.problem.objective l.state.least (ap (λ (u : State). u.least) start.2);
+}
+  where
+    nothing : (o : Option (List Term)) (least : Option ℤ) → least ≡ None → IfSome o (λ objective. IfSome least (Asks l.asking l.state objective))
+    nothing None least is = tt
+    nothing (Some objective) least is = subst (λ z. IfSome z (Asks l.asking l.state objective)) (sym is) tt
+
+-- a step that spares them
+pub kept_spared : (l : Logbook) (step : Step) (t : State) → KeepsLive l → Spares l step → ImprovesNothing step → Legal l.problem l.state step t → KeepsLive (record l { state = t })
+kept_spared l step t kept spares other legal =
+    let stand = stand_step l t step (kept.file, kept.improvement) spares other legal in record { file = stand.0; improvement = stand.1 }
+
+-- a better solution, which brings the constraint that is asked of from then on
+pub kept_improved : (l : Logbook) (assigned : List Lit) (t : State) → KeepsLive l → LegalSoli l.problem l.state assigned t
+    → KeepsLive (record l { state = t; asking = Some l.state.next })
+kept_improved l assigned t kept (objective, g, m, improves, is) =
+    let p : Opb = l.problem in
+    let s : State = l.state in
+    record {
+      file = subst (FileStands p) (sym is) (file_added p s m kept.file);
+      improvement = subst (ImprovementStands p (Some s.next)) (sym is)
+          (subst (λ o. IfSome o (λ xs. IfSome (Some (worth_of p g)) (Asks (Some s.next) (with_improvement p g m s) xs))) (sym improves.minimises) (
+            s.next,
+            refl,
+            (
+              omega arith,
+              m,
+              fin.get-insert nat_cmp_total s.live s.next m s.next ∙ ap (λ b. cond b (Some m) (fin.get s.live s.next)) (same_key s.next s.next refl),
+              improves.form,
+            ),
+          ));
+    }
 
 -- what is found under an id is a live constraint
-pub found_live : (live : Live) (id : ℕ) (n : NormalConstraint) → fin.get live id ≡ Some n → Contains (fin.values live) n
+found_live : (live : Live) (id : ℕ) (n : NormalConstraint) → fin.get live id ≡ Some n → Contains (fin.values live) n
 found_live live id n is =
     let a = Any-from_get (λ (x : NormalConstraint). x ≡ n) live id n is refl in
     subst (Contains (fin.values live)) a.4 (a.0, a.2, a.3)
 
-listed_live : (ns : List NormalConstraint) (live : Live) (next : ℕ) (n : NormalConstraint) → Stand ns live next → Contains ns n → Contains (fin.values live) n
-listed_live ns live next n stand (i, below, is) = found_live live (i + 1) n (stand.0 i n (at_place ns i n below ∙ ap Some is))
+pub file_live : (l : Logbook) → KeepsLive l → FileIsLive l.problem (constraints l.state)
+file_live l kept = by kept.file
+  where
+    by : FileStands l.problem l.state → FileIsLive l.problem (constraints l.state)
+    by (ns, forms, below, there) = (ns, forms, λ n here. found_live l.state.live (here.0 + 1) n (there here.0 n (at_place ns here.0 n here.1 ∙ ap Some here.2)))
 
-pub file_stays : (p : Opb) (s t : State) (proof : List Step) → IsStart p s → Leads p s proof t → FileIsLive p (constraints t)
-file_stays p s t proof (ns, forms, is) leads =
-    let stand = stand_steps p ns s t proof (all_count p.constraints ns forms) (subst (λ (u : State). Stand ns u.live u.next) (sym is) (stand_first ns)) leads in
-    (ns, forms, λ n here. listed_live ns t.live t.next n stand here)
+pub improvement_live : (l : Logbook) (objective : List Term) → KeepsLive l → l.problem.objective ≡ Some objective → ImprovementIsLive objective l.state
+improvement_live l objective kept is =
+    let h : IfSome l.state.least (Asks l.asking l.state objective) =
+    subst (λ o. IfSome o (λ xs. IfSome l.state.least (Asks l.asking l.state xs))) is kept.improvement in
+    weaker l.state.least (Asks l.asking l.state objective)
+    (λ least. (n : NormalConstraint) × IsNormalOf (at_most objective (least -ℤ pos 1)) n × Contains (constraints l.state) n)
+    (λ least a. (a.2.1, a.2.3, found_live l.state.live a.0 a.2.1 a.2.2)) h

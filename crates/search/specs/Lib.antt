@@ -1,6 +1,7 @@
 pub mod Advised
 pub mod Clause
 pub mod Descents
+pub mod Kept
 pub mod Log
 pub mod Presolving
 pub mod Solving

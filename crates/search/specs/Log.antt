@@ -31,6 +31,8 @@ pub record Logbook : Type 0 where
   pub biting : ℕ
   -- what was concluded from the state
   pub conclusion : Conclusion
+  -- the id of the constraint that asks for a better solution than the last improving one, if there is one
+  pub asking : Option ℕ
 
 -- a `pol` or `rup` step, whose constraint bites on the live ones before it
 abbrev pub StepBites : State → Step → Type 0

@@ -1,5 +1,5 @@
 -- What is undone, and what is forgotten.
-use Rattle.std.specs.Prelude.{◌≡◌, ◌≢◌, ◌<◌, ◌≤◌, ◌⊎◌, ℕ, ℤ, pos, List, All, IfSome, length, slice_index_or, take}
+use Rattle.std.specs.Prelude.{◌≡◌, ◌≢◌, ◌<◌, ◌≤◌, ◌⊎◌, ℕ, List, All, IfSome, length, slice_index_or, take}
 use Rattle.linear.specs.declared.term.Lit.{Lit}
 use Rattle.normal_form.specs.Normal.{NormalConstraint}
 use Rattle.analysis.specs.declared.entry.Entry.{Entry}
@@ -25,5 +25,5 @@ abbrev pub NearsEnd : Logbook → List Lit → Logbook → List Lit → Type 0
 NearsEnd old before new after = TakesId old.state new.state ⊎ ((new ≡ old) × (length after < length before))
 
 -- no literal of the trail is forced in the constraint of the id
-abbrev pub IsNoReason : List Entry → ℤ → Type 0
-IsNoReason trail id = All (λ e. IfSome e.reason (λ reason. pos reason ≢ id)) trail
+abbrev pub IsNoReason : List Entry → ℕ → Type 0
+IsNoReason trail id = All (λ e. IfSome e.reason (λ reason. reason ≢ id)) trail

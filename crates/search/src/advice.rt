@@ -12,7 +12,7 @@ use super::cutting::variables_of;
 use super::fault::SearchFault;
 use super::run::Run;
 use analysis::{Bite, bite_on};
-use linear::{Seq, Var};
+use linear::Var;
 use proof_steps::Step;
 use propagate::{Id, Propagator};
 use std::alloc::{AllocError, Global};
@@ -110,8 +110,6 @@ impl<'a, P: Propagator> Run<'a, P> {
             return Ok(());
         };
         self.passing = None;
-        let ids = vec![in self.alloc; i128::from(id); 1]?;
-        self.log.apply(Step::Del(Seq::from_vec(ids)))?;
-        Ok(())
+        self.log.forget(self.alloc, &[id])
     }
 }

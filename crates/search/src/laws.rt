@@ -15,7 +15,7 @@ ghost use Rattle.propagate.specs.Literals.{IsConsistent};
 ghost use Rattle.proof_rules.specs.Claim.{Claim};
 ghost use Rattle.proof_rules.specs.Forms.{problem_ids};
 ghost use Rattle.proof_rules.specs.Justified.{IsLegalProof};
-ghost use Rattle.proof_rules.specs.Legal.{Leads, LegalRup, LegalSol, LegalSoli};
+ghost use Rattle.proof_rules.specs.Legal.{Leads, Legal, LegalRup, LegalSol, LegalSoli};
 ghost use Rattle.proof_rules.specs.Preserved.{IsPreserved};
 ghost use Rattle.proof_rules.specs.Shown.{IsShown};
 ghost use Rattle.proof_rules.specs.Solution.{NamesAll};
@@ -27,7 +27,8 @@ ghost use Rattle.proof_steps.specs.declared.step.Step.{Step};
 ghost use Rattle.proof_text.specs.Writable.{IsConclusionWritable};
 ghost use Rattle.proof_write.specs.Whole.{begun_text, last_lines};
 ghost use Rattle.search.specs.Clause.{negated_clause};
-ghost use Rattle.search.specs.Log.{Logbook, IsEntitled, IsProof, IsSpelledBy, LeadsBiting};
+ghost use Rattle.search.specs.Kept.{KeepsLive, Spares};
+ghost use Rattle.search.specs.Log.{Logbook, ImprovesNothing, IsEntitled, IsProof, IsSpelledBy, LeadsBiting};
 ghost use Rattle.search.specs.Solving.{FileIsLive, ImprovementIsLive};
 
 /// Where literals lead to a conflict, the clause that one of them is false is shown; so it may be logged by `rup`, as long as
@@ -62,17 +63,16 @@ pub fn fixpoint_solves()
         → (t : State) × LegalSoli p s assigned t }
 {}
 
-/// No legal step takes a normal constraint of the file away: a deletion asks for an id behind those of the file. So the
-/// file's constraints are live in the state of every log.
-pub fn file_stays_live()
-    ensures { (p : Opb) → (s t : State) → (steps : List Step) → IsStart p s → Leads p s steps t
-        → FileIsLive p (constraints t) }
-{}
-
-/// Nor does one take away the constraint that asks for less than the least improving value.
-pub fn improvement_stays_live()
-    ensures { (p : Opb) → (objective : List Term) → (s t : State) → (steps : List Step) → p.objective ≡ Some objective → IsStart p s
-        → Leads p s steps t → ImprovementIsLive objective t }
+/// What every log keeps live: the normal constraints of the file, and, where there is an objective, one that asks for less than the least
+/// improving value. A legal step that spares these leaves them live, whatever else it deletes; and a better solution brings
+/// the constraint that is asked of from then on.
+pub fn kept_stays_live()
+    ensures file { (l : Logbook) → KeepsLive l → FileIsLive l.problem (constraints l.state) }
+    ensures improvement { (l : Logbook) → (objective : List Term) → KeepsLive l → l.problem.objective ≡ Some objective → ImprovementIsLive objective l.state }
+    ensures spared { (l : Logbook) → (step : Step) → (t : State) → KeepsLive l → Spares l step → ImprovesNothing step → Legal l.problem l.state step t
+        → KeepsLive (record l { state = t }) }
+    ensures improved { (l : Logbook) → (assigned : List Lit) → (t : State) → KeepsLive l → LegalSoli l.problem l.state assigned t
+        → KeepsLive (record l { state = t; asking = Some l.state.next }) }
 {}
 
 /// The text of a log is that of steps which are a legal proof of its conclusion; with the lines behind the steps it spells them and

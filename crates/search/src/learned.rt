@@ -12,8 +12,6 @@ ghost use Rattle.search.specs.Undoing.{IsNoReason};
 use super::fault::SearchFault;
 use super::log::Log;
 use analysis::Entry;
-use linear::{Integer, Seq};
-use proof_steps::Step;
 use propagate::{Id, Ids, Propagator};
 use std::alloc::{AllocError, Global};
 
@@ -80,7 +78,7 @@ pub(crate) struct LearnedConstraints {
 }
 
 /// The ids in whose constraints literals of a trail are forced.
-fn reasons_of(alloc: Global, trail: &[Entry]) -> Result<Ids, AllocError>
+pub(crate) fn reasons_of(alloc: Global, trail: &[Entry]) -> Result<Ids, AllocError>
     ensures { IfOk result (λ ids. All (λ e. IfSome e.reason (HasId ids)) trail.now) }
 {
     let mut reasons = Ids::empty(alloc);
@@ -190,7 +188,7 @@ impl LearnedConstraints {
     }
 
     /// Takes out half of those that may go: those of the lowest ranks.
-    fn take_half(&mut self, alloc: Global, trail: &[Entry]) -> Result<Vec<Integer>, AllocError>
+    fn take_half(&mut self, alloc: Global, trail: &[Entry]) -> Result<Vec<Id>, AllocError>
         ensures { IfOk result (λ gone. All (IsNoReason trail.now) gone.items) }
     {
         let reasons = reasons_of(alloc, trail)?;
@@ -200,7 +198,7 @@ impl LearnedConstraints {
         let mut terms: u64 = 0;
         for one in &self.all {
             if one.goes(self.conflicts, middle) && !reasons.contains(one.id) {
-                gone.push(i128::from(one.id))?;
+                gone.push(one.id)?;
             } else {
                 kept.push(*one)?;
                 terms = terms.saturating_add(one.terms());
@@ -222,9 +220,6 @@ impl LearnedConstraints {
         ensures next { OnOk result (log.new.state.next ≡ log.old.state.next) }
     {
         let gone = self.take_half(alloc, trail)?;
-        if !gone.is_empty() {
-            log.apply(Step::Del(Seq::from_vec(gone)))?;
-        }
-        Ok(())
+        log.forget(alloc, gone.as_slice())
     }
 }

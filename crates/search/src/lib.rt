@@ -19,6 +19,7 @@ mod found;
 pub mod laws;
 mod learned;
 mod log;
+mod outdone;
 mod presolving;
 mod restarts;
 mod run;

@@ -6,6 +6,9 @@
 //! handed out is this very text: a proof of millions of steps stands in memory once. Beside the text stands a count of the
 //! steps that are known to bite, that is to say more than propagation over the live constraints before them: a search that
 //! learns nothing cannot count up.
+//!
+//! Any constraint may be deleted by a legal step. That those which a search needs are not, the file's and the one that asks for a better
+//! solution, is a fact of this type too: the call that deletes asks for it.
 
 ghost use Rattle.std.specs.Prelude.{◌≡◌, ◌++◌, length, IfOk, IfErr, OnOk, OnErr};
 ghost use Rattle.kernel.specs.Held.{HasAtLeast, given_id};
@@ -22,7 +25,7 @@ use linear::{Assignment, Lit, Names, Problem, Seq};
 use proof_rules::StepFault;
 use proof_steps::{Conclusion, Step};
 use proof_write::{is_step_writable, write_end, write_start, write_step};
-use propagate::{Propagator, Reach, Trace};
+use propagate::{Id, Propagator, Reach, Trace};
 use std::alloc::{AllocError, Global};
 use std::marker::Model;
 use std::mem;
@@ -37,22 +40,26 @@ pub struct Log<'a, P: Propagator> {
     improved: Vec<i128>,
     biting: u64,
     conclusion: Conclusion,
+    /// The constraint that the last improving solution added.
+    asking: Option<Id>,
 }
 
 impl<'a, P: Propagator> Model for Log<'a, P> {
     ghost use Rattle.std.specs.Prelude.{◌≡◌};
     ghost use Rattle.std.specs.Coded.{codes};
     ghost use Rattle.proof_rules.specs.Codes.{state_code};
+    ghost use Rattle.search.specs.Kept.{KeepsLive};
     ghost use Rattle.search.specs.Log.{Logbook, IsProof};
 
     ghost Value = { Logbook };
 
     ghost coded = { Prim.hlevel (codes, state_code) };
 
-    ghost view = { λ l. record { problem = l.source.now; text = l.text.items; state = l.kernel.state; improved = l.improved.items; biting = l.biting; conclusion = l.conclusion } };
+    ghost view = { λ l. record { problem = l.source.now; text = l.text.items; state = l.kernel.state; improved = l.improved.items; biting = l.biting; conclusion = l.conclusion; asking = l.asking } };
 
     ghost invariant = { λ l. (l.kernel.problem ≡ l.source.now)
-        × IsProof (record { problem = l.source.now; text = l.text.items; state = l.kernel.state; improved = l.improved.items; biting = l.biting; conclusion = l.conclusion }) };
+        × IsProof (record { problem = l.source.now; text = l.text.items; state = l.kernel.state; improved = l.improved.items; biting = l.biting; conclusion = l.conclusion; asking = l.asking })
+        × KeepsLive (record { problem = l.source.now; text = l.text.items; state = l.kernel.state; improved = l.improved.items; biting = l.biting; conclusion = l.conclusion; asking = l.asking }) };
 }
 
 /// Applies a step to a kernel and keeps its line behind the others, or does neither.
@@ -89,7 +96,7 @@ fn keep<'a, P: Propagator>(
 }
 
 impl<'a, P: Propagator> Log<'a, P> {
-    ghost use Rattle.std.specs.Prelude.{◌≡◌, ◌↔◌, ◌+◌, [], ◌∷◌, ◌++◌, IfOk, IfErr, IfSome, IsTrue, OnOk, OnErr, IsErrOf, length};
+    ghost use Rattle.std.specs.Prelude.{◌≡◌, ◌↔◌, ◌+◌, [], ◌∷◌, ◌++◌, IfOk, IfErr, IfSome, IsTrue, None, OnOk, OnErr, IsErrOf, Some, length};
     ghost use Rattle.kernel.specs.Held.{HasAtLeast, given_id};
     ghost use Rattle.propagate.specs.Content.{IsTrace, IsTraceOfLast};
     ghost use Rattle.propagate.specs.Literals.{IsConsistent};
@@ -102,6 +109,7 @@ impl<'a, P: Propagator> Log<'a, P> {
     ghost use Rattle.proof_rules.specs.State.{HasRoom, IsStart, constraints};
     ghost use Rattle.proof_text.specs.Writable.{IsConclusionWritable};
     ghost use Rattle.proof_write.specs.Whole.{first_lines, last_lines};
+    ghost use Rattle.search.specs.Kept.{IsSpare, Spares};
     ghost use Rattle.search.specs.Log.{CanBeWritten, ImprovesNothing, IsEntitled, IsFalling, IsProof, IsRefused, IsSpelledBy, Keeps, StepBites, improvement, last_of, with_conclusion};
 
     /// The log of a problem's file, with no step. Running out of memory is the only fault.
@@ -111,6 +119,7 @@ impl<'a, P: Propagator> Log<'a, P> {
         ensures start { IfOk result (λ l. IsStart problem.now l.state) }
         ensures biting { IfOk result (λ l. l.biting ≡ 0) }
         ensures conclusion { IfOk result (λ l. l.conclusion ≡ Conclusion.Nothing) }
+        ensures asking { IfOk result (λ l. l.asking ≡ None) }
         ensures memory { OnErr result (IsErrOf result StepFault.OutOfMemory) }
     {
         let kernel = Kernel::new(alloc, problem)?;
@@ -125,21 +134,24 @@ impl<'a, P: Propagator> Log<'a, P> {
             improved: Vec::new(alloc),
             biting: 0,
             conclusion: Conclusion::Nothing,
+            asking: None,
         })
     }
 
-    /// Applies a step that logs no improving solution, whole or not at all, and keeps it. Nothing is concluded from the new
-    /// state yet. A refusal is the kernel's, or that memory ran out, or that the step cannot be written, and leaves the log as
+    /// Applies a step that logs no improving solution, whole or not at all, and keeps it. It deletes neither a constraint of the file nor
+    /// the one that asks for a better solution. Nothing is concluded from the new state yet. A refusal is the kernel's, or that memory ran out, or that the step cannot be written, and leaves the log as
     /// before.
     pub fn apply(&mut self, step: Step) -> Result<Applied, SearchFault>
         requires relation { HasAtLeast step }
         requires other { ImprovesNothing step }
+        requires spares { Spares self.old step }
         ensures problem { self.new.problem ≡ self.old.problem }
         ensures ok { OnOk result (Legal self.old.problem self.old.state step self.new.state) }
         ensures kept { OnOk result (Keeps self.old step self.new) }
         ensures writable { OnOk result (CanBeWritten self.old step) }
         ensures improved { OnOk result (self.new.improved ≡ self.old.improved) }
         ensures biting { OnOk result (self.new.biting ≡ self.old.biting) }
+        ensures asking { OnOk result (self.new.asking ≡ self.old.asking) }
         ensures conclusion { OnOk result (self.new.conclusion ≡ Conclusion.Nothing) }
         ensures id { IfOk result (λ applied. applied.id ≡ given_id step self.old.state) }
         ensures fault { IfErr result (IsRefused self.old step) }
@@ -160,6 +172,7 @@ impl<'a, P: Propagator> Log<'a, P> {
         ensures writable { OnOk result (CanBeWritten self.old step) }
         ensures improved { OnOk result (self.new.improved ≡ self.old.improved) }
         ensures biting { OnOk result (self.new.biting ≡ self.old.biting + 1) }
+        ensures asking { OnOk result (self.new.asking ≡ self.old.asking) }
         ensures conclusion { OnOk result (self.new.conclusion ≡ Conclusion.Nothing) }
         ensures id { IfOk result (λ applied. applied.id ≡ given_id step self.old.state) }
         ensures fault { IfErr result (IsRefused self.old step) }
@@ -171,7 +184,8 @@ impl<'a, P: Propagator> Log<'a, P> {
         Ok(applied)
     }
 
-    /// Logs a solution that is better than all improving ones before, and keeps its value. It is refused as by `apply`.
+    /// Logs a solution that is better than all improving ones before, and keeps its value. From now on the constraint that it adds is the
+    /// one that asks for a better solution. It is refused as by `apply`.
     pub fn improve(&mut self, assigned: Seq<Lit>) -> Result<(), SearchFault>
         ensures problem { self.new.problem ≡ self.old.problem }
         ensures ok { OnOk result (Legal self.old.problem self.old.state (Step.Soli assigned) self.new.state) }
@@ -179,6 +193,7 @@ impl<'a, P: Propagator> Log<'a, P> {
         ensures writable { OnOk result (CanBeWritten self.old (Step.Soli assigned)) }
         ensures improved { OnOk result (self.new.improved ≡ self.old.improved ++ improvement (Step.Soli assigned) self.new.state) }
         ensures biting { OnOk result (self.new.biting ≡ self.old.biting) }
+        ensures asking { OnOk result (self.new.asking ≡ Some self.old.state.next) }
         ensures conclusion { OnOk result (self.new.conclusion ≡ Conclusion.Nothing) }
         ensures fault { IfErr result (IsRefused self.old (Step.Soli assigned)) }
         ensures err { OnErr result (self.new ≡ self.old) }
@@ -186,16 +201,55 @@ impl<'a, P: Propagator> Log<'a, P> {
         // The room for the value is taken first, as that for the line is.
         self.improved.push(0)?;
         let step = Step::Soli(assigned);
-        if let Err(fault) = keep(&mut self.text, self.source.names(), &mut self.kernel, &step) {
-            self.improved.pop();
-            return Err(fault);
-        }
+        let applied = match keep(&mut self.text, self.source.names(), &mut self.kernel, &step) {
+            Ok(applied) => applied,
+            Err(fault) => {
+                self.improved.pop();
+                return Err(fault);
+            }
+        };
         let Some(value) = self.kernel.least_value() else {
             unreachable!()
         };
         let place = self.improved.len() - 1;
         self.improved[place] = value;
+        self.asking = applied.id;
         drop(mem::replace(&mut self.conclusion, Conclusion::Nothing));
+        Ok(())
+    }
+
+    /// The constraint that asks for a better solution than the last improving one, if there is one.
+    pub fn asking(&self) -> Option<Id>
+        ensures { result ≡ self.now.asking }
+    {
+        self.asking
+    }
+
+    /// Whether a constraint may be deleted: it is none of the file's, and not the one that asks for a better solution.
+    fn is_spare(&self, id: Id) -> bool
+        ensures { IsTrue result ↔ IsSpare self.now.problem self.now.asking id }
+    {
+        u64::from(id) > self.kernel.problem_ids() && self.asking != Some(id)
+    }
+
+    /// Deletes constraints, but for those of the file and the one that asks for a better solution.
+    pub fn forget(&mut self, alloc: Global, ids: &[Id]) -> Result<(), SearchFault>
+        ensures problem { self.new.problem ≡ self.old.problem }
+        ensures next { OnOk result (self.new.state.next ≡ self.old.state.next) }
+        ensures improved { OnOk result (self.new.improved ≡ self.old.improved) }
+        ensures biting { OnOk result (self.new.biting ≡ self.old.biting) }
+        ensures asking { OnOk result (self.new.asking ≡ self.old.asking) }
+        ensures err { OnErr result (self.new ≡ self.old) }
+    {
+        let mut gone = Vec::new(alloc);
+        for id in ids {
+            if self.is_spare(*id) {
+                gone.push(i128::from(*id))?;
+            }
+        }
+        if !gone.is_empty() {
+            self.apply(Step::Del(Seq::from_vec(gone)))?;
+        }
         Ok(())
     }
 

@@ -11,6 +11,7 @@ ghost use Rattle.linear.specs.declared.term.Lit.{Lit};
 ghost use Rattle.presolve.specs.Fixing.{AreFixed};
 ghost use Rattle.presolve.specs.Swapping.{AreUsed};
 ghost use Rattle.presolve.specs.declared.swapping.Swap.{Swap};
+ghost use Rattle.search.specs.Kept.{Spares};
 ghost use Rattle.search.specs.Log.{ImprovesNothing};
 ghost use Rattle.search.specs.Presolving.{Tries, TriesAll, exchange, fixing, in_order, is_true, made_true, swapping, variable};
 
@@ -117,6 +118,7 @@ fn unless_refused(fault: SearchFault) -> Result<(), SearchFault>
 fn attempt<'a, P: Propagator>(log: &mut Log<'a, P>, step: Step) -> Result<(), SearchFault>
     requires relation { HasAtLeast step }
     requires other { ImprovesNothing step }
+    requires spares { Spares log.old step }
     ensures problem { log.new.problem ≡ log.old.problem }
     ensures tried { OnOk result (Tries step log.old log.new) }
 {

@@ -1,8 +1,5 @@
 //! A run of the search: decisions, propagation, and what conflicts teach, a turn at a time.
 
-ghost use Rattle.std.specs.Prelude.{◌≡◌, IfOk, IfSome, IsNone};
-ghost use Rattle.search.specs.Solving.{BearsOut, TakesId};
-
 use super::advisers::Advisers;
 use super::clause::{ConflictEnd, learn_clause, least_conflict};
 use super::cutting::learn_constraint;
@@ -12,6 +9,7 @@ use super::fault::SearchFault;
 use super::found::Found;
 use super::learned::LearnedConstraints;
 use super::log::Log;
+use super::outdone::Outdone;
 use super::restarts::Restarts;
 use super::trail::{Trail, level_of};
 use analysis::Analyser;
@@ -20,27 +18,6 @@ use linear::{Integer, Lit, Seq};
 use proof_steps::Step;
 use propagate::{Id, Propagator};
 use std::alloc::{AllocError, Global};
-
-/// Logs a solution. Where there is an objective the search goes on for a better one, with no decision open.
-fn accept<'a, P: Propagator>(
-    log: &mut Log<'a, P>,
-    assigned: Seq<Lit>,
-    limit: u64,
-) -> Result<Option<Found>, SearchFault>
-    ensures problem { log.new.problem ≡ log.old.problem }
-    ensures found { IfOk result (λ end. IfSome end (BearsOut limit log.new)) }
-    ensures improved { IfOk result (λ end. IsNone end → TakesId log.old.state log.new.state) }
-{
-    if log.problem().objective().is_none() {
-        log.apply(Step::Sol(assigned))?;
-        return Ok(Some(end_solved(log)?));
-    }
-    if !log.has_room() {
-        return Ok(Some(end_stopped(log, limit)?));
-    }
-    log.improve(assigned)?;
-    Ok(None)
-}
 
 /// After so many conflicts each it is told how far the search has come.
 const CONFLICTS_BETWEEN_LINES: u64 = 1000;
@@ -56,6 +33,7 @@ pub(crate) struct Run<'a, P: Propagator> {
     pub(crate) trail: Trail,
     restarts: Restarts,
     pub(crate) learned: LearnedConstraints,
+    outdone: Outdone,
     analyser: Analyser,
     pub(crate) advisers: Advisers,
     /// An advised constraint that has negative slack where it came, and forces nothing sooner: one analysis begins with it, and then it
@@ -89,6 +67,7 @@ impl<'a, P: Propagator> Run<'a, P> {
             trail: Trail::new(alloc, count)?,
             restarts: Restarts::new(),
             learned: LearnedConstraints::new(alloc),
+            outdone: Outdone::new(alloc),
             analyser: Analyser::new(alloc),
             advisers,
             passing: None,
@@ -197,6 +176,8 @@ impl<'a, P: Propagator> Run<'a, P> {
         if self.learned.is_due() {
             self.learned
                 .forget(self.alloc, &mut self.log, self.trail.entries())?;
+            self.outdone
+                .forget(self.alloc, &mut self.log, self.trail.entries())?;
         }
         if self.restarts.is_due() {
             self.decisions.clear();
@@ -204,6 +185,40 @@ impl<'a, P: Propagator> Run<'a, P> {
             self.advisers.brancher.restarted();
         }
         Ok(())
+    }
+
+    /// Logs a better solution. The constraint that asked for it is of no use then.
+    fn improve(&mut self, assigned: Seq<Lit>) -> Result<(), SearchFault>
+        ensures problem { self.new.log.problem ≡ self.old.log.problem }
+        ensures id { OnOk result (TakesId self.old.log.state self.new.log.state) }
+        ensures decisions { self.new.decisions.items ≡ self.old.decisions.items }
+    {
+        let asked = self.log.asking();
+        self.log.improve(assigned)?;
+        self.advisers.improve(&self.log);
+        if let Some(id) = asked {
+            self.outdone.push(id)?;
+        }
+        self.outdone
+            .forget(self.alloc, &mut self.log, self.trail.entries())
+    }
+
+    /// Logs a solution. Where there is an objective the search goes on for a better one.
+    fn accept(&mut self, assigned: Seq<Lit>, limit: u64) -> Result<Option<Found>, SearchFault>
+        ensures problem { self.new.log.problem ≡ self.old.log.problem }
+        ensures found { IfOk result (λ end. IfSome end (BearsOut limit self.new.log)) }
+        ensures improved { IfOk result (λ end. IsNone end → TakesId self.old.log.state self.new.log.state) }
+        ensures decisions { self.new.decisions.items ≡ self.old.decisions.items }
+    {
+        if self.log.problem().objective().is_none() {
+            self.log.apply(Step::Sol(assigned))?;
+            return Ok(Some(end_solved(&mut self.log)?));
+        }
+        if !self.log.has_room() {
+            return Ok(Some(end_stopped(&mut self.log, limit)?));
+        }
+        self.improve(assigned)?;
+        Ok(None)
     }
 
     /// Decides until there is a conflict, a line of an adviser or a solution, and learns from that.
@@ -249,8 +264,7 @@ impl<'a, P: Propagator> Run<'a, P> {
                 self.decisions.clear();
                 self.advisers.brancher.solution(assigned.as_slice());
                 self.go_back();
-                let end = accept(&mut self.log, assigned, limit)?;
-                self.advisers.improve(&self.log);
+                let end = self.accept(assigned, limit)?;
                 self.tell_progress();
                 Ok(end)
             }

@@ -144,22 +144,22 @@ const REFUSED: [Refused; 31] = [
         code: OpbCode::NoSemicolon,
     },
     Refused {
-        text: b"4611686018427387905 x1 >= 0 ;",
+        text: b"1237940039285380274899124225 x1 >= 0 ;",
         line: 1,
         code: OpbCode::IntegerTooLarge,
     },
     Refused {
-        text: b"-4611686018427387905 x1 >= 0 ;",
+        text: b"-1237940039285380274899124225 x1 >= 0 ;",
         line: 1,
         code: OpbCode::IntegerTooLarge,
     },
     Refused {
-        text: b"1 x1 >=\n4611686018427387905 ;",
+        text: b"1 x1 >=\n1237940039285380274899124225 ;",
         line: 2,
         code: OpbCode::IntegerTooLarge,
     },
     Refused {
-        text: b"4611686018427387905 ;",
+        text: b"1237940039285380274899124225 ;",
         line: 1,
         code: OpbCode::IntegerTooLarge,
     },
@@ -209,9 +209,9 @@ fn files_are_read(rt: HostRuntime) {
         (b"1 min 1 max >= 1 ;\n* end", (2, None, 1)),
         (b"\r\n \t* one\r\n1 x1\r>=\t1\n;", (1, None, 1)),
         (b"1 x1>=1;1 a[1]{2}^- =1;", (2, None, 2)),
-        (b"4611686018427387904 x1 >= 0 ;", (1, None, 1)),
+        (b"1237940039285380274899124224 x1 >= 0 ;", (1, None, 1)),
         (
-            b"-4611686018427387904 x1 >= -4611686018427387904 ;",
+            b"-1237940039285380274899124224 x1 >= -1237940039285380274899124224 ;",
             (1, None, 1),
         ),
     ];

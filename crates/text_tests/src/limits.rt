@@ -55,7 +55,7 @@ fn terms_end_at_the_limit(rt: HostRuntime) {
         (b">= 0 ;", None),
         (b"1 x1 >= 0 ;", Some(OpbCode::TooMany)),
         (
-            b"4611686018427387905 x1 >= 0 ;",
+            b"1237940039285380274899124225 x1 >= 0 ;",
             Some(OpbCode::IntegerTooLarge),
         ),
         (b"1 x >= 0 ;", Some(OpbCode::BadName)),
@@ -86,7 +86,7 @@ fn constraints_end_at_the_limit(rt: HostRuntime) {
         (b"", None),
         (b">= 0 ;", Some(OpbCode::TooMany)),
         (b"1", Some(OpbCode::TooMany)),
-        (b"4611686018427387905", Some(OpbCode::TooMany)),
+        (b"1237940039285380274899124225", Some(OpbCode::TooMany)),
         (b"min:", Some(OpbCode::ObjectiveLate)),
         (b";", Some(OpbCode::NoRelation)),
     ];

@@ -122,7 +122,7 @@ const REFUSED_IN_THE_MIDDLE: [Row; 3] = [
     },
 ];
 
-const DELETED: [Row; 8] = [
+const DELETED: [Row; 10] = [
     Row {
         line: Line::Pol(&[Item::Id(3)]),
         answer: Ok(Some(4)),
@@ -134,8 +134,8 @@ const DELETED: [Row; 8] = [
         last_id: 4,
     },
     Row {
-        line: Line::Del(&[4, 1]),
-        answer: Err(StepFault::FileConstraint),
+        line: Line::Del(&[4, 0]),
+        answer: Err(StepFault::DeadId),
         last_id: 4,
     },
     Row {
@@ -161,6 +161,17 @@ const DELETED: [Row; 8] = [
     Row {
         line: Line::Pol(&[Item::Id(3)]),
         answer: Ok(Some(6)),
+        last_id: 6,
+    },
+    // the file's own
+    Row {
+        line: Line::Del(&[1]),
+        answer: Ok(None),
+        last_id: 6,
+    },
+    Row {
+        line: Line::Pol(&[Item::Id(1)]),
+        answer: Err(StepFault::DeadId),
         last_id: 6,
     },
 ];

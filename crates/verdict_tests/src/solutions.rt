@@ -107,7 +107,7 @@ fn an_improving_solution_has_an_objective_and_is_better(rt: HostRuntime) -> Resu
     rows_answer(&rt, &AN_IMPROVING_SOLUTION_HAS_AN_OBJECTIVE_AND_IS_BETTER)
 }
 
-/// `del id`: each id in its turn, a dead one before one of the file or of an improving solution.
+/// `del id`: each id in its turn, that of any live constraint, also the file's and those of improving solutions.
 const WHAT_IS_DELETED_IS_GONE: [Row; 13] = [
     Row {
         problem: Problem::Either,
@@ -143,13 +143,13 @@ const WHAT_IS_DELETED_IS_GONE: [Row; 13] = [
         problem: Problem::Either,
         steps: "del id 1\n",
         conclusion: "NONE",
-        printed: "refused line 3 code 23 FileConstraint\n",
+        printed: "accepted NONE\n",
     },
     Row {
         problem: Problem::Either,
         steps: "del id 1 9\n",
         conclusion: "NONE",
-        printed: "refused line 3 code 23 FileConstraint\n",
+        printed: "refused line 3 code 10 DeadId\n",
     },
     Row {
         problem: Problem::Either,
@@ -173,7 +173,7 @@ const WHAT_IS_DELETED_IS_GONE: [Row; 13] = [
         problem: Problem::Cheaper,
         steps: "soli ~x1 x2\nsoli x1 ~x2\ndel id 2\n",
         conclusion: "NONE",
-        printed: "refused line 5 code 23 FileConstraint\n",
+        printed: "accepted NONE\nv x1 -x2\n",
     },
     Row {
         problem: Problem::Pigeons,
@@ -192,6 +192,45 @@ const WHAT_IS_DELETED_IS_GONE: [Row; 13] = [
 #[test]
 fn what_is_deleted_is_gone(rt: HostRuntime) -> Result<(), Fail> {
     rows_answer(&rt, &WHAT_IS_DELETED_IS_GONE)
+}
+
+/// Whatever is deleted, solutions are judged by the file, and the least improving value stays.
+const THE_FILE_JUDGES_WHATEVER_IS_DELETED: [Row; 5] = [
+    Row {
+        problem: Problem::Either,
+        steps: "del id 1\nred 1 ~x1 >= 1 ; x1 -> 0\nred 1 ~x2 >= 1 ; x2 -> 0\nsol ~x1 ~x2\n",
+        conclusion: "NONE",
+        printed: "refused line 6 code 18 SolutionFalse\n",
+    },
+    Row {
+        problem: Problem::Either,
+        steps: "del id 1\nred 1 ~x1 >= 1 ; x1 -> 0\nred 1 ~x2 >= 1 ; x2 -> 0\nsol x1 x2\n",
+        conclusion: "SAT",
+        printed: "accepted SAT\nv x1 x2\n",
+    },
+    Row {
+        problem: Problem::Either,
+        steps: "del id 1\nred 1 ~x1 >= 1 ; x1 -> 0\nred 1 ~x2 >= 1 ; x2 -> 0\n",
+        conclusion: "UNSAT",
+        printed: "refused line 7 code 24 LowerNotShown\n",
+    },
+    Row {
+        problem: Problem::Equal,
+        steps: "soli x1 ~x2\npol 1 2 +\ndel id 1 2\n",
+        conclusion: "BOUNDS 1 1",
+        printed: "accepted BOUNDS 1 1\nv x1 -x2\n",
+    },
+    Row {
+        problem: Problem::Equal,
+        steps: "soli x1 ~x2\ndel id 2\nsoli ~x1 x2\n",
+        conclusion: "NONE",
+        printed: "refused line 5 code 21 NotImproving\n",
+    },
+];
+
+#[test]
+fn the_file_judges_whatever_is_deleted(rt: HostRuntime) -> Result<(), Fail> {
+    rows_answer(&rt, &THE_FILE_JUDGES_WHATEVER_IS_DELETED)
 }
 
 /// `SAT` and its hint, which is one more `sol`.

@@ -3,7 +3,7 @@
 //! Nothing is copied: the two lists, of constraints that are counted and of clauses that are watched, have an entry for each
 //! one that ever came with the literal, and those of constraints that are gone are passed over.
 
-ghost use Rattle.std.specs.Prelude.{◌≡◌, ◌+◌, ◌<◌, ◌≤◌, ◌∷◌, [], All, MatchOption, drop, length, slice_index_or};
+ghost use Rattle.std.specs.Prelude.{◌≡◌, ◌+◌, ◌<◌, ◌≤◌, ◌^◌, ◌∷◌, [], All, IfSome, MatchOption, drop, length, slice_index_or};
 ghost use Rattle.ledger.specs.declared.occurrence.Occurrence.{Occurrence};
 ghost use Rattle.ledger.specs.Entered.{all_of};
 ghost use Rattle.watch.specs.Lent.{ids_at, live_places};
@@ -39,7 +39,8 @@ impl<'a> Model for Occurrences<'a> {
 fn first_live(entries: Entries<'_>, from: usize, closure: &Closure) -> Option<usize>
     requires from { from ≤ length (all_of entries) }
     requires places { All (λ e. e.place < length closure.now) (all_of entries) }
-    ensures { MatchOption result (live_places closure.now (drop from (all_of entries.entry)) ≡ [])
+    ensures few { IfSome result (λ k. k + 1 < 2 ^ 64) }
+    ensures found { MatchOption result (live_places closure.now (drop from (all_of entries.entry)) ≡ [])
         (λ k. (k < length (all_of entries.entry)) × ((d : Occurrence) → live_places closure.now (drop from (all_of entries.entry))
         ≡ (slice_index_or (all_of entries.entry) k d).place ∷ live_places closure.now (drop (k + 1) (all_of entries.entry)))) }
 {

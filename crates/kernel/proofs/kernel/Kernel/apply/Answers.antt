@@ -19,7 +19,7 @@ pub returns-in-Del-clause-fault : goal.returns-in-Del-clause-fault
 returns-in-Del-clause-fault g c =
     let k : Held = c.args.self.now in
     subst (λ x. IfErr c.del.result (λ f. OrMemory f (IsStepFault k.problem k.state x f))) (sym c.in-Del.is)
-    (subst (λ l. IfErr c.del.result (λ f. OrMemory f (IsDelFault k.problem k.state l f))) c.as_slice-in-Del.ensures c.del.ensures.fault)
+    (subst (λ l. IfErr c.del.result (λ f. OrMemory f (IsDelFault k.state l f))) c.as_slice-in-Del.ensures c.del.ensures.fault)
 
 pub returns-in-Red-clause-fault : goal.returns-in-Red-clause-fault
 returns-in-Red-clause-fault g c =

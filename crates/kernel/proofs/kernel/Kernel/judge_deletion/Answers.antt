@@ -4,10 +4,9 @@ use Rattle.std.proofs.lemmas.List.{take_all}
 use Rattle.std.proofs.lemmas.Result.{err_from_is_err_and}
 use mir.Syntax.{w128}
 use Rattle.std.specs.FinSet as set
-use Rattle.proof_rules.specs.Fault.{IsDelFault, IsUndeletable}
+use Rattle.proof_rules.specs.Fault.{OrMemory, IsDelFault}
 use Rattle.proof_rules.specs.Legal.{LegalDel, without}
 use Rattle.proof_rules.specs.State.{State, id_of}
-use Rattle.proof_rules.proofs.PolFaults.{or_memory}
 use Rattle.kernel.specs.Deletion.{IsWithout}
 use Rattle.kernel.specs.Held.{Held}
 use Rattle.kernel.proofs.Deleting.{none_gone, one_gone, del_take, del_stops}
@@ -25,12 +24,10 @@ returns-in_err-id-clause-fault g c =
     let number = get_or c.args.numbers.now at.number-index (pos 0) in
     let fits : FitsSigned w128 number = search rules in
     let t : State = at.invariant.0 in
-    let f = c.in_err-id.field-0.0 in
     let p = err_from_is_err_and c.from_residual.result c.from_residual.ensures.1 in
-    rw (p.1, p.2)
-    (or_memory f (IsUndeletable k.problem t (id_of t.next (to_z w128 (of_z w128 number))) f) (IsDelFault k.problem k.state c.args.numbers.now f)
-    (del_stops k.problem k.state t c.args.numbers.now at.number-index (to_z w128 (of_z w128 number)) (pos 0) f c.loop-number-test.true (to_z-of_z w128 number fits) at.invariant.1)
-    (c.in_err-id.ensures.fault t at.invariant.2))
+    let dead = c.in_err-id.ensures.dead t at.invariant.2 in
+    let stops = del_stops k.state t c.args.numbers.now at.number-index (to_z w128 (of_z w128 number)) (pos 0) c.loop-number-test.true (to_z-of_z w128 number fits) at.invariant.1 dead.1 in
+    rw (p.1, p.2) (subst (λ f. OrMemory f (IsDelFault k.state c.args.numbers.now f)) (sym dead.0) stops)
 
 pub loop-number-preserved : goal.loop-number-preserved
 loop-number-preserved g c =
@@ -42,8 +39,8 @@ loop-number-preserved g c =
     let id = id_of t.next (to_z w128 (of_z w128 number)) in
     let gone : c.insert.new.self ≡ set.insert at.gone id = subst (λ i. c.insert.new.self ≡ set.insert at.gone i) (c.in_ok-id.ensures.id t at.invariant.2) c.in_ok-insert.ensures.ok in (
       without id t,
-      del_take k.problem k.state t c.args.numbers.now at.number-index (to_z w128 (of_z w128 number)) (pos 0) c.loop-number-test.true (to_z-of_z w128 number fits) at.invariant.1
-          (c.in_ok-id.ensures.ok t at.invariant.2),
+      del_take k.state t c.args.numbers.now at.number-index (to_z w128 (of_z w128 number)) (pos 0) c.loop-number-test.true (to_z-of_z w128 number fits) at.invariant.1
+          (c.in_ok-id.ensures.live t at.invariant.2),
       subst (λ x. IsWithout x k.state (without id t)) (sym gone) (one_gone at.gone k.state t id at.invariant.2),
     )
 
@@ -51,4 +48,4 @@ pub returns-clause-ok : goal.returns-clause-ok
 returns-clause-ok g c =
     let k : Held = c.args.self.now in
     let at = c.loop-number in
-    (at.invariant.0, subst (λ xs. LegalDel k.problem k.state xs at.invariant.0) (take_all at.number-index c.args.numbers.now c.loop-number-test.false) at.invariant.1)
+    (at.invariant.0, subst (λ xs. LegalDel k.state xs at.invariant.0) (take_all at.number-index c.args.numbers.now c.loop-number-test.false) at.invariant.1)

@@ -7,4 +7,4 @@ use Rattle.kernel.proofs.kernel.Kernel.judge_deletion.Given as goal
 -- the ids so far are to be deleted, and are those that are gone
 abbrev pub invariant-loop-number : goal.invariant-loop-number
 invariant-loop-number g l =
-    (t : State) × LegalDel l.self.problem l.self.state (take l.number-index l.numbers) t × IsWithout l.gone l.self.state t
+    (t : State) × LegalDel l.self.state (take l.number-index l.numbers) t × IsWithout l.gone l.self.state t

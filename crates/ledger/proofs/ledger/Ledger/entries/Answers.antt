@@ -3,6 +3,7 @@ use Rattle.std.proofs.Common.{◌<◌, ◌++◌, All, List, Option, ap, length, 
 use Rattle.normal_form.specs.Normal.{NormalConstraint}
 use Rattle.ledger.specs.declared.occurrence.Occurrence.{Occurrence}
 use Rattle.ledger.specs.Ledgers.{State}
+use Rattle.ledger.specs.Rows.{all_in}
 use Rattle.ledger.proofs.EntryPlaces.{entries_are, entries_below}
 use Rattle.ledger.proofs.ledger.Ledger.entries.Goals as goal
 
@@ -10,7 +11,7 @@ pub returns-clause-places : goal.returns-clause-places
 returns-clause-places c =
     let e = c.self.inside in
     let l = c.args.literal in
-    let os : List Occurrence = c.row_or_none.result.now ++ c.row_or_none-2.result.now in
-    let are = entries_are e.slots.items e.trail.0 e.trail.1 e.table e.clauses e.counters.items e.limits.items e.watchers.pairs l c.code-number.result c.row_or_none.result.now c.row_or_none-2.result.now c.self.invariant.0 c.code-number.ensures c.row_or_none.ensures c.row_or_none-2.ensures in
+    let os : List Occurrence = (all_in c.row.result) ++ (all_in c.row-2.result) in
+    let are = entries_are e.slots.items e.trail.0 e.trail.1 e.table e.clauses e.counters.items e.limits.items e.watchers.pairs l c.code-number.result (all_in c.row.result) (all_in c.row-2.result) c.self.invariant.0 c.code-number.ensures c.row.ensures c.row-2.ensures in
     subst (λ (slots : List (Option NormalConstraint)). All (λ e. e.place < length slots) os) (ap (λ (s : State). s.slots) c.self.view_is)
     (entries_below e.slots.items l os are)

@@ -10,6 +10,7 @@ use Rattle.ledger.specs.Falls.{IsAt, IsFalsifiedThere}
 use Rattle.ledger.specs.Trails.{on_trail}
 use Rattle.ledger.specs.Ledgers.{AreReasons, State, shown}
 use Rattle.ledger.specs.Occurrences.{share_of}
+use Rattle.ledger.specs.Rows.{all_in}
 use Rattle.ledger.proofs.Standing.{all_within, each_kind, entries, enough, counted, parted_same, queued_there, recounted}
 use Rattle.ledger.proofs.WatchedQuiet.{fallen_queued, fallen_watched}
 use Rattle.ledger.proofs.AssignedLiterals.{next_listed, next_open, same_assigned, whole_when}
@@ -36,15 +37,15 @@ pub lower-requires-clause-places : goal.lower-requires-clause-places
 lower-requires-clause-places c =
     let e = c.self.inside in
     let i = c.self.invariant.0 in
-    let given = entries i.counted e.trail.1 e.table c.next.result c.opposite-fallen.result c.code.result c.row.result.now i.index c.opposite-fallen.ensures c.code.ensures c.row.ensures in
+    let given = entries i.counted e.trail.1 e.table c.next.result c.opposite-fallen.result c.code.result (all_in c.row.result) i.index c.opposite-fallen.ensures c.code.ensures c.row.ensures in
     λ k d h. omega (arith, given.0 k d h, i.counters_are.counted)
 
 pub lower-requires-clause-enough : goal.lower-requires-clause-enough
 lower-requires-clause-enough c =
     let e = c.self.inside in
     let i = c.self.invariant.0 in
-    let given = entries i.counted e.trail.1 e.table c.next.result c.opposite-fallen.result c.code.result c.row.result.now i.index c.opposite-fallen.ensures c.code.ensures c.row.ensures in
-    enough i.counted e.trail.0 e.counters.items c.next.result c.row.result.now i.counters_are given c.next.ensures.unset
+    let given = entries i.counted e.trail.1 e.table c.next.result c.opposite-fallen.result c.code.result (all_in c.row.result) i.index c.opposite-fallen.ensures c.code.ensures c.row.ensures in
+    enough i.counted e.trail.0 e.counters.items c.next.result (all_in c.row.result) i.counters_are given c.next.ensures.unset
 
 abbrev Whole : Type 0
 Whole = List Lit × ℕ × List Lit
@@ -55,8 +56,8 @@ invariant_of-self-2 c =
     let i = c.self.invariant.0 in
     let l : Lit = c.next.result in
     let next : c.advance.new.self ≡ (e.trail.0 ++ l ∷ [], e.trail.1, drop 1 e.trail.2) = c.advance.ensures l c.next.ensures.first in
-    let given = entries i.counted e.trail.1 e.table l c.opposite-fallen.result c.code.result c.row.result.now i.index c.opposite-fallen.ensures c.code.ensures c.row.ensures in
-    let after = counted i.counted e.trail.0 e.counters.items c.lower.new.counters.items l c.row.result.now i.counters_are given c.next.ensures.unset c.lower.ensures.length c.lower.ensures.lowered in
+    let given = entries i.counted e.trail.1 e.table l c.opposite-fallen.result c.code.result (all_in c.row.result) i.index c.opposite-fallen.ensures c.code.ensures c.row.ensures in
+    let after = counted i.counted e.trail.0 e.counters.items c.lower.new.counters.items l (all_in c.row.result) i.counters_are given c.next.ensures.unset c.lower.ensures.length c.lower.ensures.lowered in
     let watched = rw c.as_slice.ensures.value at c.fall.ensures.watched in
     let handled = rw c.as_slice.ensures.value at (none_case _ _ c.in_ok-falsified.falsified (sym c.is_some.ensures ∙ c.if-is_some.false) c.in_ok-falsified.ensures.end) in (
       (rw next (recounted e.slots.items e.trail.0 (e.trail.0 ++ l ∷ []) e.trail.1 e.trail.1 e.table e.clauses e.counters.items c.lower.new.counters.items e.limits.items e.watchers.pairs c.fall.new.self.pairs i refl after c.fall.ensures.kinds)),
@@ -97,15 +98,15 @@ returns-clause-end c =
     let queue : List ℕ = c.lower.new.queue.0 in
     let new : List Lit = e.trail.0 ++ l ∷ [] in
     let unset : lists e.trail.0 l ≡ false = c.next.ensures.unset in
-    let given = entries i.counted e.trail.1 e.table l c.opposite-fallen.result c.code.result c.row.result.now i.index c.opposite-fallen.ensures c.code.ensures c.row.ensures in
-    let after = counted i.counted e.trail.0 e.counters.items c.lower.new.counters.items l c.row.result.now i.counters_are given unset c.lower.ensures.length c.lower.ensures.lowered in
+    let given = entries i.counted e.trail.1 e.table l c.opposite-fallen.result c.code.result (all_in c.row.result) i.index c.opposite-fallen.ensures c.code.ensures c.row.ensures in
+    let after = counted i.counted e.trail.0 e.counters.items c.lower.new.counters.items l (all_in c.row.result) i.counters_are given unset c.lower.ensures.length c.lower.ensures.lowered in
     let parted = parted_same e.slots.items i.counted i.watched e.watchers.pairs c.fall.new.self.pairs i.slots_are c.fall.ensures.kinds in
     let watched = rw c.as_slice.ensures.value at c.fall.ensures.watched in
     let handled = rw c.as_slice.ensures.value at (none_case _ _ c.in_ok-falsified.falsified (sym c.is_some.ensures ∙ c.if-is_some.false) c.in_ok-falsified.ensures.end) in
     let longer : c.advance.new.self.0 ≡ new = ap (λ (w : Whole). w.0) (c.advance.ensures l c.next.ensures.first) in
     let apart : IsConsistent new = subst IsConsistent longer c.reveal.ensures.consistent in
     let lowered = rw c.as_slice-3.ensures.value at c.lower.ensures.queued in
-    let counts : (k : ℕ) → k < length i.counted → 0 < share_of k c.row.result.now → (get_or e.limits.items k 0 ≤ get_or c.lower.new.counters.items k 0) ⊎ Contains queue k = λ k low some. lowered k (omega (arith, low, i.counters_are.counted)) some in
+    let counts : (k : ℕ) → k < length i.counted → 0 < share_of k (all_in c.row.result) → (get_or e.limits.items k 0 ≤ get_or c.lower.new.counters.items k 0) ⊎ Contains queue k = λ k low some. lowered k (omega (arith, low, i.counters_are.counted)) some in
     let watches : (k : ℕ) (n : NormalConstraint) (p : Pair) → IsAt e.slots.items c.fall.new.self.pairs k n p → 0 < coefficient_of n (opposite l) → IsQuiet new n ⊎ Contains queue k = λ k n p at some. elim (fallen_queued e.slots.items e.trail.0 e.trail.1 c.fall.new.self l c.opposite-fallen.result c.fall.new.queue.0 watched c.opposite-fallen.ensures handled apart unset k n p at some) [
       | inl quiet ↦ inl quiet
       | inr waits ↦ inr (c.lower.ensures.kept k waits)
@@ -116,5 +117,5 @@ returns-clause-end c =
       longer = longer ∙ ap (λ (xs : List Lit). xs ++ l ∷ []) before;
       unset = ap (λ (xs : List Lit). lists xs l) (sym before) ∙ unset;
       queued = queued_there e.slots.items c.args.self.now.slots e.trail.0 c.advance.new.self.0 queue l (ap (λ (s : State). s.slots) c.self.view_is) longer
-          (each_kind e.slots.items i.counted i.watched c.fall.new.self.pairs new c.lower.new.counters.items e.limits.items queue (opposite l) c.row.result.now parted after i.limits_are given counts watches);
+          (each_kind e.slots.items i.counted i.watched c.fall.new.self.pairs new c.lower.new.counters.items e.limits.items queue (opposite l) (all_in c.row.result) parted after i.limits_are given counts watches);
     }

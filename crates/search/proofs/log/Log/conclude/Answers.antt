@@ -1,6 +1,7 @@
 use Rattle.std.proofs.Common.{◌≡◌, sym, ap, subst, ◌∙◌}
 use Rattle.linear.specs.Opb.{Opb}
 use Rattle.kernel.specs.Held.{Held}
+use Rattle.search.specs.Kept.{FileStands, ImprovementStands}
 use Rattle.search.specs.Log.{Logbook, IsEntitled, IsProof}
 use Rattle.search.proofs.Growing.{concluded, logbook}
 use Rattle.search.proofs.log.Log.conclude.Goals as goal
@@ -12,11 +13,15 @@ invariant_of-self-2 g c =
     let same : c.conclude.new.self ≡ log.kernel = c.conclude.ensures.same in
     let judged : IsEntitled log.kernel.problem log.kernel.state c.args.conclusion = (c.in_ok-conclude.field-0.best, c.in_ok-conclude.ensures.justified) in
     let entitled : IsEntitled p log.kernel.state c.args.conclusion = subst (λ q. IsEntitled q log.kernel.state c.args.conclusion) c.self.invariant.0 judged in
-    let proof : IsProof (logbook p log.text.items log.kernel.state log.improved.items log.biting c.args.conclusion) =
-    concluded p log.text.items log.kernel.state log.improved.items log.biting log.conclusion c.args.conclusion c.self.invariant.1 entitled in (
+    let proof : IsProof (logbook p log.text.items log.kernel.state log.improved.items log.biting c.args.conclusion log.asking) =
+    concluded p log.text.items log.kernel.state log.improved.items log.biting log.conclusion c.args.conclusion log.asking c.self.invariant.1 entitled in (
       ap (λ (k : Held). k.problem) same ∙ c.self.invariant.0,
-      subst (λ x. IsProof (logbook p log.text.items c.conclude.new.self.state log.improved.items log.biting x)) (sym c.replace.ensures.after)
-          (subst (λ (k : Held). IsProof (logbook p log.text.items k.state log.improved.items log.biting c.args.conclusion)) (sym same) proof),
+      subst (λ x. IsProof (logbook p log.text.items c.conclude.new.self.state log.improved.items log.biting x log.asking)) (sym c.replace.ensures.after)
+          (subst (λ (k : Held). IsProof (logbook p log.text.items k.state log.improved.items log.biting c.args.conclusion log.asking)) (sym same) proof),
+      record {
+        file = subst (λ (k : Held). FileStands p k.state) (sym same) c.self.invariant.2.file;
+        improvement = subst (λ (k : Held). ImprovementStands p log.asking k.state) (sym same) c.self.invariant.2.improvement;
+      },
     )
 
 pub returns-clause-justified : goal.returns-clause-justified

@@ -8,8 +8,10 @@ use Rattle.proof_steps.specs.declared.step.Step.{Step}
 use Rattle.proof_steps.specs.declared.step.Step.TheVariants as kinds
 use Rattle.proof_rules.specs.Legal.{Legal}
 use Rattle.proof_rules.specs.State.{State}
+use Rattle.search.specs.Kept.{ImprovementStands}
 use Rattle.search.specs.Log.{Logbook, IsProof, IsRefused, IsRefusedBy, improvement, value_list}
 use Rattle.search.proofs.Growing.{grows, logbook, put_last, written_behind}
+use Rattle.search.proofs.StaysLive.{kept_improved}
 use Rattle.search.proofs.log.Log.improve.Given.{Over}
 use Rattle.search.proofs.log.Log.improve.Goals as goal
 use Rattle.search.proofs.log.Log.improve.Goals.{Joined-step-2}
@@ -44,14 +46,18 @@ invariant_of-self-2 g c =
     let text : List ℕ = c.keep.new.text.items in
     let step : Step = kinds.Soli c.args.assigned in
     let values : List ℤ = set c.push.new.self.items (c.len-place.result - 1) (to_z w128 (of_z w128 c.in-Some.value)) in
-    let kept = c.in_default.ensures in
+    let kept = c.in-Ok.ensures in
     let legal : Legal p log.kernel.state step new = subst (λ q. Legal q log.kernel.state step new) c.self.invariant.0 kept.ok in
     let behind = written_behind p log.text.items step text c.names.result.now c.names.ensures.names kept.kept kept.writable kept.proper in
-    let grown = grows p log.text.items text log.kernel.state new log.improved.items log.biting log.conclusion step c.self.invariant.1 behind legal in
-    let proof : IsProof (logbook p text new values log.biting Nothing) =
-    subst (λ vs. IsProof (logbook p text new vs log.biting Nothing)) (sym (value_kept g c)) grown in (
+    let grown = grows p log.text.items text log.kernel.state new log.improved.items log.biting log.conclusion log.asking (Some log.kernel.state.next) step c.self.invariant.1 behind legal in
+    let proof : IsProof (logbook p text new values log.biting Nothing (Some log.kernel.state.next)) =
+    subst (λ vs. IsProof (logbook p text new vs log.biting Nothing (Some log.kernel.state.next))) (sym (value_kept g c)) grown in
+    let book : Logbook = logbook p log.text.items log.kernel.state log.improved.items log.biting log.conclusion log.asking in
+    let live = kept_improved book c.args.assigned new c.self.invariant.2 legal in (
       c.keep.ensures.problem ∙ c.self.invariant.0,
-      subst (λ x. IsProof (logbook p text new values log.biting x)) (sym c.replace.ensures.after) proof,
+      subst (λ o. IsProof (logbook p text new values log.biting c.replace.new.dest o)) (sym kept.id)
+          (subst (λ x. IsProof (logbook p text new values log.biting x (Some log.kernel.state.next))) (sym c.replace.ensures.after) proof),
+      record { file = live.file; improvement = subst (λ o. ImprovementStands p o new) (sym kept.id) live.improvement },
     )
 
 pub returns-clause-improved : goal.returns-clause-improved

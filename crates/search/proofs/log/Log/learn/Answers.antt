@@ -5,12 +5,13 @@ use Rattle.proof_rules.specs.Legal.{Legal}
 use Rattle.proof_rules.specs.State.{State}
 use Rattle.search.specs.Log.{Logbook, IsProof, StepBites}
 use Rattle.search.proofs.Growing.{biting_other, biting_within, grows_biting, line_longer, logbook, no_improvement, written_behind}
+use Rattle.search.proofs.StaysLive.{kept_spared, spares_biting}
 use Rattle.search.proofs.log.Log.learn.Goals as goal
 
 pub overflow_add-self : goal.overflow_add-self
 overflow_add-self g c =
     let log = c.self.inside in
-    let few = biting_within (logbook log.source.now log.text.items log.kernel.state log.improved.items log.biting log.conclusion) c.self.invariant.1 in
+    let few = biting_within (logbook log.source.now log.text.items log.kernel.state log.improved.items log.biting log.conclusion log.asking) c.self.invariant.1 in
     let long = line_longer c.names.result.now log.text.items c.keep.new.text.items c.args.step c.in_ok-applied.ensures.kept in
     omega (arith, few, long)
 
@@ -24,10 +25,14 @@ invariant_of-self-2 g c =
     let legal : Legal p log.kernel.state c.args.step new = subst (λ q. Legal q log.kernel.state c.args.step new) c.self.invariant.0 kept.ok in
     let bites : StepBites log.kernel.state c.args.step = subst (λ (l : Logbook). StepBites l.state c.args.step) (sym c.self.view_is) c.requires.bites in
     let behind = written_behind p log.text.items c.args.step text c.names.result.now c.names.ensures.names kept.kept kept.writable kept.proper in
-    let grown = grows_biting p log.text.items text log.kernel.state new log.improved.items log.biting log.conclusion c.args.step c.self.invariant.1 behind legal bites in
+    let grown = grows_biting p log.text.items text log.kernel.state new log.improved.items log.biting log.conclusion log.asking c.args.step c.self.invariant.1 behind legal bites in
     let same = no_improvement c.args.step new log.improved.items (biting_other log.kernel.state c.args.step bites) in
-    let proof : IsProof (logbook p text new log.improved.items (log.biting + 1) Nothing) =
-    subst (λ vs. IsProof (logbook p text new vs (log.biting + 1) Nothing)) same grown in (
+    let proof : IsProof (logbook p text new log.improved.items (log.biting + 1) Nothing log.asking) =
+    subst (λ vs. IsProof (logbook p text new vs (log.biting + 1) Nothing log.asking)) same grown in
+    let book : Logbook = logbook p log.text.items log.kernel.state log.improved.items log.biting log.conclusion log.asking in
+    let other = biting_other log.kernel.state c.args.step bites in
+    let live = kept_spared book c.args.step new c.self.invariant.2 (spares_biting book c.args.step bites) other legal in (
       c.keep.ensures.problem ∙ c.self.invariant.0,
-      subst (λ x. IsProof (logbook p text new log.improved.items (log.biting + 1) x)) (sym c.replace.ensures.after) proof,
+      subst (λ x. IsProof (logbook p text new log.improved.items (log.biting + 1) x log.asking)) (sym c.replace.ensures.after) proof,
+      record { file = live.file; improvement = live.improvement },
     )
