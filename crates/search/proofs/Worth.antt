@@ -51,8 +51,8 @@ all_improve_more p s t values (kinds.Sol assigned) none legal h = subst (λ o. I
 all_improve_more p s t values (kinds.Soli assigned) asked (objective, g, m, improves, is) h =
     weaker p.objective (λ _. map (worth_of p) s.logged ≡ values) (λ _. map (worth_of p) t.logged ≡ values ++ value_list t.least)
     (λ terms before.
-        ap (λ (u : State). map (worth_of p) u.logged) is ∙ map_behind (worth_of p) s.logged g ∙ ap (λ vs. vs ++ worth_of p g ∷ []) before
-        ∙ ap (λ (u : State). values ++ value_list u.least) (sym is)) h
+    ap (λ (u : State). map (worth_of p) u.logged) is ∙ map_behind (worth_of p) s.logged g ∙ ap (λ vs. vs ++ worth_of p g ∷ []) before
+    ∙ ap (λ (u : State). values ++ value_list u.least) (sym is)) h
 all_improve_more p s t values (kinds.Del ids) asked legal h = as_before p s t values (logged_deleted s t ids legal) h
 
 -- of values that fall, one that is no more than all behind it is the last
