@@ -13,7 +13,7 @@ use Rattle.substitution.specs.Covering.{Covers}
 use Rattle.substitution.specs.Images.{Images}
 use Rattle.substitution.specs.Objective.{not_raised, IsObjectiveGoal}
 use Rattle.substitution.specs.Under.{IsUnder, substituted}
-use Rattle.proof_rules.specs.Legal.{IsShownUnder, IsShownNotRaised, Redundant}
+use Rattle.proof_rules.specs.Redundant.{IsShownUnder, IsShownNotRaised, Redundant}
 use Rattle.proof_rules.specs.Shown.{IsShown}
 use Rattle.proof_rules.specs.Fault.{IsGoalFault}
 use Rattle.proof_rules.specs.State.{Live, State, constraints}

@@ -9,7 +9,7 @@ use Rattle.normal_form.specs.Normal.{NormalConstraint, Rises}
 use Rattle.propagate.specs.Ids.{IdSet, HasId, IsLeastId}
 use Rattle.propagate.proofs.Entries.{other_key}
 use Rattle.substitution.specs.Images.{Images}
-use Rattle.proof_rules.specs.Legal.{IsShownUnder}
+use Rattle.proof_rules.specs.Redundant.{IsShownUnder}
 use Rattle.proof_rules.specs.State.{Live}
 use Rattle.proof_rules.specs.declared.fault.StepFault.TheVariants.{GoalOpen}
 use Rattle.proof_rules.proofs.LiveConstraints.{All-from_get, All-get}

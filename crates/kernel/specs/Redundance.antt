@@ -10,7 +10,7 @@ use Rattle.substitution.specs.Covering.{Covers}
 use Rattle.substitution.specs.Images.{Images}
 use Rattle.substitution.specs.Under.{IsUnder}
 use Rattle.proof_rules.specs.Fault.{IsGoalFault}
-use Rattle.proof_rules.specs.Legal.{IsShownUnder, Redundant}
+use Rattle.proof_rules.specs.Redundant.{IsShownUnder, Redundant}
 use Rattle.proof_rules.specs.State.{Live, constraints}
 use Rattle.proof_rules.specs.declared.fault.StepFault.{StepFault}
 use Rattle.proof_rules.specs.declared.fault.StepFault.TheVariants as faults

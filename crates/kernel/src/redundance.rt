@@ -9,7 +9,8 @@ ghost use Rattle.std.specs.FinMap as map;
 ghost use Rattle.linear.specs.declared.constraint.Relation.TheVariants.{AtLeast};
 ghost use Rattle.normal_form.specs.Normal.{NormalConstraint, Rises};
 ghost use Rattle.proof_rules.specs.Fault.{OrMemory, IsRedFault};
-ghost use Rattle.proof_rules.specs.Legal.{IsShownUnder, LegalRed};
+ghost use Rattle.proof_rules.specs.Legal.{LegalRed};
+ghost use Rattle.proof_rules.specs.Redundant.{IsShownUnder};
 ghost use Rattle.kernel.specs.Redundance.{AreGoalsShown, IsGoalOpen, IsOpenLive};
 
 use super::admission::admitted;

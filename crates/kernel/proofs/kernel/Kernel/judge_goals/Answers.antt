@@ -6,7 +6,7 @@ use Rattle.normal_form.proofs.Negations.{negation}
 use Rattle.normal_form.proofs.NormalForm.{one_form}
 use Rattle.substitution.specs.Under.{substituted}
 use Rattle.substitution.specs.Objective.{not_raised}
-use Rattle.proof_rules.specs.Legal.{IsShownUnder, IsShownNotRaised}
+use Rattle.proof_rules.specs.Redundant.{IsShownUnder, IsShownNotRaised}
 use Rattle.proof_rules.specs.Shown.{IsShown}
 use Rattle.proof_rules.specs.State.{constraints}
 use Rattle.proof_rules.proofs.PolFaults.{or_memory}
