@@ -37,7 +37,7 @@ impl<P: Propagator> Model for Database<P> {
 
 impl<P: Propagator> Database<P> {
     ghost use Rattle.kernel.specs.Redundance.{AddsVariable, BecomesBeyond, IsTouched};
-    ghost use Rattle.std.specs.Prelude.{◌≡◌, ◌↔◌, ◌<◌, [], ◌∷◌, ◌++◌, ℕ, IfOk, IsSome, IsSomeAnd, MatchOption, None, IsTrue, OnErr, OnOk};
+    ghost use Rattle.std.specs.Prelude.{◌≡◌, ◌↔◌, ◌<◌, ◌≤◌, [], ◌∷◌, ◌++◌, ℕ, IfOk, IsSome, IsSomeAnd, MatchOption, None, IsTrue, OnErr, OnOk};
     ghost use Rattle.normal_form.specs.Normal.{NormalConstraint};
     ghost use Rattle.propagate.specs.Chain.{IsRefuted};
     ghost use Rattle.propagate.specs.Content.{HasLiteral, IsTrace, IsTraceOfLast};
@@ -47,8 +47,8 @@ impl<P: Propagator> Database<P> {
     ghost use Rattle.substitution.specs.Covering.{Covers};
     ghost use Rattle.std.specs.FinMap as map;
     ghost use Rattle.std.specs.Option.{option_copied};
-    ghost use Rattle.proof_rules.specs.State.{AreNumbered, id_of};
-    ghost use Rattle.kernel.specs.Database.{pushed, removed, taken_back, found};
+    ghost use Rattle.proof_rules.specs.State.{AreNumbered, id_limit, id_of};
+    ghost use Rattle.kernel.specs.Database.{pushed, removed, taken_back, without_between, found};
 
     /// No constraint; the first one takes the id 1.
     pub(crate) fn empty(alloc: Global) -> Self
@@ -105,6 +105,16 @@ impl<P: Propagator> Database<P> {
     {
         if let Some(id) = id_of(self.next_id, number) {
             self.constraints.remove(id);
+        }
+    }
+
+    /// Takes out the constraints of the ids from one on and below another.
+    pub(crate) fn remove_between(&mut self, first: u64, end: u64)
+        requires { end ≤ id_limit }
+        ensures { self.new ≡ without_between first end self.old }
+    {
+        for id in first..end {
+            self.constraints.remove(id as u32);
         }
     }
 
@@ -231,7 +241,7 @@ impl<P: Propagator> Database<P> {
 }
 
 /// The id that a number in a step means; `None` where it is beyond all ids.
-fn id_of(next: u64, number: Integer) -> Option<Id>
+pub(crate) fn id_of(next: u64, number: Integer) -> Option<Id>
     ensures { MatchOption result (id_limit ≤ id_of next number) (λ id. id ≡ id_of next number) }
 {
     let size = number.unsigned_abs();
