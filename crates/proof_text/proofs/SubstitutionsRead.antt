@@ -253,15 +253,3 @@ not_plain x h = by (is_literal (kind_of x)) h
 
 pub not_named : (x : List ℕ) → is_literal (kind_of x) ≡ false → is_variable x ≡ false
 not_named x h = ap (λ t. t && not (is_negated x)) h
-
--- a subproof begins where a name is due
-pub no_subproof : (f : ProofFault) (x : List ℕ) (left : List (List ℕ)) (kind : Kind) (begin : Bool) → kind ≡ kind_of x → (is_semicolon kind && begin) ≡ true → ((ws : List (List ℕ)) → Denies f false ws)
-    → Denies f (are_images (x ∷ left)) (x ∷ left)
-no_subproof f x left kind begin k h d = subst (λ t. Denies f t (x ∷ left)) (sym none) (d (x ∷ left))
-  where
-    first : (p q : Bool) → (p && q) ≡ true → p ≡ true
-    first true q e = refl
-    first false q e = cc
-
-    none : are_images (x ∷ left) ≡ false
-    none = no_name x left (not_named x (semicolon_alone (kind_of x) (ap is_semicolon (sym k) ∙ first (is_semicolon kind) begin h)).1)

@@ -73,10 +73,9 @@ pub fn substitutions()
     ensures no_images { Spells sections.Step (codes "red 1 x1 >= 1 ;") (lines.Step (steps.Red (at_least (term (pos 1) (plain 0) ∷ []) (pos 1)) [])) file }
 {}
 
-/// An image is a literal or the very text `0` or `1`; on the left stands a name, once; a subproof is left out.
+/// An image is a literal or the very text `0` or `1`; on the left stands a name, once.
 pub fn no_substitutions()
     ensures no_substitution { SpellsNothing sections.Step (codes "red 1 x1 >= 1") }
-    ensures subproof { SpellsNothing sections.Step (codes "red 1 x1 >= 1 ; x1 -> 1 ; begin") }
     ensures image_zeros { SpellsNothing sections.Step (codes "red 1 x1 >= 1 ; x1 00") }
     ensures image_signed { SpellsNothing sections.Step (codes "red 1 x1 >= 1 ; x1 +1") }
     ensures no_image { SpellsNothing sections.Step (codes "red 1 x1 >= 1 ; x1 ->") }
