@@ -216,8 +216,8 @@ mapped_step : (o : Option Step) (l : Line) → option_map (λ x. lines.Step x) o
 mapped_step None l h = cc
 mapped_step (Some s) l h = (s, refl, cc)
 
--- `output` is no misplaced rule
-misplaced_at : (section : Section) (w : List ℕ) (rest : List (List ℕ)) (o : Option Rule) → rule_of w ≡ o → is_misplaced section (w ∷ rest) ≡ misplaced_with section rest o
+-- whether a line is misplaced is told by its rule
+pub misplaced_at : (section : Section) (w : List ℕ) (rest : List (List ℕ)) (o : Option Rule) → rule_of w ≡ o → is_misplaced section (w ∷ rest) ≡ misplaced_with section rest o
 misplaced_at section w rest o h = ap (misplaced_with section rest) h
 
 output_stands : (ws : List (List ℕ)) → is_first (codes "output") ws ≡ true → is_misplaced sections.Step ws ≡ false

@@ -1,5 +1,5 @@
 -- A line stands where it may, and so the steps of a text are well nested.
-use Rattle.std.proofs.Common.{◌≡◌, ◌⊎◌, inl, inr, ℕ, ℤ, Bool, true, false, not, ◌&&◌, ◌||◌, if◌then◌else◌, Option, Some, None, List, [], ◌∷◌, drop, refl, sym, subst}
+use Rattle.std.proofs.Common.{◌≡◌, ◌⊎◌, inl, inr, ℕ, ℤ, Bool, true, false, not, ◌&&◌, ◌||◌, if◌then◌else◌, Option, Some, None, List, [], ◌∷◌, ◌++◌, drop, refl, sym, subst}
 use Rattle.std.specs.Option.{option_map}
 use Rattle.linear.specs.declared.constraint.Signed.{Signed}
 use Rattle.proof_steps.specs.declared.conclusion.Conclusion.{Conclusion}
@@ -174,3 +174,8 @@ nested section old (l ∷ ls) (x ∷ xs) new a = (placed section old (words l.te
 
 pub proof_nested : (text : List ℕ) (file : List (List ℕ)) (count : ℤ) (xs : List Step) (c : Conclusion) → SpellsProof text file count xs c → AreNested sections.Step xs
 proof_nested text file count xs c p = nested sections.Step file p.between xs p.named p.steps_are
+
+-- a step more that stands outside blocks and opens none
+pub nested_more : (section : Section) (xs : List Step) (x : Step) → AreNested section xs → StepStands sections.Step x → behind_step sections.Step x ≡ sections.Step → AreNested section (xs ++ x ∷ [])
+nested_more section [] x n stands behind = subst (λ q. AreNested q (x ∷ [])) (sym n) (stands, behind)
+nested_more section (y ∷ ys) x n stands behind = (n.0, nested_more (behind_step section y) ys x n.1 stands behind)
