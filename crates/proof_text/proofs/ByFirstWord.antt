@@ -1,5 +1,5 @@
 -- What words say once it is known which rule, or which kind of conclusion, the first of them names.
-use Rattle.std.proofs.Common.{ℕ, Bool, true, false, not, Option, Some, None, List, []}
+use Rattle.std.proofs.Common.{ℕ, Bool, false, not, Option, Some, None, List, []}
 use Rattle.proof_steps.specs.declared.step.Step.{Step}
 use Rattle.proof_steps.specs.declared.conclusion.Conclusion.{Conclusion}
 use Rattle.proof_text.specs.declared.keyword.Rule.{Rule}

@@ -20,7 +20,7 @@ use Rattle.proof_text.specs.Rules.{rule_of}
 use Rattle.proof_text.specs.Steps.{constraint_of, rup_by, begins_block, red_step, red_with, red_by, is_deletion, goal_of, is_closing, step_by, step_of}
 use Rattle.proof_text.specs.Conclusions.{conclusion_of}
 use Rattle.proof_text.specs.Sections.{HasSteps, StepStands, LineStands, AreNested, behind_step}
-use Rattle.proof_text.specs.Spells.{is_outside, is_block, is_goal, may_stand, is_misplaced, step_at_section, line_of, IsLine}
+use Rattle.proof_text.specs.Spells.{is_outside, is_block, is_goal, may_stand, step_at_section, line_of, IsLine}
 use Rattle.proof_text.specs.ProofSpells.{AreSteps, SpellsProof}
 use Rattle.proof_text.proofs.ByFirstWord.{step_with, misplaced_with}
 use Rattle.proof_text.proofs.ReadIsWritable.{chosen}

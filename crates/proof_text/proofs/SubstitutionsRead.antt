@@ -11,7 +11,7 @@ use Rattle.linear.specs.declared.term.Lit.{Lit}
 use Rattle.linear.specs.declared.term.Var.{Var}
 use Rattle.substitution.specs.declared.image.Image.{Image}
 use Rattle.substitution.specs.declared.image.Image.TheVariants as images
-use Rattle.proof_text.specs.Kinds.{is_integer, is_literal, is_semicolon, is_arrow}
+use Rattle.proof_text.specs.Kinds.{is_integer, is_literal, is_arrow}
 use Rattle.proof_text.specs.Words.{AreSmall, past_arrow}
 use Rattle.proof_text.specs.NamesMet.{NamesMet, met, met_in}
 use Rattle.proof_text.specs.Numbering.{lit_of}
@@ -19,7 +19,7 @@ use Rattle.proof_text.specs.Forms.{is_variable, variable_of, is_image, image_of,
 use Rattle.proof_text.specs.PartsRead.{Takes, IsImageRead}
 use Rattle.proof_text.specs.PartsDenied.{Denies}
 use Rattle.proof_text.specs.declared.fault.ProofFault.{ProofFault}
-use Rattle.proof_text.proofs.WordsByKind.{all_small, rest_small, only_small, small_other, literal_alone, semicolon_alone, denied_more}
+use Rattle.proof_text.proofs.WordsByKind.{all_small, rest_small, only_small, small_other, literal_alone, denied_more}
 use Rattle.proof_text.proofs.NamesNumbered.{met_literal, met_other, met_in-append}
 use Rattle.proof_text.proofs.PartsInTurn.{lit_met}
 use Rattle.proof_text.proofs.PolItems.{same_word, and_true}

@@ -4,7 +4,7 @@ use Rattle.proof_text.specs.Words.{Halves, AreSmall}
 use Rattle.proof_text.specs.Steps.{goal_of}
 use Rattle.proof_text.specs.Forms.{are_items, items_of, are_literals, literals_of}
 use Rattle.proof_text.specs.PartsRead.{IsRead, IsConstraintRead}
-use Rattle.proof_text.proofs.StepsRead.{pol_read, rup_read, sol_read, soli_read, goal_read, end_read}
+use Rattle.proof_text.proofs.StepsRead.{pol_read, rup_read, sol_read, soli_read, goal_read}
 use Rattle.proof_text.proofs.step.step.Goals as goal
 
 pub returns-in_ok-items-in-Pol-clause-read : goal.returns-in_ok-items-in-Pol-clause-read
