@@ -12,6 +12,7 @@ ghost use Rattle.kernel.specs.Place.{AreUnopenedShown, IsAskedFor, IsAskedIn, Is
 
 use super::admission::admitted;
 use super::conclusion::absurd;
+use super::database::id_of;
 use super::kernel::{Applied, Kernel};
 use super::open_block::{OpenBlock, Place};
 use super::redundance::judge_live;
@@ -22,7 +23,7 @@ use proof_rules::StepFault;
 use proof_steps::{GoalName, Step};
 use propagate::{Id, Propagator};
 use std::alloc::AllocError;
-use substitution::{Substitution, apply};
+use substitution::Substitution;
 
 impl<'a, P: Propagator> Kernel<'a, P> {
     /// Opens a block. The limits of the constraint and of its negation are judged first, then the ids.
@@ -138,16 +139,13 @@ impl<'a, P: Propagator> Kernel<'a, P> {
         ensures asked { IfOk result (IsAskedIn self.now.problem self.now.state block.now (GoalName.Live number)) }
         ensures within { IfOk result (λ goal. IfSome goal (λ _. IsNameWithin self.now.state.next (GoalName.Live number))) }
     {
-        let Some(id) = self.database.live_id(number) else {
+        let Some(id) = id_of(self.database.next_id(), number) else {
             return Ok(None);
         };
         if !block.is_unopened(id) {
             return Ok(None);
         }
-        let Some(live) = self.database.find(number) else {
-            return Ok(None);
-        };
-        Ok(Some(apply(self.allocator, live, &block.witness)?))
+        self.database.becomes(self.allocator, id, &block.witness)
     }
 
     /// That the objective does not rise, unless that goal was opened.

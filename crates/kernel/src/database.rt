@@ -45,6 +45,7 @@ impl<P: Propagator> Database<P> {
     ghost use Rattle.propagate.specs.Literals.{IsConsistent};
     ghost use Rattle.propagate.specs.Reach.{IsReach};
     ghost use Rattle.substitution.specs.Covering.{Covers};
+    ghost use Rattle.substitution.specs.Under.{IsUnder};
     ghost use Rattle.std.specs.FinMap as map;
     ghost use Rattle.std.specs.Option.{option_copied};
     ghost use Rattle.proof_rules.specs.State.{AreNumbered, id_limit, id_of};
@@ -110,12 +111,20 @@ impl<P: Propagator> Database<P> {
 
     /// Takes out the constraints of the ids from one on and below another.
     pub(crate) fn remove_between(&mut self, first: u64, end: u64)
-        requires { end ≤ id_limit }
+        requires order { first ≤ end }
+        requires limit { end ≤ id_limit }
         ensures { self.new ≡ without_between first end self.old }
     {
         for id in first..end {
-            self.constraints.remove(id as u32);
+            self.remove_id(id as u32);
         }
+    }
+
+    /// Takes out the constraint of an id, if there is one.
+    fn remove_id(&mut self, id: Id)
+        ensures { self.new ≡ removed id self.old }
+    {
+        self.constraints.remove(id);
     }
 
     /// Whether the constraint of an id, if there is one, covers another.
@@ -166,6 +175,21 @@ impl<P: Propagator> Database<P> {
             self.add_variable(image.0, &mut ids)?;
         }
         Ok(ids)
+    }
+
+    /// What the live constraint of an id becomes under a witness; none where there is no such constraint.
+    pub(crate) fn becomes(
+        &self,
+        alloc: Global,
+        id: Id,
+        witness: &Substitution,
+    ) -> Result<Option<Normal>, AllocError>
+        ensures { IfOk result (λ goal. MatchOption (map.get self.now.live id) (goal ≡ None) (λ e. IsSomeAnd goal (IsUnder e witness.now))) }
+    {
+        match self.constraints.get(id) {
+            None => Ok(None),
+            Some(live) => Ok(Some(apply(alloc, live, witness)?)),
+        }
     }
 
     /// What the live constraint of an id becomes under a witness; none where it covers that itself, as one does that has no

@@ -52,13 +52,13 @@ impl Model for OpenBlock {
     ghost coded = { block_code };
 
     ghost view = { λ b. record {
-        constraint = b.constraint;
-        images = b.witness;
-        first = b.first;
-        opened = b.opened;
-        itself = b.itself;
-        objective = b.objective;
-        goal = b.goal;
+      constraint = b.constraint;
+      images = b.witness;
+      first = b.first;
+      opened = b.opened;
+      itself = b.itself;
+      objective = b.objective;
+      goal = b.goal;
     } };
 }
 

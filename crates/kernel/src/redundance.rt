@@ -4,7 +4,7 @@
 //! constraints have no variable of the witness, and become themselves. They are not looked at: the propagator says which ones
 //! have a variable, so that a step costs what its witness touches, however large the database is.
 
-ghost use Rattle.std.specs.Prelude.{◌≡◌, ◌↔◌, ◌++◌, Some, All, IfOk, IfErr, IsErrOf, IsTrue, OnErr, OnOk};
+ghost use Rattle.std.specs.Prelude.{◌≡◌, ◌↔◌, ◌++◌, false, Some, All, IfOk, IfErr, IsErrOf, IsTrue, OnErr, OnOk};
 ghost use Rattle.std.specs.FinMap as map;
 ghost use Rattle.linear.specs.declared.constraint.Relation.TheVariants.{AtLeast};
 ghost use Rattle.normal_form.specs.Normal.{NormalConstraint, Rises};
@@ -12,7 +12,7 @@ ghost use Rattle.proof_rules.specs.Fault.{OrMemory, IsRedFault};
 ghost use Rattle.proof_rules.specs.Legal.{LegalRed};
 ghost use Rattle.proof_rules.specs.State.{IsOutside};
 ghost use Rattle.proof_rules.specs.Redundant.{IsShownUnder};
-ghost use Rattle.kernel.specs.Redundance.{AreAskedShown, AreGoalsShown, IsGoalOpen, IsOpenLive};
+ghost use Rattle.kernel.specs.Redundance.{AreAskedShown, AreGoalsShown, IsAsked, IsGoalOpen, IsOpenLive};
 
 use super::admission::admitted;
 use super::database::Database;
@@ -104,12 +104,35 @@ pub(crate) fn judge_live<P: Propagator>(
 {
     let mut touched = database.touched(alloc, witness)?;
     while let Some(id) = touched.pop_first() {
-        let asked = u64::from(id) < end && !opened.contains(id);
-        if asked && !shows_live(alloc, database, beside, id, witness)? {
+        if !shows_asked(alloc, database, beside, id, witness, end, opened)? {
             return Err(StepFault::GoalOpen(id));
         }
     }
     Ok(())
+}
+
+/// Whether what the live constraint of an id becomes is shown, where that is asked of it.
+fn shows_asked<P: Propagator>(
+    alloc: Global,
+    database: &mut Database<P>,
+    beside: &mut Vec<Normal>,
+    id: Id,
+    witness: &Substitution,
+    end: u64,
+    opened: &Ids,
+) -> Result<bool, StepFault>
+    ensures same { database.new ≡ database.old }
+    ensures beside { beside.new.items ≡ beside.old.items }
+    ensures shown { IfOk result (λ yes. (n : NormalConstraint) → map.get database.old.live id ≡ Some n → IsTrue yes → IsAsked end opened.now id
+        → IsShownUnder (map.values database.old.live ++ beside.old.items) witness.now n) }
+    ensures unshown { IfOk result (λ yes. yes ≡ false → IsAsked end opened.now id × ((n : NormalConstraint) → map.get database.old.live id ≡ Some n
+        → IsShownUnder (map.values database.old.live ++ beside.old.items) witness.now n → ⊥)) }
+    ensures memory { OnErr result (IsErrOf result StepFault.OutOfMemory) }
+{
+    if u64::from(id) >= end || opened.contains(id) {
+        return Ok(true);
+    }
+    shows_live(alloc, database, beside, id, witness)
 }
 
 /// Whether what the live constraint of an id becomes is shown.

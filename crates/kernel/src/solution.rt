@@ -76,11 +76,7 @@ impl<'a, P: Propagator> Kernel<'a, P> {
         ensures err { OnErr result (self.new ≡ self.old) }
     {
         let id = self.database.push(better)?;
-        if self
-            .log
-            .improve(self.allocator, solution, value)
-            .is_err()
-        {
+        if self.log.improve(self.allocator, solution, value).is_err() {
             self.database.take_back();
             return Err(StepFault::OutOfMemory);
         }

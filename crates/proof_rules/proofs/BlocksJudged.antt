@@ -33,7 +33,7 @@ none_or_some : {A : Type 0} (o : Option A) → (o ≡ None) ⊎ ((x : A) × (o �
 none_or_some None = inl refl
 none_or_some (Some x) = inr (x, refl)
 
-outside_fault : (s : State) (IsFault : StepFault → Type 0) (f : StepFault) → IsOutside s → (IsFault faults.BlockOpen → ⊥) → IsFault f → IsOutsideFault s IsFault f
+pub outside_fault : (s : State) (IsFault : StepFault → Type 0) (f : StepFault) → IsOutside s → (IsFault faults.BlockOpen → ⊥) → IsFault f → IsOutsideFault s IsFault f
 outside_fault s IsFault faults.BlockOpen outside never h = absurd (never h)
 outside_fault s IsFault _ outside never h = (outside, h)
 
@@ -57,7 +57,7 @@ outside_step s Leads IsFault never judged =
 
 -- and what in a block alone
 
-inside_fault : (s : State) (IsFault : Block → StepFault → Type 0) (k : Block) (f : StepFault) → s.block ≡ Some k → (IsFault k faults.NoBlock → ⊥) → IsFault k f → IsInsideFault s IsFault f
+pub inside_fault : (s : State) (IsFault : Block → StepFault → Type 0) (k : Block) (f : StepFault) → s.block ≡ Some k → (IsFault k faults.NoBlock → ⊥) → IsFault k f → IsInsideFault s IsFault f
 inside_fault s IsFault k faults.NoBlock some never h = absurd (never h)
 inside_fault s IsFault k _ some never h = (k, some, h)
 
@@ -163,7 +163,7 @@ goal_end : (p : Opb) (s : State) (k : Block) (g : ℕ) → Decided (IsShown (con
 goal_end p s k g (inl shown) = inl (closed g k s, (shown, refl))
 goal_end p s k g (inr not) = inr (faults.GoalNotClosed, not)
 
-unopened_fault : (p : Opb) (s : State) (k : Block) (f : StepFault) → HasRoom s → IsUnopenedFault p s k f → IsBlockEndFault p s k f
+pub unopened_fault : (p : Opb) (s : State) (k : Block) (f : StepFault) → HasRoom s → IsUnopenedFault p s k f → IsBlockEndFault p s k f
 unopened_fault p s k faults.TooManyIds room h = absurd h
 unopened_fault p s k _ room h = (room, h)
 

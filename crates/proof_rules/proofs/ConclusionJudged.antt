@@ -231,7 +231,7 @@ not_behind p s objective lower upper hint (inr ((t, takes), h)) = by lower (h t 
     by lowers.Inf (inl i) = i
     by l (inr i) = i.1
 
-no_block_fault : (p : Opb) (s : State) (c : Conclusion) → IsUnjustified p s c faults.BlockOpen → ⊥
+pub no_block_fault : (p : Opb) (s : State) (c : Conclusion) → IsUnjustified p s c faults.BlockOpen → ⊥
 no_block_fault p s conclusions.Nothing h = h
 no_block_fault p s (conclusions.Sat hint) h = no_sat_fault p s hint h
 no_block_fault p s conclusions.Unsat h = h

@@ -115,7 +115,7 @@ tested : (b : Bool) (o : Option NormalConstraint) (n : NormalConstraint) → con
 tested true o n is = (refl, is)
 tested false o n is = absurd (cc)
 
-get_up_to : (live : Live) (end id : ℕ) → fin.get (up_to end live) id ≡ cond (nat_lt id end) (fin.get live id) None
+pub get_up_to : (live : Live) (end id : ℕ) → fin.get (up_to end live) id ≡ cond (nat_lt id end) (fin.get live id) None
 get_up_to live end id = fin.get-retain_keys live (λ k. nat_lt k end) id (λ k tied. ap (λ q. nat_lt q end) (sym (fin.nat_cmp-IsAntisymmetric id k tied)))
 
 pub within_up_to : (live : Live) (end id : ℕ) (n : NormalConstraint) → fin.get (up_to end live) id ≡ Some n → (id < end) × (fin.get live id ≡ Some n)

@@ -19,7 +19,7 @@ use Rattle.proof_rules.proofs.FileForms.{all_count, few_ids}
 use Rattle.proof_rules.proofs.LiveConstraints.{key_of, listed_within, within_up_to}
 
 -- keys that are the same, and keys that are not
-same_key : (k q : ℕ) → k ≡ q → eq_by_cmp nat_cmp k q ≡ true
+pub same_key : (k q : ℕ) → k ≡ q → eq_by_cmp nat_cmp k q ≡ true
 same_key k q h = ap is_eq (sym (nat_cmp_is k q Equal h))
 
 other_key : (k q : ℕ) → q < k → eq_by_cmp nat_cmp k q ≡ false

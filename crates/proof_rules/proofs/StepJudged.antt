@@ -19,7 +19,7 @@ use Rattle.proof_rules.proofs.RedJudged.{red_judged}
 use Rattle.proof_rules.proofs.SolJudged.{sol_judged, soli_judged}
 use Rattle.proof_rules.proofs.DelJudged.{del_judged}
 
-no_red_fault : (p : Opb) (s : State) (c : Signed) (images : Images) → IsRedFault p s c images faults.BlockOpen → ⊥
+pub no_red_fault : (p : Opb) (s : State) (c : Signed) (images : Images) → IsRedFault p s c images faults.BlockOpen → ⊥
 no_red_fault p s c images (inl h) = h
 no_red_fault p s c images (inr (n, m, admitted, room, negated, h)) = h
 

@@ -60,7 +60,7 @@ improve-requires-clause-kept g c =
     c.in_ok-solution.ensures.logs value (number_kept c.value-value.result size) (c.if-not-improves.ensures.0 refl) c.in_ok-better.ensures.form (c.if-not-has_room.ensures.0 refl) in
     let kept : IsKept k = subst IsKept c.self.view_is c.self.invariant.kept in
     let after = kept_step k.problem k.state (with_improvement k.problem solution n k.state) (steps.Soli c.args.assigned.now) kept
-    (c.in-Some.objective.now, solution, n, better, refl) in
+    (c.requires.outside, (c.in-Some.objective.now, solution, n, better, refl)) in
     subst (λ (x : Held). IsKept (record { problem = x.problem; state = with_improvement x.problem solution n x.state })) (sym same) after
 
 pub returns-clause-ok : goal.returns-clause-ok

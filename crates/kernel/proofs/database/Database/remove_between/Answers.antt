@@ -1,0 +1,7 @@
+use Rattle.std.proofs.Common.{sym, ap, ◌∙◌}
+use Rattle.kernel.specs.Database.{removed}
+use Rattle.kernel.proofs.Between.{none_between, one_between}
+use Rattle.kernel.proofs.database.Database.remove_between.Goals as goal
+
+pub loop-id-init : goal.loop-id-init
+loop-id-init g c = sym (none_between c.args.self.now c.args.first)
