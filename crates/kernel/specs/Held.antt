@@ -1,5 +1,5 @@
 -- What a kernel holds, and what it keeps.
-use Rattle.std.specs.Prelude.{◌≡◌, ℕ, Bool, List, Option, None, Some, MatchOption, ⊤}
+use Rattle.std.specs.Prelude.{◌≡◌, ℕ, Bool, List, Option, None, Some, ⊤}
 use Rattle.linear.specs.Opb.{Opb}
 use Rattle.linear.specs.Limits.{IsWithin}
 use Rattle.linear.specs.declared.constraint.Relation.TheVariants.{AtLeast}
@@ -53,8 +53,13 @@ pub record Keeps (k : Held) (ids : ℕ) (objective : Option (List Term)) : Type 
   pub objective_is : objective ≡ k.problem.objective
 
 -- the id that an end gives a constraint: that of a block gives one to the new constraint, that of a goal none
-abbrev pub id_at_end : Block → ℕ → Option ℕ
-id_at_end k next = MatchOption k.goal (Some next) (λ _. None)
+abbrev pub id_at_goal : Option ℕ → ℕ → Option ℕ
+id_at_goal None next = Some next
+id_at_goal (Some goal) next = None
+
+abbrev pub id_at_end : Option Block → ℕ → Option ℕ
+id_at_end None next = None
+id_at_end (Some k) next = id_at_goal k.goal next
 
 -- the id that a step gives its constraint, if it adds one
 abbrev pub given_id : Step → State → Option ℕ
@@ -66,7 +71,7 @@ given_id (steps.Red c images) s = Some s.next
 given_id (steps.Soli assigned) s = Some s.next
 given_id (steps.RedBegin c images) s = Some s.next
 given_id (steps.Goal name) s = Some s.next
-given_id steps.End s = MatchOption s.block None (λ k. id_at_end k s.next)
+given_id steps.End s = id_at_end s.block s.next
 
 -- the relation of a constraint in a step is `>=`
 abbrev pub HasAtLeast : Step → Type 0

@@ -2,7 +2,10 @@
 //! negation of the new constraint, and a goal its own; what is assumed, and all that follows from it, is live beside the other
 //! constraints under the ids from there on. An end takes that out by the ids, which needs no memory and costs what came in.
 
-ghost use Rattle.std.specs.Prelude.{◌≡◌, ◌<◌, None, Some, IfErr, IfOk, IfSome, IsErrOf, OnErr, OnOk};
+ghost use Rattle.std.specs.Prelude.{◌≡◌, ◌↔◌, ◌<◌, true, false, None, Some, IfErr, IfOk, IfSome, IsSomeAnd, IsErrOf, IsTrue, MatchOption, OnErr, OnOk};
+ghost use Rattle.std.specs.FinMap as map;
+ghost use Rattle.substitution.specs.Objective.{IsObjectiveGoal};
+ghost use Rattle.proof_rules.specs.Shown.{IsShown};
 ghost use Rattle.linear.specs.declared.constraint.Relation.TheVariants.{AtLeast};
 ghost use Rattle.proof_rules.specs.Block.{LegalEnd, LegalGoal, LegalRedBegin, finished, with_block, with_goal};
 ghost use Rattle.proof_rules.specs.Fault.{OrMemory, IsEndFault, IsInsideFault, IsProofGoalFault, IsRedBeginFault, IsUnopenedFault};
@@ -12,7 +15,7 @@ ghost use Rattle.kernel.specs.Place.{AreUnopenedShown, IsAskedFor, IsAskedIn, Is
 
 use super::admission::admitted;
 use super::conclusion::absurd;
-use super::database::id_of;
+use super::database::{Database, id_of};
 use super::kernel::{Applied, Kernel};
 use super::open_block::{OpenBlock, Place};
 use super::redundance::judge_live;
@@ -22,8 +25,8 @@ use normal_form::{Normal, negate};
 use proof_rules::StepFault;
 use proof_steps::{GoalName, Step};
 use propagate::{Id, Propagator};
-use std::alloc::AllocError;
-use substitution::Substitution;
+use std::alloc::{AllocError, Global};
+use substitution::{NetObjective, Substitution};
 
 impl<'a, P: Propagator> Kernel<'a, P> {
     /// Opens a block. The limits of the constraint and of its negation are judged first, then the ids.
@@ -127,10 +130,11 @@ impl<'a, P: Propagator> Kernel<'a, P> {
         ensures within { IfOk result (λ goal. IfSome goal (λ _. IsNameWithin self.now.state.next name)) }
         ensures memory { OnErr result (IsErrOf result StepFault.OutOfMemory) }
     {
+        self.reveal();
         match name {
             GoalName::Live(number) => Ok(self.live_goal(block, number)?),
             GoalName::Itself => Ok(block.own_goal(self.allocator)?),
-            GoalName::Objective => self.objective_goal(block),
+            GoalName::Objective => objective_goal(self.allocator, &self.objective, block),
         }
     }
 
@@ -146,18 +150,6 @@ impl<'a, P: Propagator> Kernel<'a, P> {
             return Ok(None);
         }
         self.database.becomes(self.allocator, id, &block.witness)
-    }
-
-    /// That the objective does not rise, unless that goal was opened.
-    fn objective_goal(&self, block: &OpenBlock) -> Result<Option<Normal>, StepFault>
-        ensures asked { IfOk result (IsAskedIn self.now.problem self.now.state block.now GoalName.Objective) }
-        ensures memory { OnErr result (IsErrOf result StepFault.OutOfMemory) }
-    {
-        self.reveal();
-        if block.objective {
-            return Ok(None);
-        }
-        Ok(self.objective.goal(self.allocator, &block.witness)?)
     }
 
     /// Closes the open goal, or the block where none is open.
@@ -240,18 +232,13 @@ impl<'a, P: Propagator> Kernel<'a, P> {
             u64::from(block.first),
             &block.opened,
         )?;
-        if let Some(goal) = block.own_goal(self.allocator)? {
-            if !is_shown(self.allocator, &mut self.database, &mut beside, &goal)? {
-                return Err(StepFault::GoalOpenSelf);
-            }
+        let own = block.own_goal(self.allocator)?;
+        if !shows_asked(self.allocator, &mut self.database, &own)? {
+            return Err(StepFault::GoalOpenSelf);
         }
-        if block.objective {
-            return Ok(());
-        }
-        if let Some(goal) = self.objective.goal(self.allocator, &block.witness)? {
-            if !is_shown(self.allocator, &mut self.database, &mut beside, &goal)? {
-                return Err(StepFault::GoalOpenObjective);
-            }
+        let objective = objective_goal(self.allocator, &self.objective, block)?;
+        if !shows_asked(self.allocator, &mut self.database, &objective)? {
+            return Err(StepFault::GoalOpenObjective);
         }
         Ok(())
     }
@@ -299,4 +286,38 @@ fn close(block: &mut Option<OpenBlock>)
     if let Some(block) = block {
         block.close_goal();
     }
+}
+
+/// That the objective does not rise, unless that goal was opened; none where there is no objective.
+fn objective_goal(
+    alloc: Global,
+    objective: &NetObjective,
+    block: &OpenBlock,
+) -> Result<Option<Normal>, StepFault>
+    ensures opened { block.now.objective ≡ true → IfOk result (λ goal. goal ≡ None) }
+    ensures goal { block.now.objective ≡ false → IfOk result (λ goal. MatchOption objective.now (goal ≡ None)
+        (λ terms. IsSomeAnd goal (IsObjectiveGoal terms block.now.images))) }
+    ensures memory { OnErr result (IsErrOf result StepFault.OutOfMemory) }
+{
+    if block.objective {
+        return Ok(None);
+    }
+    Ok(objective.goal(alloc, &block.witness)?)
+}
+
+/// Whether a goal is shown from the live constraints, if one is asked.
+fn shows_asked<P: Propagator>(
+    alloc: Global,
+    database: &mut Database<P>,
+    goal: &Option<Normal>,
+) -> Result<bool, StepFault>
+    ensures same { database.new ≡ database.old }
+    ensures shown { IfOk result (λ yes. IsTrue yes ↔ IfSome goal.now (IsShown (map.values database.old.live))) }
+    ensures memory { OnErr result (IsErrOf result StepFault.OutOfMemory) }
+{
+    let Some(goal) = goal else {
+        return Ok(true);
+    };
+    let mut beside = Vec::new(alloc);
+    is_shown(alloc, database, &mut beside, goal)
 }

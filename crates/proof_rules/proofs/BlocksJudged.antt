@@ -221,7 +221,7 @@ end_in : (p : Opb) (s : State) (k : Block) → s.block ≡ Some k → EndJudged 
 end_in p s k some (inl (t, ends)) = inl (t, (k, some, ends))
 end_in p s k some (inr fault) = inr fault
 
-no_end_fault : (p : Opb) (s : State) (k : Block) (o : Option ℕ) → IsEndFault p s k o faults.NoBlock → ⊥
+pub no_end_fault : (p : Opb) (s : State) (k : Block) (o : Option ℕ) → IsEndFault p s k o faults.NoBlock → ⊥
 no_end_fault p s k (Some g) h = h
 no_end_fault p s k None h = h.1
 

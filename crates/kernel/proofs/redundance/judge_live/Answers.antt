@@ -38,7 +38,7 @@ returns-then-not-branch-clause-fault g c =
     let beside : List NormalConstraint = c.args.beside.now.items in
     let kept = c.loop-id.invariant in
     let images = c.args.witness.now in
-    let opened = c.in_ok-shows_asked.ensures.unshown (sym c.if-not-branch.true) in
+    let opened = c.in_ok-shows_asked.ensures.unshown c.if-not-branch.true in
     let never = judged d c.loop-id.database beside c.loop-id.beside.items images c.in-Some.id (λ Shown n. Shown n → ⊥) kept.0 kept.1 opened.1 in
     judging_open d.live c.args.end c.args.opened.now (map.values d.live ++ beside) images c.loop-id.touched c.in-Some.id kept.2 c.in-Some.ensures.least opened.0 never
 

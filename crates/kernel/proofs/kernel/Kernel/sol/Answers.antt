@@ -14,6 +14,6 @@ invariant_of-self-2 g c =
     let solution = c.in_ok-solution.solution in
     let logs : Logs p s c.args.assigned.now solution =
     subst (λ (x : Held). Logs x.problem x.state c.args.assigned.now solution) (sym (c.self.view_is ∙ c.in_ok-solution.ensures.same)) c.in_ok-solution.ensures.logs in
-    let outside : IsOutside s = subst (λ (x : Held). IsOutside x.state) (sym c.self.view_is) c.requires.outside in
+    let outside : IsOutside s = subst (λ (x : Held). IsOutside x.state) (sym (c.self.view_is ∙ c.in_ok-solution.ensures.same)) c.requires.outside in
     let after = kept_step p s (with_solution solution s) (steps.Sol c.args.assigned.now) c.self.invariant.kept (outside, (solution, logs, refl)) in
     subst (λ l. Keeps (record { problem = p; state = state_with k.database l k.block }) k.problem_ids k.objective) (sym c.in_ok-push.ensures.ok) (record { kept = after; file = c.self.invariant.file; objective_is = c.self.invariant.objective_is })
