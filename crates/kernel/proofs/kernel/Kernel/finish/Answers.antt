@@ -9,10 +9,10 @@ use Rattle.kernel.specs.Held.{Held, IsKept, Keeps, state_with}
 use Rattle.kernel.proofs.Between.{between_pushed}
 use Rattle.kernel.proofs.kernel.Kernel.finish.Given.{Over}
 use Rattle.kernel.proofs.kernel.Kernel.finish.Goals as goal
-use Rattle.kernel.proofs.kernel.Kernel.finish.Goals.{After-remove_between}
+use Rattle.kernel.proofs.kernel.Kernel.finish.Goals.{Joined-self-2}
 
 -- the constraints of the block are gone, and the new one is there
-ended : (g : Over) (c : After-remove_between g)
+ended : (g : Over) (c : Joined-self-2 g)
     → c.remove_between.new.self
     ≡ record { live = map.insert (up_to c.in-Some.block.first c.self.inside.database.live) c.self.inside.database.next c.in-Some.block.constraint; next = c.self.inside.database.next + 1 }
 ended g c =

@@ -1,4 +1,4 @@
-use Rattle.std.proofs.Common.{◌≡◌, ◌++◌, List, Option, Some, IfSome, refl, sym, ap, subst, ◌∙◌}
+use Rattle.std.proofs.Common.{◌≡◌, ◌++◌, false, List, Option, Some, IfSome, refl, sym, ap, subst, ◌∙◌}
 use Rattle.std.proofs.lemmas.Bool.{false≢true}
 use Rattle.std.proofs.lemmas.List.{append-nil}
 use Rattle.std.proofs.lemmas.Result.{err_from_is_err_and}
@@ -107,7 +107,8 @@ returns-clause-shown g c j here =
     (subst (λ xs. IfSome c.in_ok-own.own (IsShown xs)) then (c.in_ok-shows_asked.ensures.shown.0 c.if-not-branch.false)) in
     let last : map.values c.shows_asked.new.database.live ≡ constraints k.state = ap (λ (x : Constraints). map.values x.live) c.in_ok-shows_asked.ensures.same ∙ then in
     let objective : c.self.inside.objective ≡ k.problem.objective = c.self.invariant.objective_is ∙ ap (λ (x : Held). x.problem.objective) c.self.view_is in
-    let not_raised = λ unopened. subst (λ o. IfSome o (IsShownNotRaised (constraints k.state) b.images)) objective
+    let not_raised : b.objective ≡ false → IfSome k.problem.objective (IsShownNotRaised (constraints k.state) b.images) =
+    λ unopened. subst (λ o. IfSome o (IsShownNotRaised (constraints k.state) b.images)) objective
     (objective_shown (constraints k.state) b c.self.inside.objective c.in_ok-objective.objective c.in_ok-objective.ensures.goal
     (subst (λ xs. IfSome c.in_ok-objective.objective (IsShown xs)) last (c.in_ok-shows_asked-2.ensures.shown.0 c.if-not-branch-2.false)) unopened) in
     let all : AreUnopenedShown k.problem k.state b = record { each_live = each; itself = own; objective = not_raised } in
