@@ -2,7 +2,7 @@
 # does so for the checker alone; `make test` runs the gate: every proof from nothing, the edits that must fail, and the tests;
 # `make demo` finds an optimum and has its proof checked, and runs the checker on three pigeons in two holes, an optimum, a
 # symmetry and a new name; `make install` puts both programs and their manual pages under PREFIX.
-.PHONY: FORCE all test demo check install dist dist-check library demo-embed page page-check layout refused-growths statuses bench differential optima pigeons wrong-edits wrong-definitions wrong-bodies gate-minutes links picture sizes shared-names
+.PHONY: FORCE all test demo check install dist dist-check library demo-embed layout refused-growths statuses bench differential optima pigeons wrong-edits wrong-definitions wrong-bodies gate-minutes links picture sizes shared-names
 
 PREFIX ?= /usr/local
 
@@ -111,9 +111,10 @@ gate-minutes:
 links:
 	scripts/links
 
-# Draws the crates by levels from crates.txt.
+# Draws the crates by levels from crates.txt, and what is solved in which time from docs/figures.md.
 picture:
 	scripts/layers-picture > docs/figures/layers.svg
+	scripts/cactus > docs/figures/solved.svg
 
 # How large the crates are, and which names several of them define.
 sizes:
