@@ -2,7 +2,7 @@
 # does so for the checker alone; `make test` runs the gate: every proof from nothing, the edits that must fail, and the tests;
 # `make demo` finds an optimum and has its proof checked, and runs the checker on three pigeons in two holes, an optimum, a
 # symmetry and a new name; `make install` puts both programs and their manual pages under PREFIX.
-.PHONY: FORCE all test demo check install layout refused-growths statuses bench differential optima pigeons wrong-edits wrong-definitions wrong-bodies gate-minutes links picture sizes shared-names
+.PHONY: FORCE all test demo check install dist dist-check library demo-embed layout refused-growths statuses bench differential optima pigeons wrong-edits wrong-definitions wrong-bodies gate-minutes links picture sizes shared-names
 
 PREFIX ?= /usr/local
 
@@ -24,6 +24,22 @@ install: all
 	install -d $(DESTDIR)$(PREFIX)/bin $(DESTDIR)$(PREFIX)/share/man/man1
 	install bin/pbopt bin/pbcheck $(DESTDIR)$(PREFIX)/bin
 	install -m 644 docs/pbopt.1 docs/pbcheck.1 $(DESTDIR)$(PREFIX)/share/man/man1
+
+# The archive from which a machine without the kit links both programs and the library; and a trial of it in an empty folder.
+dist: all library
+	scripts/dist
+
+dist-check:
+	scripts/dist --check
+
+# The checker as a library: `bin/libpbcheck.a`, `bin/libpbcheck.so` and `bin/pbcheck.h`.
+library:
+	@scripts/prove c_library
+	library/build crates/c_library/out/libc_library.a $$(dirname $$(rt doc))/c/liblibc_c.a bin
+
+# Calls the library from C and from Python.
+demo-embed: library
+	scripts/demo-embed
 
 test:
 	rt ci
@@ -95,9 +111,10 @@ gate-minutes:
 links:
 	scripts/links
 
-# Draws the crates by levels from crates.txt.
+# Draws the crates by levels from crates.txt, and what is solved in which time from docs/figures.md.
 picture:
 	scripts/layers-picture > docs/figures/layers.svg
+	scripts/cactus > docs/figures/solved.svg
 
 # How large the crates are, and which names several of them define.
 sizes:

@@ -42,7 +42,7 @@ const CASES: [Case; 24] = [
         conflicts: 1000000,
         ends: "o 2475880078570760549798248448\ns OPTIMUM FOUND\nv x1 x2\n",
         status: 30,
-        verdict: "accepted BOUNDS 2475880078570760549798248448 2475880078570760549798248448\n",
+        verdict: "accepted BOUNDS 2475880078570760549798248448 2475880078570760549798248448\nv x1 x2\n",
     },
     Case {
         opb: FOUR_CLAUSES,

@@ -14,6 +14,9 @@ use std::process::ExitCode;
 use std::rt::Env;
 use std::{env, io};
 
+/// The version that both programs print, that of the manual pages and of CHANGELOG.md.
+pub const VERSION: &str = "0.2.0";
+
 /// The status of a command line that is refused.
 pub const BAD_COMMAND: u8 = 64;
 /// The status of a device that failed.

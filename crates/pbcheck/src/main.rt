@@ -4,7 +4,7 @@
 
 use checker::{StreamVerdict, Verdict, check_stream, verdict_status, verdict_text};
 use clap::{Arg, ArgAction, Command, Error};
-use command_line::{DeviceFailed, STANDARD_OUTPUT, ended, given_by, refused, words};
+use command_line::{DeviceFailed, STANDARD_OUTPUT, VERSION, ended, given_by, refused, words};
 use devices::ReaderSource;
 use std::alloc::Global;
 use std::io::{ErrorKind, Read, Write};
@@ -54,7 +54,7 @@ fn proof<'a>(alloc: Global) -> Arg<'a> {
 fn command<'a>(alloc: Global) -> Result<Command<'a>, Error> {
     Ok(
         Command::new(alloc, "pbcheck")
-            .version("0.1.0")
+            .version(VERSION)
             .about("Judges a proof about a pseudo-Boolean problem and prints the verdict.")
             .after_help(EXPLANATION)
             .arg(file(alloc))?

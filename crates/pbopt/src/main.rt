@@ -6,7 +6,9 @@ mod reporting;
 ghost use Rattle.std.specs.Prelude.{◌≡◌, IfOk, IfSome};
 
 use clap::{Arg, ArgAction, Command, Error};
-use command_line::{DeviceFailed, STANDARD_OUTPUT, device_failed, ended, given_by, refused, words};
+use command_line::{
+    DeviceFailed, STANDARD_OUTPUT, VERSION, device_failed, ended, given_by, refused, words,
+};
 use devices::WriterSink;
 use pb_main::{RunFault, run, status};
 use reporting::Reporting;
@@ -73,7 +75,7 @@ fn progress<'a>(alloc: Global) -> Arg<'a> {
 fn command<'a>(alloc: Global) -> Result<Command<'a>, Error> {
     Ok(
         Command::new(alloc, "pbopt")
-            .version("0.1.0")
+            .version(VERSION)
             .about("Solves a pseudo-Boolean problem and prints the answer, with a proof beside it.")
             .after_help(EXPLANATION)
             .arg(file(alloc))?
