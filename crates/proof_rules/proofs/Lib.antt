@@ -1,3 +1,5 @@
+pub mod Blocks
+pub mod BlocksJudged
 pub mod Completing
 pub mod Concluding
 pub mod ConclusionJudged

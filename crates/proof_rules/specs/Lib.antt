@@ -1,3 +1,4 @@
+pub mod Block
 pub mod Cases
 pub mod Claim
 pub mod Codes
@@ -9,6 +10,7 @@ pub mod Justified
 pub mod Legal
 pub mod Preserved
 pub mod Printed
+pub mod Redundant
 pub mod RuleFault
 pub mod Running
 pub mod Shown

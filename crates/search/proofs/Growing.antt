@@ -24,7 +24,8 @@ use Rattle.proof_text.specs.Writable.{IsConclusionWritable, IsStepWritable}
 use Rattle.proof_write.specs.Whole.{AreWritten, first_lines, last_lines, step_line}
 use Rattle.proof_write.specs.Writing.{line_text, step_words}
 use Rattle.proof_write.proofs.TextGrows.{nothing_written, no_more_steps, one_more_written, written_spells}
-use Rattle.search.specs.Log.{IsSpelledBy, Logbook, StepBites, LeadsBiting, LeadsImproving, improvement, ImprovesNothing, IsEntitled, IsProof}
+use Rattle.search.specs.Log.{IsSpelledBy, Logbook, StepBites, LeadsBiting, LeadsImproving, improvement, ImprovesIfAsked, ImprovesNothing, IsEntitled, IsProof}
+use Rattle.search.proofs.Worth.{all_improve_more, none_logged}
 
 -- the last element is changed
 pub put_last : (xs ys : List ℤ) (z v : ℤ) (n : ℕ) → ys ≡ xs ++ z ∷ [] → n ≡ length ys → set ys (n - 1) v ≡ xs ++ v ∷ []
@@ -48,6 +49,14 @@ biting_other s (kinds.Red c images) h = absurd h
 biting_other s (kinds.Sol assigned) h = absurd h
 biting_other s (kinds.Soli assigned) h = absurd h
 biting_other s (kinds.Del ids) h = absurd h
+
+biting_asked : (p : Opb) (s : State) (step : Step) → StepBites s step → ImprovesIfAsked p step
+biting_asked p s (kinds.Pol items) h = tt
+biting_asked p s (kinds.Rup c) h = tt
+biting_asked p s (kinds.Red c images) h = tt
+biting_asked p s (kinds.Sol assigned) h = absurd h
+biting_asked p s (kinds.Soli assigned) h = tt
+biting_asked p s (kinds.Del ids) h = tt
 
 -- `NONE` is always justified
 pub nothing_justified : (p : Opb) (s : State) → IsEntitled p s Nothing
@@ -105,6 +114,7 @@ starts p s text values first nothing table few start = record {
   starts = start;
   leads = refl;
   improves = (refl, nothing);
+  solutions = none_logged p s values start nothing;
   bites = (refl, refl);
   entitled = nothing_justified p s;
 }
@@ -127,14 +137,15 @@ one_more l step new proof (is, writable, proper) =
 
 pub grows : (p : Opb) (text new : List ℕ) (s t : State) (values : List ℤ) (count : ℕ) (conclusion : Conclusion) (asking later : Option ℕ) (step : Step)
     → IsProof (logbook p text s values count conclusion asking)
-    → IsWrittenBehind p text step new → Legal p s step t → IsProof (logbook p new t (values ++ improvement step t) count Nothing later)
-grows p text new s t values count conclusion asking later step proof behind legal = record {
+    → IsWrittenBehind p text step new → ImprovesIfAsked p step → Legal p s step t → IsProof (logbook p new t (values ++ improvement step t) count Nothing later)
+grows p text new s t values count conclusion asking later step proof behind asked legal = record {
   steps = proof.steps ++ step ∷ [];
   written = one_more (logbook p text s values count conclusion asking) step new proof behind;
   start = proof.start;
   starts = proof.starts;
   leads = leads_push p proof.start s t proof.steps step proof.leads legal;
   improves = improves_push p proof.start s t proof.steps step values proof.improves legal;
+  solutions = all_improve_more p s t values step asked legal proof.solutions;
   bites = bites_push p proof.start s t proof.steps step count proof.bites legal;
   entitled = nothing_justified p t;
 }
@@ -149,6 +160,7 @@ grows_biting p text new s t values count conclusion asking step proof behind leg
   starts = proof.starts;
   leads = leads_push p proof.start s t proof.steps step proof.leads legal;
   improves = improves_push p proof.start s t proof.steps step values proof.improves legal;
+  solutions = all_improve_more p s t values step (biting_asked p s step here) legal proof.solutions;
   bites = bites_push_one p proof.start s t proof.steps step count proof.bites legal here;
   entitled = nothing_justified p t;
 }
@@ -177,6 +189,7 @@ concluded p text s values count old new asking proof entitled = record {
   starts = proof.starts;
   leads = proof.leads;
   improves = proof.improves;
+  solutions = proof.solutions;
   bites = proof.bites;
   entitled = entitled;
 }

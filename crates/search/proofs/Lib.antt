@@ -11,3 +11,4 @@ pub mod Trying
 pub mod StaysLive
 pub mod UpToDate
 pub mod Descending
+pub mod Worth
