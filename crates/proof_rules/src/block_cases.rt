@@ -39,8 +39,7 @@ pub fn blocks()
         (block_state ((1, cover) ∷ (3, not_second_alone) ∷ []) 4 None) }
 {}
 
-/// `proofgoal 1` opens the goal of the live constraint, by its id or from the end. Once it is closed the block may end, or
-/// another goal be opened.
+/// `proofgoal 1` opens the goal of the live constraint, and so does `proofgoal -2`. Once it is closed the block may end.
 pub fn goal_of_a_live_constraint()
     ensures opens { Legal cover_file begun (Goal (Live (pos 1))) live_goal }
     ensures from_the_end { Legal cover_file begun (Goal (Live (neg_ℤ (pos 2)))) live_goal }
