@@ -134,6 +134,7 @@ impl<'a, P: Propagator> Kernel<'a, P> {
             }
             Step::RedBegin(constraint, witness) => {
                 self.stand_outside()?;
+                self.settle()?;
                 self.begin(constraint, witness)
             }
             Step::Goal(name) => self.open_goal(*name),
@@ -150,6 +151,16 @@ impl<'a, P: Propagator> Kernel<'a, P> {
             None => Ok(()),
             Some(_) => Err(StepFault::BlockOpen),
         }
+    }
+
+    /// Has what the live constraints force by themselves found, where no question did so. A propagator keeps that from question to question;
+    /// what it finds first in a block it would give up at the block's end, and find anew in the next one.
+    fn settle(&mut self) -> Result<(), StepFault>
+        ensures same { self.new ≡ self.old }
+        ensures memory { OnErr result (IsErrOf result StepFault.OutOfMemory) }
+    {
+        let _is_refuted = self.database.refute(&[])?;
+        Ok(())
     }
 
     /// Adds a constraint that keeps an answer to the problem, under the next id.

@@ -31,9 +31,3 @@ returns-in_ok-stand_outside-in-Red-clause-fault g c =
     let k : Held = c.args.self.now in
     subst (λ x. IfErr c.red.result (λ f. OrMemory f (IsStepFault k.problem k.state x f))) (sym c.in-Red.is)
     (refused_outside k.state (IsRedFault k.problem k.state c.in-Red.constraint c.in-Red.witness) c.red.result c.in_ok-stand_outside-in-Red.ensures.outside (no_red_fault k.problem k.state c.in-Red.constraint c.in-Red.witness) c.red.ensures.fault)
-
-pub returns-in_ok-stand_outside-in-RedBegin-clause-fault : goal.returns-in_ok-stand_outside-in-RedBegin-clause-fault
-returns-in_ok-stand_outside-in-RedBegin-clause-fault g c =
-    let k : Held = c.args.self.now in
-    subst (λ x. IfErr c.begin.result (λ f. OrMemory f (IsStepFault k.problem k.state x f))) (sym c.in-RedBegin.is)
-    (refused_outside k.state (IsRedBeginFault k.state c.in-RedBegin.constraint) c.begin.result c.in_ok-stand_outside-in-RedBegin.ensures.outside (λ h. h) c.begin.ensures.fault)
