@@ -1,9 +1,9 @@
 //! The terms of a normal constraint, kept small where their coefficients are.
 //!
-//! Coefficients may be up to 2^120, and of most files none reaches 2^32. A constraint is kept for as long as its id lives, so
-//! three eighths of the memory is less to fill, to read and to give back. The terms before the first large coefficient are kept
-//! small, the first large one and all after it are not; nobody above sees which. Variable and sign stand side by side, since a term
-//! is looked at far more often than it is kept, and a number of both would have to be split at each look.
+//! Coefficients may be up to 2^120, and of most files none reaches 2^64. A constraint is kept for as long as its id lives, so
+//! half the memory is less to fill, to read and to give back. The terms before the first large coefficient are kept small, the
+//! first large one and all after it are not; nobody above sees which. Narrower numbers than these save memory and cost time: a term
+//! is looked at far more often than it is kept, and at each look it would have to be put together again.
 
 ghost use Rattle.std.specs.Prelude.{◌≡◌, ◌≤◌, ◌<◌, ◌^◌, ◌++◌, ◌∷◌, [], IfOk, MatchOption, OnOk, OnErr, length, slice_index_or};
 ghost use Rattle.normal_form.specs.Terms.{widened};
@@ -13,10 +13,10 @@ use linear::Var;
 use std::alloc::{AllocError, Global};
 use std::marker::Model;
 
-/// A term whose coefficient fits in 32 bits.
+/// A term whose coefficient fits in 64 bits.
 #[derive(Clone, Copy, Debug)]
 struct SmallTerm {
-    coef: u32,
+    coef: u64,
     var: Var,
     negated: bool,
 }
@@ -36,9 +36,9 @@ impl SmallTerm {
 
 /// The small form of a term, if its coefficient fits.
 fn narrowed(term: NormalTerm) -> Option<SmallTerm>
-    ensures { MatchOption result (2 ^ 32 ≤ term.coef) (λ small. widened small ≡ term) }
+    ensures { MatchOption result (2 ^ 64 ≤ term.coef) (λ small. widened small ≡ term) }
 {
-    match u32::try_from(term.coef) {
+    match u64::try_from(term.coef) {
         Ok(coef) => Some(SmallTerm {
             coef,
             var: term.var,

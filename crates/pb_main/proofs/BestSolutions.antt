@@ -29,7 +29,7 @@ any_there : {X : Type 0} (P : X → Type 0) (xs : List X) → Any P xs → xs �
 any_there P xs (k, x, below, at, h) none = absurd (omega (arith, below, ap length none))
 
 bound_logged : (p : Opb) (s : State) (lower : Lower) (v : ℤ) (best : Option (List Bool)) → IsJustified p s (conclusions.Bounds lower (uppers.At v) None) best → s.logged ≢ []
-bound_logged p s lower v best (t, takes, (objective, is, low, upper), also) =
+bound_logged p s lower v best (outside, (t, takes, (objective, is, low, upper), also)) =
     subst (λ (u : State). u.logged ≢ []) takes (any_there (λ g. worth_of p g ≤ℤ v) t.logged upper)
 
 bounded : (l : Logbook) → IsProof l → (lower : Lower) (v : ℤ) → l.conclusion ≡ conclusions.Bounds lower (uppers.At v) None → l.state.logged ≢ []
@@ -68,7 +68,7 @@ log_preserved l p =
 -- what a log improved to
 
 unimproved : (p : Opb) (s t : State) (step : Step) → p.objective ≡ None → Legal p s step t → improvement step t ≡ []
-unimproved p s t (kinds.Soli assigned) none (objective, g, n, improves, is) =
+unimproved p s t (kinds.Soli assigned) none (outside, (objective, g, n, improves, is)) =
     let clash : None ≡ Some objective = sym none ∙ improves.minimises in
     absurd (cc)
 unimproved p s t (kinds.Pol items) none legal = refl
@@ -76,6 +76,9 @@ unimproved p s t (kinds.Rup c) none legal = refl
 unimproved p s t (kinds.Red c images) none legal = refl
 unimproved p s t (kinds.Sol assigned) none legal = refl
 unimproved p s t (kinds.Del ids) none legal = refl
+unimproved p s t (kinds.RedBegin c images) none legal = refl
+unimproved p s t (kinds.Goal name) none legal = refl
+unimproved p s t kinds.End none legal = refl
 
 nothing_improves : (p : Opb) (s t : State) (all : List Step) (values : List ℤ) → p.objective ≡ None → LeadsImproving p s all t values → values ≡ []
 nothing_improves p s t [] values none (same, nothing) = nothing

@@ -1,5 +1,5 @@
 -- What is kept of an open block through the steps that it allows, and what its end makes of that.
-use Rattle.std.proofs.Common.{◌≡◌, ◌≢◌, ℕ, ◌+◌, ◌<◌, ◌≤◌, ◌≤ℤ◌, ◌⊎◌, inl, inr, Bool, true, false, cond, ◌||◌, List, Option, None, Some, All, IfSome, IsSomeAnd, nat_lt, refl, sym, ap, subst, ◌∙◌, arith}
+use Rattle.std.proofs.Common.{◌≡◌, ℕ, ◌+◌, ◌<◌, ◌≤◌, ◌≤ℤ◌, ◌⊎◌, inl, inr, Bool, true, false, cond, ◌||◌, List, Option, None, Some, All, IfSome, IsSomeAnd, refl, sym, ap, subst, ◌∙◌, arith}
 use Rattle.std.specs.FinMap as fin
 use Rattle.std.specs.FinSet as set
 use Rattle.std.specs.Ordering.{nat_cmp, eq_by_cmp}
@@ -19,12 +19,12 @@ use Rattle.substitution.proofs.Images.{under_meaning, objective_meaning}
 use Rattle.proof_steps.specs.declared.step.GoalName.{GoalName}
 use Rattle.proof_steps.specs.declared.step.GoalName.TheVariants as names
 use Rattle.linear.specs.declared.constraint.Signed.{Signed}
-use Rattle.proof_rules.specs.Block.{new_block, with_block, with_goal, Asks, IsUnopened, closed, finished, EndsGoal, EndsBlock, EndsOpen, LegalRedBegin, LegalGoal, LegalEnd}
+use Rattle.proof_rules.specs.Block.{with_block, closed, finished, EndsBlock, EndsOpen, LegalRedBegin, LegalGoal, LegalEnd}
 use Rattle.proof_rules.specs.Preserved.{IsPreserved, IsAsGood, AreNormal, MeetsBelow, MeetsOutside, AreGoalsMet, MeetsOpenGoal, MeetsBlock, IsBlockKept}
 use Rattle.proof_rules.specs.Redundant.{IsShownUnder, IsShownNotRaised}
 use Rattle.proof_rules.specs.Shown.{IsShown, absurdity}
 use Rattle.proof_rules.specs.State.{State, Block, Live, constraints, id_of, IsOutside, up_to, with_constraint}
-use Rattle.proof_rules.proofs.LiveConstraints.{All-get, All-from_get, All-insert, All-up_to, found_here, key_of, within_up_to, found_up_to}
+use Rattle.proof_rules.proofs.LiveConstraints.{All-from_get, All-insert, All-up_to, key_of, within_up_to, found_up_to}
 use Rattle.proof_rules.proofs.ShownHolds.{shown_holds, holds_or_not, absurdity_fails}
 
 -- what is found with one more constraint is that one, or was found before

@@ -1,11 +1,11 @@
 -- Every step of a block is legal or has a fault.
-use Rattle.std.proofs.Common.{◌≡◌, ◌≢◌, ℕ, ◌<◌, ◌⊎◌, inl, inr, Bool, true, false, List, Option, Some, None, IfSome, refl, sym, subst, ◌∙◌}
+use Rattle.std.proofs.Common.{◌≡◌, ℕ, ◌<◌, ◌⊎◌, inl, inr, Bool, true, false, List, Option, Some, None, IfSome, refl, sym, subst}
 use Rattle.std.specs.FinMap as fin
 use Rattle.std.specs.FinSet as set
 use Rattle.linear.specs.declared.constraint.Signed.{Signed}
 use Rattle.linear.specs.declared.term.Term.{Term}
 use Rattle.linear.specs.Opb.{Opb}
-use Rattle.normal_form.specs.Normal.{NormalConstraint, Fits, Rises}
+use Rattle.normal_form.specs.Normal.{NormalConstraint, Fits}
 use Rattle.normal_form.specs.Negation.{IsNegation}
 use Rattle.normal_form.proofs.NormalForm.{form, form_is}
 use Rattle.normal_form.proofs.Negations.{negation, negation_is, one_negation}
@@ -16,15 +16,14 @@ use Rattle.proof_steps.specs.declared.step.GoalName.{GoalName}
 use Rattle.proof_steps.specs.declared.step.GoalName.TheVariants as names
 use Rattle.proof_rules.specs.declared.fault.StepFault.{StepFault}
 use Rattle.proof_rules.specs.declared.fault.StepFault.TheVariants as faults
-use Rattle.proof_rules.specs.Block.{new_block, with_block, with_goal, closed, finished, Asks, IsUnopened, AreLiveShown, IsItselfShown, IsObjectiveShown, EndsOpen, LegalRedBegin, LegalGoal, LegalEnd}
-use Rattle.proof_rules.specs.Fault.{IsOutsideFault, IsInsideFault, IsAdmissionFault, IsRedBeginFault, IsProofGoalFault, IsUnopenedFault, IsBlockEndFault, IsEndFault}
-use Rattle.proof_rules.specs.Preserved.{AreNormal}
+use Rattle.proof_rules.specs.Block.{new_block, with_block, with_goal, closed, finished, Asks, IsUnopened, AreLiveShown, IsItselfShown, EndsOpen, LegalRedBegin, LegalGoal, LegalEnd}
+use Rattle.proof_rules.specs.Fault.{IsOutsideFault, IsInsideFault, IsRedBeginFault, IsProofGoalFault, IsUnopenedFault, IsBlockEndFault, IsEndFault}
 use Rattle.proof_rules.specs.Redundant.{IsShownUnder, IsShownNotRaised}
 use Rattle.proof_rules.specs.Shown.{IsShown, IsAdmitted, absurdity}
 use Rattle.proof_rules.specs.State.{State, Block, constraints, id_of, HasRoom, IsOutside}
-use Rattle.proof_rules.proofs.Deciding.{Decided, Judged, lt_decided, both_decided, decided_as}
+use Rattle.proof_rules.proofs.Deciding.{Decided, Judged, lt_decided, both_decided}
 use Rattle.proof_rules.proofs.LiveConstraints.{First_open_or_all}
-use Rattle.proof_rules.proofs.NotLegal.{one_admitted, one_asked, rises_asked, none_some}
+use Rattle.proof_rules.proofs.NotLegal.{one_admitted, rises_asked, none_some}
 use Rattle.proof_rules.proofs.ShownOrNot.{shown_decided, under_decided, not_raised_decided, fits_decided, room_decided, admitted_decided}
 
 -- what may stand outside blocks alone

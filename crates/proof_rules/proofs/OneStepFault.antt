@@ -1,7 +1,6 @@
 -- A step has at most one fault.
 use Rattle.std.proofs.Common.{◌≡◌, ◌≢◌, ℕ, ◌⊎◌, inl, inr, ℤ, ◌<ℤ◌, Bool, List, [], ◌∷◌, ◌++◌, Option, Some, None, All, IfSome, length, refl, sym, ap, subst, ◌∙◌, arith}
 use Rattle.std.proofs.lemmas.Bool.{cases_order}
-use Rattle.std.specs.FinMap as fin
 use Rattle.linear.specs.declared.constraint.Signed.{Signed}
 use Rattle.linear.specs.declared.term.Lit.{Lit}
 use Rattle.linear.specs.Opb.{Opb}

@@ -4,7 +4,7 @@
 -- constraint fails. A goal that propagation does not show is opened by its name: its negation comes beside the others too, and the goal
 -- is closed where `0 >= 1` is shown then. What came for the goal goes with its end, and what came for the block with the block's. That
 -- shows every goal which was not opened, as a `red` step without a block does, and adds the new constraint.
-use Rattle.std.specs.Prelude.{◌≡◌, ℕ, ◌+◌, ◌<◌, Bool, true, false, List, Option, Some, None, IfSome}
+use Rattle.std.specs.Prelude.{◌≡◌, ℕ, ◌+◌, ◌<◌, true, false, List, Option, Some, None, IfSome}
 use Rattle.std.specs.FinMap as map
 use Rattle.std.specs.FinSet as set
 use Rattle.linear.specs.declared.constraint.Signed.{Signed}

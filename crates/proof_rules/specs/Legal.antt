@@ -9,7 +9,7 @@
 -- live constraints, which `red` and `soli` may have made narrower. So `del id` may take out any live constraint, the file's
 -- own and those that improving solutions added among them: what is kept is an answer to the file, and the fewer constraints
 -- are live, the more answers meet them.
-use Rattle.std.specs.Prelude.{◌≡◌, ℕ, ℤ, pos, ◌<ℤ◌, ◌-ℤ◌, Bool, List, [], ◌∷◌, ◌++◌, Some, All, IfSome, IsSome, length}
+use Rattle.std.specs.Prelude.{◌≡◌, ℕ, ℤ, pos, ◌<ℤ◌, ◌-ℤ◌, Bool, List, [], ◌∷◌, ◌++◌, Some, IfSome, IsSome, length}
 use Rattle.std.specs.FinMap as map
 use Rattle.linear.specs.declared.constraint.Signed.{Signed}
 use Rattle.linear.specs.declared.term.Lit.{Lit}

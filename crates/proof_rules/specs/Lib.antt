@@ -1,4 +1,5 @@
 pub mod Block
+pub mod BlockCases
 pub mod Cases
 pub mod Claim
 pub mod Codes

@@ -7,7 +7,7 @@
 -- A `red` step with subproofs is a block of steps, which a state keeps while it is open. The constraints of the block are live beside
 -- the others and tell themselves by their ids, since ids only rise and nothing else becomes live meanwhile: those of the block have the
 -- ids from its first one on, and those of its open goal the ids from that goal's on.
-use Rattle.std.specs.Prelude.{◌≡◌, ℕ, ◌+◌, ◌-◌, ◌<◌, ◌≤◌, ◌^◌, ℤ, pos, negsuc, Bool, false, nat_lt, List, [], ◌∷◌, Option, None, Some, length}
+use Rattle.std.specs.Prelude.{◌≡◌, ℕ, ◌+◌, ◌-◌, ◌<◌, ◌≤◌, ◌^◌, ℤ, pos, negsuc, Bool, nat_lt, List, [], ◌∷◌, Option, None, Some, length}
 use Rattle.std.specs.Ordering.{nat_cmp}
 use Rattle.std.specs.FinMap as map
 use Rattle.std.specs.FinSet as set

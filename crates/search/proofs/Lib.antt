@@ -1,3 +1,4 @@
+pub mod Blocks
 pub mod Choices
 pub mod Clauses
 pub mod BitingClauses

@@ -1,12 +1,11 @@
 -- Where there is an objective, what the logged solutions are worth is what was improved to; so the best one is worth the least value.
-use Rattle.std.proofs.Common.{◌≡◌, ◌≢◌, ℤ, ◌<ℤ◌, ◌≤ℤ◌, Bool, true, false, List, [], ◌∷◌, ◌++◌, map, Option, None, Some, All, IfSome, is_none, refl, sym, ap, subst, ◌∙◌, arith}
+use Rattle.std.proofs.Common.{◌≡◌, ℤ, ◌<ℤ◌, ◌≤ℤ◌, Bool, false, List, [], ◌∷◌, ◌++◌, map, Option, None, Some, All, IfSome, is_none, refl, sym, ap, subst, ◌∙◌, arith}
 use Rattle.std.specs.Prelude.{MatchOption, ⊤}
 use Rattle.std.proofs.lemmas.Bool.{false≢true}
 use Rattle.std.proofs.lemmas.Int.{ints}
 use Rattle.std.proofs.lemmas.List.{append-nil}
-use Rattle.std.proofs.lemmas.List.Elements.{All-head, All-tail}
+use Rattle.std.proofs.lemmas.List.Elements.{All-head}
 use Rattle.linear.specs.Opb.{Opb}
-use Rattle.linear.specs.declared.term.Lit.{Lit}
 use Rattle.linear.specs.declared.term.Term.{Term}
 use Rattle.proof_steps.specs.declared.step.Step.{Step}
 use Rattle.proof_steps.specs.declared.step.Step.TheVariants as kinds
@@ -14,6 +13,7 @@ use Rattle.proof_rules.specs.Justified.{IsBest}
 use Rattle.proof_rules.specs.Legal.{Legal, LegalDel, without, worth_of}
 use Rattle.proof_rules.specs.State.{State, IsStart, id_of}
 use Rattle.search.specs.Log.{AllImprove, ImprovesIfAsked, IsFalling, IsProof, IsWorthLeast, Logbook, improvement, last_of, value_list}
+use Rattle.search.proofs.Blocks.{begin_logs, end_logs, goal_logs}
 use Rattle.search.proofs.Improving.{values_fall}
 
 weaker : {X : Type 0} (o : Option X) (P Q : X → Type 0) → ((x : X) → P x → Q x) → IfSome o P → IfSome o Q
@@ -46,14 +46,17 @@ pub all_improve_more : (p : Opb) (s t : State) (values : List ℤ) (step : Step)
     → AllImprove p t (values ++ improvement step t)
 all_improve_more p s t values (kinds.Pol items) asked (m, written, adds) h = as_before p s t values (ap (λ (u : State). u.logged) adds.1) h
 all_improve_more p s t values (kinds.Rup c) asked (m, admitted, shown, adds) h = as_before p s t values (ap (λ (u : State). u.logged) adds.1) h
-all_improve_more p s t values (kinds.Red c images) asked (m, k, admitted, redundant, adds) h = as_before p s t values (ap (λ (u : State). u.logged) adds.1) h
+all_improve_more p s t values (kinds.Red c images) asked (outside, (m, k, admitted, redundant, adds)) h = as_before p s t values (ap (λ (u : State). u.logged) adds.1) h
 all_improve_more p s t values (kinds.Sol assigned) none legal h = subst (λ o. IfSome o (λ _. map (worth_of p) t.logged ≡ values ++ [])) (sym none) tt
-all_improve_more p s t values (kinds.Soli assigned) asked (objective, g, m, improves, is) h =
+all_improve_more p s t values (kinds.Soli assigned) asked (outside, (objective, g, m, improves, is)) h =
     weaker p.objective (λ _. map (worth_of p) s.logged ≡ values) (λ _. map (worth_of p) t.logged ≡ values ++ value_list t.least)
     (λ terms before.
     ap (λ (u : State). map (worth_of p) u.logged) is ∙ map_behind (worth_of p) s.logged g ∙ ap (λ vs. vs ++ worth_of p g ∷ []) before
     ∙ ap (λ (u : State). values ++ value_list u.least) (sym is)) h
-all_improve_more p s t values (kinds.Del ids) asked legal h = as_before p s t values (logged_deleted s t ids legal) h
+all_improve_more p s t values (kinds.Del ids) asked (outside, legal) h = as_before p s t values (logged_deleted s t ids legal) h
+all_improve_more p s t values (kinds.RedBegin c images) asked (outside, legal) h = as_before p s t values (begin_logs s t c images legal).1 h
+all_improve_more p s t values (kinds.Goal name) asked legal h = as_before p s t values (goal_logs p s t name legal).1 h
+all_improve_more p s t values kinds.End asked legal h = as_before p s t values (end_logs p s t legal).1 h
 
 -- of values that fall, one that is no more than all behind it is the last
 falls_to : (worth : List Bool → ℤ) (before behind : List (List Bool)) (g : List Bool) → IsFalling (map worth (before ++ g ∷ behind))

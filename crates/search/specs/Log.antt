@@ -42,6 +42,9 @@ StepBites old (kinds.Red c images) = ⊥
 StepBites old (kinds.Sol assigned) = ⊥
 StepBites old (kinds.Soli assigned) = ⊥
 StepBites old (kinds.Del ids) = ⊥
+StepBites old (kinds.RedBegin c images) = ⊥
+StepBites old (kinds.Goal name) = ⊥
+StepBites old kinds.End = ⊥
 
 -- legal steps lead from one state to another, and at least so many of them bite
 abbrev pub LeadsBiting : Opb → State → List Step → State → ℕ → Type 0
@@ -63,6 +66,9 @@ improvement (kinds.Pol items) new = []
 improvement (kinds.Rup c) new = []
 improvement (kinds.Red c images) new = []
 improvement (kinds.Del ids) new = []
+improvement (kinds.RedBegin c images) new = []
+improvement (kinds.Goal name) new = []
+improvement kinds.End new = []
 
 -- legal steps lead from one state to another, and these are the values of their improving solutions, in order
 abbrev pub LeadsImproving : Opb → State → List Step → State → List ℤ → Type 0
@@ -82,6 +88,18 @@ last_of [] = None
 last_of (value ∷ []) = Some value
 last_of (value ∷ later ∷ more) = last_of (later ∷ more)
 
+-- the step opens no block, and needs none that is open: a log takes no other, so no block is open in its state
+abbrev pub StandsAlone : Step → Type 0
+StandsAlone (kinds.Pol items) = Unit {0}
+StandsAlone (kinds.Rup c) = Unit {0}
+StandsAlone (kinds.Red c images) = Unit {0}
+StandsAlone (kinds.Sol assigned) = Unit {0}
+StandsAlone (kinds.Soli assigned) = Unit {0}
+StandsAlone (kinds.Del ids) = Unit {0}
+StandsAlone (kinds.RedBegin c images) = ⊥
+StandsAlone (kinds.Goal name) = ⊥
+StandsAlone kinds.End = ⊥
+
 -- the step logs no improving solution
 abbrev pub ImprovesNothing : Step → Type 0
 ImprovesNothing (kinds.Soli assigned) = ⊥
@@ -90,6 +108,9 @@ ImprovesNothing (kinds.Pol items) = Unit {0}
 ImprovesNothing (kinds.Rup c) = Unit {0}
 ImprovesNothing (kinds.Red c images) = Unit {0}
 ImprovesNothing (kinds.Del ids) = Unit {0}
+ImprovesNothing (kinds.RedBegin c images) = Unit {0}
+ImprovesNothing (kinds.Goal name) = Unit {0}
+ImprovesNothing kinds.End = Unit {0}
 
 -- the step logs a solution that improves nothing only where there is no objective
 abbrev pub ImprovesIfAsked : Opb → Step → Type 0
@@ -99,6 +120,9 @@ ImprovesIfAsked p (kinds.Pol items) = Unit {0}
 ImprovesIfAsked p (kinds.Rup c) = Unit {0}
 ImprovesIfAsked p (kinds.Red c images) = Unit {0}
 ImprovesIfAsked p (kinds.Del ids) = Unit {0}
+ImprovesIfAsked p (kinds.RedBegin c images) = Unit {0}
+ImprovesIfAsked p (kinds.Goal name) = Unit {0}
+ImprovesIfAsked p kinds.End = Unit {0}
 
 -- where there is an objective, the logged solutions are the improving ones: what they are worth, in order, is what was improved to
 abbrev pub AllImprove : Opb → State → List ℤ → Type 0
