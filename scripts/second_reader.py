@@ -27,7 +27,7 @@ class ProblemFault(Exception):
 # Tokens, of problems and of proofs.
 
 TOKEN = re.compile(r";|:|>=|<=|=|->(?!=)|[<>]|(?:(?!->(?!=))[^ \t\r\n;:<>=])+")
-NAME = r"[A-Za-z_][A-Za-z0-9_\[\]{}^-]+"
+INTEGER, NAME, BEGINS_AS_A_NAME = map(re.compile, (r"[+-]?[0-9]+", r"[A-Za-z_][A-Za-z0-9_\[\]{}^-]+", r"[A-Za-z_~]"))
 
 
 def tokens(line):
@@ -36,11 +36,11 @@ def tokens(line):
 
 
 def is_integer(word):
-    return re.fullmatch(r"[+-]?[0-9]+", word) is not None
+    return INTEGER.fullmatch(word) is not None
 
 
 def is_name(word):
-    return re.fullmatch(NAME, word) is not None
+    return NAME.fullmatch(word) is not None
 
 
 def kind_of(word):
@@ -51,7 +51,7 @@ def kind_of(word):
         return "integer"
     if is_name(word.removeprefix("~")):
         return "literal"
-    return "misspelt" if re.match(r"[A-Za-z_~]", word) else word
+    return "misspelt" if BEGINS_AS_A_NAME.match(word) else word
 
 
 # Statements.
