@@ -2,7 +2,7 @@
 # does so for the checker alone; `make test` runs the gate: every proof from nothing, the edits that must fail, and the tests;
 # `make demo` finds an optimum and has its proof checked, and runs the checker on three pigeons in two holes, an optimum, a
 # symmetry, a new name and a subproof; `make install` puts both programs and their manual pages under PREFIX.
-.PHONY: FORCE all test demo check install dist dist-check library demo-embed layout refused-growths statuses bench differential optima pigeons wrong-edits wrong-definitions wrong-bodies gate-minutes links picture sizes shared-names
+.PHONY: FORCE all test demo check install dist dist-check library demo-embed layout refused-growths statuses bench differential fuzz optima pigeons wrong-edits wrong-definitions wrong-bodies gate-minutes links picture sizes shared-names
 
 PREFIX ?= /usr/local
 
@@ -76,9 +76,16 @@ refused-growths: all
 statuses: all
 	scripts/statuses
 
-# Compares the checker with a second, plain judge on random problems and proofs, and what is accepted with all assignments.
+# Compares the checker with a second, plain reader and judge on random problems and proofs, damaged ones among them, and what is accepted with
+# all assignments.
 differential: bin/pbcheck
 	scripts/differential
+
+# The same for an hour or more: many cases, texts that are cut after each byte, hostile lines, and many small problems solved.
+fuzz: all
+	scripts/differential 200000
+	scripts/cuts
+	scripts/optima 20000
 
 # Solves small problems of all kinds, and compares each answer with the best of all assignments, and its proof with the checker.
 optima: all

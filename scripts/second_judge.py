@@ -2,8 +2,11 @@
 """A second, plain and slow judge of proofs: `scripts/second_judge.py FILE PROOF` prints what `pbcheck` has to print.
 
 It was written from the rules in docs/proof-format.md and shares no line with the program; `scripts/differential` compares the two. The
-file has to be a problem within the limits: its faults are not judged here."""
-import copy, re, sys
+file is read by scripts/second_reader.py, and a bad one is answered with its fault."""
+import copy, sys
+
+sys.dont_write_bytecode = True
+from second_reader import ProblemFault, is_integer, is_name, read, text_of, tokens
 
 LIMIT = 1 << 120
 CODES = {
@@ -22,10 +25,8 @@ class Fault(Exception):
     pass
 
 
-# Lines: their tokens, and what they say.
+# Lines, and what they say.
 
-TOKEN = re.compile(r";|:|>=|<=|=|->(?!=)|[<>]|(?:(?!->(?!=))[^ \t\r\n;:<>=])+")
-NAME = r"[A-Za-z_][A-Za-z0-9_\[\]{}^-]+"
 SYMBOLS = (";", ":", ">=", "<=", "=", "->", "<", ">")
 RULES = {"pol": "pol", "p": "pol", "rup": "rup", "u": "rup", "red": "red", "sol": "sol", "soli": "soli", "del": "del",
          "proofgoal": "proofgoal", "end": "end"}
@@ -36,19 +37,6 @@ PLACES = {
     "block": ("pol", "rup", "proofgoal", "end"),
     "goal": ("pol", "rup", "end"),
 }
-
-
-def tokens(line):
-    """The tokens of a line; none of a comment."""
-    return [] if line.lstrip(" \t").startswith("*") else TOKEN.findall(line)
-
-
-def is_integer(word):
-    return re.fullmatch(r"[+-]?[0-9]+", word) is not None
-
-
-def is_name(word):
-    return re.fullmatch(NAME, word) is not None
 
 
 def integer(word):
@@ -658,20 +646,13 @@ def judged(judge, proof):
     return judge.printed()
 
 
-def problem_read(text):
-    """The names, the objective and the constraints of a problem without faults."""
-    words = [word for line in text.split("\n") for word in tokens(line)]
-    objective, constraints = None, []
-    while words:
-        statement, words = first_semicolon(words)
-        if statement[:2] == ["min", ":"]:
-            objective = [(int(c), *literal(l)) for c, l in zip(statement[2::2], statement[3::2])]
-        else:
-            terms = [(int(c), *literal(l)) for c, l in zip(statement[:-2:2], statement[1:-2:2])]
-            constraints.append((terms, statement[-2], int(statement[-1])))
-    first = [v for terms in [objective or []] + [c[0] for c in constraints] for _, v, _ in terms]
-    return list(dict.fromkeys(first)), objective, constraints
+def printed_of(problem, proof):
+    """What is printed of the texts of a problem and a proof."""
+    try:
+        return judged(Judge(*read(problem)), proof)
+    except ProblemFault as fault:
+        return fault.printed()
 
 
 if __name__ == "__main__":
-    print(judged(Judge(*problem_read(open(sys.argv[1]).read())), open(sys.argv[2]).read()), end="")
+    print(printed_of(*map(text_of, sys.argv[1:3])), end="")
