@@ -29,9 +29,9 @@ ImprovementIsLive objective s =
 abbrev pub TakesId : State → State → Type 0
 TakesId old new = HasRoom old × (new.next ≡ old.next + 1)
 
--- a search may stop: as many conflicts as it may meet, but one, have taught it something, or no id is left
+-- a search may stop: just as many conflicts as it may meet, but one, have taught it something, or no id is left
 abbrev pub MayStop : ℕ → Logbook → Type 0
-MayStop limit l = (limit ≤ l.biting + 1) ⊎ (HasRoom l.state → ⊥)
+MayStop limit l = (limit ≡ l.biting + 1) ⊎ (HasRoom l.state → ⊥)
 
 -- a solution that no other one is better than
 abbrev pub IsOptimum : Logbook → Type 0

@@ -72,6 +72,7 @@ pub fn values_that_fall()
 pub fn stops_after_conflicts()
     ensures at_two { (l : Logbook) → l.biting ≡ 1 → MayStop 2 l }
     ensures at_once { (l : Logbook) → l.biting ≡ 0 → HasRoom l.state → MayStop 2 l → ⊥ }
+    ensures beyond { (l : Logbook) → l.biting ≡ 2 → HasRoom l.state → MayStop 2 l → ⊥ }
 {}
 
 /// A log that concludes nothing bears out neither that there is no solution nor an optimum, and one of an optimum of 7 not that

@@ -1,6 +1,6 @@
 //! How a search ends: each way with the conclusion that bears it out.
 
-ghost use Rattle.std.specs.Prelude.{◌≡◌, ℕ, false, IfOk, IsTrue, None};
+ghost use Rattle.std.specs.Prelude.{◌≡◌, ℕ, ◌+◌, ◌<◌, false, IfOk, IsTrue, None};
 ghost use Rattle.proof_rules.specs.State.{HasRoom};
 ghost use Rattle.search.specs.Solving.{BearsOut, MayStop};
 
@@ -35,12 +35,14 @@ pub(crate) fn end_solved<'a, P: Propagator>(log: &mut Log<'a, P>) -> Result<Foun
     Ok(Found::Sat)
 }
 
-/// Whether a search may stop before its end.
+/// Whether a search may stop before its end, which has not learned more than it may.
 pub(crate) fn may_stop<'a, P: Propagator>(log: &Log<'a, P>, limit: u64) -> bool
+    requires { log.now.biting < limit }
     ensures stop { IsTrue result → MayStop limit log.now }
     ensures room { result ≡ false → HasRoom log.now.state }
+    ensures more { result ≡ false → log.now.biting + 1 < limit }
 {
-    limit.saturating_sub(1) <= log.biting() || !log.has_room()
+    limit - 1 <= log.biting() || !log.has_room()
 }
 
 /// The search stops before its end. Where there is an objective, whatever was logged has improved on what was there before.

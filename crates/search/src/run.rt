@@ -42,7 +42,7 @@ pub(crate) struct Run<'a, P: Propagator> {
 }
 
 impl<'a, P: Propagator> Run<'a, P> {
-    ghost use Rattle.std.specs.Prelude.{◌≡◌, ◌<◌, ℕ, [], IfOk, IfSome, IsNone, IsSome, OnOk, Some, length};
+    ghost use Rattle.std.specs.Prelude.{◌≡◌, ◌<◌, ◌+◌, ℕ, [], IfOk, IfSome, IsNone, IsSome, OnOk, Some, length};
     ghost use Rattle.propagate.specs.Chain.{LeadsToConflict};
     ghost use Rattle.propagate.specs.Literals.{IsConsistent};
     ghost use Rattle.proof_rules.specs.State.{HasRoom, constraints};
@@ -81,6 +81,7 @@ impl<'a, P: Propagator> Run<'a, P> {
         requires room { HasRoom self.old.log.state }
         ensures problem { self.new.log.problem ≡ self.old.log.problem }
         ensures learned { IfOk result (λ conflict_end. conflict_end ≡ Some ConflictEnd.Learned → TakesId self.old.log.state self.new.log.state) }
+        ensures biting { IfOk result (λ conflict_end. conflict_end ≡ Some ConflictEnd.Learned → self.new.log.biting ≡ self.old.log.biting + 1) }
         ensures same { IfOk result (λ conflict_end. conflict_end ≡ Some ConflictEnd.Undone → self.new.log ≡ self.old.log) }
         ensures fewer { (first : ℕ) → AreUpToDate (constraints self.old.log.state) first self.old.decisions.items
             → IfOk result (λ conflict_end. conflict_end ≡ Some ConflictEnd.Undone → length self.new.decisions.items < first) }
@@ -129,6 +130,7 @@ impl<'a, P: Propagator> Run<'a, P> {
         requires { IsConsistent self.old.decisions.items }
         ensures problem { self.new.log.problem ≡ self.old.log.problem }
         ensures next { OnOk result (self.new.log.state.next ≡ self.old.log.state.next) }
+        ensures biting { OnOk result (self.new.log.biting ≡ self.old.log.biting) }
         ensures consistent { OnOk result (IsConsistent self.new.decisions.items) }
     {
         let met = &self.analyser.met;
@@ -165,6 +167,7 @@ impl<'a, P: Propagator> Run<'a, P> {
         requires { IsConsistent self.old.decisions.items }
         ensures problem { self.new.log.problem ≡ self.old.log.problem }
         ensures next { OnOk result (self.new.log.state.next ≡ self.old.log.state.next) }
+        ensures biting { OnOk result (self.new.log.biting ≡ self.old.log.biting) }
         ensures consistent { IsConsistent self.new.decisions.items }
     {
         let met = self.analyser.met.variables.len();
@@ -190,6 +193,7 @@ impl<'a, P: Propagator> Run<'a, P> {
     fn forget_outdone(&mut self) -> Result<(), SearchFault>
         ensures problem { self.new.log.problem ≡ self.old.log.problem }
         ensures next { OnOk result (self.new.log.state.next ≡ self.old.log.state.next) }
+        ensures biting { OnOk result (self.new.log.biting ≡ self.old.log.biting) }
         ensures decisions { self.new.decisions.items ≡ self.old.decisions.items }
     {
         let gone = self.outdone.take(self.alloc, self.trail.entries())?;
@@ -200,6 +204,7 @@ impl<'a, P: Propagator> Run<'a, P> {
     fn improve(&mut self, assigned: Seq<Lit>) -> Result<(), SearchFault>
         ensures problem { self.new.log.problem ≡ self.old.log.problem }
         ensures id { OnOk result (TakesId self.old.log.state self.new.log.state) }
+        ensures biting { OnOk result (self.new.log.biting ≡ self.old.log.biting) }
         ensures decisions { self.new.decisions.items ≡ self.old.decisions.items }
     {
         let asked = self.log.asking();
@@ -216,6 +221,7 @@ impl<'a, P: Propagator> Run<'a, P> {
         ensures problem { self.new.log.problem ≡ self.old.log.problem }
         ensures found { IfOk result (λ end. IfSome end (BearsOut limit self.new.log)) }
         ensures improved { IfOk result (λ end. IsNone end → TakesId self.old.log.state self.new.log.state) }
+        ensures biting { IfOk result (λ end. IsNone end → self.new.log.biting ≡ self.old.log.biting) }
         ensures decisions { self.new.decisions.items ≡ self.old.decisions.items }
     {
         if self.log.problem().objective().is_none() {
@@ -231,9 +237,11 @@ impl<'a, P: Propagator> Run<'a, P> {
 
     /// Decides until there is a conflict, a line of an adviser or a solution, and learns from that.
     pub(crate) fn turn(&mut self, limit: u64) -> Result<Option<Found>, SearchFault>
-        requires { IsConsistent self.old.decisions.items }
+        requires consistent { IsConsistent self.old.decisions.items }
+        requires fewer { self.old.log.biting < limit }
         ensures problem { self.new.log.problem ≡ self.old.log.problem }
         ensures found { IfOk result (λ end. IfSome end (BearsOut limit self.new.log)) }
+        ensures fewer { IfOk result (λ end. IsNone end → self.new.log.biting < limit) }
         ensures goes_on { IfOk result (λ end. IsNone end
             → NearsEnd self.old.log self.old.decisions.items self.new.log self.new.decisions.items) }
         ensures consistent { OnOk result (IsConsistent self.new.decisions.items) }
