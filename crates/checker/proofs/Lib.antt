@@ -9,5 +9,4 @@ pub mod OneProof
 pub mod PrintedClaim
 pub mod ProvedAccepted
 pub mod Streaming
-pub mod Placed
 pub mod VerdictsSaid

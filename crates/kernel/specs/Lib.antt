@@ -6,6 +6,5 @@ pub mod File
 pub mod Held
 pub mod Logged
 pub mod Packed
-pub mod Place
 pub mod Redundance
 pub mod Table

@@ -4,7 +4,6 @@
 
 mod accepted;
 mod admission;
-mod block;
 mod conclusion;
 mod consistency;
 mod database;
@@ -14,7 +13,6 @@ mod holdings;
 mod kernel;
 mod log;
 mod objective;
-mod open_block;
 mod packed;
 mod pol;
 mod propagation;

@@ -11,6 +11,8 @@ pub enum Unanswered {
     Limit,
     /// A growth was refused.
     Memory,
+    /// What was found could not be checked.
+    Unchecked,
 }
 
 /// The answer about a problem file.

@@ -1,6 +1,3 @@
-pub mod BlockSteps
-pub mod Blocks
-pub mod BlocksJudged
 pub mod Completing
 pub mod Concluding
 pub mod ConclusionJudged
@@ -27,7 +24,6 @@ pub mod ShownHolds
 pub mod ShownOrNot
 pub mod ShownBySearch
 pub mod SmallStates
-pub mod SmallBlocks
 pub mod SmallConstraints
 pub mod SolJudged
 pub mod StepJudged

@@ -20,4 +20,3 @@ pub mod LinesOfSections
 pub mod OneReading
 pub mod Computed
 mod ProofsComputed
-pub mod Placed

@@ -1,4 +1,3 @@
-pub mod Blocks
 pub mod Choices
 pub mod Clauses
 pub mod BitingClauses
@@ -12,4 +11,3 @@ pub mod Trying
 pub mod StaysLive
 pub mod UpToDate
 pub mod Descending
-pub mod Worth

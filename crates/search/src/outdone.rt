@@ -3,9 +3,13 @@
 //! The constraint of the last improving solution asks for more than all before it, so these only make propagation dearer. Each goes as
 //! soon as no literal of the trail is forced in it.
 
+ghost use Rattle.std.specs.Prelude.{◌≡◌, OnOk};
+
+use super::fault::SearchFault;
 use super::learned::reasons_of;
+use super::log::Log;
 use analysis::Entry;
-use propagate::Id;
+use propagate::{Id, Propagator};
 use std::alloc::{AllocError, Global};
 
 /// Those that are live still, by rising id.
@@ -15,7 +19,7 @@ pub(crate) struct Outdone {
 }
 
 impl Outdone {
-    ghost use Rattle.std.specs.Prelude.{All, IfOk};
+    ghost use Rattle.std.specs.Prelude.{◌≡◌, All, IfOk, OnOk};
     ghost use Rattle.search.specs.Undoing.{IsNoReason};
 
     /// None yet.
@@ -32,7 +36,7 @@ impl Outdone {
     }
 
     /// Takes out those in which no literal of a trail is forced.
-    pub(crate) fn take(&mut self, alloc: Global, trail: &[Entry]) -> Result<Vec<Id>, AllocError>
+    fn take(&mut self, alloc: Global, trail: &[Entry]) -> Result<Vec<Id>, AllocError>
         ensures { IfOk result (λ gone. All (IsNoReason trail.now) gone.items) }
     {
         let reasons = reasons_of(alloc, trail)?;
@@ -47,5 +51,19 @@ impl Outdone {
         }
         self.ids = kept;
         Ok(gone)
+    }
+
+    /// Deletes those in which no literal of a trail is forced.
+    pub(crate) fn forget<'a, P: Propagator>(
+        &mut self,
+        alloc: Global,
+        log: &mut Log<'a, P>,
+        trail: &[Entry],
+    ) -> Result<(), SearchFault>
+        ensures problem { log.new.problem ≡ log.old.problem }
+        ensures next { OnOk result (log.new.state.next ≡ log.old.state.next) }
+    {
+        let gone = self.take(alloc, trail)?;
+        log.forget(alloc, gone.as_slice())
     }
 }

@@ -8,8 +8,6 @@ mod agreement;
 #[cfg(test)]
 mod answers;
 #[cfg(test)]
-mod blocks;
-#[cfg(test)]
 mod claims;
 #[cfg(test)]
 mod damaged;
@@ -23,7 +21,5 @@ mod redundance;
 mod rows;
 #[cfg(test)]
 mod solutions;
-#[cfg(test)]
-mod subproofs;
 #[cfg(test)]
 mod verdicts;
