@@ -1,8 +1,8 @@
 # The door for people. `make` proves what both programs stand on and builds them into bin/, from nothing too; `make bin/pbcheck`
 # does so for the checker alone; `make test` runs the gate: every proof from nothing, the edits that must fail, and the tests;
 # `make demo` finds an optimum and has its proof checked, and runs the checker on three pigeons in two holes, an optimum, a
-# symmetry and a new name; `make install` puts both programs and their manual pages under PREFIX.
-.PHONY: FORCE all test demo check install dist dist-check library demo-embed layout refused-growths statuses bench differential optima pigeons wrong-edits wrong-definitions wrong-bodies gate-minutes links picture sizes shared-names
+# symmetry, a new name and a subproof; `make install` puts both programs and their manual pages under PREFIX.
+.PHONY: FORCE all test demo check install dist dist-check library demo-embed layout refused-growths statuses bench differential fuzz optima pigeons wrong-edits wrong-definitions wrong-bodies gate-minutes links picture sizes shared-names
 
 PREFIX ?= /usr/local
 
@@ -52,6 +52,7 @@ demo: all
 	bin/pbcheck examples/cover.opb examples/cover.pbp
 	bin/pbcheck examples/machines.opb examples/machines.pbp
 	bin/pbcheck examples/majority.opb examples/majority.pbp
+	bin/pbcheck examples/tickets.opb examples/tickets.pbp
 
 # What is quick while one works: every crate, over what earlier runs kept.
 check: layout
@@ -67,6 +68,7 @@ refused-growths: all
 	scripts/refused-growths "refused line 5 code 24 LowerNotShown" bin/pbcheck examples/pigeons.opb examples/pigeons-too-short.pbp
 	scripts/refused-growths "$$(printf 'accepted BOUNDS 5 5\nv x1 x2 -x3')" bin/pbcheck examples/cover.opb examples/cover.pbp
 	scripts/refused-growths "accepted UNSAT" bin/pbcheck examples/majority.opb examples/majority.pbp
+	scripts/refused-growths "$$(printf 'accepted BOUNDS 5 5\nv -t1 -t2 -t3 -t4 pass')" bin/pbcheck examples/tickets.opb examples/tickets.pbp
 	scripts/refused-growths "s UNSATISFIABLE" bin/pbopt examples/pigeons.opb
 	scripts/refused-growths "$$(bin/pbopt examples/cover.opb)" bin/pbopt examples/cover.opb
 
@@ -74,9 +76,16 @@ refused-growths: all
 statuses: all
 	scripts/statuses
 
-# Compares the checker with a second, plain judge on random problems and proofs, and what is accepted with all assignments.
+# Compares the checker with a second, plain reader and judge on random problems and proofs, damaged ones among them, and what is accepted with
+# all assignments.
 differential: bin/pbcheck
 	scripts/differential
+
+# The same for an hour or more: many cases, texts that are cut after each byte, hostile lines, and many small problems solved.
+fuzz: all
+	scripts/differential 200000
+	scripts/cuts
+	scripts/optima 20000
 
 # Solves small problems of all kinds, and compares each answer with the best of all assignments, and its proof with the checker.
 optima: all

@@ -9,4 +9,5 @@ pub mod OneProof
 pub mod PrintedClaim
 pub mod ProvedAccepted
 pub mod Streaming
+pub mod Placed
 pub mod VerdictsSaid

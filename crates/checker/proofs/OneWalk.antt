@@ -91,7 +91,9 @@ denied_never : (f : ProofFault) (section : Section) (old ws : List (List ℕ)) (
 unfolding DeniesLine
 denied_never f sections.Header old ws line new d sure is = d.1 line (ap (λ t. line_of sections.Header t ws) (sym is.names) ∙ is.says) is.proper
 denied_never f sections.Count old ws line new d sure is = d.1 line (ap (λ t. line_of sections.Count t ws) (sym is.names) ∙ is.says) is.small
-denied_never f sections.Step old ws line new d sure is = one_denied_never f sections.Step old ws line new d sure is
+denied_never f sections.Step old ws line new d sure is = one_denied_never f sections.Step old ws line new d.1 sure is
+denied_never f sections.Block old ws line new d sure is = one_denied_never f sections.Block old ws line new d.1 sure is
+denied_never f sections.Goal old ws line new d sure is = one_denied_never f sections.Goal old ws line new d.1 sure is
 denied_never f sections.Conclusion old ws line new d sure is = one_denied_never f sections.Conclusion old ws line new d.1 sure is
 denied_never f sections.End old ws line new d sure is = d.1 line (ap (λ t. line_of sections.End t ws) (sym is.names) ∙ is.says) is.proper
 denied_never f sections.After old ws line new d sure is = let none : ◌≡◌ {A = Option Line} None (Some line) = is.says in cc
@@ -190,7 +192,9 @@ denied_alone : (f g : ProofFault) (section : Section) (old ws : List (List ℕ))
 unfolding DeniesLine
 denied_alone f g sections.Header old ws closed x sure y certain = y.0 ∙ sym x.0
 denied_alone f g sections.Count old ws closed x sure y certain = y.0 ∙ sym x.0
-denied_alone f g sections.Step old ws closed x sure y certain = one_denied_alone f g sections.Step old ws closed x sure y certain
+denied_alone f g sections.Step old ws closed x sure y certain = one_denied_alone f g sections.Step old ws closed x.1 sure y.1 certain
+denied_alone f g sections.Block old ws closed x sure y certain = one_denied_alone f g sections.Block old ws closed x.1 sure y.1 certain
+denied_alone f g sections.Goal old ws closed x sure y certain = one_denied_alone f g sections.Goal old ws closed x.1 sure y.1 certain
 denied_alone f g sections.Conclusion old ws closed x sure y certain = one_denied_alone f g sections.Conclusion old ws closed x.1 sure y.1 certain
 denied_alone f g sections.End old ws closed x sure y certain = y.0 ∙ sym x.0
 denied_alone f g sections.After old ws closed x sure y certain = y ∙ sym x

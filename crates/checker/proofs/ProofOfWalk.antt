@@ -10,7 +10,7 @@ use Rattle.proof_rules.specs.State.{State, IsStart}
 use Rattle.proof_steps.specs.declared.step.Step.{Step}
 use Rattle.proof_text.specs.Lines.{Numbered, lines_of}
 use Rattle.proof_text.specs.ProofSpells.{AreSteps}
-use Rattle.proof_text.specs.Sections.{section_behind}
+use Rattle.proof_text.specs.Sections.{HasSteps, behind_step, section_behind}
 use Rattle.proof_text.specs.Spells.{IsLine}
 use Rattle.proof_text.specs.Words.{words}
 use Rattle.proof_text.specs.declared.line.Line.{Line}
@@ -19,7 +19,7 @@ use Rattle.proof_text.specs.declared.line.Section.{Section}
 use Rattle.proof_text.specs.declared.line.Section.TheVariants as sections
 use Rattle.checker.specs.Verdicts.{IsProved}
 use Rattle.checker.specs.Walk.{Accepts, Advances, IsOver, Next, Position, Reaches, Walks, beginning}
-use Rattle.checker.proofs.Sections.{Says, says}
+use Rattle.checker.proofs.Sections.{Says, says, no_steps, steps_behind, steps_there}
 
 -- what is left of a proof at its end line
 record FromEnd (left : List Numbered) (at : Position) : Type 0 where
@@ -37,8 +37,8 @@ record FromConclusion (p : Opb) (a : Judgement) (left : List Numbered) (at : Pos
   end_is : IsLine sections.End all (words ended.text) lines.End all
   justified : IsJustified p at.state a.conclusion a.best
 
--- from among its steps on
-record FromSteps (p : Opb) (a : Judgement) (left : List Numbered) (at : Position) : Type 0 where
+-- from among its steps on, this section of steps being due
+record FromSteps (section : Section) (p : Opb) (a : Judgement) (left : List Numbered) (at : Position) : Type 0 where
   steps : List Step
   between : List Numbered
   output : Numbered
@@ -46,7 +46,7 @@ record FromSteps (p : Opb) (a : Judgement) (left : List Numbered) (at : Position
   behind : Position
   more : List Numbered
   in_order : left ≡ between ++ output ∷ more
-  says : AreSteps at.names between steps named
+  says : AreSteps section at.names between steps named
   output_is : IsLine sections.Step named (words output.text) lines.Output behind.names
   leads : Leads p at.state steps behind.state
   rest : FromConclusion p a more behind
@@ -60,7 +60,7 @@ record FromCount (p : Opb) (a : Judgement) (left : List Numbered) (at : Position
   names_are : behind.names ≡ at.names
   state_is : behind.state ≡ at.state
   count_is : IsLine sections.Count at.names (words counted.text) (lines.Count (pos (problem_ids p.constraints))) at.names
-  rest : FromSteps p a more behind
+  rest : FromSteps sections.Step p a more behind
 
 -- a whole proof
 record FromHeader (p : Opb) (a : Judgement) (left : List Numbered) (at : Position) : Type 0 where
@@ -76,7 +76,9 @@ record FromHeader (p : Opb) (a : Judgement) (left : List Numbered) (at : Positio
 abbrev From : Section → Opb → Judgement → List Numbered → Position → Type 0
 From sections.Header p a left at = FromHeader p a left at
 From sections.Count p a left at = FromCount p a left at
-From sections.Step p a left at = FromSteps p a left at
+From sections.Step p a left at = FromSteps sections.Step p a left at
+From sections.Block p a left at = FromSteps sections.Block p a left at
+From sections.Goal p a left at = FromSteps sections.Goal p a left at
 From sections.Conclusion p a left at = FromConclusion p a left at
 From sections.End p a left at = (at.concluded ≡ Some a) × FromEnd left at
 From sections.After p a left at = (at.concluded ≡ Some a) × (left ≡ [])
@@ -132,12 +134,44 @@ before_end p a l ls old new on stands rest =
       justified = takes.justified;
     })
 
+-- what is left from a section of steps on
+from_steps : (section : Section) (p : Opb) (a : Judgement) (left : List Numbered) (at : Position) → HasSteps section → From section p a left at → FromSteps section p a left at
+from_steps sections.Step p a left at here from = from
+from_steps sections.Block p a left at here from = from
+from_steps sections.Goal p a left at here from = from
+from_steps sections.Header p a left at here from = absurd (no_steps sections.Header here (λ e. cc) (λ e. cc) (λ e. cc))
+from_steps sections.Count p a left at here from = absurd (no_steps sections.Count here (λ e. cc) (λ e. cc) (λ e. cc))
+from_steps sections.Conclusion p a left at here from = absurd (no_steps sections.Conclusion here (λ e. cc) (λ e. cc) (λ e. cc))
+from_steps sections.End p a left at here from = absurd (no_steps sections.End here (λ e. cc) (λ e. cc) (λ e. cc))
+from_steps sections.After p a left at here from = absurd (no_steps sections.After here (λ e. cc) (λ e. cc) (λ e. cc))
+
+before_step : (p : Opb) (a : Judgement) (l : Numbered) (ls : List Numbered) (old new : Position) (section : Section) (step : Step) (on : Advances p l old new) → HasSteps section → old.section ≡ section
+    → on.next.said ≡ lines.Step step → From new.section p a ls new → FromSteps section p a (l ∷ ls) old
+before_step p a l ls old new section step on here stands said rest =
+    let takes = accepted_as p l old new on (lines.Step step) said in
+    let next : From (behind_step section step) p a ls new = subst (λ q. From q p a ls new) (behind_as p l old new on section (lines.Step step) stands said) rest in
+    let behind : FromSteps (behind_step section step) p a ls new = from_steps (behind_step section step) p a ls new (steps_behind section step here) next in
+    let is = read_as old l on.next section (lines.Step step) stands said in
+    record {
+      steps = step ∷ behind.steps;
+      between = l ∷ behind.between;
+      output = behind.output;
+      named = behind.named;
+      behind = behind.behind;
+      more = behind.more;
+      in_order = ap (λ ks. l ∷ ks) behind.in_order;
+      says = (new.names, subst (λ n. IsLine section old.names (words l.text) (lines.Step step) n) (sym on.names) is, behind.says);
+      output_is = behind.output_is;
+      leads = (new.state, takes.legal, behind.leads);
+      rest = behind.rest;
+    }
+
 before_steps : (p : Opb) (a : Judgement) (l : Numbered) (ls : List Numbered) (old new : Position) → Advances p l old new → old.section ≡ sections.Step → From new.section p a ls new
-    → FromSteps p a (l ∷ ls) old
+    → FromSteps sections.Step p a (l ∷ ls) old
 before_steps p a l ls old new on stands rest =
     by (says sections.Step old.names (words l.text) on.next.said on.next.names (read_as old l on.next sections.Step on.next.said stands refl))
   where
-    by : Says sections.Step on.next.said → FromSteps p a (l ∷ ls) old
+    by : Says sections.Step on.next.said → FromSteps sections.Step p a (l ∷ ls) old
     by (inl said) =
         let stays = accepted_as p l old new on lines.Output said in
         let behind : FromConclusion p a ls new = subst (λ q. From q p a ls new) (behind_as p l old new on sections.Step lines.Output stands said) rest in
@@ -150,28 +184,12 @@ before_steps p a l ls old new on stands rest =
           behind = new;
           more = ls;
           in_order = refl;
-          says = refl;
+          says = (refl, refl);
           output_is = subst (λ n. IsLine sections.Step old.names (words l.text) lines.Output n) (sym on.names) is;
           leads = stays.state;
           rest = behind;
         }
-    by (inr said) =
-        let takes = accepted_as p l old new on (lines.Step said.0) said.1 in
-        let behind : FromSteps p a ls new = subst (λ q. From q p a ls new) (behind_as p l old new on sections.Step (lines.Step said.0) stands said.1) rest in
-        let is = read_as old l on.next sections.Step (lines.Step said.0) stands said.1 in
-        record {
-          steps = said.0 ∷ behind.steps;
-          between = l ∷ behind.between;
-          output = behind.output;
-          named = behind.named;
-          behind = behind.behind;
-          more = behind.more;
-          in_order = ap (λ ks. l ∷ ks) behind.in_order;
-          says = (new.names, subst (λ n. IsLine sections.Step old.names (words l.text) (lines.Step said.0) n) (sym on.names) is, behind.says);
-          output_is = behind.output_is;
-          leads = (new.state, takes.legal, behind.leads);
-          rest = behind.rest;
-        }
+    by (inr said) = before_step p a l ls old new sections.Step said.0 on (inl refl) stands said.1 rest
 
 before_count : (p : Opb) (a : Judgement) (l : Numbered) (ls : List Numbered) (old new : Position) → Advances p l old new → old.section ≡ sections.Count → From new.section p a ls new
     → FromCount p a (l ∷ ls) old
@@ -214,6 +232,12 @@ before : (p : Opb) (a : Judgement) (l : Numbered) (ls : List Numbered) (old new 
 before p a l ls old new sections.Header stands on rest = before_header p a l ls old new on stands rest
 before p a l ls old new sections.Count stands on rest = before_count p a l ls old new on stands rest
 before p a l ls old new sections.Step stands on rest = before_steps p a l ls old new on stands rest
+before p a l ls old new sections.Block stands on rest =
+    let said = says sections.Block old.names (words l.text) on.next.said on.next.names (read_as old l on.next sections.Block on.next.said stands refl) in
+    before_step p a l ls old new sections.Block said.0 on (inr (inl refl)) stands said.1 rest
+before p a l ls old new sections.Goal stands on rest =
+    let said = says sections.Goal old.names (words l.text) on.next.said on.next.names (read_as old l on.next sections.Goal on.next.said stands refl) in
+    before_step p a l ls old new sections.Goal said.0 on (inr (inr refl)) stands said.1 rest
 before p a l ls old new sections.Conclusion stands on rest = before_end p a l ls old new on stands rest
 before p a l ls old new sections.End stands on rest = before_after p a l ls old new on stands rest
 before p a l ls old new sections.After stands on rest =
@@ -229,7 +253,7 @@ gathered p a at end (l ∷ ls) walks over concluded = before p a l ls at walks.0
 proved_by : (p : Opb) (proof : List ℕ) (a : Judgement) (start : State) → IsStart p start → FromHeader p a (lines_of proof).lines (beginning p start) → IsProved p proof a
 proved_by p proof a start starts whole =
     let counting : FromCount p a whole.more whole.behind = whole.rest in
-    let stepping : FromSteps p a counting.more counting.behind = counting.rest in
+    let stepping : FromSteps sections.Step p a counting.more counting.behind = counting.rest in
     let concluding : FromConclusion p a stepping.more stepping.behind = stepping.rest in
     let names : counting.behind.names ≡ p.names = counting.names_are ∙ whole.names_are in
     let state : counting.behind.state ≡ start = counting.state_is ∙ whole.state_is in
@@ -249,7 +273,7 @@ proved_by p proof a start starts whole =
         all = concluding.all;
         header_is = whole.header_is;
         count_is = subst (λ n. IsLine sections.Count n (words counting.counted.text) (lines.Count (pos (problem_ids p.constraints))) n) whole.names_are counting.count_is;
-        steps_are = subst (λ n. AreSteps n stepping.between stepping.steps stepping.named) names stepping.says;
+        steps_are = subst (λ n. AreSteps sections.Step n stepping.between stepping.steps stepping.named) names stepping.says;
         output_is = stepping.output_is;
         conclusion_is = concluding.conclusion_is;
         end_is = concluding.end_is;
@@ -281,14 +305,23 @@ ends_there sections.Count e = let no_count = e.1 in cc
 ends_there sections.Step (inl e) = cc
 ends_there sections.Step (inr e) = let no_step = e.1 in cc
 ends_there sections.Conclusion e = let no_conclusion = e.1 in cc
+ends_there sections.Block e = let no_step = e.1 in cc
+ends_there sections.Goal e = let no_step = e.1 in cc
 ends_there sections.End e = refl
 ends_there sections.After e = absurd e
+
+-- nothing need be concluded where a step is due
+settled_steps : (section : Section) (concluded : Option Judgement) → HasSteps section → Settled section concluded
+settled_steps section concluded (inl is) = subst (λ q. Settled q concluded) (sym is) tt
+settled_steps section concluded (inr (inl is)) = subst (λ q. Settled q concluded) (sym is) tt
+settled_steps section concluded (inr (inr is)) = subst (λ q. Settled q concluded) (sym is) tt
 
 settled_behind : (p : Opb) (old new : Position) (said : Line) → new.section ≡ section_behind old.section said → Accepts p old said new → Says old.section said → Settled old.section old.concluded
     → Settled new.section new.concluded
 settled_behind p old new lines.Header section stays there settled = subst (λ q. Settled q new.concluded) (sym section) tt
 settled_behind p old new (lines.Count n) section stays there settled = subst (λ q. Settled q new.concluded) (sym section) tt
-settled_behind p old new (lines.Step step) section takes there settled = subst (λ q. Settled q new.concluded) (sym section) (subst (λ c. Settled old.section c) (sym takes.concluded) settled)
+settled_behind p old new (lines.Step step) section takes there settled =
+    subst (λ q. Settled q new.concluded) (sym section) (settled_steps (behind_step old.section step) new.concluded (steps_behind old.section step (steps_there old.section step there)))
 settled_behind p old new lines.Output section stays there settled = subst (λ q. Settled q new.concluded) (sym section) tt
 settled_behind p old new (lines.Conclusion c) section takes there settled = subst (λ q. Settled q new.concluded) (sym section) (record { conclusion = c; best = takes.best }, takes.concluded)
 settled_behind p old new lines.End section stays there settled =

@@ -9,6 +9,7 @@ use Rattle.proof_rules.specs.State.{State}
 use Rattle.proof_steps.specs.declared.step.Step.{Step}
 use Rattle.proof_text.specs.Lines.{Numbered, lines_of}
 use Rattle.proof_text.specs.ProofSpells.{AreSteps}
+use Rattle.proof_text.specs.Sections.{behind_step}
 use Rattle.proof_text.specs.Spells.{IsLine}
 use Rattle.proof_text.specs.Words.{words}
 use Rattle.proof_text.specs.declared.line.Line.TheVariants as lines
@@ -70,21 +71,24 @@ from_output p a names after all last output l end s put is ended justified =
     ahead p output (l ∷ end ∷ []) old new on (from_conclusion p a after all last l end s is ended justified)
 
 -- among the steps: what stands behind them comes to the end from the state to which they lead
-from_steps : (p : Opb) (s t : State) (names named : List (List ℕ)) (between behind : List Numbered) (steps : List Step) → AreSteps names between steps named → Leads p s steps t
-    → Ends p behind (position sections.Step named t None) → Ends p (between ++ behind) (position sections.Step names s None)
-from_steps p s t names named [] behind [] says leads rest = subst (λ n. Ends p behind (position sections.Step n s None)) says (subst (λ u. Ends p behind (position sections.Step named u None)) leads rest)
-from_steps p s t names named [] behind (x ∷ xs) says leads rest = absurd says
-from_steps p s t names named (b ∷ bs) behind [] says leads rest = absurd says
-from_steps p s t names named (b ∷ bs) behind (x ∷ xs) says leads rest =
-    let old : Position = position sections.Step names s None in
-    let new : Position = position sections.Step says.0 leads.0 None in
+from_steps : (p : Opb) (s t : State) (section : Section) (names named : List (List ℕ)) (between behind : List Numbered) (steps : List Step) → AreSteps section names between steps named → Leads p s steps t
+    → Ends p behind (position sections.Step named t None) → Ends p (between ++ behind) (position section names s None)
+from_steps p s t section names named [] behind [] says leads rest =
+    let there : Ends p behind (position sections.Step named s None) = subst (λ u. Ends p behind (position sections.Step named u None)) leads rest in
+    let before : Ends p behind (position sections.Step names s None) = subst (λ n. Ends p behind (position sections.Step n s None)) says.1 there in
+    subst (λ q. Ends p behind (position q names s None)) (sym says.0) before
+from_steps p s t section names named [] behind (x ∷ xs) says leads rest = absurd says
+from_steps p s t section names named (b ∷ bs) behind [] says leads rest = absurd says
+from_steps p s t section names named (b ∷ bs) behind (x ∷ xs) says leads rest =
+    let old : Position = position section names s None in
+    let new : Position = position (behind_step section x) says.0 leads.0 None in
     let on : Advances p b old new = record {
       next = record { said = lines.Step x; names = says.0; is = says.1 };
       section = refl;
       names = refl;
       accepts = record { legal = leads.1; concluded = refl };
     } in
-    ahead p b (bs ++ behind) old new on (from_steps p leads.0 t says.0 named bs behind xs says.2 leads.2 rest)
+    ahead p b (bs ++ behind) old new on (from_steps p leads.0 t (behind_step section x) says.0 named bs behind xs says.2 leads.2 rest)
 
 -- the walk of a proof
 pub walk_of : (p : Opb) (proof : List ℕ) (a : Judgement) (proved : IsProved p proof a) → (end : Position) × Reaches p (lines_of proof).lines end × IsOver end
@@ -98,7 +102,7 @@ walk_of p proof a proved =
     let third : Position = position sections.Step p.names s None in
     let at_output : Ends p behind (position sections.Step sp.named t None) =
     from_output p a sp.named sp.after sp.all sp.all sp.output sp.concluded sp.ended t sp.output_is sp.conclusion_is sp.end_is proved.legal.justified in
-    let at_steps : Ends p (sp.between ++ behind) third = from_steps p s t p.names sp.named sp.between behind proved.steps sp.steps_are proved.legal.leads at_output in
+    let at_steps : Ends p (sp.between ++ behind) third = from_steps p s t sections.Step p.names sp.named sp.between behind proved.steps sp.steps_are proved.legal.leads at_output in
     let counted : Advances p sp.counted second third = record {
       next = record { said = lines.Count (pos (problem_ids p.constraints)); names = p.names; is = sp.count_is };
       section = refl;

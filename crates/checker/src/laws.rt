@@ -6,9 +6,12 @@ ghost use Rattle.linear.specs.Limits.{IsWithin};
 ghost use Rattle.opb_read.specs.Spells.{Spells};
 ghost use Rattle.kernel.specs.Accepted.{Judgement};
 ghost use Rattle.proof_rules.specs.Claim.{IsSolution};
+ghost use Rattle.proof_rules.specs.declared.fault.StepFault.{StepFault};
+ghost use Rattle.proof_rules.specs.declared.fault.StepFault.TheVariants.{BlockOpen, NoBlock};
 ghost use Rattle.checker.specs.Verdicts.{IsProved, IsTrueOf, IsVerdictOf};
 ghost use Rattle.checker.specs.Stopped.{IsLeftOpen, IsStopped};
 ghost use Rattle.checker.specs.Printed.{IsPrinted, accepted_line, with_assignment};
+ghost use Rattle.checker.specs.declared.verdict.Code.TheVariants.{Judging};
 ghost use Rattle.checker.specs.declared.verdict.Verdict.TheVariants.{Accepted, NoMemory};
 
 use super::verdict::{Code, Verdict};
@@ -52,4 +55,11 @@ pub fn printed_assignment_is_claimed()
     ensures { (opb proof : List ℕ) → (a : Judgement) → (t : IsTrueOf opb proof a)
         → (values : List Bool) → (text : List ℕ) → a.best ≡ Some values → IsPrinted opb (Accepted a) text
         → IsSolution t.problem values × (text ≡ with_assignment (accepted_line a.conclusion) t.problem.names values) }
+{}
+
+/// Where judging stops, no block is open in which the line may not stand, and none is missing: what stands in the wrong place of a
+/// text is no line of it (`BadLine`), so that these two faults come from a caller of the kernel alone.
+pub fn steps_stand_in_their_place()
+    ensures { (p : Opb) → (proof : List ℕ) → (line : ℕ) → (fault : StepFault) → (fault ≡ BlockOpen) ⊎ (fault ≡ NoBlock)
+        → IsStopped p proof line (Judging fault) → ⊥ }
 {}

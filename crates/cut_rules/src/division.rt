@@ -5,6 +5,7 @@
 //! rounding each one up keeps the constraint true; the proof format writes it `d`.
 
 ghost use Rattle.std.specs.Prelude.{◌≡◌, ◌↔◌, ◌<◌, pos, ◌<ℤ◌, unsigned_abs, IfOk, OnErr, IsErrOf};
+ghost use Rattle.std.specs.Int.{div_ceil};
 ghost use Rattle.linear.specs.Valuation.{Valuation};
 ghost use Rattle.normal_form.specs.Normal.{IsNormal, Holds};
 ghost use Rattle.cut_rules.specs.Rules.{IsQuotient};
@@ -14,6 +15,17 @@ use super::changes::push_kept;
 use normal_form::{CutFault, Normal, NormalBuilder};
 use std::alloc::{AllocError, Global};
 
+/// A number divided by another and rounded up. Most numbers have 64 bits, and their division costs a tenth of one of 128.
+fn divided_up(number: u128, divisor: u128) -> u128
+    requires { 0 < divisor }
+    ensures { result ≡ div_ceil number divisor }
+{
+    match (u64::try_from(number), u64::try_from(divisor)) {
+        (Ok(number), Ok(divisor)) => u128::from(number.div_ceil(divisor)),
+        _ => number.div_ceil(divisor),
+    }
+}
+
 /// The terms, each coefficient divided by a divisor and rounded up.
 fn divided(alloc: Global, constraint: &Normal, divisor: u128) -> Result<NormalBuilder, AllocError>
     requires { 0 < divisor }
@@ -22,7 +34,7 @@ fn divided(alloc: Global, constraint: &Normal, divisor: u128) -> Result<NormalBu
     let mut terms = NormalBuilder::with_capacity(alloc, constraint.len())?;
     for place in 0..constraint.len() {
         let term = constraint.term(place);
-        push_kept(&mut terms, term, term.coef.div_ceil(divisor))?;
+        push_kept(&mut terms, term, divided_up(term.coef, divisor))?;
     }
     Ok(terms)
 }
@@ -36,7 +48,7 @@ fn quotient(alloc: Global, constraint: &Normal, divisor: u128) -> Result<Normal,
     ensures others { OnErr result (IsErrOf result CutFault.OutOfMemory) }
 {
     let terms = divided(alloc, constraint, divisor)?;
-    terms.finish(constraint.degree().div_ceil(divisor))
+    terms.finish(divided_up(constraint.degree(), divisor))
 }
 
 /// All coefficients and the degree divided by a divisor, each rounded up. `BadFactor` comes exactly for a divisor

@@ -7,14 +7,16 @@ use Rattle.std.proofs.Math.Seq.{get_or-append_seam}
 use Rattle.linear.specs.declared.term.Lit.{Lit}
 use Rattle.linear.specs.declared.term.Term.{Term}
 use Rattle.linear.specs.Opb.{Opb}
+use Rattle.proof_steps.specs.declared.conclusion.Lower.{Lower}
+use Rattle.proof_steps.specs.declared.conclusion.Lower.TheVariants as lowers
 use Rattle.proof_steps.specs.declared.conclusion.Upper.{Upper}
 use Rattle.proof_steps.specs.declared.conclusion.Upper.TheVariants as uppers
 use Rattle.proof_rules.specs.declared.fault.StepFault.{StepFault}
 use Rattle.proof_rules.specs.Claim.{ClaimsUpper}
 use Rattle.proof_rules.specs.Fault as judging
 use Rattle.proof_rules.specs.Fault.{IsBoundFault}
-use Rattle.proof_rules.specs.Justified.{EntitlesUpper, TakesHint, IsBest}
-use Rattle.proof_rules.specs.Legal.{worth_of}
+use Rattle.proof_rules.specs.Justified.{EntitlesLower, EntitlesUpper, TakesHint, IsBest}
+use Rattle.proof_rules.specs.Legal.{with_solution, worth_of}
 use Rattle.proof_rules.specs.State.{State}
 use Rattle.proof_rules.proofs.ConclusionJudged.{one_hint}
 use Rattle.proof_rules.proofs.Concluding.{best_least}
@@ -50,6 +52,13 @@ upper_claimed p s (uppers.At bound) (Some best) b (i, g, below, is, worth) =
     omega (arith, ints, least, worth)
 
 -- a further solution changes no bound
+pub bound_entitled : (extra : Option (List Bool)) (s : State) (objective : List Term) (lower : Lower) → EntitlesLower s objective lower → (bound : ℤ) → lower ≡ lowers.At bound → EntitlesLower (with_extra extra s) objective lower
+bound_entitled None s objective lower h bound is = h
+bound_entitled (Some g) s objective lower h bound is =
+    subst (EntitlesLower (with_solution g s) objective) (sym is)
+    (let low = subst (EntitlesLower s objective) is h in
+    (low.0, record { below = low.1.below; form = low.1.form; fits = low.1.fits; shown = low.1.shown }))
+
 pub bound_beside : (extra : Option (List Bool)) (s : State) (objective : List Term) (bound : ℤ) (f : StepFault) → IsBoundFault s objective bound f → IsBoundFault (with_extra extra s) objective bound f
 bound_beside None s objective bound f h = h
 bound_beside (Some g) s objective bound f h = h

@@ -9,7 +9,7 @@ use Rattle.normal_form.specs.Normal.{NormalConstraint}
 use Rattle.proof_rules.specs.declared.fault.StepFault.TheVariants.{DeadId}
 use Rattle.proof_rules.specs.Fault.{IsDelFault}
 use Rattle.proof_rules.specs.Legal.{LegalDel, without}
-use Rattle.proof_rules.specs.State.{State, constraint_of, id_of}
+use Rattle.proof_rules.specs.State.{State, IsOutside, constraint_of, id_of}
 use Rattle.proof_rules.proofs.NotLegal.{first_ids, one_deletion}
 use Rattle.kernel.specs.Deletion.{IsWithout}
 
@@ -32,6 +32,11 @@ one_gone gone s t id h = record {
       ∙ sym (ap (λ b. cond b None (map.get s.live k)) (set.contains-insert nat_cmp_total gone id k));
   next = h.next;
 }
+
+-- a deletion opens no block
+pub del_outside : (s t : State) (ids : List ℤ) → LegalDel s ids t → IsOutside s → IsOutside t
+del_outside s t [] is outside = subst IsOutside (sym is) outside
+del_outside s t (id ∷ ids) (live, rest) outside = del_outside (without (id_of s.next id) s) t ids rest outside
 
 -- one more id
 del_more : (s t : State) (ids : List ℤ) (id : ℤ) → LegalDel s ids t → IsSome (constraint_of t id) → LegalDel s (ids ++ id ∷ []) (without (id_of t.next id) t)

@@ -3,6 +3,9 @@ use Rattle.std.proofs.Common.{◌≡◌, ◌↔◌, inl, inr, ℕ, ◌<◌, ◌�
 use Rattle.std.proofs.lemmas.Bool.{cases_lt}
 use Rattle.std.proofs.lemmas.List.Elements.{Contains-append_left, Contains-append_right}
 use Rattle.std.specs.FinMap as map
+use Rattle.std.specs.FinSet as set
+use Rattle.std.specs.Ordering.{nat_cmp}
+use Rattle.propagate.specs.Ids.{IdSet}
 use Rattle.linear.specs.declared.term.Term.{Term}
 use Rattle.linear.specs.Opb.{Opb}
 use Rattle.normal_form.specs.Normal.{NormalConstraint, Rises}
@@ -13,15 +16,15 @@ use Rattle.substitution.specs.Covering.{Covers}
 use Rattle.substitution.specs.Images.{Images}
 use Rattle.substitution.specs.Objective.{not_raised, IsObjectiveGoal}
 use Rattle.substitution.specs.Under.{IsUnder, substituted}
-use Rattle.proof_rules.specs.Legal.{IsShownUnder, IsShownNotRaised, Redundant}
+use Rattle.proof_rules.specs.Redundant.{IsShownUnder, IsShownNotRaised, Redundant}
 use Rattle.proof_rules.specs.Shown.{IsShown}
 use Rattle.proof_rules.specs.Fault.{IsGoalFault}
-use Rattle.proof_rules.specs.State.{Live, State, constraints}
+use Rattle.proof_rules.specs.State.{Live, State, AreNumbered, constraints}
 use Rattle.proof_rules.specs.declared.fault.StepFault.{StepFault}
 use Rattle.proof_rules.specs.declared.fault.StepFault.TheVariants as faults
 use Rattle.kernel.specs.Database.{Constraints}
 use Rattle.proof_rules.proofs.LiveConstraints.{All-from_get, Any-from_get}
-use Rattle.kernel.specs.Redundance.{IsOpenLive}
+use Rattle.kernel.specs.Redundance.{AreAskedShown, IsAsked, IsOpenLive}
 use Rattle.kernel.proofs.Showing.{any_left}
 
 -- what a constraint becomes is shown or not
@@ -88,9 +91,20 @@ first_open P live id next above none shown k n before is = elim (cases_lt id k) 
     none_some n e = cc
 
 -- an open goal of a live constraint is an open goal of the step
-pub open_live : (p : Opb) (s : State) (from : List NormalConstraint) (images : Images) (n : NormalConstraint) (f : StepFault) → IsOpenLive s.live from images f → IsGoalFault p s from images n f
-open_live p s from images n (faults.GoalOpen id) h = h
-open_live p s from images n _ h = absurd h
+pub open_live : (p : Opb) (s : State) (end : ℕ) (opened : IdSet) (from : List NormalConstraint) (images : Images) (n : NormalConstraint) (f : StepFault)
+    → ((k : ℕ) (d : NormalConstraint) → map.get s.live k ≡ Some d → IsAsked end opened k) → IsOpenLive s.live end opened from images f → IsGoalFault p s from images n f
+open_live p s end opened from images n (faults.GoalOpen id) asked (e, here, is, not, before) = (e, is, not, λ k d less there. before k d less (asked k d there) there)
+open_live p s end opened from images n _ asked h = absurd h
+
+-- `red` asks its goals of all live constraints
+pub asked_all : (live : Live) (next end : ℕ) (opened : IdSet) → AreNumbered live next → end ≡ next → opened ≡ set.empty
+    → (k : ℕ) (d : NormalConstraint) → map.get live k ≡ Some d → IsAsked end opened k
+asked_all live next end opened h same none k d is =
+    (omega (arith, (h.within k d is).1, same), ap (λ (s : IdSet). set.contains s k) none ∙ set.contains-empty nat_cmp k)
+
+pub all_asked_shown : (live : Live) (end : ℕ) (opened : IdSet) (from : List NormalConstraint) (images : Images) → ((k : ℕ) (d : NormalConstraint) → map.get live k ≡ Some d → IsAsked end opened k)
+    → AreAskedShown live end opened from images → All (IsShownUnder from images) (map.values live)
+all_asked_shown live end opened from images asked shown = All-from_get (IsShownUnder from images) live (λ k d is. shown k d (asked k d is) is)
 
 -- what the code puts beside the live constraints
 pub beside_negation : (before items : List NormalConstraint) (m : NormalConstraint) → before ≡ [] → items ≡ before ++ m ∷ [] → items ≡ m ∷ []

@@ -1,5 +1,5 @@
 -- What a kernel keeps: from the file on, and through each legal step.
-use Rattle.std.proofs.Common.{◌≡◌, ℕ, ◌+◌, ap, arith}
+use Rattle.std.proofs.Common.{◌≡◌, ℕ, ◌+◌, None, ap, arith}
 use Rattle.linear.specs.Limits.{IsWithin}
 use Rattle.linear.specs.Opb.{Opb}
 use Rattle.proof_steps.specs.declared.step.Step.{Step}
@@ -14,8 +14,8 @@ use Rattle.kernel.specs.Held.{IsKept, state_with}
 use Rattle.kernel.specs.Logged.{unlogged}
 
 -- nothing is logged, and the constraints are the file's
-pub starts : (p : Opb) (d : Constraints) → AreOfFile p.constraints d → IsStart p (state_with d unlogged)
-starts p d (ns, forms, is) = (ns, forms, ap (λ x. state_with x unlogged) is)
+pub starts : (p : Opb) (d : Constraints) → AreOfFile p.constraints d → IsStart p (state_with d unlogged None)
+starts p d (ns, forms, is) = (ns, forms, ap (λ x. state_with x unlogged None) is)
 
 -- the ids that are given before the first step are the file's
 pub file_count : (p : Opb) (d : Constraints) (count : ℕ) → AreOfFile p.constraints d → count + 1 ≡ d.next → count ≡ problem_ids p.constraints
@@ -28,5 +28,5 @@ pub kept_step : (p : Opb) (s t : State) (step : Step) → IsKept (record { probl
 kept_step p s t step kept legal = record {
   within = kept.within;
   preserved = step_preserves p s step t kept.preserved kept.normal legal;
-  normal = step_normal p s step t kept.normal legal;
+  normal = step_normal p s step t kept.preserved kept.normal legal;
 }

@@ -19,7 +19,7 @@ use Rattle.substitution.specs.Images.{Images}
 use Rattle.substitution.specs.Under.{IsUntouched}
 use Rattle.substitution.proofs.Covered.{covers_itself}
 use Rattle.substitution.proofs.Untouched.{under_untouched}
-use Rattle.proof_rules.specs.Legal.{IsShownUnder}
+use Rattle.proof_rules.specs.Redundant.{IsShownUnder}
 use Rattle.proof_rules.specs.State.{Live}
 use Rattle.kernel.specs.Redundance.{HasVariable, IsTouched, AddsVariable}
 use Rattle.kernel.proofs.GoalsShown.{covered_under}

@@ -9,24 +9,24 @@ use Rattle.normal_form.specs.Normal.{NormalConstraint, Rises}
 use Rattle.propagate.specs.Ids.{IdSet, HasId, IsLeastId}
 use Rattle.propagate.proofs.Entries.{other_key}
 use Rattle.substitution.specs.Images.{Images}
-use Rattle.proof_rules.specs.Legal.{IsShownUnder}
+use Rattle.proof_rules.specs.Redundant.{IsShownUnder}
 use Rattle.proof_rules.specs.State.{Live}
 use Rattle.proof_rules.specs.declared.fault.StepFault.TheVariants.{GoalOpen}
-use Rattle.proof_rules.proofs.LiveConstraints.{All-from_get, All-get}
+use Rattle.proof_rules.proofs.LiveConstraints.{All-get}
 use Rattle.kernel.specs.Database.{Constraints}
-use Rattle.kernel.specs.Redundance.{IsOpenLive, IsTouched}
+use Rattle.kernel.specs.Redundance.{AreAskedShown, IsAsked, IsOpenLive, IsTouched}
 use Rattle.kernel.proofs.Touched.{touched_live, untouched_shown}
 
--- the ids still to be judged are live, and what the constraints of all others become is shown
-pub record IsJudging (live : Live) (from : List NormalConstraint) (images : Images) (ids : IdSet) : Type 0 where
+-- the ids still to be judged are live, and what is asked of the constraints of all others is shown
+pub record IsJudging (live : Live) (end : ℕ) (opened : IdSet) (from : List NormalConstraint) (images : Images) (ids : IdSet) : Type 0 where
   pub there : (k : ℕ) → HasId ids k → (n : NormalConstraint) × (map.get live k ≡ Some n)
-  pub shown : (k : ℕ) (n : NormalConstraint) → map.get live k ≡ Some n → (HasId ids k → ⊥) → IsShownUnder from images n
+  pub shown : (k : ℕ) (n : NormalConstraint) → IsAsked end opened k → map.get live k ≡ Some n → (HasId ids k → ⊥) → IsShownUnder from images n
 
-pub judging_first : (live : Live) (beside : List NormalConstraint) (images : Images) (ids : IdSet) → All (λ n. Rises 0 n.terms) (map.values live) → ((k : ℕ) → HasId ids k ↔ IsTouched live images k)
-    → IsJudging live (map.values live ++ beside) images ids
-judging_first live beside images ids rises touched = record {
+pub judging_first : (live : Live) (end : ℕ) (opened : IdSet) (beside : List NormalConstraint) (images : Images) (ids : IdSet) → All (λ n. Rises 0 n.terms) (map.values live)
+    → ((k : ℕ) → HasId ids k ↔ IsTouched live images k) → IsJudging live end opened (map.values live ++ beside) images ids
+judging_first live end opened beside images ids rises touched = record {
   there = λ k h. touched_live live images k ((touched k).0 h);
-  shown = λ k n is absent. untouched_shown live beside images k n is (All-get (λ m. Rises 0 m.terms) live k n rises is) (λ h. absent ((touched k).1 h));
+  shown = λ k n asked is absent. untouched_shown live beside images k n is (All-get (λ m. Rises 0 m.terms) live k n rises is) (λ h. absent ((touched k).1 h));
 }
 
 pub removed_keeps : (ids : IdSet) (id k : ℕ) → HasId (set.remove ids id) k → HasId ids k
@@ -39,25 +39,27 @@ removed_keeps ids id k h = second (not (eq_by_cmp nat_cmp k id)) (set.contains i
 pub others_stay : (ids : IdSet) (id k : ℕ) → (k ≡ id → ⊥) → HasId ids k → HasId (set.remove ids id) k
 others_stay ids id k other h = set.contains-remove nat_cmp_total ids id k ∙ ap (λ (b : Bool). not b && set.contains ids k) (other_key k id other) ∙ h
 
-pub judging_more : (live : Live) (from : List NormalConstraint) (images : Images) (ids new : IdSet) (id : ℕ) → IsJudging live from images ids → new ≡ set.remove ids id
-    → ((n : NormalConstraint) → map.get live id ≡ Some n → IsShownUnder from images n) → IsJudging live from images new
-judging_more live from images ids new id j is here = subst (IsJudging live from images) (sym is) (record {
+pub judging_more : (live : Live) (end : ℕ) (opened : IdSet) (from : List NormalConstraint) (images : Images) (ids new : IdSet) (id : ℕ) → IsJudging live end opened from images ids
+    → new ≡ set.remove ids id → ((n : NormalConstraint) → map.get live id ≡ Some n → IsAsked end opened id → IsShownUnder from images n) → IsJudging live end opened from images new
+judging_more live end opened from images ids new id j is here = subst (IsJudging live end opened from images) (sym is) (record {
   there = λ k h. j.there k (removed_keeps ids id k h);
-  shown = λ k n at absent. elim (cases_eq k id) as (λ _. IsShownUnder from images n) [
-    | inl same ↦ here n (subst (λ (i : ℕ). map.get live i ≡ Some n) same at)
-    | inr other ↦ j.shown k n at (λ h. absent (others_stay ids id k other h))
+  shown = λ k n asked at absent. elim (cases_eq k id) as (λ _. IsShownUnder from images n) [
+    | inl same ↦ here n (subst (λ (i : ℕ). map.get live i ≡ Some n) same at) (subst (IsAsked end opened) same asked)
+    | inr other ↦ j.shown k n asked at (λ h. absent (others_stay ids id k other h))
   ];
 })
 
 -- the goal of the least one is open
-pub judging_open : (live : Live) (from : List NormalConstraint) (images : Images) (ids : IdSet) (id : ℕ) → IsJudging live from images ids → IsLeastId ids id
-    → ((n : NormalConstraint) → map.get live id ≡ Some n → IsShownUnder from images n → ⊥) → IsOpenLive live from images (GoalOpen id)
-judging_open live from images ids id j least never =
+pub judging_open : (live : Live) (end : ℕ) (opened : IdSet) (from : List NormalConstraint) (images : Images) (ids : IdSet) (id : ℕ) → IsJudging live end opened from images ids → IsLeastId ids id
+    → IsAsked end opened id → ((n : NormalConstraint) → map.get live id ≡ Some n → IsShownUnder from images n → ⊥) → IsOpenLive live end opened from images (GoalOpen id)
+judging_open live end opened from images ids id j least asked never =
     let n = j.there id least.0 in
-    (n.0, n.1, never n.0 n.1, λ k d before is. j.shown k d is (λ h. omega (arith, before, least.1 k h)))
+    (n.0, asked, n.1, never n.0 n.1, λ k d before also is. j.shown k d also is (λ h. omega (arith, before, least.1 k h)))
 
-pub judging_end : (live : Live) (from : List NormalConstraint) (images : Images) (ids : IdSet) → IsJudging live from images ids → ids ≡ set.empty → All (IsShownUnder from images) (map.values live)
-judging_end live from images ids j none = All-from_get (IsShownUnder from images) live (λ k n is. j.shown k n is (λ h. false≢true (sym (set.contains-empty nat_cmp k) ∙ subst (λ (s : IdSet). HasId s k) none h)))
+pub judging_end : (live : Live) (end : ℕ) (opened : IdSet) (from : List NormalConstraint) (images : Images) (ids : IdSet) → IsJudging live end opened from images ids → ids ≡ set.empty
+    → AreAskedShown live end opened from images
+judging_end live end opened from images ids j none k n asked is =
+    j.shown k n asked is (λ h. false≢true (sym (set.contains-empty nat_cmp k) ∙ subst (λ (s : IdSet). HasId s k) none h))
 
 -- a set without its least id is smaller
 pub fewer : (ids new : IdSet) (id : ℕ) → HasId ids id → new ≡ set.remove ids id → set.len new < set.len ids
@@ -71,9 +73,9 @@ fewer ids new id h is =
     ]
 
 -- what was answered of a constraint, in the words of what the judging began with
-pub judged : (d e : Constraints) (beside now : List NormalConstraint) (images : Images) (id : ℕ) (found : Bool) → e ≡ d → now ≡ beside
-    → ((n : NormalConstraint) → map.get e.live id ≡ Some n → IsTrue found ↔ IsShownUnder (map.values e.live ++ now) images n)
-    → (n : NormalConstraint) → map.get d.live id ≡ Some n → IsTrue found ↔ IsShownUnder (map.values d.live ++ beside) images n
-judged d e beside now images id found same still answered =
-    subst (λ (c : Constraints). (n : NormalConstraint) → map.get c.live id ≡ Some n → IsTrue found ↔ IsShownUnder (map.values c.live ++ beside) images n) same
-    (subst (λ (items : List NormalConstraint). (n : NormalConstraint) → map.get e.live id ≡ Some n → IsTrue found ↔ IsShownUnder (map.values e.live ++ items) images n) still answered)
+pub judged : (d e : Constraints) (beside now : List NormalConstraint) (images : Images) (id : ℕ) (P : (NormalConstraint → Type 0) → NormalConstraint → Type 0) → e ≡ d → now ≡ beside
+    → ((n : NormalConstraint) → map.get e.live id ≡ Some n → P (IsShownUnder (map.values e.live ++ now) images) n)
+    → (n : NormalConstraint) → map.get d.live id ≡ Some n → P (IsShownUnder (map.values d.live ++ beside) images) n
+judged d e beside now images id P same still answered =
+    subst (λ (c : Constraints). (n : NormalConstraint) → map.get c.live id ≡ Some n → P (IsShownUnder (map.values c.live ++ beside) images) n) same
+    (subst (λ (items : List NormalConstraint). (n : NormalConstraint) → map.get e.live id ≡ Some n → P (IsShownUnder (map.values e.live ++ items) images) n) still answered)

@@ -1,5 +1,5 @@
 -- Live constraints by their ids, and the id that the next one takes.
-use Rattle.std.specs.Prelude.{ℕ, ◌+◌, ◌-◌, ℤ, Option, refl}
+use Rattle.std.specs.Prelude.{ℕ, ◌+◌, ◌-◌, ◌||◌, nat_lt, nat_le, ℤ, Option, refl}
 use Rattle.std.specs.Coded.{Coded, code_by, coded×, coded_ℕ}
 use Rattle.std.specs.FinMap as map
 use Rattle.normal_form.specs.Normal.{NormalConstraint}
@@ -26,6 +26,10 @@ removed id d = record { live = map.remove d.live id; next = d.next }
 -- without the newest constraint, whose id is the next one again
 abbrev pub taken_back : Constraints → Constraints
 taken_back d = record { live = map.remove d.live (d.next - 1); next = d.next - 1 }
+
+-- without the constraints of the ids from one on and below another
+abbrev pub without_between : ℕ → ℕ → Constraints → Constraints
+without_between first end d = record { live = map.retain_keys d.live (λ k. nat_lt k first || nat_le end k); next = d.next }
 
 -- the constraint that a number in a step means, if there is one
 abbrev pub found : Constraints → ℤ → Option NormalConstraint

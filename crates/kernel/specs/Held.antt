@@ -14,7 +14,7 @@ use Rattle.proof_steps.specs.declared.step.Step.{Step}
 use Rattle.proof_steps.specs.declared.step.Step.TheVariants as steps
 use Rattle.proof_rules.specs.Preserved.{IsPreserved, AreNormal}
 use Rattle.proof_rules.specs.Legal.{with_solution}
-use Rattle.proof_rules.specs.State.{State}
+use Rattle.proof_rules.specs.State.{State, Block}
 use Rattle.proof_rules.specs.Forms.{problem_ids}
 use Rattle.kernel.specs.Database.{Constraints}
 use Rattle.kernel.specs.Logged.{Logged}
@@ -31,13 +31,14 @@ pub record IsKept (k : Held) : Type 0 where
   pub preserved : IsPreserved k.problem k.state
   pub normal : AreNormal k.state
 
--- the state of these live constraints and logged solutions
-abbrev pub state_with : Constraints → Logged → State
-state_with d l = record {
+-- the state of these live constraints and logged solutions, and of a block
+abbrev pub state_with : Constraints → Logged → Option Block → State
+state_with d l block = record {
   live = d.live;
   next = d.next;
   least = l.least;
   logged = l.logged;
+  block = block;
 }
 
 -- the state with one more solution, if there is one
@@ -51,6 +52,15 @@ pub record Keeps (k : Held) (ids : ℕ) (objective : Option (List Term)) : Type 
   pub file : ids ≡ problem_ids k.problem.constraints
   pub objective_is : objective ≡ k.problem.objective
 
+-- the id that an end gives a constraint: that of a block gives one to the new constraint, that of a goal none
+abbrev pub id_at_goal : Option ℕ → ℕ → Option ℕ
+id_at_goal None next = Some next
+id_at_goal (Some goal) next = None
+
+abbrev pub id_at_end : Option Block → ℕ → Option ℕ
+id_at_end None next = None
+id_at_end (Some k) next = id_at_goal k.goal next
+
 -- the id that a step gives its constraint, if it adds one
 abbrev pub given_id : Step → State → Option ℕ
 given_id (steps.Sol assigned) s = None
@@ -59,6 +69,9 @@ given_id (steps.Pol items) s = Some s.next
 given_id (steps.Rup c) s = Some s.next
 given_id (steps.Red c images) s = Some s.next
 given_id (steps.Soli assigned) s = Some s.next
+given_id (steps.RedBegin c images) s = Some s.next
+given_id (steps.Goal name) s = Some s.next
+given_id steps.End s = id_at_end s.block s.next
 
 -- the relation of a constraint in a step is `>=`
 abbrev pub HasAtLeast : Step → Type 0
@@ -68,6 +81,9 @@ HasAtLeast (steps.Pol items) = ⊤
 HasAtLeast (steps.Sol assigned) = ⊤
 HasAtLeast (steps.Soli assigned) = ⊤
 HasAtLeast (steps.Del ids) = ⊤
+HasAtLeast (steps.RedBegin c images) = c.relation ≡ AtLeast
+HasAtLeast (steps.Goal name) = ⊤
+HasAtLeast steps.End = ⊤
 
 -- a written constraint is not within the limits
 abbrev pub IsUnadmitted : Signed → StepFault → Type 0

@@ -6,5 +6,6 @@ pub mod File
 pub mod Held
 pub mod Logged
 pub mod Packed
+pub mod Place
 pub mod Redundance
 pub mod Table

@@ -1,6 +1,7 @@
 -- The goals of a `red` step that are open.
-use Rattle.std.specs.Prelude.{◌≡◌, ◌↔◌, ◌⊎◌, Bool, ℕ, ◌<◌, List, [], ◌∷◌, ◌++◌, MatchOption, Option, Some}
+use Rattle.std.specs.Prelude.{◌≡◌, ◌↔◌, ◌⊎◌, Bool, false, ℕ, ◌<◌, List, [], ◌∷◌, ◌++◌, MatchOption, Option, Some}
 use Rattle.std.specs.FinMap as map
+use Rattle.std.specs.FinSet as set
 use Rattle.linear.specs.declared.term.Var.{Var}
 use Rattle.normal_form.specs.Negation.{IsNegation}
 use Rattle.normal_form.specs.Normal.{NormalConstraint}
@@ -10,7 +11,7 @@ use Rattle.substitution.specs.Covering.{Covers}
 use Rattle.substitution.specs.Images.{Images}
 use Rattle.substitution.specs.Under.{IsUnder}
 use Rattle.proof_rules.specs.Fault.{IsGoalFault}
-use Rattle.proof_rules.specs.Legal.{IsShownUnder, Redundant}
+use Rattle.proof_rules.specs.Redundant.{IsShownUnder, Redundant}
 use Rattle.proof_rules.specs.State.{Live, constraints}
 use Rattle.proof_rules.specs.declared.fault.StepFault.{StepFault}
 use Rattle.proof_rules.specs.declared.fault.StepFault.TheVariants as faults
@@ -33,12 +34,20 @@ IsTouched live (p ∷ ps) id = HasVariable live p.0 id ⊎ IsTouched live ps id
 abbrev pub AddsVariable : Live → Var → IdSet → IdSet → Type 0
 AddsVariable live v before ids = (id : ℕ) → HasId ids id ↔ (HasId before id ⊎ HasVariable live v id)
 
--- the goal of a live constraint is open, the first one by rising id
-abbrev pub IsOpenLive : Live → List NormalConstraint → Images → StepFault → Type 0
-IsOpenLive live from images (faults.GoalOpen id) =
-    (e : NormalConstraint) × (map.get live id ≡ Some e) × (IsShownUnder from images e → ⊥)
-    × ((k : ℕ) (d : NormalConstraint) → k < id → map.get live k ≡ Some d → IsShownUnder from images d)
-IsOpenLive live from images _ = ⊥
+-- a goal is asked of the live constraint of an id: it is below an end, and its goal was not opened
+abbrev pub IsAsked : ℕ → IdSet → ℕ → Type 0
+IsAsked end opened id = (id < end) × (set.contains opened id ≡ false)
+
+-- what is asked of live constraints is shown
+abbrev pub AreAskedShown : Live → ℕ → IdSet → List NormalConstraint → Images → Type 0
+AreAskedShown live end opened from images = (id : ℕ) (e : NormalConstraint) → IsAsked end opened id → map.get live id ≡ Some e → IsShownUnder from images e
+
+-- it is open of one, the first one by rising id
+abbrev pub IsOpenLive : Live → ℕ → IdSet → List NormalConstraint → Images → StepFault → Type 0
+IsOpenLive live end opened from images (faults.GoalOpen id) =
+    (e : NormalConstraint) × IsAsked end opened id × (map.get live id ≡ Some e) × (IsShownUnder from images e → ⊥)
+    × ((k : ℕ) (d : NormalConstraint) → k < id → IsAsked end opened k → map.get live k ≡ Some d → IsShownUnder from images d)
+IsOpenLive live end opened from images _ = ⊥
 
 -- all goals of a new constraint are shown, beside its negation
 abbrev pub AreGoalsShown : Held → Images → NormalConstraint → Type 0

@@ -4,8 +4,8 @@ ghost use Rattle.std.specs.Prelude.{◌≡◌, ◌↔◌, ◌≤◌, IfOk, IfErr
 ghost use Rattle.normal_form.specs.NormalOf.{size_sum};
 ghost use Rattle.linear.specs.Largest.{largest_objective};
 ghost use Rattle.proof_rules.specs.Claim.{Claim, ClaimsUpper, IsSolution};
-ghost use Rattle.proof_rules.specs.Fault.{OrMemory, IsConclusionFault, IsHintFault, IsLowerFault, IsBoundFault, IsUnsatFault};
-ghost use Rattle.proof_rules.specs.Justified.{IsJustified, IsBest, IsExhausted, EntitlesLower, TakesHint};
+ghost use Rattle.proof_rules.specs.Fault.{OrMemory, IsConclusionFault, IsUnjustified, IsHintFault, IsLowerFault, IsBoundFault, IsUnsatFault};
+ghost use Rattle.proof_rules.specs.Justified.{IsJustified, IsEarned, IsBest, IsExhausted, EntitlesLower, TakesHint};
 ghost use Rattle.proof_rules.specs.Shown.{absurdity};
 ghost use Rattle.kernel.specs.Held.{with_extra};
 
@@ -21,7 +21,7 @@ use propagate::Propagator;
 use std::alloc::{AllocError, Global};
 
 /// `0 >= 1`.
-fn absurd(alloc: Global) -> Normal
+pub(crate) fn absurd(alloc: Global) -> Normal
     ensures { result ≡ absurdity }
 {
     match NormalBuilder::new(alloc).finish(1) {
@@ -35,8 +35,8 @@ impl<'a, P: Propagator> Kernel<'a, P> {
     /// `NONE` is always accepted; `SAT` where a solution is logged; `UNSAT` where none is, and `0 >= 1` is shown from the live
     /// constraints; `BOUNDS` where there is an objective, the lower bound is at most the least improving value and is shown,
     /// and some logged solution is worth no more than the upper one. A hint is judged before the rest, as one more solution
-    /// that is logged for the conclusion alone; that there is an objective is judged before it. A refusal names the first
-    /// fault in the order of judging.
+    /// that is logged for the conclusion alone; that there is an objective is judged before it, and before all that no block is
+    /// open. A refusal names the first fault in the order of judging.
     pub fn conclude(&mut self, conclusion: &Conclusion) -> Result<Accepted, StepFault>
         ensures justified { IfOk result (λ accepted. IsJustified self.old.problem self.old.state conclusion.now accepted.best) }
         ensures conclusion { IfOk result (λ accepted. accepted.conclusion ≡ conclusion.now) }
@@ -45,14 +45,15 @@ impl<'a, P: Propagator> Kernel<'a, P> {
         ensures same { self.new ≡ self.old }
     {
         self.reveal();
+        self.stand_outside()?;
         let best = self.judge(conclusion)?;
         Ok(Accepted::new(copied_conclusion(conclusion)?, best))
     }
 
     /// Judges a conclusion, and gives the best solution.
     fn judge(&mut self, conclusion: &Conclusion) -> Result<Option<Assignment>, StepFault>
-        ensures justified { IfOk result (IsJustified self.old.problem self.old.state conclusion.now) }
-        ensures fault { IfErr result (λ f. OrMemory f (IsConclusionFault self.old.problem self.old.state conclusion.now f)) }
+        ensures justified { IfOk result (IsEarned self.old.problem self.old.state conclusion.now) }
+        ensures fault { IfErr result (λ f. OrMemory f (IsUnjustified self.old.problem self.old.state conclusion.now f)) }
         ensures same { self.new ≡ self.old }
     {
         match conclusion {
@@ -68,8 +69,8 @@ impl<'a, P: Propagator> Kernel<'a, P> {
 
     /// `SAT`: some solution is logged.
     fn judge_sat(&mut self, hint: &Option<Seq<Lit>>) -> Result<Option<Assignment>, StepFault>
-        ensures justified { IfOk result (IsJustified self.old.problem self.old.state (Conclusion.Sat hint.now)) }
-        ensures fault { IfErr result (λ f. OrMemory f (IsConclusionFault self.old.problem self.old.state (Conclusion.Sat hint.now) f)) }
+        ensures justified { IfOk result (IsEarned self.old.problem self.old.state (Conclusion.Sat hint.now)) }
+        ensures fault { IfErr result (λ f. OrMemory f (IsUnjustified self.old.problem self.old.state (Conclusion.Sat hint.now) f)) }
         ensures same { self.new ≡ self.old }
     {
         let extra = self.judge_hint(hint)?;
@@ -86,8 +87,8 @@ impl<'a, P: Propagator> Kernel<'a, P> {
         upper: Upper,
         hint: &Option<Seq<Lit>>,
     ) -> Result<Option<Assignment>, StepFault>
-        ensures justified { IfOk result (IsJustified self.old.problem self.old.state (Conclusion.Bounds lower upper hint.now)) }
-        ensures fault { IfErr result (λ f. OrMemory f (IsConclusionFault self.old.problem self.old.state (Conclusion.Bounds lower upper hint.now) f)) }
+        ensures justified { IfOk result (IsEarned self.old.problem self.old.state (Conclusion.Bounds lower upper hint.now)) }
+        ensures fault { IfErr result (λ f. OrMemory f (IsUnjustified self.old.problem self.old.state (Conclusion.Bounds lower upper hint.now) f)) }
         ensures same { self.new ≡ self.old }
     {
         let problem = self.source;

@@ -37,7 +37,7 @@ impl<P: Propagator> Model for Database<P> {
 
 impl<P: Propagator> Database<P> {
     ghost use Rattle.kernel.specs.Redundance.{AddsVariable, BecomesBeyond, IsTouched};
-    ghost use Rattle.std.specs.Prelude.{◌≡◌, ◌↔◌, ◌<◌, [], ◌∷◌, ◌++◌, ℕ, IfOk, IsSome, IsSomeAnd, MatchOption, None, IsTrue, OnErr, OnOk};
+    ghost use Rattle.std.specs.Prelude.{◌≡◌, ◌↔◌, ◌<◌, ◌≤◌, [], ◌∷◌, ◌++◌, ℕ, IfOk, IsSome, IsSomeAnd, MatchOption, None, IsTrue, OnErr, OnOk};
     ghost use Rattle.normal_form.specs.Normal.{NormalConstraint};
     ghost use Rattle.propagate.specs.Chain.{IsRefuted};
     ghost use Rattle.propagate.specs.Content.{HasLiteral, IsTrace, IsTraceOfLast};
@@ -45,10 +45,11 @@ impl<P: Propagator> Database<P> {
     ghost use Rattle.propagate.specs.Literals.{IsConsistent};
     ghost use Rattle.propagate.specs.Reach.{IsReach};
     ghost use Rattle.substitution.specs.Covering.{Covers};
+    ghost use Rattle.substitution.specs.Under.{IsUnder};
     ghost use Rattle.std.specs.FinMap as map;
     ghost use Rattle.std.specs.Option.{option_copied};
-    ghost use Rattle.proof_rules.specs.State.{AreNumbered, id_of};
-    ghost use Rattle.kernel.specs.Database.{pushed, removed, taken_back, found};
+    ghost use Rattle.proof_rules.specs.State.{AreNumbered, id_limit, id_of};
+    ghost use Rattle.kernel.specs.Database.{pushed, removed, taken_back, without_between, found};
 
     /// No constraint; the first one takes the id 1.
     pub(crate) fn empty(alloc: Global) -> Self
@@ -108,6 +109,24 @@ impl<P: Propagator> Database<P> {
         }
     }
 
+    /// Takes out the constraints of the ids from one on and below another.
+    pub(crate) fn remove_between(&mut self, first: u64, end: u64)
+        requires order { first ≤ end }
+        requires limit { end ≤ id_limit }
+        ensures { self.new ≡ without_between first end self.old }
+    {
+        for id in first..end {
+            self.remove_id(id as u32);
+        }
+    }
+
+    /// Takes out the constraint of an id, if there is one.
+    fn remove_id(&mut self, id: Id)
+        ensures { self.new ≡ removed id self.old }
+    {
+        self.constraints.remove(id);
+    }
+
     /// Whether the constraint of an id, if there is one, covers another.
     pub(crate) fn is_covering(&self, id: Id, constraint: &Normal) -> bool
         ensures { IsTrue result ↔ IsSomeAnd (map.get self.now.live id) (λ e. Covers e constraint.now) }
@@ -156,6 +175,21 @@ impl<P: Propagator> Database<P> {
             self.add_variable(image.0, &mut ids)?;
         }
         Ok(ids)
+    }
+
+    /// What the live constraint of an id becomes under a witness; none where there is no such constraint.
+    pub(crate) fn becomes(
+        &self,
+        alloc: Global,
+        id: Id,
+        witness: &Substitution,
+    ) -> Result<Option<Normal>, AllocError>
+        ensures { IfOk result (λ goal. MatchOption (map.get self.now.live id) (goal ≡ None) (λ e. IsSomeAnd goal (IsUnder e witness.now))) }
+    {
+        match self.constraints.get(id) {
+            None => Ok(None),
+            Some(live) => Ok(Some(apply(alloc, live, witness)?)),
+        }
     }
 
     /// What the live constraint of an id becomes under a witness; none where it covers that itself, as one does that has no
@@ -231,7 +265,7 @@ impl<P: Propagator> Database<P> {
 }
 
 /// The id that a number in a step means; `None` where it is beyond all ids.
-fn id_of(next: u64, number: Integer) -> Option<Id>
+pub(crate) fn id_of(next: u64, number: Integer) -> Option<Id>
     ensures { MatchOption result (id_limit ≤ id_of next number) (λ id. id ≡ id_of next number) }
 {
     let size = number.unsigned_abs();

@@ -6,7 +6,7 @@
 ghost use Rattle.std.specs.Prelude.{◌≡◌, None, IfErr, IfOk, IsSome, OnErr, OnOk};
 ghost use Rattle.proof_rules.specs.Fault.{OrMemory, IsDelFault};
 ghost use Rattle.proof_rules.specs.Legal.{LegalDel, without};
-ghost use Rattle.proof_rules.specs.State.{State, constraint_of, id_of};
+ghost use Rattle.proof_rules.specs.State.{State, IsOutside, constraint_of, id_of};
 ghost use Rattle.kernel.specs.Deletion.{AreDeletable, IsWithout};
 
 use super::kernel::{Applied, Kernel};
@@ -17,6 +17,7 @@ use propagate::{Id, Ids, Propagator};
 impl<'a, P: Propagator> Kernel<'a, P> {
     /// Takes out the constraints of some ids.
     pub(crate) fn del(&mut self, numbers: &[Integer]) -> Result<Applied, StepFault>
+        requires outside { IsOutside self.old.state }
         ensures problem { self.new.problem ≡ self.old.problem }
         ensures ok { OnOk result (LegalDel self.old.state numbers.now self.new.state) }
         ensures id { IfOk result (λ applied. applied.id ≡ None) }
@@ -60,7 +61,8 @@ impl<'a, P: Propagator> Kernel<'a, P> {
 
     /// Takes out the live constraint that a number means.
     fn remove(&mut self, number: Integer)
-        requires { IsSome (constraint_of self.old.state number) }
+        requires live { IsSome (constraint_of self.old.state number) }
+        requires outside { IsOutside self.old.state }
         ensures problem { self.new.problem ≡ self.old.problem }
         ensures state { self.new.state ≡ without (id_of self.old.state.next number) self.old.state }
     {

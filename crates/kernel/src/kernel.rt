@@ -5,6 +5,7 @@
 use super::database::Database;
 use super::file::constraints_of_file;
 use super::log::Log;
+use super::open_block::OpenBlock;
 use super::shown::is_shown;
 use linear::Problem;
 use normal_form::Normal;
@@ -33,6 +34,8 @@ pub struct Kernel<'a, P: Propagator> {
     pub(crate) database: Database<P>,
     pub(crate) log: Log,
     pub(crate) problem_ids: u64,
+    /// The block of a `red` step, while one is open.
+    pub(crate) block: Option<OpenBlock>,
     /// What `pol` steps add up in. What it holds between them is of no account: it is kept for its memory, a cell for
     /// each variable, which would else be taken and cleared for each step.
     pub(crate) sum: Accumulator,
@@ -47,17 +50,17 @@ impl<'a, P: Propagator> Model for Kernel<'a, P> {
 
     ghost coded = { Prim.hlevel (codes, state_code) };
 
-    ghost view = { λ k. record { problem = k.source.now; state = state_with k.database k.log } };
+    ghost view = { λ k. record { problem = k.source.now; state = state_with k.database k.log k.block } };
 
-    ghost invariant = { λ k. Keeps (record { problem = k.source.now; state = state_with k.database k.log }) k.problem_ids k.objective };
+    ghost invariant = { λ k. Keeps (record { problem = k.source.now; state = state_with k.database k.log k.block }) k.problem_ids k.objective };
 }
 
 impl<'a, P: Propagator> Kernel<'a, P> {
-    ghost use Rattle.std.specs.Prelude.{◌≡◌, ◌↔◌, ◌+◌, Some, IfOk, IfErr, OnOk, OnErr, IsErrOf, IsTrue};
+    ghost use Rattle.std.specs.Prelude.{◌≡◌, ◌≢◌, ◌↔◌, ◌+◌, Some, None, IfOk, IfErr, OnOk, OnErr, IsErrOf, IsTrue};
     ghost use Rattle.proof_rules.specs.Fault.{OrMemory, IsStepFault};
     ghost use Rattle.proof_rules.specs.Legal.{Legal};
     ghost use Rattle.proof_rules.specs.Shown.{IsShown};
-    ghost use Rattle.proof_rules.specs.State.{IsStart, HasRoom, constraints, with_constraint};
+    ghost use Rattle.proof_rules.specs.State.{IsStart, HasRoom, IsOutside, constraints, with_constraint};
     ghost use Rattle.kernel.specs.Held.{IsKept, HasAtLeast, given_id};
 
     /// The kernel of a problem's file. Running out of memory is the only fault.
@@ -76,6 +79,7 @@ impl<'a, P: Propagator> Kernel<'a, P> {
             database,
             log: Log::empty(alloc),
             problem_ids,
+            block: None,
             sum: Accumulator::new(alloc),
         })
     }
@@ -97,7 +101,8 @@ impl<'a, P: Propagator> Kernel<'a, P> {
 
     /// Applies a step, whole or not at all: `pol`, which adds the value of an expression; `rup`, which adds a constraint that
     /// is shown from the live ones; `red`, which adds one that is redundant by a witness; `sol`, which logs a solution of the
-    /// file; `soli`, which also adds a constraint that asks for better ones; `del`, which takes out live constraints. A
+    /// file; `soli`, which also adds a constraint that asks for better ones; `del`, which takes out live constraints; and the
+    /// steps of a block, in which goals of a `red` are shown by other steps: only these, `pol` and `rup` may stand in one. A
     /// refusal names the first fault in the order of judging, and leaves the kernel as before; a legal step is
     /// refused where memory runs out, and there alone.
     pub fn apply(&mut self, step: &Step) -> Result<Applied, StepFault>
@@ -111,11 +116,51 @@ impl<'a, P: Propagator> Kernel<'a, P> {
         match step {
             Step::Pol(items) => self.pol(items.as_slice()),
             Step::Rup(constraint) => self.rup(constraint),
-            Step::Sol(assigned) => self.sol(assigned.as_slice()),
-            Step::Soli(assigned) => self.soli(assigned.as_slice()),
-            Step::Del(ids) => self.del(ids.as_slice()),
-            Step::Red(constraint, witness) => self.red(constraint, witness),
+            Step::Sol(assigned) => {
+                self.stand_outside()?;
+                self.sol(assigned.as_slice())
+            }
+            Step::Soli(assigned) => {
+                self.stand_outside()?;
+                self.soli(assigned.as_slice())
+            }
+            Step::Del(ids) => {
+                self.stand_outside()?;
+                self.del(ids.as_slice())
+            }
+            Step::Red(constraint, witness) => {
+                self.stand_outside()?;
+                self.red(constraint, witness)
+            }
+            Step::RedBegin(constraint, witness) => {
+                self.stand_outside()?;
+                self.settle()?;
+                self.begin(constraint, witness)
+            }
+            Step::Goal(name) => self.open_goal(*name),
+            Step::End => self.end(),
         }
+    }
+
+    /// Refuses what may stand outside blocks alone, while one is open.
+    pub(crate) fn stand_outside(&self) -> Result<(), StepFault>
+        ensures outside { OnOk result (IsOutside self.now.state) }
+        ensures fault { IfErr result (λ f. (f ≡ StepFault.BlockOpen) × (self.now.state.block ≢ None)) }
+    {
+        match &self.block {
+            None => Ok(()),
+            Some(_) => Err(StepFault::BlockOpen),
+        }
+    }
+
+    /// Has what the live constraints force by themselves found, where no question did so. A propagator keeps that from question to question;
+    /// what it finds first in a block it would give up at the block's end, and find anew in the next one.
+    fn settle(&mut self) -> Result<(), StepFault>
+        ensures same { self.new ≡ self.old }
+        ensures memory { OnErr result (IsErrOf result StepFault.OutOfMemory) }
+    {
+        let _is_refuted = self.database.refute(&[])?;
+        Ok(())
     }
 
     /// Adds a constraint that keeps an answer to the problem, under the next id.

@@ -4,6 +4,7 @@
 
 mod accepted;
 mod admission;
+mod block;
 mod conclusion;
 mod consistency;
 mod database;
@@ -13,6 +14,7 @@ mod holdings;
 mod kernel;
 mod log;
 mod objective;
+mod open_block;
 mod packed;
 mod pol;
 mod propagation;

@@ -4,13 +4,15 @@
 //! constraints have no variable of the witness, and become themselves. They are not looked at: the propagator says which ones
 //! have a variable, so that a step costs what its witness touches, however large the database is.
 
-ghost use Rattle.std.specs.Prelude.{◌≡◌, ◌↔◌, ◌++◌, Some, All, IfOk, IfErr, IsErrOf, IsTrue, OnErr, OnOk};
+ghost use Rattle.std.specs.Prelude.{◌≡◌, ◌↔◌, ◌++◌, false, Some, All, IfOk, IfErr, IsErrOf, IsTrue, OnErr, OnOk};
 ghost use Rattle.std.specs.FinMap as map;
 ghost use Rattle.linear.specs.declared.constraint.Relation.TheVariants.{AtLeast};
 ghost use Rattle.normal_form.specs.Normal.{NormalConstraint, Rises};
 ghost use Rattle.proof_rules.specs.Fault.{OrMemory, IsRedFault};
-ghost use Rattle.proof_rules.specs.Legal.{IsShownUnder, LegalRed};
-ghost use Rattle.kernel.specs.Redundance.{AreGoalsShown, IsGoalOpen, IsOpenLive};
+ghost use Rattle.proof_rules.specs.Legal.{LegalRed};
+ghost use Rattle.proof_rules.specs.State.{IsOutside};
+ghost use Rattle.proof_rules.specs.Redundant.{IsShownUnder};
+ghost use Rattle.kernel.specs.Redundance.{AreAskedShown, AreGoalsShown, IsAsked, IsGoalOpen, IsOpenLive};
 
 use super::admission::admitted;
 use super::database::Database;
@@ -19,7 +21,7 @@ use super::shown::is_shown;
 use linear::Signed;
 use normal_form::{Normal, negate};
 use proof_rules::StepFault;
-use propagate::{Id, Propagator};
+use propagate::{Id, Ids, Propagator};
 use std::alloc::Global;
 use substitution::{Substitution, apply};
 
@@ -30,7 +32,8 @@ impl<'a, P: Propagator> Kernel<'a, P> {
         constraint: &Signed,
         witness: &Substitution,
     ) -> Result<Applied, StepFault>
-        requires { constraint.now.relation ≡ AtLeast }
+        requires relation { constraint.now.relation ≡ AtLeast }
+        requires outside { IsOutside self.old.state }
         ensures problem { self.new.problem ≡ self.old.problem }
         ensures ok { OnOk result (LegalRed self.old.problem self.old.state constraint.now witness.now self.new.state) }
         ensures id { IfOk result (λ applied. applied.id ≡ Some self.old.state.next) }
@@ -58,7 +61,16 @@ impl<'a, P: Propagator> Kernel<'a, P> {
         }
         let mut beside = Vec::new(self.allocator);
         beside.push(negate(self.allocator, constraint)?)?;
-        judge_live(self.allocator, &mut self.database, &mut beside, witness)?;
+        let end = self.database.next_id();
+        let opened = Ids::empty(self.allocator);
+        judge_live(
+            self.allocator,
+            &mut self.database,
+            &mut beside,
+            witness,
+            end,
+            &opened,
+        )?;
         let goal = apply(self.allocator, constraint, witness)?;
         if !is_shown(self.allocator, &mut self.database, &mut beside, &goal)? {
             return Err(StepFault::GoalOpenSelf);
@@ -73,27 +85,54 @@ impl<'a, P: Propagator> Kernel<'a, P> {
     }
 }
 
-/// Judges what the live constraints become under the witness, by rising id. Only those that have a variable of the witness are
+/// Judges what live constraints become under the witness, by rising id: those under ids below an end whose goals were not opened
+/// in a block; `red` asks it of all. Only those that have a variable of the witness are
 /// looked at: the others become themselves.
-fn judge_live<P: Propagator>(
+pub(crate) fn judge_live<P: Propagator>(
     alloc: Global,
     database: &mut Database<P>,
     beside: &mut Vec<Normal>,
     witness: &Substitution,
+    end: u64,
+    opened: &Ids,
 ) -> Result<(), StepFault>
     requires normal { All (λ n. Rises 0 n.terms) (map.values database.old.live) }
     ensures same { database.new ≡ database.old }
     ensures beside { beside.new.items ≡ beside.old.items }
-    ensures shown { OnOk result (All (IsShownUnder (map.values database.old.live ++ beside.old.items) witness.now) (map.values database.old.live)) }
-    ensures fault { IfErr result (λ f. OrMemory f (IsOpenLive database.old.live (map.values database.old.live ++ beside.old.items) witness.now f)) }
+    ensures shown { OnOk result (AreAskedShown database.old.live end opened.now (map.values database.old.live ++ beside.old.items) witness.now) }
+    ensures fault { IfErr result (λ f. OrMemory f (IsOpenLive database.old.live end opened.now (map.values database.old.live ++ beside.old.items) witness.now f)) }
 {
     let mut touched = database.touched(alloc, witness)?;
     while let Some(id) = touched.pop_first() {
-        if !shows_live(alloc, database, beside, id, witness)? {
+        if !shows_asked(alloc, database, beside, id, witness, end, opened)? {
             return Err(StepFault::GoalOpen(id));
         }
     }
     Ok(())
+}
+
+/// Whether what the live constraint of an id becomes is shown, where that is asked of it.
+fn shows_asked<P: Propagator>(
+    alloc: Global,
+    database: &mut Database<P>,
+    beside: &mut Vec<Normal>,
+    id: Id,
+    witness: &Substitution,
+    end: u64,
+    opened: &Ids,
+) -> Result<bool, StepFault>
+    ensures same { database.new ≡ database.old }
+    ensures beside { beside.new.items ≡ beside.old.items }
+    ensures shown { IfOk result (λ yes. (n : NormalConstraint) → map.get database.old.live id ≡ Some n → IsTrue yes → IsAsked end opened.now id
+        → IsShownUnder (map.values database.old.live ++ beside.old.items) witness.now n) }
+    ensures unshown { IfOk result (λ yes. yes ≡ false → IsAsked end opened.now id × ((n : NormalConstraint) → map.get database.old.live id ≡ Some n
+        → IsShownUnder (map.values database.old.live ++ beside.old.items) witness.now n → ⊥)) }
+    ensures memory { OnErr result (IsErrOf result StepFault.OutOfMemory) }
+{
+    if u64::from(id) >= end || opened.contains(id) {
+        return Ok(true);
+    }
+    shows_live(alloc, database, beside, id, witness)
 }
 
 /// Whether what the live constraint of an id becomes is shown.

@@ -6,7 +6,7 @@ ghost use Rattle.std.specs.Prelude.{◌≡◌, None, Some, IfOk, IfErr, IsErrOf,
 ghost use Rattle.proof_rules.specs.Fault.{OrMemory, IsSolFault, IsSoliFault};
 ghost use Rattle.proof_rules.specs.Legal.{LegalSol, LegalSoli, Logs, with_improvement, worth_of};
 ghost use Rattle.proof_rules.specs.Solution.{Completes};
-ghost use Rattle.proof_rules.specs.State.{HasRoom, constraints};
+ghost use Rattle.proof_rules.specs.State.{HasRoom, IsOutside, constraints};
 ghost use Rattle.kernel.specs.Held.{IsKept};
 
 use super::consistency::is_consistent;
@@ -21,6 +21,7 @@ use propagate::{Propagator, Reach};
 impl<'a, P: Propagator> Kernel<'a, P> {
     /// Logs a solution.
     pub(crate) fn sol(&mut self, assigned: &[Lit]) -> Result<Applied, StepFault>
+        requires outside { IsOutside self.old.state }
         ensures problem { self.new.problem ≡ self.old.problem }
         ensures ok { OnOk result (LegalSol self.old.problem self.old.state assigned.now self.new.state) }
         ensures id { IfOk result (λ applied. applied.id ≡ None) }
@@ -35,6 +36,7 @@ impl<'a, P: Propagator> Kernel<'a, P> {
     /// Logs a solution that is worth less than the improving ones before, and adds a constraint that asks for still less.
     /// That there is an objective is judged first, then the solution, then its value, then the ids.
     pub(crate) fn soli(&mut self, assigned: &[Lit]) -> Result<Applied, StepFault>
+        requires outside { IsOutside self.old.state }
         ensures problem { self.new.problem ≡ self.old.problem }
         ensures ok { OnOk result (LegalSoli self.old.problem self.old.state assigned.now self.new.state) }
         ensures id { IfOk result (λ applied. applied.id ≡ Some self.old.state.next) }

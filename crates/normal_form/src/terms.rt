@@ -1,10 +1,11 @@
 //! The terms of a normal constraint, kept small where their coefficients are.
 //!
-//! Coefficients may be up to 2^120, and of most files none reaches 2^32. A constraint is kept for as long as its id lives, so
-//! a quarter of the memory is less to fill, to read and to give back: a small term is its coefficient and the number of its literal, in
-//! 32 bits each. The terms before the first large one are kept small, that one and all after it are not; nobody above sees which.
+//! Coefficients may be up to 2^120, and of most files none reaches 2^64. A constraint is kept for as long as its id lives, so
+//! half the memory is less to fill, to read and to give back. The terms before the first large coefficient are kept small, the
+//! first large one and all after it are not; nobody above sees which. Narrower numbers than these save memory and cost time: a term
+//! is looked at far more often than it is kept, and at each look it would have to be put together again.
 
-ghost use Rattle.std.specs.Prelude.{◌≡◌, ◌≤◌, ◌<◌, ◌^◌, ◌⊎◌, ◌++◌, ◌∷◌, [], IfOk, MatchOption, OnOk, OnErr, length, slice_index_or};
+ghost use Rattle.std.specs.Prelude.{◌≡◌, ◌≤◌, ◌<◌, ◌^◌, ◌++◌, ◌∷◌, [], IfOk, MatchOption, OnOk, OnErr, length, slice_index_or};
 ghost use Rattle.normal_form.specs.Terms.{widened};
 
 use super::term::NormalTerm;
@@ -12,11 +13,12 @@ use linear::Var;
 use std::alloc::{AllocError, Global};
 use std::marker::Model;
 
-/// A term whose coefficient fits in 32 bits, and the number of whose literal does.
+/// A term whose coefficient fits in 64 bits.
 #[derive(Clone, Copy, Debug)]
 struct SmallTerm {
-    coef: u32,
-    code: u32,
+    coef: u64,
+    var: Var,
+    negated: bool,
 }
 
 impl SmallTerm {
@@ -26,19 +28,24 @@ impl SmallTerm {
     {
         NormalTerm {
             coef: u128::from(self.coef),
-            var: Var(self.code / 2),
-            negated: self.code % 2 == 1,
+            var: self.var,
+            negated: self.negated,
         }
     }
 }
 
-/// The small form of a term, if both of its numbers fit.
+/// The small form of a term, if its coefficient fits.
 fn narrowed(term: NormalTerm) -> Option<SmallTerm>
-    ensures { MatchOption result ((2 ^ 32 ≤ term.coef) ⊎ (2 ^ 31 ≤ term.var.0)) (λ small. widened small ≡ term) }
+    ensures { MatchOption result (2 ^ 64 ≤ term.coef) (λ small. widened small ≡ term) }
 {
-    let coef = u32::try_from(term.coef).ok()?;
-    let code = u32::try_from(term.literal().code()).ok()?;
-    Some(SmallTerm { coef, code })
+    match u64::try_from(term.coef) {
+        Ok(coef) => Some(SmallTerm {
+            coef,
+            var: term.var,
+            negated: term.negated,
+        }),
+        Err(_) => None,
+    }
 }
 
 /// A list of terms: small ones, and after them the rest from the first large one on.

@@ -59,7 +59,7 @@ never_bad opb proof l p spelled within written fault is = by (accepted_alone opb
 
 -- without a hint, the best assignment of a conclusion is the best that is logged
 pub best_logged : (p : Opb) (s : State) (c : Conclusion) (best other : Option (List Bool)) → IsJustified p s c best → hint_of c ≡ None → IsBest p s.logged other → best ≡ other
-best_logged p s c best other (t, takes, entitles, is) none also =
+best_logged p s c best other (outside, (t, takes, entitles, is)) none also =
     let same : t ≡ s = subst (λ h. TakesHint p s h t) none takes in
     one_best p s.logged best other (subst (λ (r : State). IsBest p r.logged best) same is) also
 
@@ -84,7 +84,7 @@ accepted_of opb proof l p spelled within written a is = by (accepted_alone opb p
 
 -- a conclusion of bounds asks for an objective
 bounds_ask : (p : Opb) (s : State) (v : ℤ) (best : Option (List Bool)) → IsJustified p s (conclusions.Bounds (lowers.At v) (uppers.At v) None) best → (objective : List Term) × (p.objective ≡ Some objective)
-bounds_ask p s v best (t, takes, (objective, is, lower, upper), also) = (objective, is)
+bounds_ask p s v best (outside, (t, takes, (objective, is, lower, upper), also)) = (objective, is)
 
 with_objective : {X : Type 0} (o : Option (List Term)) (objective : List Term) → o ≡ Some objective → MatchOption o ⊤ (λ _. X) → X
 with_objective None objective e h = cc

@@ -1,21 +1,14 @@
--- Of what a search found, what its log holds: a best solution, which an optimum's least improving value is worth.
-use Rattle.std.proofs.Common.{◌≡◌, ◌≢◌, ◌↔◌, ℕ, ℤ, ◌≤ℤ◌, List, Bool, true, Bor, Decides, IsTrue, [], ◌∷◌, ◌++◌, Option, Some, None, Any, int_eq, is_some, option_copied, length, refl, sym, ap, subst, ◌∙◌, arith}
-use Rattle.std.proofs.lemmas.Bool.{false≢true}
-use Rattle.std.proofs.lemmas.Bool.Decides.{Decides-int_eq}
-use Rattle.std.proofs.lemmas.Int.{ints}
-use Rattle.std.specs.Option.{option_eq}
+-- Of what a search found, what its log holds: a best solution, and what was improved to.
+use Rattle.std.proofs.Common.{◌≡◌, ◌≢◌, ℕ, ℤ, ◌≤ℤ◌, List, Bool, [], ◌∷◌, ◌++◌, Option, Some, None, Any, length, refl, sym, ap, subst, ◌∙◌, arith}
 use Rattle.std.specs.Prelude.{MatchOption, ⊤}
 use Rattle.linear.specs.Opb.{Opb}
-use Rattle.linear.specs.Valuation.{valuation_of}
 use Rattle.linear.specs.declared.term.Term.{Term}
-use Rattle.proof_rules.specs.Claim.{Claim, IsSolution}
-use Rattle.proof_rules.specs.Justified.{IsBest, IsJustified, hint_of}
+use Rattle.proof_rules.specs.Claim.{IsSolution}
+use Rattle.proof_rules.specs.Justified.{IsBest, IsJustified}
 use Rattle.proof_rules.specs.Legal.{Legal, worth_of}
 use Rattle.proof_rules.specs.Preserved.{IsPreserved}
 use Rattle.proof_rules.specs.State.{State}
-use Rattle.proof_rules.proofs.Concluding.{justified_claim}
 use Rattle.proof_rules.proofs.FileForms.{start_preserved, start_normal}
-use Rattle.proof_rules.proofs.OneState.{one_best}
 use Rattle.proof_rules.proofs.Preserving.{steps_preserve}
 use Rattle.proof_steps.specs.declared.conclusion.Conclusion.TheVariants as conclusions
 use Rattle.proof_steps.specs.declared.conclusion.Lower.{Lower}
@@ -23,13 +16,12 @@ use Rattle.proof_steps.specs.declared.conclusion.Lower.TheVariants as lowers
 use Rattle.proof_steps.specs.declared.conclusion.Upper.TheVariants as uppers
 use Rattle.proof_steps.specs.declared.step.Step.{Step}
 use Rattle.proof_steps.specs.declared.step.Step.TheVariants as kinds
-use Rattle.search.specs.Log.{Logbook, IsProof, IsFalling, LeadsImproving, improvement, last_of}
+use Rattle.search.specs.Log.{Logbook, IsProof, IsFalling, IsWorthLeast, LeadsImproving, improvement, last_of}
 use Rattle.search.specs.Solving.{BearsOut, IsBestSoFar, IsOptimum, IsSolvedByAny}
 use Rattle.search.specs.declared.found.Found.TheVariants as founds
 use Rattle.search.proofs.Improving.{values_fall}
-use Rattle.pb_main.specs.Outcome.{AreImprovedTo, BestIsLeast, IsBestOf, IsNoOptimum, IsUncheckable, IsWorthLeast, any_serves, stopped, outdone}
+use Rattle.pb_main.specs.Outcome.{AreImprovedTo, IsBestOf, IsNoOptimum, any_serves, stopped}
 use Rattle.pb_main.specs.Solution.{NamedValues}
-use Rattle.pb_main.proofs.Accepting.{best_logged}
 
 -- where there is an upper bound, some solution is logged
 
@@ -37,7 +29,7 @@ any_there : {X : Type 0} (P : X → Type 0) (xs : List X) → Any P xs → xs �
 any_there P xs (k, x, below, at, h) none = absurd (omega (arith, below, ap length none))
 
 bound_logged : (p : Opb) (s : State) (lower : Lower) (v : ℤ) (best : Option (List Bool)) → IsJustified p s (conclusions.Bounds lower (uppers.At v) None) best → s.logged ≢ []
-bound_logged p s lower v best (t, takes, (objective, is, low, upper), also) =
+bound_logged p s lower v best (outside, (t, takes, (objective, is, low, upper), also)) =
     subst (λ (u : State). u.logged ≢ []) takes (any_there (λ g. worth_of p g ≤ℤ v) t.logged upper)
 
 bounded : (l : Logbook) → IsProof l → (lower : Lower) (v : ℤ) → l.conclusion ≡ conclusions.Bounds lower (uppers.At v) None → l.state.logged ≢ []
@@ -69,80 +61,14 @@ sat_is_no_optimum limit l bears = by l.problem.objective refl bears
     by None none any = any_serves none any
     by (Some objective) is far = stopped far
 
-pub sat_is_outdone : (limit : ℕ) (l : Logbook) → BearsOut limit l founds.Sat → (BestIsLeast l → ⊥) → IsUncheckable limit l
-sat_is_outdone limit l bears fails = by l.problem.objective refl bears
-  where
-    by : (o : Option (List Term)) → l.problem.objective ≡ o → FoundBy limit l o → IsUncheckable limit l
-    by None none any =
-        absurd (fails (λ values best. subst (λ o. MatchOption o ⊤ (λ _. l.state.least ≡ Some (worth_of l.problem values))) (sym none) tt))
-    by (Some objective) is far = outdone far fails
-
--- an optimum's best solution is worth its least improving value, since none is worth less
-
 pub log_preserved : (l : Logbook) → IsProof l → IsPreserved l.problem l.state
 log_preserved l p =
     (steps_preserve l.problem p.start p.steps l.state (start_preserved l.problem p.start p.starts) (start_normal l.problem p.start p.starts) p.leads).0
 
-log_claims : (l : Logbook) (p : IsProof l) → Claim l.problem l.conclusion p.entitled.0
-log_claims l p =
-    let kept = steps_preserve l.problem p.start p.steps l.state (start_preserved l.problem p.start p.starts) (start_normal l.problem p.start p.starts) p.leads in
-    justified_claim l.problem l.state l.conclusion p.entitled.0 kept.0 kept.1 p.entitled.1
-
--- there is nothing to show without an objective
-if_asked : {X : Type 0} (o : Option (List Term)) → X → MatchOption o ⊤ (λ _. X)
-if_asked None x = tt
-if_asked (Some objective) x = x
-
-same_solution : {g h : List Bool} → Some g ≡ Some h → g ≡ h
-same_solution e = cc
-
--- what stands behind an objective, where there is one
-if_there : {X : Type 0} (o : Option (List Term)) → is_some o ≡ true → MatchOption o ⊤ (λ _. X) → X
-if_there None some h = absurd (false≢true some)
-if_there (Some objective) some h = h
-
-none_some : (v : ℤ) → None ≡ Some v → ⊥
-none_some v e = cc
-
-same_inside : (v w : ℤ) → Some v ≡ Some w → v ≡ w
-same_inside v w e = cc
-
-same_value : (o : Option ℤ) (v : ℤ) → Decides (option_eq int_eq o (Some v)) (o ≡ Some v)
-same_value None v = (λ e. absurd (false≢true e), λ e. absurd (none_some v e))
-same_value (Some w) v =
-    let same : Decides (int_eq w v) (w ≡ v) = Decides-int_eq w v in
-    (λ e. ap Some (same.0 e), λ e. same.1 (same_inside w v e))
-
--- where there is an objective, it serves to compare the best solution's worth
-pub best_is_least : (l : Logbook) (best : List Bool) (equal : Bool) → IsBest l.problem l.state.logged (Some best) → is_some l.problem.objective ≡ true
-    → equal ≡ option_eq int_eq l.state.least (Some (worth_of l.problem best)) → IsTrue equal ↔ BestIsLeast l
-best_is_least l best equal is some e =
-    let same : Decides (option_eq int_eq l.state.least (Some (worth_of l.problem best))) (l.state.least ≡ Some (worth_of l.problem best)) =
-    same_value l.state.least (worth_of l.problem best) in (
-      λ holds values also. subst (IsWorthLeast l) (same_solution (one_best l.problem l.state.logged (Some best) (Some values) is also))
-          (if_asked l.problem.objective (same.0 (sym e ∙ holds))),
-      λ least. e ∙ same.1 (if_there l.problem.objective some (least best is)),
-    )
-
--- whether there is a value does not depend on its reference
-pub copied_there : {X : Type 0} (o : Option (Bor X)) → is_some (option_copied o) ≡ is_some o
-copied_there None = refl
-copied_there (Some x) = refl
-
-pub optimum_least : (l : Logbook) → IsProof l → IsOptimum l → BestIsLeast l
-optimum_least l p (v, least_is, is) values best =
-    let same : p.entitled.0 ≡ Some values = best_logged l.problem l.state l.conclusion p.entitled.0 (Some values) p.entitled.1 (ap hint_of is) best in
-    let bounds = conclusions.Bounds (lowers.At v) (uppers.At v) None in
-    let claim : Claim l.problem bounds (Some values) = subst (λ c. Claim l.problem c (Some values)) is (subst (λ b. Claim l.problem l.conclusion b) same (log_claims l p)) in
-    let low : v ≤ℤ worth_of l.problem values = claim.concludes.0 (valuation_of values) claim.solution.satisfies in
-    let high : worth_of l.problem values ≤ℤ v = claim.concludes.1 in
-    let worth : v ≡ worth_of l.problem values = omega (arith, ints, low, high) in
-    if_asked l.problem.objective (least_is ∙ ap Some worth)
-
 -- what a log improved to
 
 unimproved : (p : Opb) (s t : State) (step : Step) → p.objective ≡ None → Legal p s step t → improvement step t ≡ []
-unimproved p s t (kinds.Soli assigned) none (objective, g, n, improves, is) =
+unimproved p s t (kinds.Soli assigned) none (outside, (objective, g, n, improves, is)) =
     let clash : None ≡ Some objective = sym none ∙ improves.minimises in
     absurd (cc)
 unimproved p s t (kinds.Pol items) none legal = refl
@@ -150,6 +76,9 @@ unimproved p s t (kinds.Rup c) none legal = refl
 unimproved p s t (kinds.Red c images) none legal = refl
 unimproved p s t (kinds.Sol assigned) none legal = refl
 unimproved p s t (kinds.Del ids) none legal = refl
+unimproved p s t (kinds.RedBegin c images) none legal = refl
+unimproved p s t (kinds.Goal name) none legal = refl
+unimproved p s t kinds.End none legal = refl
 
 nothing_improves : (p : Opb) (s t : State) (all : List Step) (values : List ℤ) → p.objective ≡ None → LeadsImproving p s all t values → values ≡ []
 nothing_improves p s t [] values none (same, nothing) = nothing
@@ -165,11 +94,11 @@ improved_to l p values least = by l.problem.objective refl least
     by (Some objective) is least = let falls = values_fall l p in (falls.0, falls.1 ∙ least)
 
 -- what is handed out is the best solution, and what the log improved to
-pub handed_out : (l : Logbook) (best : List Bool) (s : NamedValues) → IsProof l → IsBest l.problem l.state.logged (Some best) → IsSolution l.problem best → BestIsLeast l
+pub handed_out : (l : Logbook) (best : List Bool) (s : NamedValues) → IsProof l → IsBest l.problem l.state.logged (Some best) → IsSolution l.problem best → IsWorthLeast l best
     → s.names ≡ l.problem.names → s.values ≡ best → s.improved ≡ l.improved → IsBestOf l s
 handed_out l best s p is solution least names values improved =
     let also : IsBest l.problem l.state.logged (Some s.values) = subst (λ v. IsBest l.problem l.state.logged (Some v)) (sym values) is in
-    let worth : IsWorthLeast l s.values = least s.values also in
+    let worth : IsWorthLeast l s.values = subst (IsWorthLeast l) (sym values) least in
     record {
       solution = record {
         names = names;

@@ -23,8 +23,8 @@ bound_writable : (l : Logbook) → IsProof l → IsWithin l.problem → (lower :
     → IsWritable v
 bound_writable l p within lower v least_is is =
     let justified = subst (λ c. IsJustified l.problem l.state c p.entitled.0) is p.entitled.1 in
-    let objective : List Term = justified.2.0 in
-    let asked : l.problem.objective ≡ Some objective = justified.2.1 in
+    let objective : List Term = justified.1.2.0 in
+    let asked : l.problem.objective ≡ Some objective = justified.1.2.1 in
     let least = subst (λ o. IfSome o (λ w. Any (λ g. worth_of l.problem g ≡ w) l.state.logged)) least_is (log_preserved l p).least in
     let small = worth_small l.problem least.1 objective (sym asked) within in
     let same : unsigned_abs (worth_of l.problem least.1) ≡ unsigned_abs v = ap unsigned_abs least.4 in

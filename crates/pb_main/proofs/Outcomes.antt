@@ -4,14 +4,10 @@ use Rattle.linear.specs.Limits.{IsWithin}
 use Rattle.opb_read.specs.Spells.{Spells}
 use Rattle.search.specs.Log.{IsProof, Logbook}
 use Rattle.pb_main.specs.Checked.{IsLogOf, IsProofOrNone, IsWrittenOrNone}
-use Rattle.pb_main.specs.Finding.{IsFindingOf}
 use Rattle.pb_main.specs.Outcome.{IsBestOf, IsNoOptimum, IsOutcomeOf}
 use Rattle.pb_main.specs.Solution.{NamedValues}
-use Rattle.pb_main.specs.declared.finding.Finding.TheVariants as findings
 use Rattle.pb_main.specs.declared.outcome.Outcome.{Outcome}
 use Rattle.pb_main.specs.declared.outcome.Outcome.TheVariants as outcomes
-use Rattle.pb_main.specs.declared.outcome.Unanswered.{Unanswered}
-use Rattle.pb_main.specs.declared.outcome.Unanswered.TheVariants as reasons
 
 -- an outcome that has no bytes beside it
 pub without_bytes : (opb bytes : List ℕ) (limit : ℕ) (outcome said : Outcome) → outcome ≡ said → bytes ≡ [] → IsOutcomeOf opb [] limit said
@@ -31,10 +27,3 @@ bytes_of opb proof l of_text (inr none) = inr none
 pub solution_said : (opb proof : List ℕ) (limit : ℕ) (l : Logbook) (s : NamedValues) → IsLogOf opb l → IsWrittenOrNone l proof → IsBestOf l s → IsNoOptimum limit l
     → IsOutcomeOf opb proof limit (outcomes.Satisfiable s)
 solution_said opb proof limit l s of_text bytes best why = record { log = l; of_text = of_text; bytes = bytes; from_log = best; why = why }
-
--- a solution that is not handed out
-pub untold : (opb proof : List ℕ) (limit : ℕ) (l : Logbook) (why : Unanswered) → IsLogOf opb l → IsWrittenOrNone l proof → IsFindingOf limit l (findings.Untold why)
-    → IsOutcomeOf opb proof limit (outcomes.Unknown why)
-untold opb proof limit l reasons.Limit of_text bytes h = absurd h
-untold opb proof limit l reasons.Memory of_text bytes h = bytes_of opb proof l of_text bytes
-untold opb proof limit l reasons.Unchecked of_text bytes h = record { log = l; of_text = of_text; bytes = bytes; why = h }

@@ -26,7 +26,6 @@ refusal fault = with_fault (codes "c refused") fault.line (problems.number_of fa
 abbrev pub reason_text : Unanswered → List ℕ
 reason_text reasons.Limit = codes "c limit\ns UNKNOWN\n"
 reason_text reasons.Memory = codes "c memory\ns UNKNOWN\n"
-reason_text reasons.Unchecked = codes "c unchecked\ns UNKNOWN\n"
 
 abbrev pub answer : Outcome → List ℕ
 answer (outcomes.Optimum accepted s) = solution_text (codes "s OPTIMUM FOUND\n") s

@@ -11,7 +11,7 @@ use Rattle.proof_steps.specs.declared.conclusion.Conclusion.TheVariants as concl
 use Rattle.proof_steps.specs.declared.conclusion.Lower.TheVariants as lowers
 use Rattle.proof_steps.specs.declared.conclusion.Upper.TheVariants as uppers
 use Rattle.checker.specs.Verdicts.{IsTrueOf, IsBadProblem}
-use Rattle.search.specs.Log.{Logbook, IsFalling, last_of}
+use Rattle.search.specs.Log.{Logbook, IsFalling, IsWorthLeast, last_of}
 use Rattle.search.specs.Solving.{IsBestSoFar, IsOpen, IsOptimum, IsSolvedByAny}
 use Rattle.pb_main.specs.declared.outcome.Outcome.{Outcome}
 use Rattle.pb_main.specs.declared.outcome.Outcome.TheVariants as outcomes
@@ -29,14 +29,6 @@ pub record IsSolutionOf (p : Opb) (s : NamedValues) : Type 0 where
   pub names : s.names ≡ p.names
   pub solution : IsSolution p s.values
   pub improved : AreImprovedTo p s.values s.improved
-
--- where there is an objective, the assignment is worth the least value that the log improved to
-abbrev pub IsWorthLeast : Logbook → List Bool → Type 0
-IsWorthLeast l values = MatchOption l.problem.objective ⊤ (λ _. l.state.least ≡ Some (worth_of l.problem values))
-
--- so is the best solution of the log, if it has one
-abbrev pub BestIsLeast : Logbook → Type 0
-BestIsLeast l = (values : List Bool) → IsBest l.problem l.state.logged (Some values) → IsWorthLeast l values
 
 -- The best solution of a log, and the values of the log's improving steps.
 pub record IsBestOf (l : Logbook) (s : NamedValues) : Type 0 where
@@ -86,17 +78,6 @@ pub record IsLeftOpen (opb proof : List ℕ) (limit : ℕ) : Type 0 where
   pub written : IsWritten log proof
   pub stopped : IsOpen limit log
 
--- Why what a search found cannot be checked: it stopped, and its best solution is not the last improving one.
-pub data IsUncheckable (limit : ℕ) (l : Logbook) : Type 0 where
-  outdone : IsBestSoFar limit l → (BestIsLeast l → ⊥) → IsUncheckable limit l
-
--- A log of which what was found cannot be checked. The bytes are the log's proof, or none.
-pub record IsUnchecked (opb proof : List ℕ) (limit : ℕ) : Type 0 where
-  pub log : Logbook
-  pub of_text : IsLogOf opb log
-  pub bytes : IsWrittenOrNone log proof
-  pub why : IsUncheckable limit log
-
 -- the faults of a text that is a problem of some other kind or size
 abbrev pub IsBeyond : OpbCode → Type 0
 IsBeyond codes.UnsupportedForm = ⊤
@@ -111,7 +92,6 @@ IsOutcomeOf opb proof limit (outcomes.Unsatisfiable accepted) = IsCheckedUnsat o
 IsOutcomeOf opb proof limit (outcomes.Satisfiable s) = IsMereSolution opb proof limit s
 IsOutcomeOf opb proof limit (outcomes.Unknown reasons.Limit) = IsLeftOpen opb proof limit
 IsOutcomeOf opb proof limit (outcomes.Unknown reasons.Memory) = IsProofOrNone opb proof
-IsOutcomeOf opb proof limit (outcomes.Unknown reasons.Unchecked) = IsUnchecked opb proof limit
 IsOutcomeOf opb proof limit (outcomes.Unsupported fault) = IsBadProblem opb fault × IsBeyond fault.code × (proof ≡ [])
 IsOutcomeOf opb proof limit (outcomes.NotOpb fault) =
     IsBadProblem opb fault × (IsBeyond fault.code → ⊥) × (proof ≡ [])

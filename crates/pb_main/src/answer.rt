@@ -63,7 +63,6 @@ fn unknown(alloc: Global, why: Unanswered) -> Result<Vec<u8>, AllocError>
     match why {
         Unanswered::Limit => Vec::from_slice(alloc, b"c limit\ns UNKNOWN\n"),
         Unanswered::Memory => Vec::from_slice(alloc, b"c memory\ns UNKNOWN\n"),
-        Unanswered::Unchecked => Vec::from_slice(alloc, b"c unchecked\ns UNKNOWN\n"),
     }
 }
 

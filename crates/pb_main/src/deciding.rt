@@ -136,7 +136,7 @@ fn concluded(alloc: Global, opb: &[u8], finding: Finding, proof: &[u8]) -> Outco
         (Finding::Unsatisfiable, Some(accepted)) => Outcome::Unsatisfiable { accepted },
         (Finding::Unsatisfiable, None) => Outcome::Unknown(Unanswered::Memory),
         (Finding::Open, _) => Outcome::Unknown(Unanswered::Limit),
-        (Finding::Untold(why), _) => Outcome::Unknown(why),
+        (Finding::Untold, _) => Outcome::Unknown(Unanswered::Memory),
     }
 }
 
@@ -150,6 +150,6 @@ fn unproved(finding: Finding) -> Outcome
         Finding::Satisfiable(solution) => Outcome::Satisfiable { solution },
         Finding::Unsatisfiable => Outcome::Unknown(Unanswered::Memory),
         Finding::Open => Outcome::Unknown(Unanswered::Memory),
-        Finding::Untold(why) => Outcome::Unknown(why),
+        Finding::Untold => Outcome::Unknown(Unanswered::Memory),
     }
 }

@@ -9,7 +9,6 @@ ghost use Rattle.pb_main.specs.Checked.{IsBorneOut};
 ghost use Rattle.pb_main.specs.Finding.{IsFindingOf};
 
 use super::best::{best_so_far, optimum};
-use super::outcome::Unanswered;
 use super::solution::Solution;
 use propagate::Propagator;
 use search::{Found, Log, Unfinished};
@@ -26,8 +25,8 @@ pub(crate) enum Finding {
     Unsatisfiable,
     /// Nothing so far, where the search stopped.
     Open,
-    /// A solution that is not handed out, for this reason.
-    Untold(Unanswered),
+    /// A solution, for a copy of which there is no memory.
+    Untold,
 }
 
 /// What was found, with the best solution of the log of it.

@@ -11,8 +11,6 @@ pub enum Unanswered {
     Limit,
     /// A growth was refused.
     Memory,
-    /// What was found could not be checked.
-    Unchecked,
 }
 
 /// The answer about a problem file.

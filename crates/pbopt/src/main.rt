@@ -26,7 +26,7 @@ const EXPLANATION: &str = "Standard output has the answer, in the competition's 
   s OPTIMUM FOUND   exit status 30: the `v` line has a best solution, worth the last `o` line
   s SATISFIABLE     10: the `v` line has a solution; with an objective, perhaps not the best
   s UNSATISFIABLE   20: there is no solution
-  s UNKNOWN         0: a `c` line says why: limit (of conflicts or of ids), memory, unchecked
+  s UNKNOWN         0: a `c` line says why: limit (of conflicts or of ids) or memory
   s UNSUPPORTED     0: a `c` line says what FILE has that is not supported
   c refused ..      2, and no `s` line: FILE is no problem in the format
 Before an optimum or that there is no solution is said, the proof of it is checked.

@@ -26,8 +26,8 @@ use Rattle.proof_rules.specs.Legal.{worth_of}
 use Rattle.proof_rules.specs.Preserved.{IsPreserved, AreNormal}
 use Rattle.proof_rules.specs.Shown.{absurdity}
 use Rattle.proof_rules.specs.Solution.{at_least}
-use Rattle.proof_rules.specs.State.{State, constraints}
-use Rattle.proof_rules.proofs.Preserving.{sol_preserves, sol_normal}
+use Rattle.proof_rules.specs.State.{State, constraints, IsOutside}
+use Rattle.proof_rules.proofs.Preserving.{outside_met, sol_preserves, sol_normal}
 use Rattle.proof_rules.proofs.ShownHolds.{shown_holds, absurdity_fails}
 
 less_or_not : (x y : ℤ) → (x <ℤ y) ⊎ (y ≤ℤ x)
@@ -45,10 +45,10 @@ none_improves p s a kept empty = by s.least kept.least
     by None h = tt
     by (Some least) h = absurd (omega (arith, h.2, ap length empty))
 
-exhausted : (p : Opb) (s : State) → IsPreserved p s → AreNormal s → IsExhausted s → IsUnsatisfiable p
-exhausted p s kept normal e a satisfies =
+exhausted : (p : Opb) (s : State) → IsPreserved p s → AreNormal s → IsOutside s → IsExhausted s → IsUnsatisfiable p
+exhausted p s kept normal outside e a satisfies =
     let b = kept.answer a satisfies (none_improves p s a kept e.unlogged) in
-    absurdity_fails b.0 (shown_holds (constraints s) absurdity normal tt e.shown b.0 b.1.meets)
+    absurdity_fails b.0 (shown_holds (constraints s) absurdity normal tt e.shown b.0 (outside_met p s a b.0 b.1 outside))
 
 bound_holds : (p : Opb) (objective : List Term) (n : NormalConstraint) (bound : ℤ) (b : Valuation) → p.objective ≡ Some objective
     → IsNormalOf (at_least objective bound) n → Holds b n → bound ≤ℤ value_of b p
@@ -60,14 +60,14 @@ bound_holds p objective n bound b minimises form holds =
 no_greater : (x y z : ℤ) → x ≤ℤ y → y ≤ℤ z → x ≤ℤ z
 no_greater x y z h k = omega (arith, ints, h, k)
 
-lower_bound : (p : Opb) (s : State) (objective : List Term) (bound : ℤ) (n : NormalConstraint) → IsPreserved p s → AreNormal s → p.objective ≡ Some objective
+lower_bound : (p : Opb) (s : State) (objective : List Term) (bound : ℤ) (n : NormalConstraint) → IsPreserved p s → AreNormal s → IsOutside s → p.objective ≡ Some objective
     → IsLowerBound s objective bound n → (a : Valuation) → Satisfies a p → bound ≤ℤ value_of a p
-lower_bound p s objective bound n kept normal minimises low a satisfies = by s.least low.below (λ below. shown below)
+lower_bound p s objective bound n kept normal outside minimises low a satisfies = by s.least low.below (λ below. shown below)
   where
     shown : IfSome s.least (λ least. value_of a p <ℤ least) → bound ≤ℤ value_of a p
     shown below =
         let b = kept.answer a satisfies below in
-        let holds = shown_holds (constraints s) n normal low.form.rises low.shown b.0 b.1.meets in
+        let holds = shown_holds (constraints s) n normal low.form.rises low.shown b.0 (outside_met p s a b.0 b.1 outside) in
         no_greater bound (value_of b.0 p) (value_of a p) (bound_holds p objective n bound b.0 minimises low.form holds) b.1.value
 
     by : (o : Option ℤ) → IfSome o (λ least. bound ≤ℤ least) → (IfSome o (λ least. value_of a p <ℤ least) → bound ≤ℤ value_of a p) → bound ≤ℤ value_of a p
@@ -77,10 +77,10 @@ lower_bound p s objective bound n kept normal minimises low a satisfies = by s.l
       | inr above ↦ no_greater bound least (value_of a p) low' above
     ]
 
-claims_lower : (p : Opb) (s : State) (objective : List Term) (lower : Lower) → IsPreserved p s → AreNormal s → p.objective ≡ Some objective → EntitlesLower s objective lower → ClaimsLower p lower
-claims_lower p s objective lowers.MinusInf kept normal minimises h = tt
-claims_lower p s objective (lowers.At bound) kept normal minimises (n, low) = lower_bound p s objective bound n kept normal minimises low
-claims_lower p s objective lowers.Inf kept normal minimises h = exhausted p s kept normal h
+claims_lower : (p : Opb) (s : State) (objective : List Term) (lower : Lower) → IsPreserved p s → AreNormal s → IsOutside s → p.objective ≡ Some objective → EntitlesLower s objective lower → ClaimsLower p lower
+claims_lower p s objective lowers.MinusInf kept normal outside minimises h = tt
+claims_lower p s objective (lowers.At bound) kept normal outside minimises (n, low) = lower_bound p s objective bound n kept normal outside minimises low
+claims_lower p s objective lowers.Inf kept normal outside minimises h = exhausted p s kept normal outside h
 
 -- the best solution is worth no more than any
 pub best_least : (p : Opb) (logged : List (List Bool)) (g : List Bool) → IsBest p logged (Some g) → All (λ h. worth_of p g ≤ℤ worth_of p h) logged
@@ -96,13 +96,13 @@ claims_upper p s (uppers.At bound) (Some best) (i, g, below, is, worth) b =
     no_greater (worth_of p best) (worth_of p g) bound (All-contains (λ h. worth_of p best ≤ℤ worth_of p h) s.logged g (best_least p s.logged best b) (i, below, is)) worth
 claims_upper p s uppers.Inf best h b = tt
 
-concludes : (p : Opb) (s : State) (c : Conclusion) (best : Option (List Bool)) → IsPreserved p s → AreNormal s → justified.Entitles p s c → IsBest p s.logged best → Concludes p c best
-concludes p s conclusions.Nothing best kept normal h b = tt
-concludes p s (conclusions.Sat hint) None kept normal h b = absurd (h b)
-concludes p s (conclusions.Sat hint) (Some g) kept normal h b = refl
-concludes p s conclusions.Unsat best kept normal h b = exhausted p s kept normal h
-concludes p s (conclusions.Bounds lower upper hint) best kept normal (objective, minimises, low, up) b =
-    (claims_lower p s objective lower kept normal minimises low, claims_upper p s upper best up b)
+concludes : (p : Opb) (s : State) (c : Conclusion) (best : Option (List Bool)) → IsPreserved p s → AreNormal s → IsOutside s → justified.Entitles p s c → IsBest p s.logged best → Concludes p c best
+concludes p s conclusions.Nothing best kept normal outside h b = tt
+concludes p s (conclusions.Sat hint) None kept normal outside h b = absurd (h b)
+concludes p s (conclusions.Sat hint) (Some g) kept normal outside h b = refl
+concludes p s conclusions.Unsat best kept normal outside h b = exhausted p s kept normal outside h
+concludes p s (conclusions.Bounds lower upper hint) best kept normal outside (objective, minimises, low, up) b =
+    (claims_lower p s objective lower kept normal outside minimises low, claims_upper p s upper best up b)
 
 best_solves : (p : Opb) (logged : List (List Bool)) (best : Option (List Bool)) → All (IsSolution p) logged → IsBest p logged best → IfSome best (IsSolution p)
 best_solves p logged None all b = tt
@@ -116,11 +116,12 @@ best_solves p logged (Some g) all (before, behind, is, less, no_more) =
     at_middle xs ys g = get_or-append_seam xs g ys g
 
 -- a hint is one more solution
-hint_preserves : (p : Opb) (s t : State) (hint : Option (List Lit)) → IsPreserved p s → AreNormal s → TakesHint p s hint t → IsPreserved p t × AreNormal t
-hint_preserves p s t None kept normal is = (subst (IsPreserved p) (sym is) kept, subst AreNormal (sym is) normal)
-hint_preserves p s t (Some assigned) kept normal legal = (sol_preserves p s t assigned kept legal, sol_normal p s t assigned normal legal)
+hint_preserves : (p : Opb) (s t : State) (hint : Option (List Lit)) → IsPreserved p s → AreNormal s → IsOutside s → TakesHint p s hint t → IsPreserved p t × AreNormal t × IsOutside t
+hint_preserves p s t None kept normal outside is = (subst (IsPreserved p) (sym is) kept, subst AreNormal (sym is) normal, subst IsOutside (sym is) outside)
+hint_preserves p s t (Some assigned) kept normal outside legal =
+    (sol_preserves p s t assigned kept outside legal, sol_normal p s t assigned normal legal, subst IsOutside (sym legal.2) outside)
 
 pub justified_claim : (p : Opb) (s : State) (c : Conclusion) (best : Option (List Bool)) → IsPreserved p s → AreNormal s → IsJustified p s c best → Claim p c best
-justified_claim p s c best kept normal (t, hint, holds, is_best) =
-    let k = hint_preserves p s t (hint_of c) kept normal hint in
-    record { solution = best_solves p t.logged best k.0.logged is_best; concludes = concludes p t c best k.0 k.1 holds is_best }
+justified_claim p s c best kept normal (outside, (t, hint, holds, is_best)) =
+    let k = hint_preserves p s t (hint_of c) kept normal outside hint in
+    record { solution = best_solves p t.logged best k.0.logged is_best; concludes = concludes p t c best k.0 k.1 k.2 holds is_best }

@@ -16,12 +16,13 @@ use Rattle.proof_steps.specs.declared.conclusion.Upper.TheVariants as uppers
 use Rattle.proof_rules.specs.declared.fault.StepFault.{StepFault}
 use Rattle.proof_rules.specs.declared.fault.StepFault.TheVariants as faults
 use Rattle.proof_rules.specs.Fault as judging
-use Rattle.proof_rules.specs.Fault.{IsUnsatFault, IsBoundFault, IsLowerFault, IsBoundsFault, IsSatFault, IsHintFault, IsConclusionFault}
-use Rattle.proof_rules.specs.Justified.{IsExhausted, IsLowerBound, EntitlesLower, EntitlesUpper, TakesHint, IsBest, IsJustified}
+use Rattle.proof_rules.specs.Fault.{IsUnsatFault, IsBoundFault, IsLowerFault, IsBoundsFault, IsSatFault, IsHintFault, IsUnjustified, IsConclusionFault}
+use Rattle.proof_rules.specs.Justified.{IsExhausted, IsLowerBound, EntitlesLower, EntitlesUpper, TakesHint, IsBest, IsEarned, IsJustified}
 use Rattle.proof_rules.specs.Legal.{with_solution, worth_of}
 use Rattle.proof_rules.specs.Shown.{IsShown, absurdity}
 use Rattle.proof_rules.specs.Solution.{at_least}
 use Rattle.proof_rules.specs.State.{State, constraints}
+use Rattle.proof_rules.proofs.BlocksJudged.{outside_judged}
 use Rattle.proof_rules.proofs.Concluding.{best_least}
 use Rattle.proof_rules.proofs.Deciding.{Decided, less_or_not, int_le_decided, any_decided}
 use Rattle.proof_rules.proofs.ShownOrNot.{shown_decided, fits_decided}
@@ -151,17 +152,17 @@ one_hint p s (Some assigned) t u (g, logs, is) (h, also, same) = is ∙ ap (λ b
 behind_hint : (p : Opb) (s t : State) (hint : Option (List Lit)) (condition : State → Type 0) → TakesHint p s hint t → condition t → judging.IsBehindHint p s hint condition
 behind_hint p s t hint condition takes h = ((t, takes), λ u also. subst condition (one_hint p s hint t u takes also) h)
 
-abbrev ConclusionJudged : Opb → State → Conclusion → Type 0
-ConclusionJudged p s c = Or ((best : Option (List Bool)) × IsJustified p s c best) (IsConclusionFault p s c)
+abbrev EarnedJudged : Opb → State → Conclusion → Type 0
+EarnedJudged p s c = Or ((best : Option (List Bool)) × IsEarned p s c best) (IsUnjustified p s c)
 
-sat_from : (p : Opb) (s : State) (hint : Option (List Lit)) → HintJudged p s hint → ConclusionJudged p s (conclusions.Sat hint)
+sat_from : (p : Opb) (s : State) (hint : Option (List Lit)) → HintJudged p s hint → EarnedJudged p s (conclusions.Sat hint)
 sat_from p s hint (inr (f, fault)) = inr (f, inl fault)
-sat_from p s hint (inl (t, takes)) = elim (sat_judged t) as (λ _. ConclusionJudged p s (conclusions.Sat hint)) [
+sat_from p s hint (inl (t, takes)) = elim (sat_judged t) as (λ _. EarnedJudged p s (conclusions.Sat hint)) [
   | inl some ↦ let best = best_exists p t.logged in inl (best.0, (t, takes, some, best.1))
   | inr (f, fault) ↦ inr (f, inr (behind_hint p s t hint (λ u. IsSatFault u f) takes fault))
 ]
 
-unsat_from : (p : Opb) (s : State) → Or (IsExhausted s) (IsUnsatFault s) → ConclusionJudged p s conclusions.Unsat
+unsat_from : (p : Opb) (s : State) → Or (IsExhausted s) (IsUnsatFault s) → EarnedJudged p s conclusions.Unsat
 unsat_from p s (inl exhausted) = let best = best_exists p s.logged in inl (best.0, (s, refl, exhausted, best.1))
 unsat_from p s (inr fault) = inr fault
 
@@ -187,30 +188,62 @@ never_behind p s objective lower upper hint (inl h) = no_hint_fault p s hint h
 never_behind p s objective lower upper hint (inr ((t, takes), h)) = no_bounds_fault p t objective lower upper (h t takes)
 
 pub bounds_fault : (p : Opb) (s : State) (objective : List Term) (lower : Lower) (upper : Upper) (hint : Option (List Lit)) (f : StepFault) → p.objective ≡ Some objective
-    → BehindObjective p s objective lower upper hint f → IsConclusionFault p s (conclusions.Bounds lower upper hint) f
+    → BehindObjective p s objective lower upper hint f → IsUnjustified p s (conclusions.Bounds lower upper hint) f
 bounds_fault p s objective lower upper hint faults.NoObjective is h = absurd (never_behind p s objective lower upper hint h)
 bounds_fault p s objective lower upper hint _ is h = (objective, is, h)
 
 hinted_bounds : (p : Opb) (s : State) (objective : List Term) (lower : Lower) (upper : Upper) (hint : Option (List Lit)) → p.objective ≡ Some objective
-    → HintJudged p s hint → ConclusionJudged p s (conclusions.Bounds lower upper hint)
+    → HintJudged p s hint → EarnedJudged p s (conclusions.Bounds lower upper hint)
 hinted_bounds p s objective lower upper hint is (inr (f, fault)) = inr (f, bounds_fault p s objective lower upper hint f is (inl fault))
 hinted_bounds p s objective lower upper hint is (inl (t, takes)) =
-    elim (bounds_judged p t objective lower upper) as (λ _. ConclusionJudged p s (conclusions.Bounds lower upper hint)) [
+    elim (bounds_judged p t objective lower upper) as (λ _. EarnedJudged p s (conclusions.Bounds lower upper hint)) [
       | inl (low, up) ↦ let best = best_exists p t.logged in inl (best.0, (t, takes, (objective, is, low, up), best.1))
       | inr (f, fault) ↦
           inr (f, bounds_fault p s objective lower upper hint f is (inr (behind_hint p s t hint (λ u. IsBoundsFault p u objective lower upper f) takes fault)))
     ]
 
 with_objective : (p : Opb) (s : State) (lower : Lower) (upper : Upper) (hint : Option (List Lit)) (o : Option (List Term)) → p.objective ≡ o
-    → ConclusionJudged p s (conclusions.Bounds lower upper hint)
+    → EarnedJudged p s (conclusions.Bounds lower upper hint)
 with_objective p s lower upper hint None is = inr (faults.NoObjective, is)
 with_objective p s lower upper hint (Some objective) is = hinted_bounds p s objective lower upper hint is (hint_judged p s hint)
 
-pub conclusion_judged : (p : Opb) (s : State) (c : Conclusion) → ConclusionJudged p s c
-conclusion_judged p s conclusions.Nothing = let best = best_exists p s.logged in inl (best.0, (s, refl, tt, best.1))
-conclusion_judged p s (conclusions.Sat hint) = sat_from p s hint (hint_judged p s hint)
-conclusion_judged p s conclusions.Unsat = unsat_from p s (exhausted_judged s)
-conclusion_judged p s (conclusions.Bounds lower upper hint) = with_objective p s lower upper hint p.objective refl
+earned_judged : (p : Opb) (s : State) (c : Conclusion) → EarnedJudged p s c
+earned_judged p s conclusions.Nothing = let best = best_exists p s.logged in inl (best.0, (s, refl, tt, best.1))
+earned_judged p s (conclusions.Sat hint) = sat_from p s hint (hint_judged p s hint)
+earned_judged p s conclusions.Unsat = unsat_from p s (exhausted_judged s)
+earned_judged p s (conclusions.Bounds lower upper hint) = with_objective p s lower upper hint p.objective refl
+
+-- only what stands outside blocks may be concluded
+
+no_sat_fault : (p : Opb) (s : State) (hint : Option (List Lit)) → IsHintFault p s hint faults.BlockOpen ⊎ judging.IsBehindHint p s hint (λ t. IsSatFault t faults.BlockOpen) → ⊥
+no_sat_fault p s None (inl h) = h
+no_sat_fault p s (Some assigned) (inl h) = h
+no_sat_fault p s hint (inr ((t, takes), h)) = h t takes
+
+not_behind : (p : Opb) (s : State) (objective : List Term) (lower : Lower) (upper : Upper) (hint : Option (List Lit)) → BehindObjective p s objective lower upper hint faults.BlockOpen → ⊥
+not_behind p s objective lower upper None (inl h) = h
+not_behind p s objective lower upper (Some assigned) (inl h) = h
+not_behind p s objective lower upper hint (inr ((t, takes), h)) = by lower (h t takes)
+  where
+    by : (l : Lower) → IsBoundsFault p t objective l upper faults.BlockOpen → ⊥
+    by lowers.MinusInf (inl i) = i
+    by (lowers.At bound) (inl i) = i
+    by lowers.Inf (inl i) = i
+    by l (inr i) = i.1
+
+pub no_block_fault : (p : Opb) (s : State) (c : Conclusion) → IsUnjustified p s c faults.BlockOpen → ⊥
+no_block_fault p s conclusions.Nothing h = h
+no_block_fault p s (conclusions.Sat hint) h = no_sat_fault p s hint h
+no_block_fault p s conclusions.Unsat h = h
+no_block_fault p s (conclusions.Bounds lower upper hint) (objective, is, h) = not_behind p s objective lower upper hint h
+
+pub conclusion_judged : (p : Opb) (s : State) (c : Conclusion) → Or ((best : Option (List Bool)) × IsJustified p s c best) (IsConclusionFault p s c)
+conclusion_judged p s c =
+    elim (outside_judged s ((best : Option (List Bool)) × IsEarned p s c best) (IsUnjustified p s c) (no_block_fault p s c) (earned_judged p s c)) as
+    (λ _. Or ((best : Option (List Bool)) × IsJustified p s c best) (IsConclusionFault p s c)) [
+      | inl (outside, (best, earned)) ↦ inl (best, (outside, earned))
+      | inr fault ↦ inr fault
+    ]
 
 -- without a fault it is justified
 pub faultless_justified : (p : Opb) (s : State) (c : Conclusion) → ((f : StepFault) → IsConclusionFault p s c f → ⊥) → (best : Option (List Bool)) × IsJustified p s c best

@@ -18,8 +18,8 @@ use Rattle.normal_form.proofs.SmallSizes.{size_sum_small}
 use Rattle.proof_rules.specs.Claim.{IsSolution}
 use Rattle.proof_rules.specs.Forms.{AreFormsAs, AreFormsOf, AreFormsOfAll, AddsForms, ids_as, problem_ids}
 use Rattle.proof_rules.specs.Preserved.{IsPreserved, AreNormal}
-use Rattle.proof_rules.specs.State.{State, IsStart}
-use Rattle.proof_rules.proofs.LiveConstraints.{All-numbered}
+use Rattle.proof_rules.specs.State.{State, state_of, IsStart}
+use Rattle.proof_rules.proofs.LiveConstraints.{All-get, All-numbered, listed_within}
 
 -- a constraint of a file is small enough for its normal form
 pub constraint_small : (n : ℕ) (c : Signed) → IsConstraintWithin n c → size_sum c.terms + unsigned_abs c.right ≤ largest_sum
@@ -92,9 +92,13 @@ all_rise (c ∷ cs) ns (here, rest, is, form, forms) =
 -- the state of a file has an answer for its problem: the assignment itself
 pub start_preserved : (p : Opb) (s : State) → IsStart p s → IsPreserved p s
 start_preserved p s (ns, forms, is) = subst (IsPreserved p) (sym is) (record {
-  answer = λ a satisfies below. (a, record { meets = All-numbered (Holds a) 1 ns (all_hold a p.constraints ns forms satisfies); value = omega (arith, ints) });
+  answer = λ a satisfies below.
+      let all = All-numbered (Holds a) 1 ns (all_hold a p.constraints ns forms satisfies) in
+      (a, record { meets = λ id n there early. All-get (Holds a) (state_of ns).live id n all there; value = omega (arith, ints) });
   logged = All-nil (IsSolution p);
   least = tt;
+  given = λ id n there. omega (arith, (listed_within ns id n there).1);
+  block = tt;
 })
 
 pub start_normal : (p : Opb) (s : State) → IsStart p s → AreNormal s

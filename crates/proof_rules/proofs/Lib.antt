@@ -1,3 +1,6 @@
+pub mod BlockSteps
+pub mod Blocks
+pub mod BlocksJudged
 pub mod Completing
 pub mod Concluding
 pub mod ConclusionJudged
@@ -24,6 +27,7 @@ pub mod ShownHolds
 pub mod ShownOrNot
 pub mod ShownBySearch
 pub mod SmallStates
+pub mod SmallBlocks
 pub mod SmallConstraints
 pub mod SolJudged
 pub mod StepJudged

@@ -1,16 +1,17 @@
 -- What holds of each live constraint, through changes of the map.
-use Rattle.std.proofs.Common.{◌≡◌, ℕ, ◌+◌, ◌<◌, Bool, true, false, cond, ◌&&◌, T, Ordering, Option, Some, None, ◌⊎◌, inl, inr, ◌==◌, nat_lt, List, [], ◌∷◌, map, All, Any, refl, sym, ap, subst, ◌∙◌, arith}
+use Rattle.std.proofs.Common.{◌≡◌, ℕ, ◌+◌, ◌<◌, ◌≤◌, length, Bool, true, false, cond, ◌&&◌, T, Ordering, Option, Some, None, ◌⊎◌, inl, inr, ◌==◌, nat_lt, List, [], ◌∷◌, map, All, Any, refl, sym, ap, subst, ◌∙◌, arith}
 use Rattle.std.specs.declared.cmp.Ordering.TheVariants.{Less, Equal, Greater}
 use Rattle.std.specs.Ordering.{nat_cmp, eq_by_cmp, is_lt, is_eq}
 use Rattle.std.specs.FinMap as fin
 use Rattle.std.specs.FinMap.Entries.{below_all}
 use Rattle.std.proofs.lemmas.Bool.{false≢true, ltb-true}
+use Rattle.std.proofs.lemmas.Bool.Decides.{nat_tests}
 use Rattle.std.proofs.lemmas.Cmp.{nat_cmp_total}
 use Rattle.std.specs.Cmp.{tied_itself}
 use Rattle.std.proofs.lemmas.List.Elements.{All-nil, All-cons, All-head, All-tail}
 use Rattle.propagate.proofs.AnyOf.{any_here, any_there, any_split, any_none}
 use Rattle.normal_form.specs.Normal.{NormalConstraint}
-use Rattle.proof_rules.specs.State.{Live, numbered}
+use Rattle.proof_rules.specs.State.{Live, numbered, state_of, up_to}
 use Rattle.proof_rules.proofs.Deciding.{Decided}
 
 abbrev Entries : Type 0
@@ -19,7 +20,7 @@ Entries = List (ℕ × NormalConstraint)
 abbrev values : Entries → List NormalConstraint
 values = map (λ e. e.1)
 
-found_here : (P : NormalConstraint → Type 0) (b : Bool) (x n : NormalConstraint) (rest : Option NormalConstraint)
+pub found_here : (P : NormalConstraint → Type 0) (b : Bool) (x n : NormalConstraint) (rest : Option NormalConstraint)
     → P x → (rest ≡ Some n → P n) → cond b (Some x) rest ≡ Some n → P n
 found_here P true x n rest here there is = let same : x ≡ n = cc in subst P same here
 found_here P false x n rest here there is = there is
@@ -96,11 +97,56 @@ none_or : (P : NormalConstraint → Type 0) (b : Bool) (m : NormalConstraint) (r
 none_or P true m rest there is = absurd (cc)
 none_or P false m rest there is = there is
 
+pub found_left : (live : Live) (gone id : ℕ) (n : NormalConstraint) → fin.get (fin.remove live gone) id ≡ Some n → fin.get live id ≡ Some n
+found_left live gone id n is = by (eq_by_cmp nat_cmp id gone) (fin.get live id) (sym (fin.get-remove nat_cmp_total live gone id) ∙ is)
+  where
+    by : (b : Bool) (o : Option NormalConstraint) → cond b None o ≡ Some n → o ≡ Some n
+    by true o h = absurd (cc)
+    by false o h = h
+
 -- fewer live constraints
 pub All-remove : (P : NormalConstraint → Type 0) (live : Live) (k : ℕ) → All P (fin.values live) → All P (fin.values (fin.remove live k))
 All-remove P live k all =
     All-from_get P (fin.remove live k) (λ q m is.
     none_or P (eq_by_cmp nat_cmp q k) m (fin.get live q) (All-get P live q m all) (sym (fin.get-remove nat_cmp_total live k q) ∙ is))
+
+-- the constraints under ids below a number
+tested : (b : Bool) (o : Option NormalConstraint) (n : NormalConstraint) → cond b o None ≡ Some n → (b ≡ true) × (o ≡ Some n)
+tested true o n is = (refl, is)
+tested false o n is = absurd (cc)
+
+pub get_up_to : (live : Live) (end id : ℕ) → fin.get (up_to end live) id ≡ cond (nat_lt id end) (fin.get live id) None
+get_up_to live end id = fin.get-retain_keys live (λ k. nat_lt k end) id (λ k tied. ap (λ q. nat_lt q end) (sym (fin.nat_cmp-IsAntisymmetric id k tied)))
+
+pub within_up_to : (live : Live) (end id : ℕ) (n : NormalConstraint) → fin.get (up_to end live) id ≡ Some n → (id < end) × (fin.get live id ≡ Some n)
+within_up_to live end id n is =
+    let h = tested (nat_lt id end) (fin.get live id) n (sym (get_up_to live end id) ∙ is) in
+    (ltb-true id end h.0, h.1)
+
+pub found_up_to : (live : Live) (end id : ℕ) (n : NormalConstraint) → id < end → fin.get live id ≡ Some n → fin.get (up_to end live) id ≡ Some n
+found_up_to live end id n less is = get_up_to live end id ∙ by (nat_lt id end) refl
+  where
+    by : (b : Bool) → nat_lt id end ≡ b → cond b (fin.get live id) None ≡ Some n
+    by true h = is
+    by false h = absurd (grind (arith, nat_tests, h, less))
+
+pub All-up_to : (P : NormalConstraint → Type 0) (live : Live) (end : ℕ) → All P (fin.values live) → All P (fin.values (up_to end live))
+All-up_to P live end all = All-from_get P (up_to end live) (λ q m is. All-get P live q m all (within_up_to live end q m is).1)
+
+-- what is found among numbered constraints stands within their numbers
+found_by : (id q : ℕ) (n m : NormalConstraint) (ns : List NormalConstraint) (b : Bool) → eq_by_cmp nat_cmp q id ≡ b
+    → (fin.find nat_cmp q (numbered (id + 1) ns) ≡ Some m → (id + 1 ≤ q) × (q < (id + 1) + length ns))
+    → cond b (Some n) (fin.find nat_cmp q (numbered (id + 1) ns)) ≡ Some m → (id ≤ q) × (q < id + length (n ∷ ns))
+found_by id q n m ns true key later is = let same : q ≡ id = key_of q id key in (omega (arith, same), omega (arith, same))
+found_by id q n m ns false key later is = let h = later is in (omega (arith, h.0), omega (arith, h.1))
+
+found_within : (id q : ℕ) (m : NormalConstraint) (ns : List NormalConstraint) → fin.find nat_cmp q (numbered id ns) ≡ Some m → (id ≤ q) × (q < id + length ns)
+found_within id q m [] is = absurd (cc)
+found_within id q m (n ∷ ns) is = found_by id q n m ns (eq_by_cmp nat_cmp q id) refl (found_within (id + 1) q m ns) is
+
+-- and those of the state of a list within 1 and their count
+pub listed_within : (ns : List NormalConstraint) (id : ℕ) (n : NormalConstraint) → fin.get (state_of ns).live id ≡ Some n → (1 ≤ id) × (id < 1 + length ns)
+listed_within ns id n is = found_within 1 id n ns (sym (fin.get-from_entries nat_cmp_total (numbered 1 ns) id) ∙ is)
 
 values_numbered : (id : ℕ) (ns : List NormalConstraint) → values (numbered id ns) ≡ ns
 values_numbered id [] = refl
@@ -139,47 +185,90 @@ found_above q (e ∷ es) k d below is =
       | inr later ↦ found_above q es k d parts.1 later
     ]
 
--- something fails of the constraint of an id, and holds of those of all ids before
-abbrev FirstOpen : (NormalConstraint → Type 0) → (ℕ → Option NormalConstraint) → Type 0
-FirstOpen P found =
-    (id : ℕ) × (e : NormalConstraint) × (found id ≡ Some e) × (P e → ⊥) × ((k : ℕ) (d : NormalConstraint) → k < id → found k ≡ Some d → P d)
+-- what is asked of a constraint and its id holds of all, or fails of one and holds of those of all ids before
+abbrev HoldsOfEach : (ℕ → NormalConstraint → Type 0) → (ℕ → Option NormalConstraint) → Type 0
+HoldsOfEach Q found = (id : ℕ) (e : NormalConstraint) → found id ≡ Some e → Q id e
 
-open_here : (P : NormalConstraint → Type 0) (e : ℕ × NormalConstraint) (es : Entries) → T (below_all nat_cmp e.0 es) → (P e.1 → ⊥) → FirstOpen P (λ k. fin.find nat_cmp k (e ∷ es))
-open_here P e es below not = (e.0, e.1, found_first e es, not, before)
+abbrev FirstFailing : (ℕ → NormalConstraint → Type 0) → (ℕ → Option NormalConstraint) → Type 0
+FirstFailing Q found =
+    (id : ℕ) × (e : NormalConstraint) × (found id ≡ Some e) × (Q id e → ⊥) × ((k : ℕ) (d : NormalConstraint) → k < id → found k ≡ Some d → Q k d)
+
+fails_here : (Q : ℕ → NormalConstraint → Type 0) (e : ℕ × NormalConstraint) (es : Entries) → T (below_all nat_cmp e.0 es) → (Q e.0 e.1 → ⊥) → FirstFailing Q (λ k. fin.find nat_cmp k (e ∷ es))
+fails_here Q e es below not = (e.0, e.1, found_first e es, not, before)
   where
-    before : (k : ℕ) (d : NormalConstraint) → k < e.0 → fin.find nat_cmp k (e ∷ es) ≡ Some d → P d
-    before k d less is = elim (key_found e es k d (eq_by_cmp nat_cmp k e.0) refl is) as (λ _. P d) [
+    before : (k : ℕ) (d : NormalConstraint) → k < e.0 → fin.find nat_cmp k (e ∷ es) ≡ Some d → Q k d
+    before k d less is = elim (key_found e es k d (eq_by_cmp nat_cmp k e.0) refl is) as (λ _. Q k d) [
       | inl same ↦ absurd (omega (arith, less, same.0))
       | inr later ↦ absurd (omega (arith, less, found_above e.0 es k d below later))
     ]
 
-open_later : (P : NormalConstraint → Type 0) (e : ℕ × NormalConstraint) (es : Entries) → T (below_all nat_cmp e.0 es) → P e.1 → FirstOpen P (λ k. fin.find nat_cmp k es) → FirstOpen P (λ k. fin.find nat_cmp k (e ∷ es))
-open_later P e es below here (id, x, is, not, before) = (id, x, found_later e es id x below is, not, earlier)
+holds_by_key : (Q : ℕ → NormalConstraint → Type 0) (e : ℕ × NormalConstraint) (k : ℕ) (d : NormalConstraint) → Q e.0 e.1 → (k ≡ e.0) × (d ≡ e.1) → Q k d
+holds_by_key Q e k d here same = subst (λ z. Q z d) (sym same.0) (subst (Q e.0) (sym same.1) here)
+
+fails_later : (Q : ℕ → NormalConstraint → Type 0) (e : ℕ × NormalConstraint) (es : Entries) → T (below_all nat_cmp e.0 es) → Q e.0 e.1 → FirstFailing Q (λ k. fin.find nat_cmp k es)
+    → FirstFailing Q (λ k. fin.find nat_cmp k (e ∷ es))
+fails_later Q e es below here (id, x, is, not, before) = (id, x, found_later e es id x below is, not, earlier)
   where
-    earlier : (k : ℕ) (d : NormalConstraint) → k < id → fin.find nat_cmp k (e ∷ es) ≡ Some d → P d
-    earlier k d less found = elim (key_found e es k d (eq_by_cmp nat_cmp k e.0) refl found) as (λ _. P d) [
-      | inl same ↦ subst P (sym same.1) here
+    earlier : (k : ℕ) (d : NormalConstraint) → k < id → fin.find nat_cmp k (e ∷ es) ≡ Some d → Q k d
+    earlier k d less found = elim (key_found e es k d (eq_by_cmp nat_cmp k e.0) refl found) as (λ _. Q k d) [
+      | inl same ↦ holds_by_key Q e k d here same
       | inr later ↦ before k d less later
     ]
 
-all_or_open : (P : NormalConstraint → Type 0) → ((n : NormalConstraint) → Decided (P n)) → (es : Entries) → T (fin.is_sorted nat_cmp es) → All P (values es) ⊎ FirstOpen P (λ k. fin.find nat_cmp k es)
-all_or_open P d [] sorted = inl (All-nil P)
-all_or_open P d (e ∷ es) sorted =
+holds_with : (Q : ℕ → NormalConstraint → Type 0) (e : ℕ × NormalConstraint) (es : Entries) → Q e.0 e.1 → HoldsOfEach Q (λ k. fin.find nat_cmp k es) → HoldsOfEach Q (λ k. fin.find nat_cmp k (e ∷ es))
+holds_with Q e es here all k d is = elim (key_found e es k d (eq_by_cmp nat_cmp k e.0) refl is) as (λ _. Q k d) [
+  | inl same ↦ holds_by_key Q e k d here same
+  | inr later ↦ all k d later
+]
+
+each_or_failing : (Q : ℕ → NormalConstraint → Type 0) → ((id : ℕ) (n : NormalConstraint) → Decided (Q id n)) → (es : Entries) → T (fin.is_sorted nat_cmp es)
+    → HoldsOfEach Q (λ k. fin.find nat_cmp k es) ⊎ FirstFailing Q (λ k. fin.find nat_cmp k es)
+each_or_failing Q d [] sorted = inl (λ k n is. absurd (cc))
+each_or_failing Q d (e ∷ es) sorted =
     let s = both (below_all nat_cmp e.0 es) (fin.is_sorted nat_cmp es) sorted in
-    elim (d e.1) as (λ _. All P (values (e ∷ es)) ⊎ FirstOpen P (λ k. fin.find nat_cmp k (e ∷ es))) [
-      | inr not ↦ inr (open_here P e es s.0 not)
-      | inl here ↦ elim (all_or_open P d es s.1) as (λ _. All P (values (e ∷ es)) ⊎ FirstOpen P (λ k. fin.find nat_cmp k (e ∷ es))) [
-        | inl all ↦ inl (All-cons P e.1 (values es) here all)
-        | inr first ↦ inr (open_later P e es s.0 here first)
+    elim (d e.0 e.1) as (λ _. HoldsOfEach Q (λ k. fin.find nat_cmp k (e ∷ es)) ⊎ FirstFailing Q (λ k. fin.find nat_cmp k (e ∷ es))) [
+      | inr not ↦ inr (fails_here Q e es s.0 not)
+      | inl here ↦ elim (each_or_failing Q d es s.1) as (λ _. HoldsOfEach Q (λ k. fin.find nat_cmp k (e ∷ es)) ⊎ FirstFailing Q (λ k. fin.find nat_cmp k (e ∷ es))) [
+        | inl all ↦ inl (holds_with Q e es here all)
+        | inr first ↦ inr (fails_later Q e es s.0 here first)
       ]
     ]
 
--- what is decided of each constraint holds of all live ones, or there is a first id where it does not
-pub All-or_open : (P : NormalConstraint → Type 0) → ((n : NormalConstraint) → Decided (P n)) → (live : Live) → All P (fin.values live) ⊎ FirstOpen P (fin.get live)
-All-or_open P d live = elim (all_or_open P d (fin.entries live) (fin.entries_sorted live)) as (λ _. All P (fin.values live) ⊎ FirstOpen P (fin.get live)) [
-  | inl all ↦ inl all
-  | inr (id, e, is, not, before) ↦ inr (id, e, fin.get-entries live id ∙ is, not, λ k d less found. before k d less (sym (fin.get-entries live k) ∙ found))
+-- what is decided of each constraint and its id holds of all live ones, or there is a first id where it does not
+pub each_or_first : (Q : ℕ → NormalConstraint → Type 0) → ((id : ℕ) (n : NormalConstraint) → Decided (Q id n)) → (live : Live) → HoldsOfEach Q (fin.get live) ⊎ FirstFailing Q (fin.get live)
+each_or_first Q d live = elim (each_or_failing Q d (fin.entries live) (fin.entries_sorted live)) as (λ _. HoldsOfEach Q (fin.get live) ⊎ FirstFailing Q (fin.get live)) [
+  | inl all ↦ inl (λ k n found. all k n (sym (fin.get-entries live k) ∙ found))
+  | inr (id, e, is, not, before) ↦ inr (id, e, fin.get-entries live id ∙ is, not, λ k n less found. before k n less (sym (fin.get-entries live k) ∙ found))
 ]
+
+pub All-or_open : (P : NormalConstraint → Type 0) → ((n : NormalConstraint) → Decided (P n)) → (live : Live) → All P (fin.values live) ⊎ FirstFailing (λ _ n. P n) (fin.get live)
+All-or_open P d live = elim (each_or_first (λ _ n. P n) (λ _ n. d n) live) as (λ _. All P (fin.values live) ⊎ FirstFailing (λ _ n. P n) (fin.get live)) [
+  | inl all ↦ inl (All-from_get P live all)
+  | inr first ↦ inr first
+]
+
+-- of those constraints that are asked for by their ids
+asked_decided : (A P : Type 0) → Decided A → Decided P → Decided (A → P)
+asked_decided A P (inr not) d = inl (λ a. absurd (not a))
+asked_decided A P (inl a) (inl p) = inl (λ _. p)
+asked_decided A P (inl a) (inr not) = inr (λ h. not (h a))
+
+fails_asked : (A P : Type 0) → Decided A → ((A → P) → ⊥) → A × (P → ⊥)
+fails_asked A P (inl a) not = (a, λ p. not (λ _. p))
+fails_asked A P (inr none) not = absurd (not (λ a. absurd (none a)))
+
+pub First_open_or_all : (A : ℕ → Type 0) (P : NormalConstraint → Type 0) → ((id : ℕ) → Decided (A id)) → ((n : NormalConstraint) → Decided (P n)) → (live : Live)
+    → ((id : ℕ) (e : NormalConstraint) → A id → fin.get live id ≡ Some e → P e)
+    ⊎ ((id : ℕ) × (e : NormalConstraint) × A id × (fin.get live id ≡ Some e) × (P e → ⊥) × ((j : ℕ) (d : NormalConstraint) → j < id → A j → fin.get live j ≡ Some d → P d))
+First_open_or_all A P a d live = by (each_or_first (λ id n. A id → P n) (λ id n. asked_decided (A id) (P n) (a id) (d n)) live)
+  where
+    by : HoldsOfEach (λ id n. A id → P n) (fin.get live) ⊎ FirstFailing (λ id n. A id → P n) (fin.get live)
+        → ((id : ℕ) (e : NormalConstraint) → A id → fin.get live id ≡ Some e → P e)
+        ⊎ ((id : ℕ) × (e : NormalConstraint) × A id × (fin.get live id ≡ Some e) × (P e → ⊥) × ((j : ℕ) (d : NormalConstraint) → j < id → A j → fin.get live j ≡ Some d → P d))
+    by (inl all) = inl (λ id e asked is. all id e is asked)
+    by (inr (id, e, is, not, before)) =
+        let h = fails_asked (A id) (P e) (a id) not in
+        inr (id, e, h.0, is, h.1, λ j x less asked found. before j x less found asked)
 
 -- what holds of the constraint of some id holds of some live one
 any_by : (P : NormalConstraint → Type 0) (b : Bool) (e n : NormalConstraint) (es : Entries) (rest : Option NormalConstraint) → P n → (rest ≡ Some n → Any P (values es))

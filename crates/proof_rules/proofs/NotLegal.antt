@@ -2,16 +2,17 @@
 use Rattle.std.proofs.Common.{◌≡◌, ◌≢◌, ℕ, ℤ, ◌<ℤ◌, ◌≤ℤ◌, ◌⊎◌, inl, inr, Bool, List, [], ◌∷◌, ◌++◌, Option, Some, None, All, IfSome, IsSome, length, refl, sym, subst, ◌∙◌, arith}
 use Rattle.std.proofs.lemmas.Bool.{false≢true}
 use Rattle.std.proofs.lemmas.Int.{ints}
-use Rattle.std.specs.FinMap as fin
 use Rattle.linear.specs.declared.constraint.Signed.{Signed}
 use Rattle.linear.specs.declared.term.Lit.{Lit}
 use Rattle.linear.specs.declared.term.Term.{Term}
 use Rattle.linear.specs.Opb.{Opb}
-use Rattle.normal_form.specs.Normal.{NormalConstraint}
+use Rattle.normal_form.specs.Normal.{NormalConstraint, Fits, Rises}
 use Rattle.normal_form.specs.Negation.{IsNegation}
 use Rattle.normal_form.proofs.NormalForm.{one_form}
 use Rattle.normal_form.proofs.Negations.{one_negation}
 use Rattle.substitution.specs.Images.{Images}
+use Rattle.substitution.specs.Under.{substituted, IsUnder}
+use Rattle.substitution.specs.Objective.{not_raised, IsObjectiveGoal}
 use Rattle.proof_steps.specs.declared.conclusion.Conclusion.{Conclusion}
 use Rattle.proof_steps.specs.declared.conclusion.Lower.{Lower}
 use Rattle.proof_steps.specs.declared.conclusion.Upper.{Upper}
@@ -19,17 +20,21 @@ use Rattle.proof_steps.specs.declared.conclusion.Conclusion.TheVariants as concl
 use Rattle.proof_steps.specs.declared.conclusion.Lower.TheVariants as lowers
 use Rattle.proof_rules.specs.declared.fault.StepFault.{StepFault}
 use Rattle.proof_rules.specs.declared.fault.StepFault.TheVariants as faults
+use Rattle.proof_steps.specs.declared.step.GoalName.{GoalName}
+use Rattle.proof_steps.specs.declared.step.GoalName.TheVariants as names
 use Rattle.proof_steps.specs.declared.step.Item.{Item}
 use Rattle.proof_steps.specs.declared.step.Step.{Step}
 use Rattle.proof_steps.specs.declared.step.Step.TheVariants as steps
 use Rattle.proof_rules.specs.Fault as judging
-use Rattle.proof_rules.specs.Fault.{IsPolFault, IsAdmissionFault, IsRupFault, IsGoalFault, IsRedFault, IsSolFault, IsSoliFault, IsDelFault, IsStepFault, IsUnsatFault, IsBoundFault, IsLowerFault, IsUpperFault, IsBoundsFault, IsSatFault, IsHintFault, IsConclusionFault}
+use Rattle.proof_rules.specs.Fault.{IsPolFault, IsAdmissionFault, IsRupFault, IsGoalFault, IsRedFault, IsSolFault, IsSoliFault, IsDelFault, IsStepFault, IsUnsatFault, IsBoundFault, IsLowerFault, IsUpperFault, IsBoundsFault, IsSatFault, IsHintFault, IsUnjustified, IsConclusionFault, IsOutsideFault, IsInsideFault, IsRedBeginFault, IsProofGoalFault, IsUnopenedFault, IsBlockEndFault, IsGoalEndFault, IsEndFault}
 use Rattle.proof_rules.specs.Justified as justified
-use Rattle.proof_rules.specs.Justified.{IsExhausted, IsLowerBound, EntitlesLower, TakesHint, IsJustified}
-use Rattle.proof_rules.specs.Legal.{Legal, LegalPol, LegalRup, LegalRed, LegalSoli, LegalDel, IsShownUnder, IsShownNotRaised, Logs, worth_of, without}
-use Rattle.proof_rules.specs.Shown.{IsShown, IsAdmitted}
+use Rattle.proof_rules.specs.Justified.{IsExhausted, IsLowerBound, EntitlesLower, TakesHint, IsEarned, IsJustified}
+use Rattle.proof_rules.specs.Legal.{Legal, LegalPol, LegalRup, LegalRed, LegalSoli, LegalDel, Logs, worth_of, without}
+use Rattle.proof_rules.specs.Redundant.{IsShownUnder, IsShownNotRaised}
+use Rattle.proof_rules.specs.Block.{LegalRedBegin, Asks, EndsBlock, EndsOpen}
+use Rattle.proof_rules.specs.Shown.{IsShown, IsAdmitted, absurdity}
 use Rattle.proof_rules.specs.Solution.{at_least}
-use Rattle.proof_rules.specs.State.{State, constraints, constraint_of, id_of, HasRoom}
+use Rattle.proof_rules.specs.State.{State, Block, constraints, constraint_of, id_of, HasRoom, IsOutside}
 use Rattle.proof_rules.proofs.Completing.{gap_never}
 use Rattle.proof_rules.proofs.Determined.{writing_never}
 use Rattle.proof_rules.proofs.LiveConstraints.{All-get}
@@ -108,13 +113,87 @@ del_never s t ids faults.DeadId (before, id, behind, between, is, legal, dead) w
     is_some_never (constraint_of r.0 id) (subst (λ u. constraint_of u id ≡ None) same dead) r.2.0
 del_never s t ids _ h whole = h
 
+pub one_objective : (o : Option (List Term)) (x y : List Term) → o ≡ Some x → o ≡ Some y → x ≡ y
+one_objective o x y h k = let same : Some x ≡ Some y = sym h ∙ k in cc
+
+-- what may stand outside blocks alone, and what in a block alone
+
+pub outside_never : (s : State) (IsFault : StepFault → Type 0) (Is : Type 0) (f : StepFault) → ((g : StepFault) → IsFault g → Is → ⊥) → IsOutsideFault s IsFault f
+    → IsOutside s → Is → ⊥
+outside_never s IsFault Is faults.BlockOpen never h outside is = h outside
+outside_never s IsFault Is f never h outside is = never f h.1 is
+
+pub one_block : (o : Option Block) (k j : Block) → o ≡ Some k → o ≡ Some j → k ≡ j
+one_block o k j h i = let same : Some k ≡ Some j = sym h ∙ i in cc
+
+inside_never : (s : State) (IsFault : Block → StepFault → Type 0) (k : Block) (f : StepFault) → ((g : StepFault) → IsFault k g → ⊥) → IsInsideFault s IsFault f → s.block ≡ Some k → ⊥
+inside_never s IsFault k faults.NoBlock never h some = none_some s.block k h some
+inside_never s IsFault k f never h some = never f (subst (λ j. IsFault j f) (one_block s.block h.0 k h.1 some) h.2)
+
+begin_never : (s t : State) (c : Signed) (images : Images) (f : StepFault) → IsRedBeginFault s c f → LegalRedBegin s c images t → ⊥
+begin_never s t c images faults.TooLarge none (n, m, admitted, negated, fits, room, is) = none n m admitted negated fits
+begin_never s t c images faults.TooManyIds (some, full) (n, m, admitted, negated, fits, room, is) = full room
+begin_never s t c images _ h legal = h
+
+-- a name asks for one constraint
+pub one_asked : (p : Opb) (s : State) (k : Block) (name : GoalName) (r q : NormalConstraint) → Asks p s k name r → Asks p s k name q → r ≡ q
+one_asked p s k (names.Live number) r q (unopened, (e, is, under)) (unopened', (d, is', under')) =
+    let same : Some d ≡ Some e = sym is' ∙ is in
+    let live : d ≡ e = cc in
+    one_form (substituted e k.images) r q under (subst (λ x. IsUnder x k.images q) live under')
+one_asked p s k names.Itself r q (unopened, under) (unopened', under') = one_form (substituted k.constraint k.images) r q under under'
+one_asked p s k names.Objective r q (unopened, (terms, is, target)) (unopened', (other, is', target')) =
+    one_form (not_raised terms k.images) r q target (subst (λ o. IsObjectiveGoal o k.images q) (one_objective p.objective other terms is' is) target')
+
+pub rises_asked : (p : Opb) (s : State) (k : Block) (name : GoalName) (r : NormalConstraint) → Asks p s k name r → Rises 0 r.terms
+rises_asked p s k (names.Live number) r (unopened, (e, is, under)) = under.rises
+rises_asked p s k names.Itself r (unopened, under) = under.rises
+rises_asked p s k names.Objective r (unopened, (terms, is, target)) = target.rises
+
+goal_open_never : (p : Opb) (s : State) (name : GoalName) (k : Block) (r m : NormalConstraint) (f : StepFault) → k.goal ≡ None → Asks p s k name r → IsNegation r m → Fits m → HasRoom s
+    → IsProofGoalFault p s name k f → ⊥
+goal_open_never p s name k r m faults.BlockOpen none asks negated fits room opens = opens none
+goal_open_never p s name k r m faults.GoalUnknown none asks negated fits room (none', unknown) = unknown r asks
+goal_open_never p s name k r m faults.TooLarge none asks negated fits room (none', (q, asks', unfit)) =
+    unfit m (subst (λ x. IsNegation x m) (one_asked p s k name r q asks asks') negated) fits
+goal_open_never p s name k r m faults.TooManyIds none asks negated fits room (none', some, full) = full room
+goal_open_never p s name k r m _ none asks negated fits room h = h
+
+unopened_never : (p : Opb) (s t : State) (k : Block) (f : StepFault) → IsUnopenedFault p s k f → EndsBlock p s k t → ⊥
+unopened_never p s t k (faults.GoalOpen id) (e, unopened, is, not, before) ends = not (ends.each_live id e unopened is)
+unopened_never p s t k faults.GoalOpenSelf (live, unopened, not) ends = not (ends.itself unopened)
+unopened_never p s t k faults.GoalOpenObjective (live, own, unopened, (terms, is, not)) ends =
+    not (subst (λ o. IfSome o (IsShownNotRaised (constraints s) k.images)) is (ends.objective unopened))
+unopened_never p s t k _ h ends = h
+
+block_end_never : (p : Opb) (s t : State) (k : Block) (f : StepFault) → IsBlockEndFault p s k f → EndsBlock p s k t → ⊥
+block_end_never p s t k faults.TooManyIds full ends = full ends.room
+block_end_never p s t k f h ends = unopened_never p s t k f h.1 ends
+
+goal_end_never : (s : State) (f : StepFault) → IsGoalEndFault s f → IsShown (constraints s) absurdity → ⊥
+goal_end_never s faults.GoalNotClosed not shown = not shown
+goal_end_never s _ h shown = h
+
+end_never : (p : Opb) (s t : State) (k : Block) (o : Option ℕ) (f : StepFault) → IsEndFault p s k o f → EndsOpen p s k o t → ⊥
+end_never p s t k (Some goal) f h (shown, is) = goal_end_never s f h shown
+end_never p s t k None f h ends = block_end_never p s t k f h ends
+
 pub step_never : (p : Opb) (s : State) (step : Step) (f : StepFault) (t : State) → IsStepFault p s step f → Legal p s step t → ⊥
 step_never p s (steps.Pol written) f t h legal = pol_never s t written f h legal
 step_never p s (steps.Rup c) f t h legal = rup_never s t c f h legal
-step_never p s (steps.Red c images) f t h legal = red_never p s t c images f h legal
-step_never p s (steps.Sol assigned) f t h (g, logs, is) = sol_never p s assigned g f h logs
-step_never p s (steps.Soli assigned) f t h legal = soli_never p s t assigned f h legal
-step_never p s (steps.Del ids) f t h legal = del_never s t ids f h legal
+step_never p s (steps.Red c images) f t h (outside, legal) =
+    outside_never s (IsRedFault p s c images) (LegalRed p s c images t) f (λ g i is. red_never p s t c images g i is) h outside legal
+step_never p s (steps.Sol assigned) f t h (outside, (g, logs, is)) =
+    outside_never s (IsSolFault p s assigned) (Logs p s assigned g) f (λ e i logs. sol_never p s assigned g e i logs) h outside logs
+step_never p s (steps.Soli assigned) f t h (outside, legal) =
+    outside_never s (IsSoliFault p s assigned) (LegalSoli p s assigned t) f (λ g i is. soli_never p s t assigned g i is) h outside legal
+step_never p s (steps.Del ids) f t h (outside, legal) =
+    outside_never s (IsDelFault s ids) (LegalDel s ids t) f (λ g i is. del_never s t ids g i is) h outside legal
+step_never p s (steps.RedBegin c images) f t h (outside, legal) =
+    outside_never s (IsRedBeginFault s c) (LegalRedBegin s c images t) f (λ g i is. begin_never s t c images g i is) h outside legal
+step_never p s (steps.Goal name) f t h (k, r, m, some, none, asks, negated, fits, room, is) =
+    inside_never s (IsProofGoalFault p s name) k f (λ g i. goal_open_never p s name k r m g none asks negated fits room i) h some
+step_never p s steps.End f t h (k, some, ends) = inside_never s (λ j. IsEndFault p s j j.goal) k f (λ g i. end_never p s t k k.goal g i ends) h some
 
 pub unsat_never : (s : State) (f : StepFault) → IsUnsatFault s f → IsExhausted s → ⊥
 unsat_never s faults.SolutionLogged some e = some e.unlogged
@@ -150,22 +229,23 @@ pub hint_never : (p : Opb) (s t : State) (hint : Option (List Lit)) (f : StepFau
 hint_never p s t None f h takes = h
 hint_never p s t (Some assigned) f h (g, logs, is) = sol_never p s assigned g f h logs
 
-pub one_objective : (o : Option (List Term)) (x y : List Term) → o ≡ Some x → o ≡ Some y → x ≡ y
-one_objective o x y h k = let same : Some x ≡ Some y = sym h ∙ k in cc
-
 bounded_never : (p : Opb) (s : State) (lower : Lower) (upper : Upper) (hint : Option (List Lit)) (best : Option (List Bool)) (f : StepFault)
     → ((objective : List Term) × (p.objective ≡ Some objective)
     × (IsHintFault p s hint f ⊎ judging.IsBehindHint p s hint (λ t. IsBoundsFault p t objective lower upper f)))
-    → IsJustified p s (conclusions.Bounds lower upper hint) best → ⊥
+    → IsEarned p s (conclusions.Bounds lower upper hint) best → ⊥
 bounded_never p s lower upper hint best f (objective, is, inl h) (t, takes, holds, b) = hint_never p s t hint f h takes
 bounded_never p s lower upper hint best f (objective, is, inr (some, h)) (t, takes, (objective', is', low, up), b) =
     let same : objective ≡ objective' = one_objective p.objective objective objective' is is' in
     bounds_never p t objective' lower upper f (subst (λ o. IsBoundsFault p t o lower upper f) same (h t takes)) low up
 
+unjustified_never : (p : Opb) (s : State) (c : Conclusion) (f : StepFault) (best : Option (List Bool)) → IsUnjustified p s c f → IsEarned p s c best → ⊥
+unjustified_never p s conclusions.Nothing f best h j = h
+unjustified_never p s (conclusions.Sat hint) f best (inl h) (t, takes, holds, b) = hint_never p s t hint f h takes
+unjustified_never p s (conclusions.Sat hint) f best (inr (some, h)) (t, takes, holds, b) = sat_never t f (h t takes) holds
+unjustified_never p s conclusions.Unsat f best h (t, takes, holds, b) = unsat_never s f h (subst IsExhausted takes holds)
+unjustified_never p s (conclusions.Bounds lower upper hint) faults.NoObjective best none (t, takes, (objective, is, low, up), b) = none_some p.objective objective none is
+unjustified_never p s (conclusions.Bounds lower upper hint) f best h j = bounded_never p s lower upper hint best f h j
+
 pub conclusion_never : (p : Opb) (s : State) (c : Conclusion) (f : StepFault) (best : Option (List Bool)) → IsConclusionFault p s c f → IsJustified p s c best → ⊥
-conclusion_never p s conclusions.Nothing f best h j = h
-conclusion_never p s (conclusions.Sat hint) f best (inl h) (t, takes, holds, b) = hint_never p s t hint f h takes
-conclusion_never p s (conclusions.Sat hint) f best (inr (some, h)) (t, takes, holds, b) = sat_never t f (h t takes) holds
-conclusion_never p s conclusions.Unsat f best h (t, takes, holds, b) = unsat_never s f h (subst IsExhausted takes holds)
-conclusion_never p s (conclusions.Bounds lower upper hint) faults.NoObjective best none (t, takes, (objective, is, low, up), b) = none_some p.objective objective none is
-conclusion_never p s (conclusions.Bounds lower upper hint) f best h j = bounded_never p s lower upper hint best f h j
+conclusion_never p s c f best h (outside, earned) =
+    outside_never s (IsUnjustified p s c) (IsEarned p s c best) f (λ g i is. unjustified_never p s c g best i is) h outside earned

@@ -12,13 +12,14 @@ use Rattle.linear.specs.Opb.{Opb}
 use Rattle.normal_form.specs.Normal.{NormalConstraint}
 use Rattle.proof_steps.specs.declared.step.Step.{Step}
 use Rattle.proof_steps.specs.declared.step.Step.TheVariants as steps
+use Rattle.proof_rules.specs.Block.{new_block, with_block, with_goal, EndsOpen}
 use Rattle.proof_rules.specs.Legal.{Legal, LegalDel, Adds, without}
-use Rattle.proof_rules.specs.State.{State, Live, AreNumbered, id_limit, IsStart, id_of, numbered, state_of, with_constraint}
+use Rattle.proof_rules.specs.State.{State, Block, Live, AreNumbered, id_limit, IsStart, HasRoom, id_of, numbered, state_of, up_to, with_constraint}
 use Rattle.proof_rules.proofs.FileForms.{all_count, few_ids}
-use Rattle.proof_rules.proofs.LiveConstraints.{key_of}
+use Rattle.proof_rules.proofs.LiveConstraints.{key_of, listed_within, within_up_to}
 
 -- keys that are the same, and keys that are not
-same_key : (k q : ℕ) → k ≡ q → eq_by_cmp nat_cmp k q ≡ true
+pub same_key : (k q : ℕ) → k ≡ q → eq_by_cmp nat_cmp k q ≡ true
 same_key k q h = ap is_eq (sym (nat_cmp_is k q Equal h))
 
 other_key : (k q : ℕ) → q < k → eq_by_cmp nat_cmp k q ≡ false
@@ -60,7 +61,7 @@ state_push ns n =
     ∙ fin.from_entries_push nat_cmp_total fin.nat_cmp-IsAntisymmetric (numbered 1 ns) (1 + length ns) n new
     ∙ ap (λ k. fin.insert (fin.from_entries {R = nat_cmp} (numbered 1 ns)) k n) key in
     let next : length (ns ++ n ∷ []) + 1 ≡ (length ns + 1) + 1 = omega (arith, length-append ns (n ∷ [])) in
-    λ i. record { live = live i; next = next i; least = None; logged = [] }
+    λ i. record { live = live i; next = next i; least = None; logged = []; block = None }
 
 -- one more constraint
 by_key : (live : Live) (next id : ℕ) (n m : NormalConstraint) (b : Bool) → AreNumbered live next → eq_by_cmp nat_cmp id next ≡ b
@@ -95,6 +96,13 @@ numbered_less live next id h = record {
   within = λ k m is. h.within k m (of_removed (eq_by_cmp nat_cmp k id) (fin.get live k) m (sym (fin.get-remove nat_cmp_total live id k) ∙ is));
 }
 
+pub numbered_up_to : (live : Live) (next end : ℕ) → AreNumbered live next → AreNumbered (up_to end live) next
+numbered_up_to live next end h = record {
+  first = h.first;
+  last = h.last;
+  within = λ k m is. h.within k m (within_up_to live end k m is).1;
+}
+
 -- no constraint, and those of a list
 pub numbered_none : AreNumbered fin.empty 1
 numbered_none = record {
@@ -106,23 +114,12 @@ numbered_none = record {
     some_none : (n : NormalConstraint) → ◌≡◌ {A = Option NormalConstraint} None (Some n) → ⊥
     some_none n e = cc
 
--- what is found among numbered constraints stands within their numbers
-found_by : (id q : ℕ) (n m : NormalConstraint) (ns : List NormalConstraint) (b : Bool) → eq_by_cmp nat_cmp q id ≡ b
-    → (fin.find nat_cmp q (numbered (id + 1) ns) ≡ Some m → (id + 1 ≤ q) × (q < (id + 1) + length ns))
-    → cond b (Some n) (fin.find nat_cmp q (numbered (id + 1) ns)) ≡ Some m → (id ≤ q) × (q < id + length (n ∷ ns))
-found_by id q n m ns true key later is = let same : q ≡ id = key_of q id key in (omega (arith, same), omega (arith, same))
-found_by id q n m ns false key later is = let h = later is in (omega (arith, h.0), omega (arith, h.1))
-
-found_within : (id q : ℕ) (m : NormalConstraint) (ns : List NormalConstraint) → fin.find nat_cmp q (numbered id ns) ≡ Some m → (id ≤ q) × (q < id + length ns)
-found_within id q m [] is = absurd (cc)
-found_within id q m (n ∷ ns) is = found_by id q n m ns (eq_by_cmp nat_cmp q id) refl (found_within (id + 1) q m ns) is
-
 -- the constraints of a list
 pub numbered_list : (ns : List NormalConstraint) → length ns < id_limit → AreNumbered (state_of ns).live (state_of ns).next
 numbered_list ns few = record {
   first = omega arith;
   last = omega (arith, few);
-  within = λ id n is. let h = found_within 1 id n ns (sym (fin.get-from_entries nat_cmp_total (numbered 1 ns) id) ∙ is) in (omega (arith, h.0), omega (arith, h.1));
+  within = λ id n is. let h = listed_within ns id n is in (omega (arith, h.0), omega (arith, h.1));
 }
 
 -- the ids of a file
@@ -139,11 +136,24 @@ deleted : (s t : State) (ids : List ℤ) → AreNumbered s.live s.next → Legal
 deleted s t [] h is = subst (λ u. AreNumbered u.live u.next) (sym is) h
 deleted s t (id ∷ ids) h (live, legal) = deleted (without (id_of s.next id) s) t ids (numbered_less s.live s.next (id_of s.next id) h) legal
 
+with_id : (s t : State) (n : NormalConstraint) (k : Block) → AreNumbered s.live s.next → HasRoom s → t ≡ with_block k n s → AreNumbered t.live t.next
+with_id s t n k h room is = subst (λ u. AreNumbered u.live u.next) (sym is) (numbered_more s.live s.next n h room)
+
+ended : (p : Opb) (s t : State) (k : Block) (o : Option ℕ) → AreNumbered s.live s.next → EndsOpen p s k o t → AreNumbered t.live t.next
+ended p s t k (Some goal) h (shown, is) = subst (λ u. AreNumbered u.live u.next) (sym is) (numbered_up_to s.live s.next goal h)
+ended p s t k None h ends =
+    subst (λ u. AreNumbered u.live u.next) (sym ends.becomes)
+    (numbered_more (up_to k.first s.live) s.next k.constraint (numbered_up_to s.live s.next k.first h) ends.room)
+
 pub numbered_step : (p : Opb) (s : State) (step : Step) (t : State) → AreNumbered s.live s.next → Legal p s step t → AreNumbered t.live t.next
 numbered_step p s (steps.Pol items) t h (n, value, adds) = added s t n h adds
 numbered_step p s (steps.Rup c) t h (n, admitted, shown, adds) = added s t n h adds
-numbered_step p s (steps.Red c images) t h (n, m, admitted, redundant, adds) = added s t n h adds
-numbered_step p s (steps.Sol assigned) t h (g, logs, is) = subst (λ u. AreNumbered u.live u.next) (sym is) h
-numbered_step p s (steps.Soli assigned) t h (objective, g, n, improves, is) =
+numbered_step p s (steps.Red c images) t h (outside, (n, m, admitted, redundant, adds)) = added s t n h adds
+numbered_step p s (steps.Sol assigned) t h (outside, (g, logs, is)) = subst (λ u. AreNumbered u.live u.next) (sym is) h
+numbered_step p s (steps.Soli assigned) t h (outside, (objective, g, n, improves, is)) =
     subst (λ u. AreNumbered u.live u.next) (sym is) (numbered_more s.live s.next n h improves.room)
-numbered_step p s (steps.Del ids) t h legal = deleted s t ids h legal
+numbered_step p s (steps.Del ids) t h (outside, legal) = deleted s t ids h legal
+numbered_step p s (steps.RedBegin c images) t h (outside, (n, m, admitted, negated, fits, room, is)) =
+    with_id s t m (new_block n images s.next) h room is
+numbered_step p s (steps.Goal name) t h (k, r, m, some, none, asks, negated, fits, room, is) = with_id s t m (with_goal s.next name k) h room is
+numbered_step p s steps.End t h (k, some, ends) = ended p s t k k.goal h ends

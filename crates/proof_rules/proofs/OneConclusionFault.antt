@@ -11,11 +11,11 @@ use Rattle.proof_steps.specs.declared.conclusion.Lower.TheVariants as lowers
 use Rattle.proof_rules.specs.declared.fault.StepFault.{StepFault}
 use Rattle.proof_rules.specs.declared.fault.StepFault.TheVariants as faults
 use Rattle.proof_rules.specs.Fault as judging
-use Rattle.proof_rules.specs.Fault.{IsUnsatFault, IsBoundFault, IsLowerFault, IsUpperFault, IsBoundsFault, IsSatFault, IsHintFault, IsConclusionFault}
+use Rattle.proof_rules.specs.Fault.{IsUnsatFault, IsBoundFault, IsLowerFault, IsUpperFault, IsBoundsFault, IsSatFault, IsHintFault, IsUnjustified, IsConclusionFault}
 use Rattle.proof_rules.specs.State.{State}
 use Rattle.proof_rules.proofs.NotLegal.{less_never, hint_never, lower_never, one_objective, none_some}
 use Rattle.proof_rules.proofs.OnePolFault.{Case, one_of_two, one_of_three}
-use Rattle.proof_rules.proofs.OneStepFault.{one_sol_fault}
+use Rattle.proof_rules.proofs.OneStepFault.{one_outside, one_sol_fault}
 
 unsat_is : (s : State) (f : StepFault) → IsUnsatFault s f → Case f faults.SolutionLogged (s.logged ≢ []) ⊎ Case f faults.LowerNotShown (s.logged ≡ [])
 unsat_is s faults.SolutionLogged h = inl (refl, h)
@@ -92,7 +92,7 @@ HintedBounds p s lower upper hint f =
 abbrev BoundsCase : Opb → State → Lower → Upper → Option (List Lit) → StepFault → Type 0
 BoundsCase p s lower upper hint f = Case f faults.NoObjective (p.objective ≡ None) ⊎ HintedBounds p s lower upper hint f
 
-concluding_is : (p : Opb) (s : State) (lower : Lower) (upper : Upper) (hint : Option (List Lit)) (f : StepFault) → IsConclusionFault p s (conclusions.Bounds lower upper hint) f → BoundsCase p s lower upper hint f
+concluding_is : (p : Opb) (s : State) (lower : Lower) (upper : Upper) (hint : Option (List Lit)) (f : StepFault) → IsUnjustified p s (conclusions.Bounds lower upper hint) f → BoundsCase p s lower upper hint f
 concluding_is p s lower upper hint faults.NoObjective h = inl (refl, h)
 concluding_is p s lower upper hint _ h = inr h
 
@@ -105,9 +105,12 @@ one_bounds_case p s lower upper hint f g (inr (objective, is, h)) (inr (other, i
     one_hinted p s hint (λ t e. IsBoundsFault p t objective lower upper e) f g (λ t. one_bounds_fault p t objective lower upper f g) h
     (subst (λ o. IsHintFault p s hint g ⊎ judging.IsBehindHint p s hint (λ t. IsBoundsFault p t o lower upper g)) same k)
 
-pub one_conclusion_fault : (p : Opb) (s : State) (c : Conclusion) (f g : StepFault) → IsConclusionFault p s c f → IsConclusionFault p s c g → f ≡ g
-one_conclusion_fault p s conclusions.Nothing f g h k = absurd h
-one_conclusion_fault p s (conclusions.Sat hint) f g h k = one_hinted p s hint (λ t e. IsSatFault t e) f g (λ t i j. sat_is t f i ∙ sym (sat_is t g j)) h k
-one_conclusion_fault p s conclusions.Unsat f g h k = one_unsat_fault s f g h k
-one_conclusion_fault p s (conclusions.Bounds lower upper hint) f g h k =
+one_unjustified : (p : Opb) (s : State) (c : Conclusion) (f g : StepFault) → IsUnjustified p s c f → IsUnjustified p s c g → f ≡ g
+one_unjustified p s conclusions.Nothing f g h k = absurd h
+one_unjustified p s (conclusions.Sat hint) f g h k = one_hinted p s hint (λ t e. IsSatFault t e) f g (λ t i j. sat_is t f i ∙ sym (sat_is t g j)) h k
+one_unjustified p s conclusions.Unsat f g h k = one_unsat_fault s f g h k
+one_unjustified p s (conclusions.Bounds lower upper hint) f g h k =
     one_bounds_case p s lower upper hint f g (concluding_is p s lower upper hint f h) (concluding_is p s lower upper hint g k)
+
+pub one_conclusion_fault : (p : Opb) (s : State) (c : Conclusion) (f g : StepFault) → IsConclusionFault p s c f → IsConclusionFault p s c g → f ≡ g
+one_conclusion_fault p s c f g h k = one_outside s (IsUnjustified p s c) f g (one_unjustified p s c) h k

@@ -10,7 +10,8 @@ use Rattle.substitution.specs.Images.{Images}
 use Rattle.proof_rules.specs.declared.fault.StepFault.{StepFault}
 use Rattle.proof_rules.specs.declared.fault.StepFault.TheVariants as faults
 use Rattle.proof_rules.specs.Fault.{IsGoalFault, IsRedFault}
-use Rattle.proof_rules.specs.Legal.{IsShownUnder, IsShownNotRaised, LegalRed}
+use Rattle.proof_rules.specs.Legal.{LegalRed}
+use Rattle.proof_rules.specs.Redundant.{IsShownUnder, IsShownNotRaised}
 use Rattle.proof_rules.specs.Shown.{IsAdmitted}
 use Rattle.proof_rules.specs.State.{State, constraints, HasRoom, with_constraint}
 use Rattle.proof_rules.proofs.Deciding.{Decided, Judged}

@@ -17,7 +17,7 @@ use Rattle.substitution.specs.Covering.{Covers, excess}
 use Rattle.substitution.specs.Images.{Images}
 use Rattle.substitution.specs.Objective.{not_raised, IsObjectiveGoal}
 use Rattle.substitution.specs.Under.{substituted, IsUnder}
-use Rattle.proof_rules.specs.Legal.{IsShownUnder, IsShownNotRaised}
+use Rattle.proof_rules.specs.Redundant.{IsShownUnder, IsShownNotRaised}
 use Rattle.proof_rules.specs.Shown.{IsShown}
 
 -- whether a constraint covers another

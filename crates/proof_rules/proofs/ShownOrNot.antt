@@ -18,7 +18,7 @@ use Rattle.substitution.specs.Objective.{not_raised}
 use Rattle.proof_rules.specs.declared.fault.StepFault.{StepFault}
 use Rattle.proof_rules.specs.declared.fault.StepFault.TheVariants as faults
 use Rattle.proof_rules.specs.Fault.{IsAdmissionFault}
-use Rattle.proof_rules.specs.Legal.{IsShownUnder, IsShownNotRaised}
+use Rattle.proof_rules.specs.Redundant.{IsShownUnder, IsShownNotRaised}
 use Rattle.proof_rules.specs.Shown.{IsShown, IsAdmitted}
 use Rattle.proof_rules.specs.State.{State, HasRoom}
 use Rattle.proof_rules.proofs.Deciding.{Decided, both_decided, either_decided, decided_as, le_decided, lt_decided, any_decided}
@@ -68,6 +68,9 @@ admitted_from c (inl least) (inl fits) = elim (le_decided (size_sum c.terms) lar
   | inr fails ↦ inr (λ h. fails h.1.sizes)
 ]
 
+pub admitted_decided : (c : Signed) → Decided ((n : NormalConstraint) × IsAdmitted c n)
+admitted_decided c = admitted_from c (relation_decided c.relation) (fits_decided (form c))
+
 pub room_decided : (s : State) → Decided (HasRoom s)
 room_decided s = lt_decided s.next _
 
@@ -81,4 +84,4 @@ admission_from s c (inl admitted) (inr full) = inr (faults.TooManyIds, (admitted
 admission_from s c (inr none) d = inr (faults.TooLarge, λ n admitted. none (n, admitted))
 
 pub admission_judged : (s : State) (c : Signed) → Admission s c
-admission_judged s c = admission_from s c (admitted_from c (relation_decided c.relation) (fits_decided (form c))) (room_decided s)
+admission_judged s c = admission_from s c (admitted_decided c) (room_decided s)

@@ -13,7 +13,7 @@ use Rattle.substitution.specs.Images.{Images}
 use Rattle.substitution.specs.Under.{substituted, IsUnder}
 use Rattle.substitution.specs.declared.image.Image.TheVariants.{One}
 use Rattle.proof_rules.specs.Cases.{cover, cover_written, first_written, not_first_written}
-use Rattle.proof_rules.specs.Legal.{IsShownUnder}
+use Rattle.proof_rules.specs.Redundant.{IsShownUnder}
 use Rattle.proof_rules.specs.Shown.{IsAdmitted}
 use Rattle.proof_rules.proofs.ShownHolds.{zero_shown}
 

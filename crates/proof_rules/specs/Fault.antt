@@ -1,10 +1,10 @@
 -- The faults of steps and conclusions, in the order of judging: each one's condition says that none before it stands.
--- Running out of memory is no fault of a step.
+-- Running out of memory is no fault of a step. Whether the step may stand where it does, in a block or outside one, is judged first.
 --
 -- A fault is a condition on the state and the step, as legality is, and not what some judge happens to find first. So the
 -- order of judging is part of each condition, and laws say that it works out: a step is legal or has one fault, never
 -- both. What is cheap is judged before what is dear: limits and ids before a search for what shows a constraint.
-use Rattle.std.specs.Prelude.{◌≡◌, ◌≢◌, ℕ, ◌<◌, ◌⊎◌, ℤ, pos, ◌<ℤ◌, ◌≤ℤ◌, Bool, List, [], ◌∷◌, ◌++◌, Option, None, Some, All, IfSome, length, unsigned_abs}
+use Rattle.std.specs.Prelude.{◌≡◌, ◌≢◌, ℕ, ◌<◌, ◌⊎◌, ℤ, pos, ◌<ℤ◌, ◌≤ℤ◌, Bool, false, List, [], ◌∷◌, ◌++◌, Option, None, Some, All, IfSome, length, unsigned_abs}
 use Rattle.std.specs.FinMap as map
 use Rattle.linear.specs.declared.constraint.Signed.{Signed}
 use Rattle.linear.specs.declared.term.Lit.{Lit}
@@ -27,15 +27,18 @@ use Rattle.proof_rules.specs.declared.fault.StepFault.{StepFault}
 use Rattle.proof_rules.specs.declared.fault.StepFault.TheVariants as faults
 use Rattle.proof_steps.specs.declared.step.Item.{Item}
 use Rattle.proof_steps.specs.declared.step.Item.TheVariants as items
+use Rattle.proof_steps.specs.declared.step.GoalName.{GoalName}
 use Rattle.proof_steps.specs.declared.step.Step.{Step}
 use Rattle.proof_steps.specs.declared.step.Step.TheVariants as steps
+use Rattle.proof_rules.specs.Block.{Asks, IsUnopened, AreLiveShown, IsItselfShown}
 use Rattle.proof_rules.specs.Expression.{Given, IsPostfixOf}
 use Rattle.proof_rules.specs.Justified.{EntitlesLower, EntitlesUpper, TakesHint}
-use Rattle.proof_rules.specs.Legal.{IsShownUnder, IsShownNotRaised, Logs, LegalDel, worth_of}
+use Rattle.proof_rules.specs.Legal.{Logs, LegalDel, worth_of}
+use Rattle.proof_rules.specs.Redundant.{IsShownUnder, IsShownNotRaised}
 use Rattle.proof_rules.specs.Running.{Runs}
 use Rattle.proof_rules.specs.Shown.{IsShown, IsAdmitted, absurdity}
 use Rattle.proof_rules.specs.Solution.{literal_for, NamesAll, Completes, at_least}
-use Rattle.proof_rules.specs.State.{State, constraints, constraint_of, HasRoom}
+use Rattle.proof_rules.specs.State.{State, Block, constraints, constraint_of, HasRoom, IsOutside}
 
 -- out of memory, or this
 abbrev pub OrMemory : StepFault → Type 0 → Type 0
@@ -163,13 +166,68 @@ IsDelFault s ids faults.DeadId =
     × (ids ≡ before ++ id ∷ behind) × LegalDel s before between × (constraint_of between id ≡ None)
 IsDelFault s ids _ = ⊥
 
+-- red .. ; begin: the constraint and its negation, then the ids
+abbrev pub IsRedBeginFault : State → Signed → StepFault → Type 0
+IsRedBeginFault s c faults.TooLarge = (n m : NormalConstraint) → IsAdmitted c n → IsNegation n m → Fits m → ⊥
+IsRedBeginFault s c faults.TooManyIds =
+    ((n : NormalConstraint) × (m : NormalConstraint) × IsAdmitted c n × IsNegation n m × Fits m) × (HasRoom s → ⊥)
+IsRedBeginFault s c _ = ⊥
+
+-- proofgoal: another goal is open, then no goal of the name may be opened, then its negation, then the ids
+abbrev pub IsProofGoalFault : Opb → State → GoalName → Block → StepFault → Type 0
+IsProofGoalFault p s name k faults.BlockOpen = k.goal ≢ None
+IsProofGoalFault p s name k faults.GoalUnknown = (k.goal ≡ None) × ((r : NormalConstraint) → Asks p s k name r → ⊥)
+IsProofGoalFault p s name k faults.TooLarge =
+    (k.goal ≡ None) × ((r : NormalConstraint) × Asks p s k name r × ((m : NormalConstraint) → IsNegation r m → Fits m → ⊥))
+IsProofGoalFault p s name k faults.TooManyIds =
+    (k.goal ≡ None) × ((r : NormalConstraint) × (m : NormalConstraint) × Asks p s k name r × IsNegation r m × Fits m) × (HasRoom s → ⊥)
+IsProofGoalFault p s name k _ = ⊥
+
+-- the goals of a block that were not opened: live constraints by rising id, the new constraint, the objective
+abbrev pub IsUnopenedFault : Opb → State → Block → StepFault → Type 0
+IsUnopenedFault p s k (faults.GoalOpen id) =
+    (e : NormalConstraint) × IsUnopened k id × (map.get s.live id ≡ Some e) × (IsShownUnder (constraints s) k.images e → ⊥)
+    × ((j : ℕ) (d : NormalConstraint) → j < id → IsUnopened k j → map.get s.live j ≡ Some d → IsShownUnder (constraints s) k.images d)
+IsUnopenedFault p s k faults.GoalOpenSelf = AreLiveShown s k × (k.itself ≡ false) × (IsShownUnder (constraints s) k.images k.constraint → ⊥)
+IsUnopenedFault p s k faults.GoalOpenObjective =
+    AreLiveShown s k × IsItselfShown s k × (k.objective ≡ false)
+    × ((objective : List Term) × (p.objective ≡ Some objective) × (IsShownNotRaised (constraints s) k.images objective → ⊥))
+IsUnopenedFault p s k _ = ⊥
+
+-- the end of a block: the ids, then its goals
+abbrev pub IsBlockEndFault : Opb → State → Block → StepFault → Type 0
+IsBlockEndFault p s k faults.TooManyIds = HasRoom s → ⊥
+IsBlockEndFault p s k f = HasRoom s × IsUnopenedFault p s k f
+
+-- the end of a goal: `0 >= 1` is not shown
+abbrev pub IsGoalEndFault : State → StepFault → Type 0
+IsGoalEndFault s faults.GoalNotClosed = IsShown (constraints s) absurdity → ⊥
+IsGoalEndFault s _ = ⊥
+
+abbrev pub IsEndFault : Opb → State → Block → Option ℕ → StepFault → Type 0
+IsEndFault p s k (Some goal) f = IsGoalEndFault s f
+IsEndFault p s k None f = IsBlockEndFault p s k f
+
+-- what may stand outside blocks alone: a block is open, then its own faults
+abbrev pub IsOutsideFault : State → (StepFault → Type 0) → StepFault → Type 0
+IsOutsideFault s IsFault faults.BlockOpen = s.block ≢ None
+IsOutsideFault s IsFault f = IsOutside s × IsFault f
+
+-- what may stand in a block alone: none is open, then its own faults
+abbrev pub IsInsideFault : State → (Block → StepFault → Type 0) → StepFault → Type 0
+IsInsideFault s IsFault faults.NoBlock = s.block ≡ None
+IsInsideFault s IsFault f = (k : Block) × (s.block ≡ Some k) × IsFault k f
+
 abbrev pub IsStepFault : Opb → State → Step → StepFault → Type 0
 IsStepFault p s (steps.Pol written) f = IsPolFault s written f
 IsStepFault p s (steps.Rup c) f = IsRupFault s c f
-IsStepFault p s (steps.Red c images) f = IsRedFault p s c images f
-IsStepFault p s (steps.Sol assigned) f = IsSolFault p s assigned f
-IsStepFault p s (steps.Soli assigned) f = IsSoliFault p s assigned f
-IsStepFault p s (steps.Del ids) f = IsDelFault s ids f
+IsStepFault p s (steps.Red c images) f = IsOutsideFault s (IsRedFault p s c images) f
+IsStepFault p s (steps.Sol assigned) f = IsOutsideFault s (IsSolFault p s assigned) f
+IsStepFault p s (steps.Soli assigned) f = IsOutsideFault s (IsSoliFault p s assigned) f
+IsStepFault p s (steps.Del ids) f = IsOutsideFault s (IsDelFault s ids) f
+IsStepFault p s (steps.RedBegin c images) f = IsOutsideFault s (IsRedBeginFault s c) f
+IsStepFault p s (steps.Goal name) f = IsInsideFault s (IsProofGoalFault p s name) f
+IsStepFault p s steps.End f = IsInsideFault s (λ k. IsEndFault p s k k.goal) f
 
 -- UNSAT: something is logged, then `0 >= 1` is not shown
 abbrev pub IsUnsatFault : State → StepFault → Type 0
@@ -214,11 +272,16 @@ IsHintFault p s (Some assigned) f = IsSolFault p s assigned f
 abbrev pub IsBehindHint : Opb → State → Option (List Lit) → (State → Type 0) → Type 0
 IsBehindHint p s hint condition = ((t : State) × TakesHint p s hint t) × ((t : State) → TakesHint p s hint t → condition t)
 
-abbrev pub IsConclusionFault : Opb → State → Conclusion → StepFault → Type 0
-IsConclusionFault p s conclusions.Nothing f = ⊥
-IsConclusionFault p s (conclusions.Sat hint) f = IsHintFault p s hint f ⊎ IsBehindHint p s hint (λ t. IsSatFault t f)
-IsConclusionFault p s conclusions.Unsat f = IsUnsatFault s f
-IsConclusionFault p s (conclusions.Bounds lower upper hint) faults.NoObjective = p.objective ≡ None
-IsConclusionFault p s (conclusions.Bounds lower upper hint) f =
+-- outside blocks, a conclusion that is not earned
+abbrev pub IsUnjustified : Opb → State → Conclusion → StepFault → Type 0
+IsUnjustified p s conclusions.Nothing f = ⊥
+IsUnjustified p s (conclusions.Sat hint) f = IsHintFault p s hint f ⊎ IsBehindHint p s hint (λ t. IsSatFault t f)
+IsUnjustified p s conclusions.Unsat f = IsUnsatFault s f
+IsUnjustified p s (conclusions.Bounds lower upper hint) faults.NoObjective = p.objective ≡ None
+IsUnjustified p s (conclusions.Bounds lower upper hint) f =
     (objective : List Term) × (p.objective ≡ Some objective)
     × (IsHintFault p s hint f ⊎ IsBehindHint p s hint (λ t. IsBoundsFault p t objective lower upper f))
+
+-- a block is open, then the faults of the conclusion
+abbrev pub IsConclusionFault : Opb → State → Conclusion → StepFault → Type 0
+IsConclusionFault p s c f = IsOutsideFault s (IsUnjustified p s c) f

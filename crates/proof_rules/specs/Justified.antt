@@ -5,7 +5,8 @@
 -- is logged, and a lower bound has to be at most the least improving value: what is shown holds for the assignments that
 -- are better, and all others are worth that value or more. Where `0 >= 1` is shown after an improving solution, so is
 -- every bound, and the one at its value makes it the optimum. An upper bound needs no constraint, but a logged solution,
--- which need not be an improving one. A hint is judged as one more solution, logged for the conclusion alone.
+-- which need not be an improving one. A hint is judged as one more solution, logged for the conclusion alone. In a block nothing may
+-- be concluded, since its constraints are assumed and not kept.
 use Rattle.std.specs.Prelude.{◌≡◌, ◌≢◌, ℤ, ◌<ℤ◌, ◌≤ℤ◌, Bool, List, [], ◌∷◌, ◌++◌, Option, None, Some, All, Any, IfSome, ⊤}
 use Rattle.linear.specs.declared.term.Lit.{Lit}
 use Rattle.linear.specs.declared.term.Term.{Term}
@@ -22,7 +23,7 @@ use Rattle.proof_steps.specs.declared.step.Step.{Step}
 use Rattle.proof_rules.specs.Legal.{LegalSol, Leads, worth_of}
 use Rattle.proof_rules.specs.Shown.{IsShown, absurdity}
 use Rattle.proof_rules.specs.Solution.{at_least}
-use Rattle.proof_rules.specs.State.{State, constraints, IsStart}
+use Rattle.proof_rules.specs.State.{State, constraints, IsOutside, IsStart}
 
 -- no solution is logged, and `0 >= 1` is shown
 pub record IsExhausted (s : State) : Type 0 where
@@ -72,9 +73,13 @@ IsBest p logged (Some g) =
     (before : List (List Bool)) × (behind : List (List Bool)) × (logged ≡ before ++ g ∷ behind)
     × All (λ h. worth_of p g <ℤ worth_of p h) before × All (λ h. worth_of p g ≤ℤ worth_of p h) behind
 
--- the state entitles to the conclusion, and this is the best solution
+-- the state entitles to the conclusion behind its hint, and this is the best solution
+abbrev pub IsEarned : Opb → State → Conclusion → Option (List Bool) → Type 0
+IsEarned p s c best = (t : State) × TakesHint p s (hint_of c) t × Entitles p t c × IsBest p t.logged best
+
+-- and no block is open
 abbrev pub IsJustified : Opb → State → Conclusion → Option (List Bool) → Type 0
-IsJustified p s c best = (t : State) × TakesHint p s (hint_of c) t × Entitles p t c × IsBest p t.logged best
+IsJustified p s c best = IsOutside s × IsEarned p s c best
 
 -- the steps lead from the file to a state that entitles to the conclusion
 pub record IsLegalProof (p : Opb) (steps : List Step) (c : Conclusion) (best : Option (List Bool)) : Type 0 where

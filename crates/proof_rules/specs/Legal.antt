@@ -4,13 +4,12 @@
 -- `rup`, redundance-based strengthening (Gocht and Nordström) for `red`, and solutions and deletions. A step is a
 -- relation of two states, so nothing is said of how it is judged; that it leads to one state at most is a law.
 --
--- What `red` adds need not follow. Where it fails at an answer, the answer after the substitution takes that one's place:
--- so it has to meet each live constraint and the new one, and to be worth no more. Since it is needed only where the new
--- constraint fails, each goal may be shown beside the negation of that. A solution is judged by the file and not by the
+-- A `red` step shows its goals by itself, or is a block of steps in which some of them are shown by others; within a block stand
+-- nothing but `pol`, `rup` and the steps of blocks. A solution is judged by the file and not by the
 -- live constraints, which `red` and `soli` may have made narrower. So `del id` may take out any live constraint, the file's
 -- own and those that improving solutions added among them: what is kept is an answer to the file, and the fewer constraints
 -- are live, the more answers meet them.
-use Rattle.std.specs.Prelude.{◌≡◌, ℕ, ℤ, pos, ◌<ℤ◌, ◌-ℤ◌, Bool, List, [], ◌∷◌, ◌++◌, Some, All, IfSome, IsSome, length}
+use Rattle.std.specs.Prelude.{◌≡◌, ℕ, ℤ, pos, ◌<ℤ◌, ◌-ℤ◌, Bool, List, [], ◌∷◌, ◌++◌, Some, IfSome, IsSome, length}
 use Rattle.std.specs.FinMap as map
 use Rattle.linear.specs.declared.constraint.Signed.{Signed}
 use Rattle.linear.specs.declared.term.Lit.{Lit}
@@ -19,17 +18,16 @@ use Rattle.linear.specs.Opb.{Opb, Satisfies, value_of}
 use Rattle.linear.specs.Valuation.{valuation_of}
 use Rattle.normal_form.specs.Normal.{NormalConstraint}
 use Rattle.normal_form.specs.NormalOf.{IsNormalOf}
-use Rattle.normal_form.specs.Negation.{IsNegation}
 use Rattle.substitution.specs.Images.{Images}
-use Rattle.substitution.specs.Under.{IsUnder}
-use Rattle.substitution.specs.Objective.{IsObjectiveGoal}
 use Rattle.proof_steps.specs.declared.step.Item.{Item}
 use Rattle.proof_steps.specs.declared.step.Step.{Step}
 use Rattle.proof_steps.specs.declared.step.Step.TheVariants as steps
+use Rattle.proof_rules.specs.Block.{LegalRedBegin, LegalGoal, LegalEnd}
 use Rattle.proof_rules.specs.Expression.{IsPostfixOf}
+use Rattle.proof_rules.specs.Redundant.{Redundant}
 use Rattle.proof_rules.specs.Shown.{IsShown, IsAdmitted}
 use Rattle.proof_rules.specs.Solution.{Completes, at_most}
-use Rattle.proof_rules.specs.State.{State, constraints, constraint_of, id_of, HasRoom, with_constraint}
+use Rattle.proof_rules.specs.State.{State, constraints, constraint_of, id_of, HasRoom, IsOutside, with_constraint}
 
 -- a constraint is added under the next id
 abbrev pub Adds : NormalConstraint → State → State → Type 0
@@ -42,22 +40,6 @@ LegalPol old items new = (n : NormalConstraint) × IsPostfixOf (constraint_of ol
 -- rup: a constraint that is shown from the live ones is added
 abbrev pub LegalRup : State → Signed → State → Type 0
 LegalRup old c new = (n : NormalConstraint) × IsAdmitted c n × IsShown (constraints old) n × Adds n old new
-
--- what a constraint becomes under the substitution is shown
-abbrev pub IsShownUnder : List NormalConstraint → Images → NormalConstraint → Type 0
-IsShownUnder from images n = (r : NormalConstraint) × IsUnder n images r × IsShown from r
-
--- the substitution is shown not to raise an objective
-abbrev pub IsShownNotRaised : List NormalConstraint → Images → List Term → Type 0
-IsShownNotRaised from images objective = (r : NormalConstraint) × IsObjectiveGoal objective images r × IsShown from r
-
--- the goals of redundance, each shown from the live constraints and the negation of the new one: every live constraint
--- and the new one under the substitution, and that the objective does not rise
-pub record Redundant (p : Opb) (live : List NormalConstraint) (images : Images) (n m : NormalConstraint) : Type 0 where
-  pub negation : IsNegation n m
-  pub each_live : All (IsShownUnder (live ++ m ∷ []) images) live
-  pub itself : IsShownUnder (live ++ m ∷ []) images n
-  pub objective : IfSome p.objective (IsShownNotRaised (live ++ m ∷ []) images)
 
 -- red: a redundant constraint is added
 abbrev pub LegalRed : Opb → State → Signed → Images → State → Type 0
@@ -108,10 +90,13 @@ LegalDel old (id ∷ ids) new = IsSome (constraint_of old id) × LegalDel (witho
 abbrev pub Legal : Opb → State → Step → State → Type 0
 Legal p old (steps.Pol items) new = LegalPol old items new
 Legal p old (steps.Rup c) new = LegalRup old c new
-Legal p old (steps.Red c images) new = LegalRed p old c images new
-Legal p old (steps.Sol assigned) new = LegalSol p old assigned new
-Legal p old (steps.Soli assigned) new = LegalSoli p old assigned new
-Legal p old (steps.Del ids) new = LegalDel old ids new
+Legal p old (steps.Red c images) new = IsOutside old × LegalRed p old c images new
+Legal p old (steps.Sol assigned) new = IsOutside old × LegalSol p old assigned new
+Legal p old (steps.Soli assigned) new = IsOutside old × LegalSoli p old assigned new
+Legal p old (steps.Del ids) new = IsOutside old × LegalDel old ids new
+Legal p old (steps.RedBegin c images) new = IsOutside old × LegalRedBegin old c images new
+Legal p old (steps.Goal name) new = LegalGoal p old name new
+Legal p old steps.End new = LegalEnd p old new
 
 -- steps lead, one after another, from one state to another
 abbrev pub Leads : Opb → State → List Step → State → Type 0

@@ -1,3 +1,5 @@
+pub mod Block
+pub mod BlockCases
 pub mod Cases
 pub mod Claim
 pub mod Codes
@@ -9,6 +11,7 @@ pub mod Justified
 pub mod Legal
 pub mod Preserved
 pub mod Printed
+pub mod Redundant
 pub mod RuleFault
 pub mod Running
 pub mod Shown

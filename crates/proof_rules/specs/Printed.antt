@@ -24,6 +24,10 @@ number_of faults.UpperNotLogged = 26
 number_of faults.SolutionLogged = 27
 number_of faults.OutOfMemory = 28
 number_of faults.TooManyIds = 29
+number_of faults.BlockOpen = 30
+number_of faults.NoBlock = 31
+number_of faults.GoalUnknown = 32
+number_of faults.GoalNotClosed = 33
 
 abbrev pub name_of : StepFault → List ℕ
 name_of faults.DeadId = codes "DeadId"
@@ -46,3 +50,7 @@ name_of faults.UpperNotLogged = codes "UpperNotLogged"
 name_of faults.SolutionLogged = codes "SolutionLogged"
 name_of faults.OutOfMemory = codes "OutOfMemory"
 name_of faults.TooManyIds = codes "TooManyIds"
+name_of faults.BlockOpen = codes "BlockOpen"
+name_of faults.NoBlock = codes "NoBlock"
+name_of faults.GoalUnknown = codes "GoalUnknown"
+name_of faults.GoalNotClosed = codes "GoalNotClosed"

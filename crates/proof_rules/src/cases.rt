@@ -2,7 +2,7 @@
 
 ghost use Rattle.std.specs.Prelude.{◌^◌, [], ◌∷◌};
 ghost use Rattle.proof_rules.specs.Cases.{decision, min_four, fifth_for_first, first_or_second, first_or_not_second, not_first_and_second};
-ghost use Rattle.proof_rules.specs.Legal.{Redundant, IsShownUnder, IsShownNotRaised};
+ghost use Rattle.proof_rules.specs.Redundant.{Redundant, IsShownUnder, IsShownNotRaised};
 ghost use Rattle.proof_rules.specs.Shown.{IsShown, absurdity};
 ghost use Rattle.normal_form.specs.Cases.{plain, negated, normal};
 ghost use Rattle.propagate.specs.Cases.{unit, unit_not, four_clauses, pigeons, weighted};

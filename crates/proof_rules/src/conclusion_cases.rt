@@ -10,7 +10,7 @@ ghost use Rattle.propagate.specs.Cases.{x, not_x};
 ghost use Rattle.proof_rules.specs.Cases.{cover_file, least_cover, both, second_alone, cover_state, contradicting_state};
 ghost use Rattle.proof_rules.specs.Fault.{IsConclusionFault};
 ghost use Rattle.proof_rules.specs.Justified.{IsJustified};
-ghost use Rattle.proof_rules.specs.State.{State};
+ghost use Rattle.proof_rules.specs.State.{State, IsOutside};
 ghost use Rattle.proof_rules.specs.declared.fault.StepFault.{StepFault};
 ghost use Rattle.proof_rules.specs.declared.fault.StepFault.TheVariants.{NoObjective, SolutionConflict, SolutionPartial, TooLarge, SolutionLogged, LowerAboveBest, LowerNotShown, UpperNotLogged};
 ghost use Rattle.proof_steps.specs.declared.conclusion.Conclusion.TheVariants.{Nothing, Sat, Unsat, Bounds};
@@ -104,13 +104,13 @@ pub fn lower_bound_not_shown()
         (Bounds lower.Inf upper.Inf None) SolutionLogged → ⊥ }
 {}
 
-/// `NONE` has no fault in any state. The best solution is handed out with it, and there is none where nothing is logged.
+/// `NONE` has no fault in any state where no block is open. The best solution is handed out with it, and there is none where nothing is logged.
 pub fn nothing_concluded()
     ensures unlogged { IsJustified cover_file (cover_state None []) Nothing None }
     ensures logged { IsJustified cover_file (cover_state None (both ∷ [])) Nothing (Some both) }
     ensures not_without_best { IsJustified cover_file (cover_state None (both ∷ [])) Nothing None → ⊥ }
     ensures contradicting { IsJustified cover_file contradicting_state Nothing None }
-    ensures no_fault { (s : State) → (f : StepFault) → IsConclusionFault cover_file s Nothing f → ⊥ }
+    ensures no_fault { (s : State) → (f : StepFault) → IsOutside s → IsConclusionFault cover_file s Nothing f → ⊥ }
 {}
 
 /// `BOUNDS -INF 2` where `x0 x1` is logged: the lower bound -INF needs nothing to be shown, and the upper one a logged

@@ -68,6 +68,18 @@ pub enum StepFault {
     /// The next id would be 2^32.
     #[error("too many ids")]
     TooManyIds,
+    /// A block is open where the step or the conclusion has to stand outside, or another goal is open.
+    #[error("block open")]
+    BlockOpen,
+    /// No block is open.
+    #[error("no block")]
+    NoBlock,
+    /// No goal of this name may be opened: none is asked for, or it was opened before.
+    #[error("goal unknown")]
+    GoalUnknown,
+    /// `0 >= 1` is not shown at the end of a goal.
+    #[error("goal not closed")]
+    GoalNotClosed,
 }
 
 impl StepFault {
@@ -99,6 +111,10 @@ impl StepFault {
             StepFault::SolutionLogged => 27,
             StepFault::OutOfMemory => 28,
             StepFault::TooManyIds => 29,
+            StepFault::BlockOpen => 30,
+            StepFault::NoBlock => 31,
+            StepFault::GoalUnknown => 32,
+            StepFault::GoalNotClosed => 33,
         }
     }
 
@@ -127,6 +143,10 @@ impl StepFault {
             StepFault::SolutionLogged => "SolutionLogged",
             StepFault::OutOfMemory => "OutOfMemory",
             StepFault::TooManyIds => "TooManyIds",
+            StepFault::BlockOpen => "BlockOpen",
+            StepFault::NoBlock => "NoBlock",
+            StepFault::GoalUnknown => "GoalUnknown",
+            StepFault::GoalNotClosed => "GoalNotClosed",
         }
     }
 }

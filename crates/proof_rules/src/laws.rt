@@ -9,6 +9,7 @@ ghost use Rattle.linear.specs.declared.constraint.Signed.{Signed};
 ghost use Rattle.linear.specs.declared.term.Lit.{Lit};
 ghost use Rattle.normal_form.specs.Normal.{NormalConstraint, Holds, Rises};
 ghost use Rattle.substitution.specs.Images.{Images};
+ghost use Rattle.proof_rules.specs.Block.{LegalRedBegin, LegalGoal, LegalEnd};
 ghost use Rattle.proof_rules.specs.Claim.{Claim};
 ghost use Rattle.proof_rules.specs.Deletion.{AreDeletableAtOnce};
 ghost use Rattle.proof_rules.specs.Expression.{Given, IsPostfixOf};
@@ -17,9 +18,10 @@ ghost use Rattle.proof_rules.specs.Justified.{IsJustified, IsLegalProof};
 ghost use Rattle.proof_rules.specs.Legal.{Legal, LegalPol, LegalRup, LegalRed, LegalSol, LegalSoli, LegalDel, Leads};
 ghost use Rattle.proof_rules.specs.Preserved.{IsPreserved, AreNormal};
 ghost use Rattle.proof_rules.specs.Shown.{IsShown};
-ghost use Rattle.proof_rules.specs.State.{State, AreNumbered, IsStart};
+ghost use Rattle.proof_rules.specs.State.{State, AreNumbered, IsOutside, IsStart};
 ghost use Rattle.proof_steps.specs.declared.conclusion.Conclusion.{Conclusion};
 ghost use Rattle.proof_rules.specs.declared.fault.StepFault.{StepFault};
+ghost use Rattle.proof_steps.specs.declared.step.GoalName.{GoalName};
 ghost use Rattle.proof_steps.specs.declared.step.Item.{Item};
 ghost use Rattle.proof_steps.specs.declared.step.Step.{Step};
 
@@ -56,26 +58,46 @@ pub fn rup_preserves()
 /// constraints, at no greater value.
 pub fn red_preserves()
     ensures answer { (p : Opb) → (s t : State) → (c : Signed) → (images : Images)
-        → IsPreserved p s → AreNormal s → LegalRed p s c images t → IsPreserved p t }
+        → IsPreserved p s → AreNormal s → IsOutside s → LegalRed p s c images t → IsPreserved p t }
     ensures normal { (p : Opb) → (s t : State) → (c : Signed) → (images : Images) → AreNormal s → LegalRed p s c images t → AreNormal t }
 {}
 
 /// A solution is logged only where it satisfies the problem, and changes no live constraint.
 pub fn sol_preserves()
-    ensures answer { (p : Opb) → (s t : State) → (assigned : List Lit) → IsPreserved p s → LegalSol p s assigned t → IsPreserved p t }
+    ensures answer { (p : Opb) → (s t : State) → (assigned : List Lit) → IsPreserved p s → IsOutside s → LegalSol p s assigned t → IsPreserved p t }
     ensures normal { (p : Opb) → (s t : State) → (assigned : List Lit) → AreNormal s → LegalSol p s assigned t → AreNormal t }
 {}
 
 /// After an improving solution only better assignments are asked for, and these meet what it adds.
 pub fn soli_preserves()
-    ensures answer { (p : Opb) → (s t : State) → (assigned : List Lit) → IsPreserved p s → LegalSoli p s assigned t → IsPreserved p t }
+    ensures answer { (p : Opb) → (s t : State) → (assigned : List Lit) → IsPreserved p s → IsOutside s → LegalSoli p s assigned t → IsPreserved p t }
     ensures normal { (p : Opb) → (s t : State) → (assigned : List Lit) → AreNormal s → LegalSoli p s assigned t → AreNormal t }
 {}
 
 /// An answer meets what is left after a deletion, whatever goes.
 pub fn del_preserves()
-    ensures answer { (p : Opb) → (s t : State) → (ids : List ℤ) → IsPreserved p s → LegalDel s ids t → IsPreserved p t }
+    ensures answer { (p : Opb) → (s t : State) → (ids : List ℤ) → IsPreserved p s → IsOutside s → LegalDel s ids t → IsPreserved p t }
     ensures normal { (s t : State) → (ids : List ℤ) → AreNormal s → LegalDel s ids t → AreNormal t }
+{}
+
+/// What opens a block assumes the negation of its constraint, and keeps what is asked of those from before it.
+pub fn begin_preserves()
+    ensures answer { (p : Opb) → (s t : State) → (c : Signed) → (images : Images)
+        → IsPreserved p s → IsOutside s → LegalRedBegin s c images t → IsPreserved p t }
+    ensures normal { (s t : State) → (c : Signed) → (images : Images) → AreNormal s → LegalRedBegin s c images t → AreNormal t }
+{}
+
+/// What opens a goal assumes its negation.
+pub fn goal_preserves()
+    ensures answer { (p : Opb) → (s t : State) → (name : GoalName) → IsPreserved p s → LegalGoal p s name t → IsPreserved p t }
+    ensures normal { (p : Opb) → (s t : State) → (name : GoalName) → AreNormal s → LegalGoal p s name t → AreNormal t }
+{}
+
+/// The end of a goal drops what it assumed, and that of a block adds the new constraint, which redundance allows by the goals that
+/// were closed in it and those that are shown.
+pub fn end_preserves()
+    ensures answer { (p : Opb) → (s t : State) → IsPreserved p s → AreNormal s → LegalEnd p s t → IsPreserved p t }
+    ensures normal { (p : Opb) → (s t : State) → IsPreserved p s → AreNormal s → LegalEnd p s t → AreNormal t }
 {}
 
 /// A deletion is legal exactly where its ids differ and each is live in the state before the step, a negative one counted

@@ -7,4 +7,4 @@ mod conclusion;
 mod step;
 
 pub use conclusion::{Conclusion, Lower, Upper};
-pub use step::{Item, Step};
+pub use step::{GoalName, Item, Step};

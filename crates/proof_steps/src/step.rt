@@ -22,6 +22,17 @@ pub enum Item {
     Weaken(Var),
 }
 
+/// A goal of a subproof, by the name that its line gives.
+#[derive(Clone, Copy, Debug, PartialEq, Eq)]
+pub enum GoalName {
+    /// The live constraint of an id, under the substitution.
+    Live(i128),
+    /// `#1`: the new constraint, under the substitution.
+    Itself,
+    /// `#2`: the objective is no greater under the substitution.
+    Objective,
+}
+
 /// A step: one line of a proof. (The VeriPB proof format, version 2.0.)
 #[derive(Debug, Drop)]
 pub enum Step {
@@ -37,4 +48,10 @@ pub enum Step {
     Soli(Seq<Lit>),
     /// Removes constraints by their ids.
     Del(Seq<i128>),
+    /// Opens the block of a subproof, whose end adds a constraint with `>=` that redundance allows, by a witness.
+    RedBegin(Signed, Substitution),
+    /// Opens a goal of the open block.
+    Goal(GoalName),
+    /// Closes what is open: a goal where one is, else the block.
+    End,
 }

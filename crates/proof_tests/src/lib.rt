@@ -12,6 +12,8 @@ mod lines;
 #[cfg(test)]
 mod steps;
 #[cfg(test)]
+mod subproofs;
+#[cfg(test)]
 mod written;
 #[cfg(test)]
 mod wrong_words;

@@ -13,7 +13,7 @@ struct AtSection {
     fault: u8,
 }
 
-const LINES: [AtSection; 58] = [
+const LINES: [AtSection; 106] = [
     AtSection {
         section: Section::Header,
         line: b"pseudo-Boolean proof version 2.0",
@@ -302,6 +302,247 @@ const LINES: [AtSection; 58] = [
     AtSection {
         section: Section::After,
         line: b"end pseudo-Boolean proof",
+        fault: 7,
+    },
+    // in a subproof: its block, and a goal of it
+    AtSection {
+        section: Section::Step,
+        line: b"red >= 1 ; ; begin",
+        fault: 0,
+    },
+    AtSection {
+        section: Section::Step,
+        line: b"proofgoal #1",
+        fault: 5,
+    },
+    AtSection {
+        section: Section::Step,
+        line: b"proofgoal 1329227995784915872903807060280344577",
+        fault: 5,
+    },
+    AtSection {
+        section: Section::Step,
+        line: b"end",
+        fault: 5,
+    },
+    AtSection {
+        section: Section::Step,
+        line: b"end 8",
+        fault: 5,
+    },
+    AtSection {
+        section: Section::Step,
+        line: b"begin",
+        fault: 4,
+    },
+    AtSection {
+        section: Section::Block,
+        line: b"proofgoal #1",
+        fault: 0,
+    },
+    AtSection {
+        section: Section::Block,
+        line: b"proofgoal 3 ;",
+        fault: 0,
+    },
+    AtSection {
+        section: Section::Block,
+        line: b"pol 1 2 +",
+        fault: 0,
+    },
+    AtSection {
+        section: Section::Block,
+        line: b"rup 1 x1 >= 1 ; 7",
+        fault: 0,
+    },
+    AtSection {
+        section: Section::Block,
+        line: b"end",
+        fault: 0,
+    },
+    AtSection {
+        section: Section::Block,
+        line: b"end 8",
+        fault: 5,
+    },
+    AtSection {
+        section: Section::Block,
+        line: b"end 1329227995784915872903807060280344577",
+        fault: 5,
+    },
+    AtSection {
+        section: Section::Block,
+        line: b"red >= 1 ;",
+        fault: 5,
+    },
+    AtSection {
+        section: Section::Block,
+        line: b"red >= 1 ; ; begin",
+        fault: 5,
+    },
+    AtSection {
+        section: Section::Block,
+        line: b"red 1 x1 = 1 ;",
+        fault: 5,
+    },
+    AtSection {
+        section: Section::Block,
+        line: b"sol 1329227995784915872903807060280344577",
+        fault: 5,
+    },
+    AtSection {
+        section: Section::Block,
+        line: b"sol x1",
+        fault: 5,
+    },
+    AtSection {
+        section: Section::Block,
+        line: b"soli x1",
+        fault: 5,
+    },
+    AtSection {
+        section: Section::Block,
+        line: b"del id 1",
+        fault: 5,
+    },
+    AtSection {
+        section: Section::Block,
+        line: b"del range 1 2",
+        fault: 5,
+    },
+    AtSection {
+        section: Section::Block,
+        line: b"del id 1329227995784915872903807060280344577",
+        fault: 5,
+    },
+    AtSection {
+        section: Section::Block,
+        line: b"output NONE",
+        fault: 5,
+    },
+    AtSection {
+        section: Section::Block,
+        line: b"output DERIVABLE",
+        fault: 5,
+    },
+    AtSection {
+        section: Section::Block,
+        line: b"conclusion NONE",
+        fault: 5,
+    },
+    AtSection {
+        section: Section::Block,
+        line: b"end pseudo-Boolean proof",
+        fault: 5,
+    },
+    AtSection {
+        section: Section::Block,
+        line: b"f 1",
+        fault: 5,
+    },
+    AtSection {
+        section: Section::Block,
+        line: b"pseudo-Boolean proof version 2.0",
+        fault: 5,
+    },
+    AtSection {
+        section: Section::Block,
+        line: b"solx x1",
+        fault: 4,
+    },
+    AtSection {
+        section: Section::Block,
+        line: b"begin",
+        fault: 4,
+    },
+    AtSection {
+        section: Section::Block,
+        line: b"foo 1",
+        fault: 3,
+    },
+    AtSection {
+        section: Section::Block,
+        line: b"rup 1 x1 = 1 ;",
+        fault: 4,
+    },
+    AtSection {
+        section: Section::Goal,
+        line: b"p 1",
+        fault: 0,
+    },
+    AtSection {
+        section: Section::Goal,
+        line: b"u >= 0 ;",
+        fault: 0,
+    },
+    AtSection {
+        section: Section::Goal,
+        line: b"end 8 ;",
+        fault: 0,
+    },
+    AtSection {
+        section: Section::Goal,
+        line: b"end",
+        fault: 0,
+    },
+    AtSection {
+        section: Section::Goal,
+        line: b"end 1329227995784915872903807060280344577",
+        fault: 8,
+    },
+    AtSection {
+        section: Section::Goal,
+        line: b"proofgoal #2",
+        fault: 5,
+    },
+    AtSection {
+        section: Section::Goal,
+        line: b"red >= 1 ;",
+        fault: 5,
+    },
+    AtSection {
+        section: Section::Goal,
+        line: b"sol",
+        fault: 5,
+    },
+    AtSection {
+        section: Section::Goal,
+        line: b"del spec",
+        fault: 5,
+    },
+    AtSection {
+        section: Section::Goal,
+        line: b"output NONE",
+        fault: 5,
+    },
+    AtSection {
+        section: Section::Goal,
+        line: b"conclusion UNSAT",
+        fault: 5,
+    },
+    AtSection {
+        section: Section::Goal,
+        line: b"core id 1",
+        fault: 4,
+    },
+    AtSection {
+        section: Section::Goal,
+        line: b"foo 1",
+        fault: 3,
+    },
+    AtSection {
+        section: Section::Conclusion,
+        line: b"proofgoal #1",
+        fault: 5,
+    },
+    AtSection {
+        section: Section::Conclusion,
+        line: b"end",
+        fault: 5,
+    },
+    AtSection {
+        section: Section::After,
+        line: b"end",
         fault: 7,
     },
 ];

@@ -3,11 +3,11 @@
 
 use super::asking::{Case, fault_of};
 use linear::{Lit, Names, Relation, Term, Var};
-use proof_steps::{Item, Step};
+use proof_steps::{GoalName, Item, Step};
 use proof_text::{ProofFault, read_step};
 use std::alloc::Global;
 
-const LINES: [Case; 122] = [
+const LINES: [Case; 152] = [
     // `pol`
     Case {
         line: b"pol 1 0 d",
@@ -148,10 +148,6 @@ const LINES: [Case; 122] = [
     },
     Case {
         line: b"begin",
-        fault: 4,
-    },
-    Case {
-        line: b"proofgoal 1",
         fault: 4,
     },
     Case {
@@ -342,15 +338,15 @@ const LINES: [Case; 122] = [
     },
     Case {
         line: b"red 1 x1 >= 1 ; x1 -> 1 ; begin",
-        fault: 4,
+        fault: 0,
     },
     Case {
         line: b"red 1 x1 >= 1 ; ; begin",
-        fault: 4,
+        fault: 0,
     },
     Case {
         line: b"red 1 x1 >= 1 ; x1 -> 1 x2 0 x3->~x1; begin",
-        fault: 4,
+        fault: 0,
     },
     Case {
         line: b"red 1 x1 >= 1 ; x1 -> 1 x1 -> 0 ; begin",
@@ -501,6 +497,131 @@ const LINES: [Case; 122] = [
         line: b"del id 1329227995784915872903807060280344577",
         fault: 8,
     },
+    // subproofs: a step is read wherever it may stand
+    Case {
+        line: b"red >= 1 ;; begin;",
+        fault: 0,
+    },
+    Case {
+        line: b"red 1 x1 >= 1 ; x1 -> 1 ; begin x2",
+        fault: 5,
+    },
+    Case {
+        line: b"red 1 x1 >= 1 ; x1 -> 1 ; begin ; ;",
+        fault: 5,
+    },
+    Case {
+        line: b"red 1 x1 >= 1 ; x1 -> 1 ; Begin",
+        fault: 5,
+    },
+    Case {
+        line: b"red 1 x1 >= 1 ; x1 -> 1 begin",
+        fault: 5,
+    },
+    Case {
+        line: b"proofgoal 1",
+        fault: 0,
+    },
+    Case {
+        line: b"proofgoal +007;",
+        fault: 0,
+    },
+    Case {
+        line: b"proofgoal -1329227995784915872903807060280344576",
+        fault: 0,
+    },
+    Case {
+        line: b"proofgoal 1329227995784915872903807060280344577",
+        fault: 8,
+    },
+    Case {
+        line: b"proofgoal 1329227995784915872903807060280344577 x",
+        fault: 8,
+    },
+    Case {
+        line: b"proofgoal #1",
+        fault: 0,
+    },
+    Case {
+        line: b"proofgoal #2 ;",
+        fault: 0,
+    },
+    Case {
+        line: b"proofgoal #0",
+        fault: 5,
+    },
+    Case {
+        line: b"proofgoal #3",
+        fault: 5,
+    },
+    Case {
+        line: b"proofgoal #12",
+        fault: 5,
+    },
+    Case {
+        line: b"proofgoal # 1",
+        fault: 5,
+    },
+    Case {
+        line: b"proofgoal ~#1",
+        fault: 5,
+    },
+    Case {
+        line: b"proofgoal",
+        fault: 5,
+    },
+    Case {
+        line: b"proofgoal ;",
+        fault: 5,
+    },
+    Case {
+        line: b"proofgoal #1 #2",
+        fault: 5,
+    },
+    Case {
+        line: b"proofgoal x1",
+        fault: 5,
+    },
+    Case {
+        line: b"proofgoals 1",
+        fault: 3,
+    },
+    Case {
+        line: b"end",
+        fault: 0,
+    },
+    Case {
+        line: b"end ;",
+        fault: 0,
+    },
+    Case {
+        line: b"end 8",
+        fault: 0,
+    },
+    Case {
+        line: b"end -1 ;",
+        fault: 0,
+    },
+    Case {
+        line: b"end 8 9",
+        fault: 5,
+    },
+    Case {
+        line: b"end x1",
+        fault: 5,
+    },
+    Case {
+        line: b"end #1",
+        fault: 5,
+    },
+    Case {
+        line: b"end ; 8",
+        fault: 5,
+    },
+    Case {
+        line: b"end -1329227995784915872903807060280344577",
+        fault: 8,
+    },
 ];
 
 #[test]
@@ -545,6 +666,61 @@ fn is_pol(alloc: Global, line: &[u8], wanted: &[Item], count: usize) -> bool {
 fn pol_items(rt: HostRuntime) {
     let line = b"pol 1 -2 + x1 +3 * 007 d s x2 w ~x1 w1";
     assert!(&rt; is_pol(rt.alloc(), line, &ITEMS, 3));
+}
+
+/// Lines of goals, and the goal that each names.
+const GOALS: [(&[u8], GoalName); 6] = [
+    (b"proofgoal 3", GoalName::Live(3)),
+    (b"proofgoal -1;", GoalName::Live(-1)),
+    (b"proofgoal 0", GoalName::Live(0)),
+    (
+        b"proofgoal 1329227995784915872903807060280344576",
+        GoalName::Live(1329227995784915872903807060280344576),
+    ),
+    (b"proofgoal #1", GoalName::Itself),
+    (b"proofgoal #2", GoalName::Objective),
+];
+
+/// Whether a line opens this goal.
+fn is_goal(alloc: Global, line: &[u8], wanted: GoalName) -> bool {
+    let mut names = Names::new(alloc);
+    match read_step(alloc, line, &mut names) {
+        Ok(Step::Goal(goal)) => goal == wanted,
+        _ => false,
+    }
+}
+
+#[test]
+fn goals(rt: HostRuntime) {
+    for (line, goal) in &GOALS {
+        assert!(&rt; is_goal(rt.alloc(), line, *goal), "{line:?}");
+    }
+}
+
+/// Whether a line opens a block, by a constraint of so many terms and a substitution of so many names.
+fn is_block(alloc: Global, line: &[u8], terms: usize, images: usize) -> bool {
+    let mut names = Names::new(alloc);
+    match read_step(alloc, line, &mut names) {
+        Ok(Step::RedBegin(constraint, witness)) => {
+            constraint.terms.len() == terms && witness.as_slice().len() == images
+        }
+        _ => false,
+    }
+}
+
+#[test]
+fn blocks(rt: HostRuntime) {
+    let alloc = rt.alloc();
+    assert!(&rt; is_block(alloc, b"red >= 1 ; ; begin", 0, 0));
+    assert!(&rt;
+        is_block(
+            alloc,
+            b"red 1 x1 2 x2 >= 1 ; x1 -> x2 x3 0 x2 1 ; begin ;",
+            2,
+            3
+        )
+    );
+    assert!(&rt; !is_block(alloc, b"red 1 x1 2 x2 >= 1 ; x1 -> x2 x3 0 x2 1 ;", 2, 3));
 }
 
 /// The table of the names of a `sol` line.

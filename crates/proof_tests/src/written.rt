@@ -38,7 +38,7 @@ fn rewrite_end(
     }
 }
 
-const STEPS: [Rewriting; 12] = [
+const STEPS: [Rewriting; 21] = [
     Rewriting {
         line: b"p 1 -2 + x1 +3 * 007 d s x2 w ~x1 -0 s;",
         written: b"pol 1 -2 + x1 3 * 7 d s x2 w ~x1 0 s\n",
@@ -86,6 +86,42 @@ const STEPS: [Rewriting; 12] = [
     Rewriting {
         line: b"del id",
         written: b"del id\n",
+    },
+    Rewriting {
+        line: b"red 2 x1>=01;x1 x2 x2->~x1;begin;",
+        written: b"red 2 x1 >= 1 ; x1 -> x2 x2 -> ~x1 ; begin\n",
+    },
+    Rewriting {
+        line: b"red >= 1 ;; begin",
+        written: b"red >= 1 ; ; begin\n",
+    },
+    Rewriting {
+        line: b"proofgoal +003 ;",
+        written: b"proofgoal 3\n",
+    },
+    Rewriting {
+        line: b"proofgoal -1",
+        written: b"proofgoal -1\n",
+    },
+    Rewriting {
+        line: b"proofgoal -1329227995784915872903807060280344576",
+        written: b"proofgoal -1329227995784915872903807060280344576\n",
+    },
+    Rewriting {
+        line: b"proofgoal #1;",
+        written: b"proofgoal #1\n",
+    },
+    Rewriting {
+        line: b"proofgoal\t#2",
+        written: b"proofgoal #2\n",
+    },
+    Rewriting {
+        line: b"end 8 ;",
+        written: b"end\n",
+    },
+    Rewriting {
+        line: b"end",
+        written: b"end\n",
     },
 ];
 
@@ -232,6 +268,71 @@ fn a_written_proof(rt: HostRuntime) -> Result<(), ProofFault> {
     for section in &sections {
         if let Some(line) = reader.next() {
             assert_eq!(&rt; fault_at(alloc, *section, line.text), 0);
+        } else {
+            assert!(&rt; false);
+        }
+    }
+    assert!(&rt; reader.next().is_none());
+    Ok(())
+}
+
+/// A proof with a subproof, as it is written.
+const NESTED: &[u8] =
+    b"pseudo-Boolean proof version 2.0\nf 5\nred >= 1 ; ; begin\nproofgoal #1\npol 1 2 + 3 + 4 + 5 +\nend\nrup >= 0 ;\nend\nrup >= 1 ;\noutput NONE\nconclusion UNSAT\nend pseudo-Boolean proof\n";
+
+/// The section that is due behind a line that is read at a section.
+fn section_behind(alloc: Global, section: Section, line: &[u8]) -> Result<Section, ProofFault> {
+    let mut names = Names::new(alloc);
+    let said = read_line(alloc, section, line, &mut names)?;
+    Ok(section.behind(&said))
+}
+
+#[test]
+fn a_written_subproof(rt: HostRuntime) -> Result<(), ProofFault> {
+    let alloc = rt.alloc();
+    let mut names = Names::new(alloc);
+    let mut out = Vec::new(alloc);
+    out.extend_from_slice(b"pseudo-Boolean proof version 2.0\nf 5\n")?;
+    let lines = [
+        b"red>=1;;begin".as_slice(),
+        b"proofgoal #1".as_slice(),
+        b"p 1 2 + 3 + 4 + 5 +".as_slice(),
+        b"end 8".as_slice(),
+        b"u >= 0 ; 1".as_slice(),
+        b"end ;".as_slice(),
+        b"u >= 1 ;".as_slice(),
+    ];
+    for line in &lines {
+        rewrite_step(alloc, line, &mut names, &mut out)?;
+    }
+    rewrite_end(alloc, b"conclusion UNSAT", &mut names, &mut out)?;
+    assert_eq!(&rt; out.as_slice(), NESTED);
+    Ok(())
+}
+
+#[test]
+fn sections_of_a_subproof(rt: HostRuntime) -> Result<(), ProofFault> {
+    let alloc = rt.alloc();
+    let mut reader = ProofReader::new(NESTED);
+    let mut section = Section::Header;
+    let behind = [
+        Section::Count,
+        Section::Step,
+        Section::Block,
+        Section::Goal,
+        Section::Goal,
+        Section::Block,
+        Section::Block,
+        Section::Step,
+        Section::Step,
+        Section::Conclusion,
+        Section::End,
+        Section::After,
+    ];
+    for wanted in &behind {
+        if let Some(line) = reader.next() {
+            section = section_behind(alloc, section, line.text)?;
+            assert_eq!(&rt; section, *wanted);
         } else {
             assert!(&rt; false);
         }

@@ -12,7 +12,7 @@ use std::alloc::Global;
 
 /// The words that are tried at each place, one for each kind: misspelt names, a name, a negated literal, integers, one that
 /// is too large, signs alone, a word of no kind, `begin`, the symbols, nothing at all, and the one-byte words of `pol`.
-const WORDS: [&[u8]; 24] = [
+pub(crate) const WORDS: [&[u8]; 24] = [
     b"x",
     b"~",
     b"x1",
@@ -41,10 +41,10 @@ const WORDS: [&[u8]; 24] = [
 
 /// What stands before the word, and the code for each of the words, in their order.
 #[derive(Clone, Copy, Debug)]
-struct Row {
-    section: Section,
-    before: &'static [u8],
-    codes: &'static [u8],
+pub(crate) struct Row {
+    pub(crate) section: Section,
+    pub(crate) before: &'static [u8],
+    pub(crate) codes: &'static [u8],
 }
 
 const ROWS: [Row; 96] = [
@@ -97,7 +97,7 @@ const ROWS: [Row; 96] = [
     Row {
         section: Section::Step,
         before: b"proofgoal",
-        codes: b"444444444444444444444444",
+        codes: b"555555555555555555555555",
     },
     Row {
         section: Section::Step,
@@ -411,7 +411,7 @@ const ROWS: [Row; 96] = [
     Row {
         section: Section::Step,
         before: b"red >= 1 ;",
-        codes: b"555555555550455555505555",
+        codes: b"555555555550055555505555",
     },
     Row {
         section: Section::Step,
@@ -426,12 +426,12 @@ const ROWS: [Row; 96] = [
     Row {
         section: Section::Step,
         before: b"red >= 1 ; x3 -> 1",
-        codes: b"555555555550455555505555",
+        codes: b"555555555550055555505555",
     },
     Row {
         section: Section::Step,
         before: b"red >= 1 ; x3 ~x4",
-        codes: b"555555555550455555505555",
+        codes: b"555555555550055555505555",
     },
     Row {
         section: Section::Step,
@@ -446,12 +446,12 @@ const ROWS: [Row; 96] = [
     Row {
         section: Section::Step,
         before: b"red >= 1 ; x3 -> 1 ;",
-        codes: b"555555555545555555505555",
+        codes: b"555555555505555555505555",
     },
     Row {
         section: Section::Step,
         before: b"red >= 1 ; ;",
-        codes: b"555555555545555555505555",
+        codes: b"555555555505555555505555",
     },
     // conclusions
     Row {
@@ -567,7 +567,7 @@ fn code_with_more(row: &Row, code: u8) -> u8 {
 }
 
 /// The number of the first word to which the reader gives another code than the row.
-fn first_difference(alloc: Global, row: &Row) -> Result<Option<usize>, ProofFault> {
+pub(crate) fn first_difference(alloc: Global, row: &Row) -> Result<Option<usize>, ProofFault> {
     for (i, (word, code)) in WORDS.iter().zip(row.codes.iter()).enumerate() {
         let wanted = code.wrapping_sub(b'0');
         let found = fault_of_parts(alloc, row.section, row.before, word, b"")?;

@@ -20,3 +20,4 @@ pub mod LinesOfSections
 pub mod OneReading
 pub mod Computed
 mod ProofsComputed
+pub mod Placed

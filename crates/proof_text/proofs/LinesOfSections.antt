@@ -1,5 +1,5 @@
 -- What a line says at its section.
-use Rattle.std.proofs.Common.{◌≡◌, ℕ, ℤ, ◌<◌, ◌≤◌, Bool, true, false, ◌&&◌, if◌then◌else◌, Option, Some, None, List, [], ◌∷◌, drop, length, is_some, refl, sym, ap, subst, ◌∙◌, arith, codes}
+use Rattle.std.proofs.Common.{◌≡◌, ◌⊎◌, inl, inr, ℕ, ℤ, ◌<◌, ◌≤◌, Bool, true, false, ◌&&◌, if◌then◌else◌, Option, Some, None, List, [], ◌∷◌, drop, length, is_some, refl, sym, ap, subst, ◌∙◌, arith, codes}
 use Rattle.std.specs.Option.{option_map}
 use Rattle.proof_steps.specs.declared.step.Step.{Step}
 use Rattle.proof_steps.specs.declared.conclusion.Lower.{Lower}
@@ -10,6 +10,7 @@ use Rattle.proof_text.specs.declared.keyword.ConclusionKind.{ConclusionKind}
 use Rattle.proof_text.specs.declared.keyword.ConclusionKind.TheVariants as kinds
 use Rattle.proof_text.specs.declared.line.Line.{Line}
 use Rattle.proof_text.specs.declared.line.Line.TheVariants as lines
+use Rattle.proof_text.specs.declared.line.Section.{Section}
 use Rattle.proof_text.specs.declared.line.Section.TheVariants as sections
 use Rattle.pb_text.specs.Lexeme.{kind_of}
 use Rattle.proof_text.specs.Kinds.{is_semicolon}
@@ -23,12 +24,12 @@ use Rattle.proof_text.specs.Steps.{step_by, counted_by, step_of, counted, IsProp
 use Rattle.proof_text.specs.StepsRead.{IsStepRead, IsStepLineRead}
 use Rattle.proof_text.specs.Conclusions.{conclusion_kind_of, is_hint, hint_of, past_id, is_upper, upper_of, is_lower, lower_of, bounds_by, bounds_of, conclusion_by, conclusion_said, conclusion_of, conclusion_literals}
 use Rattle.proof_text.specs.ConclusionsRead.{IsConclusionLineRead}
-use Rattle.proof_text.specs.Spells.{line_of, IsProperLine, IsLine}
-use Rattle.proof_text.specs.PartsDenied.{Denies, IsForm, DeniesRule, NoStepBy, SomeStepBy}
-use Rattle.proof_text.specs.Faults.{NoStep, SomeStep, DeniesStep, NoLine, SomeLine, DeniesAt}
+use Rattle.proof_text.specs.Spells.{is_misplaced, step_at_section, line_of, naming, measured, IsProperLine, IsLine}
+use Rattle.proof_text.specs.PartsDenied.{Denies, IsForm, DeniesRule, NoStepBy, SomeStepBy, DeniesStepAt}
+use Rattle.proof_text.specs.Faults.{NoStep, SomeStep, DeniesStep, NoLine, SomeLine, DeniesAt, DeniesAmong, DeniesLine}
 use Rattle.proof_text.specs.declared.fault.ProofFault.{ProofFault}
 use Rattle.proof_text.specs.declared.fault.ProofFault.TheVariants as faults
-use Rattle.proof_text.proofs.ByFirstWord.{step_with, counted_with, judged_with}
+use Rattle.proof_text.proofs.ByFirstWord.{step_with, counted_with, misplaced_with, judged_with}
 use Rattle.proof_text.proofs.FaultsSaid.{form_denied, part_denied, same_denied}
 use Rattle.proof_text.proofs.PolItems.{first_word}
 use Rattle.proof_text.proofs.WordsByKind.{none_small}
@@ -206,7 +207,7 @@ output_placed names ws h all few =
     record {
       names = ap (names_in names) (sym none);
       few = few;
-      says = ap (λ t. if t then Some lines.Output else option_map (λ s. lines.Step s) (step_of names ws)) all;
+      says = ap (λ t. if t then Some lines.Output else option_map (λ s. lines.Step s) (step_at_section sections.Step names ws)) all;
       proper = tt;
       small = subst AreSmall (sym none) none_small;
     }
@@ -215,19 +216,31 @@ mapped_step : (o : Option Step) (l : Line) → option_map (λ x. lines.Step x) o
 mapped_step None l h = cc
 mapped_step (Some s) l h = (s, refl, cc)
 
+-- whether a line is misplaced is told by its rule
+pub misplaced_at : (section : Section) (w : List ℕ) (rest : List (List ℕ)) (o : Option Rule) → rule_of w ≡ o → is_misplaced section (w ∷ rest) ≡ misplaced_with section rest o
+misplaced_at section w rest o h = ap (misplaced_with section rest) h
+
+output_stands : (ws : List (List ℕ)) → is_first (codes "output") ws ≡ true → is_misplaced sections.Step ws ≡ false
+output_stands ws h = ap (is_misplaced sections.Step) (first_word (codes "output") ws h) ∙ misplaced_at sections.Step (codes "output") (drop 1 ws) None output_rule
+
+output_no_step : (names ws : List (List ℕ)) → is_first (codes "output") ws ≡ true → step_at_section sections.Step names ws ≡ None
+output_no_step names ws h =
+    ap (λ t. if t then None else step_of names ws) (output_stands ws h)
+    ∙ ap (step_of names) (first_word (codes "output") ws h) ∙ step_at names (codes "output") (drop 1 ws) None output_rule
+
 no_output_line : (names ws : List (List ℕ)) → is_first (codes "output") ws ≡ true → are_words output (unclosed ws) ≡ false → NoLine sections.Step names ws
 no_output_line names ws h none line e p =
-    let there : ws ≡ codes "output" ∷ drop 1 ws = first_word (codes "output") ws h in
     let n = names_in names (counted ws) in
-    let s = mapped_step (step_of n ws) line (sym (ap (λ t. if t then Some lines.Output else option_map (λ s. lines.Step s) (step_of n ws)) none) ∙ e) in
-    let nothing : step_of n ws ≡ None = ap (step_of n) there ∙ step_at n (codes "output") (drop 1 ws) None output_rule in
-    let x : ◌≡◌ {A = Option Step} None (Some s.0) = sym nothing ∙ s.1 in
+    let s = mapped_step (step_at_section sections.Step n ws) line (sym (ap (λ t. if t then Some lines.Output else option_map (λ s. lines.Step s) (step_at_section sections.Step n ws)) none) ∙ e) in
+    let x : ◌≡◌ {A = Option Step} None (Some s.0) = sym (output_no_step n ws h) ∙ s.1 in
     cc
 
 pub output_denied : (f : ProofFault) (names ws : List (List ℕ)) → is_first (codes "output") ws ≡ true → are_words output (unclosed ws) ≡ false → IsForm f
-    → DeniesAt f sections.Step names ws
-output_denied f names ws h none form =
-    form_denied f (NoLine sections.Step names ws) (SomeLine sections.Step names ws) (counted ws) (names_in names (counted ws)) form (no_output_line names ws h none)
+    → DeniesAmong f sections.Step names ws
+output_denied f names ws h none form = (
+  λ e. absurd (cc (sym (output_stands ws h) ∙ e)),
+  form_denied f (NoLine sections.Step names ws) (SomeLine sections.Step names ws) (counted ws) (names_in names (counted ws)) form (no_output_line names ws h none),
+)
 
 first_stays : (v : List ℕ) (ws : List (List ℕ)) → is_first v ws ≡ false → is_first v (unclosed ws) ≡ false
 first_stays v [] h = refl
@@ -241,30 +254,71 @@ first_stays v (w ∷ u ∷ rest) h = h
 not_output : (ws : List (List ℕ)) → is_first (codes "output") ws ≡ false → are_words output (unclosed ws) ≡ false
 not_output ws h = ap (λ t. t && (is_first (codes "NONE") (drop 1 (unclosed ws)) && is_empty (drop 1 (drop 1 (unclosed ws))))) (first_stays (codes "output") ws h)
 
--- a step among the lines
-pub step_placed : (names new ws : List (List ℕ)) (step : Step) → is_first (codes "output") ws ≡ false → IsStep names ws step new → IsLine sections.Step names ws (lines.Step step) new
-step_placed names new ws step h r = record {
-  names = r.names;
-  few = r.few;
-  says =
-      ap (λ t. if t then Some lines.Output else option_map (λ s. lines.Step s) (step_of new ws)) (not_output ws h)
-      ∙ ap (λ o. option_map (λ s. lines.Step s) o) r.says;
-  proper = r.proper;
-  small = r.small;
+-- lines at a section say the steps that stand there
+pub record SaysSteps (section : Section) (ws : List (List ℕ)) : Type 0 where
+  pub says : (names : List (List ℕ)) → line_of section names ws ≡ option_map (λ s. lines.Step s) (step_at_section section names ws)
+  pub names_of : naming section ws ≡ counted ws
+  pub counts : measured section ws ≡ counted ws
+
+pub outside : (ws : List (List ℕ)) → is_first (codes "output") ws ≡ false → SaysSteps sections.Step ws
+outside ws h = record {
+  says = λ names. ap (λ t. if t then Some lines.Output else option_map (λ s. lines.Step s) (step_at_section sections.Step names ws)) (not_output ws h);
+  names_of = refl;
+  counts = refl;
 }
 
-no_step_line : (names ws : List (List ℕ)) → is_first (codes "output") ws ≡ false → NoStep names ws → NoLine sections.Step names ws
-no_step_line names ws h none line e p =
-    let n = names_in names (counted ws) in
-    let s = mapped_step (step_of n ws) line (sym (ap (λ t. if t then Some lines.Output else option_map (λ s. lines.Step s) (step_of n ws)) (not_output ws h)) ∙ e) in
-    none s.0 s.1 (subst IsProperLine s.2 p)
+pub inside : (section : Section) (ws : List (List ℕ)) → (section ≡ sections.Block) ⊎ (section ≡ sections.Goal) → SaysSteps section ws
+inside section ws (inl e) = subst (λ q. SaysSteps q ws) (sym e) (record { says = λ names. refl; names_of = refl; counts = refl })
+inside section ws (inr e) = subst (λ q. SaysSteps q ws) (sym e) (record { says = λ names. refl; names_of = refl; counts = refl })
 
-pub step_denied_here : (f : ProofFault) (names ws : List (List ℕ)) → is_first (codes "output") ws ≡ false → DeniesStep f names ws → DeniesAt f sections.Step names ws
-step_denied_here f names ws h d =
+-- the step of a line that stands where it may
+here : (section : Section) (names ws : List (List ℕ)) → SaysSteps section ws → is_misplaced section ws ≡ false → line_of section names ws ≡ option_map (λ s. lines.Step s) (step_of names ws)
+here section names ws s place = s.says names ∙ ap (λ t. option_map (λ x. lines.Step x) (if t then None else step_of names ws)) place
+
+-- a step among the lines
+pub step_placed : (section : Section) (names new ws : List (List ℕ)) (step : Step) → SaysSteps section ws → is_misplaced section ws ≡ false → IsStep names ws step new → IsLine section names ws (lines.Step step) new
+step_placed section names new ws step s place r = record {
+  names = r.names ∙ ap (names_in names) (sym s.names_of);
+  few = r.few;
+  says = here section new ws s place ∙ ap (λ o. option_map (λ x. lines.Step x) o) r.says;
+  proper = r.proper;
+  small = subst AreSmall (sym s.counts) r.small;
+}
+
+misplaced_line : (section : Section) (names ws : List (List ℕ)) → SaysSteps section ws → is_misplaced section ws ≡ true → NoLine section names ws
+misplaced_line section names ws s place line e p =
+    let n = names_in names (naming section ws) in
+    let nothing : line_of section n ws ≡ None = s.says n ∙ ap (λ t. option_map (λ x. lines.Step x) (if t then None else step_of n ws)) place in
+    let x : ◌≡◌ {A = Option Line} None (Some line) = sym nothing ∙ e in
+    cc
+
+no_step_line : (section : Section) (names ws : List (List ℕ)) → SaysSteps section ws → is_misplaced section ws ≡ false → NoStep names ws → NoLine section names ws
+no_step_line section names ws s place none line e p =
+    let same : names_in names (naming section ws) ≡ names_in names (counted ws) = ap (names_in names) s.names_of in
     let n = names_in names (counted ws) in
-    let other = ap (λ t. if t then Some lines.Output else option_map (λ s. lines.Step s) (step_of n ws)) (not_output ws h) in
-    same_denied f (NoStep names ws) (SomeStep names ws) (NoLine sections.Step names ws) (SomeLine sections.Step names ws) (counted ws) n (counted ws) n
-    (no_step_line names ws h) (λ some. (lines.Step some.0, other ∙ ap (λ o. option_map (λ s. lines.Step s) o) some.1, some.2)) refl refl d
+    let m = mapped_step (step_of n ws) line (sym (here section n ws s place) ∙ ap (λ x. line_of section x ws) (sym same) ∙ e) in
+    none m.0 m.1 (subst IsProperLine m.2 p)
+
+some_step_line : (section : Section) (names ws : List (List ℕ)) → SaysSteps section ws → is_misplaced section ws ≡ false → SomeStep names ws → SomeLine section names ws
+some_step_line section names ws s place some =
+    let same : names_in names (naming section ws) ≡ names_in names (counted ws) = ap (names_in names) s.names_of in
+    let n = names_in names (counted ws) in
+    (lines.Step some.0, ap (λ x. line_of section x ws) same ∙ here section n ws s place ∙ ap (λ o. option_map (λ x. lines.Step x) o) some.1, some.2)
+
+-- what a fault of a step says of the line
+pub step_denied_at : (f : ProofFault) (section : Section) (names ws : List (List ℕ)) → SaysSteps section ws → DeniesStepAt f section names ws → DeniesAmong f section names ws
+step_denied_at f section names ws s d = (d.misplaced, by (is_misplaced section ws) refl)
+  where
+    by : (t : Bool) → is_misplaced section ws ≡ t → DeniesAt f section names ws
+    by true e = subst (λ g. DeniesAt g section names ws) (sym (d.misplaced e)) (misplaced_line section names ws s e)
+    by false e =
+        same_denied f (NoStep names ws) (SomeStep names ws) (NoLine section names ws) (SomeLine section names ws) (counted ws) (names_in names (counted ws)) (measured section ws) (names_in names (naming section ws))
+        (no_step_line section names ws s e) (some_step_line section names ws s e) (sym s.counts) (ap (names_in names) (sym s.names_of)) (d.placed e)
+
+pub inside_denied : (f : ProofFault) (section : Section) (names ws : List (List ℕ)) → (section ≡ sections.Block) ⊎ (section ≡ sections.Goal) → DeniesAmong f section names ws → DeniesLine f section names ws
+unfolding DeniesLine
+inside_denied f section names ws (inl e) d = subst (λ q. DeniesLine f q names ws) (sym e) (subst (λ q. DeniesAmong f q names ws) e d)
+inside_denied f section names ws (inr e) d = subst (λ q. DeniesLine f q names ws) (sym e) (subst (λ q. DeniesAmong f q names ws) e d)
 
 -- no count
 pub no_count_line : (names ws : List (List ℕ)) → ((n : ℤ) → count_of (unclosed ws) ≡ Some n → AreSmall (unclosed ws) → ⊥) → (line : Line) → line_of sections.Count names ws ≡ Some line → AreSmall (unclosed ws) → ⊥

@@ -8,6 +8,7 @@ use Rattle.proof_text.specs.declared.line.Section.{Section}
 use Rattle.proof_text.specs.declared.line.Section.TheVariants as sections
 use Rattle.proof_text.specs.Lines.{Numbered}
 use Rattle.proof_text.specs.Words.{words}
+use Rattle.proof_text.specs.Sections.{behind_step}
 use Rattle.proof_text.specs.Spells.{line_of, IsLine}
 use Rattle.proof_text.specs.ProofSpells.{AreSteps, SpellsProof}
 
@@ -31,16 +32,18 @@ one_conclusion x y e = cc
 same_lists : (x y : Step) (xs ys : List Step) → x ≡ y → xs ≡ ys → x ∷ xs ≡ y ∷ ys
 same_lists x y xs ys e f = cc
 
-pub one_list_of_steps : (old : List (List ℕ)) (ls : List Numbered) (xs ys : List Step) (n m : List (List ℕ)) → AreSteps old ls xs n → AreSteps old ls ys m → (xs ≡ ys) × (n ≡ m)
-one_list_of_steps old [] [] [] n m a b = (refl, a ∙ sym b)
-one_list_of_steps old [] [] (y ∷ ys) n m a b = absurd b
-one_list_of_steps old [] (x ∷ xs) ys n m a b = absurd a
-one_list_of_steps old (l ∷ ls) [] ys n m a b = absurd a
-one_list_of_steps old (l ∷ ls) (x ∷ xs) [] n m a b = absurd b
-one_list_of_steps old (l ∷ ls) (x ∷ xs) (y ∷ ys) n m a b =
-    let first = one_line sections.Step old (words l.text) (lines.Step x) (lines.Step y) a.0 b.0 a.1 b.1 in
-    let rest = one_list_of_steps a.0 ls xs ys n m a.2 (subst (λ t. AreSteps t ls ys m) (sym first.1) b.2) in
-    (same_lists x y xs ys (one_step x y first.0) rest.0, rest.1)
+pub one_list_of_steps : (section : Section) (old : List (List ℕ)) (ls : List Numbered) (xs ys : List Step) (n m : List (List ℕ)) → AreSteps section old ls xs n → AreSteps section old ls ys m → (xs ≡ ys) × (n ≡ m)
+one_list_of_steps section old [] [] [] n m a b = (refl, a.1 ∙ sym b.1)
+one_list_of_steps section old [] [] (y ∷ ys) n m a b = absurd b
+one_list_of_steps section old [] (x ∷ xs) ys n m a b = absurd a
+one_list_of_steps section old (l ∷ ls) [] ys n m a b = absurd a
+one_list_of_steps section old (l ∷ ls) (x ∷ xs) [] n m a b = absurd b
+one_list_of_steps section old (l ∷ ls) (x ∷ xs) (y ∷ ys) n m a b =
+    let first = one_line section old (words l.text) (lines.Step x) (lines.Step y) a.0 b.0 a.1 b.1 in
+    let same : x ≡ y = one_step x y first.0 in
+    let again : AreSteps (behind_step section x) b.0 ls ys m = subst (λ s. AreSteps (behind_step section s) b.0 ls ys m) (sym same) b.2 in
+    let rest = one_list_of_steps (behind_step section x) a.0 ls xs ys n m a.2 (subst (λ t. AreSteps (behind_step section x) t ls ys m) (sym first.1) again) in
+    (same_lists x y xs ys same rest.0, rest.1)
 
 -- two names of one list that ends with three lines
 pub one_parting : (xs ys : List Numbered) (a b c d e f : Numbered) → xs ++ a ∷ b ∷ c ∷ [] ≡ ys ++ d ∷ e ∷ f ∷ [] → (xs ≡ ys) × (a ≡ d) × (b ≡ e) × (c ≡ f)
@@ -74,7 +77,7 @@ one_proof text file count other xs ys c d p q =
     let parts = one_parting p.between q.between p.output p.concluded p.ended q.output q.concluded q.ended two.1 in
     let counted = one_line sections.Count file (words p.counted.text) (lines.Count count) (lines.Count other) file file p.count_is
     (subst (λ (l : Numbered). IsLine sections.Count file (words l.text) (lines.Count other) file) (sym two.0) q.count_is) in
-    let steps = one_list_of_steps file p.between xs ys p.named q.named p.steps_are (subst (λ ls. AreSteps file ls ys q.named) (sym parts.0) q.steps_are) in
+    let steps = one_list_of_steps sections.Step file p.between xs ys p.named q.named p.steps_are (subst (λ ls. AreSteps sections.Step file ls ys q.named) (sym parts.0) q.steps_are) in
     let output = one_line sections.Step p.named (words p.output.text) lines.Output lines.Output p.after q.after p.output_is
     (subst (λ n. IsLine sections.Step n (words p.output.text) lines.Output q.after) (sym steps.1) (subst (λ (l : Numbered). IsLine sections.Step q.named (words l.text) lines.Output q.after) (sym parts.1) q.output_is)) in
     let concluded = one_line sections.Conclusion p.after (words p.concluded.text) (lines.Conclusion c) (lines.Conclusion d) p.all q.all p.conclusion_is

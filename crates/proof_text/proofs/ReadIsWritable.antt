@@ -12,6 +12,8 @@ use Rattle.linear.specs.declared.constraint.Signed.{Signed}
 use Rattle.linear.specs.declared.constraint.Relation.TheVariants as relations
 use Rattle.substitution.specs.declared.image.Image.TheVariants as images
 use Rattle.proof_steps.specs.declared.step.Item.TheVariants as items
+use Rattle.proof_steps.specs.declared.step.GoalName.{GoalName}
+use Rattle.proof_steps.specs.declared.step.GoalName.TheVariants as goals
 use Rattle.proof_steps.specs.declared.step.Step.{Step}
 use Rattle.proof_steps.specs.declared.step.Step.TheVariants as steps
 use Rattle.proof_steps.specs.declared.conclusion.Lower.{Lower}
@@ -24,19 +26,19 @@ use Rattle.proof_text.specs.declared.keyword.Rule.TheVariants as rules
 use Rattle.proof_text.specs.declared.keyword.ConclusionKind.{ConclusionKind}
 use Rattle.proof_text.specs.declared.keyword.ConclusionKind.TheVariants as kinds
 use Rattle.proof_text.specs.Kinds.{is_integer, is_literal, is_at_least, is_arrow}
-use Rattle.proof_text.specs.Words.{halves, unclosed, is_empty, is_first, are_words, IsSmall, AreSmall}
+use Rattle.proof_text.specs.Words.{Halves, halves, unclosed, is_empty, is_first, are_words, IsSmall, AreSmall}
 use Rattle.proof_text.specs.Numbering.{names_in, lit_of}
 use Rattle.proof_text.specs.Forms.{are_literals, literals_of, are_integers, integers_of, is_variable, variable_of, is_term, term_of, terms_of, behind_terms, closing_of, is_pair, pair_of, is_single, single_of, are_items, items_of, is_image, image_of, are_images, images_of}
 use Rattle.proof_text.specs.Rules.{rule_of}
-use Rattle.proof_text.specs.Steps.{constraint_of, rup_by, red_by, red_with, is_deletion, witness_words, step_by, counted_by, step_of, counted, IsStep}
+use Rattle.proof_text.specs.Steps.{constraint_of, rup_by, begins_block, red_step, red_by, red_with, is_deletion, goal_of, is_closing, witness_words, step_by, counted_by, step_of, counted, IsStep}
 use Rattle.proof_text.specs.Conclusions.{conclusion_kind_of, is_hint, hint_of, hinted, past_id, is_id_hint, is_lower, lower_of, is_upper, upper_of, bounds_by, bounds_of, conclusion_by, literals_by, conclusion_said, literals_said, conclusion_of, conclusion_literals}
 use Rattle.proof_text.specs.declared.line.Line.{Line}
 use Rattle.proof_text.specs.declared.line.Line.TheVariants as lines
 use Rattle.proof_text.specs.declared.line.Section.{Section}
 use Rattle.proof_text.specs.declared.line.Section.TheVariants as sections
 use Rattle.proof_text.specs.Frame.{header, count_of, output, ending}
-use Rattle.proof_text.specs.Spells.{line_of, naming, measured, IsLine}
-use Rattle.proof_text.specs.Writable.{IsLineWritable, IsWritable, IsNamed, IsTermWritable, IsConstraintWritable, IsItemWritable, IsImageWritable, IsPairWritable, IsLitWritable, IsStepWritable, IsLowerWritable, IsUpperWritable, IsHintWritable, IsConclusionWritable}
+use Rattle.proof_text.specs.Spells.{is_misplaced, step_at_section, line_of, naming, measured, IsLine}
+use Rattle.proof_text.specs.Writable.{IsLineWritable, IsWritable, IsNamed, IsTermWritable, IsConstraintWritable, IsItemWritable, IsImageWritable, IsPairWritable, IsLitWritable, IsGoalWritable, IsStepWritable, IsLowerWritable, IsUpperWritable, IsHintWritable, IsConclusionWritable}
 use Rattle.proof_text.proofs.ByFirstWord.{step_with, counted_with, judged_with, literals_with}
 use Rattle.proof_text.proofs.WordsByKind.{first_small, rest_small, none_small}
 use Rattle.linear.proofs.NumbersOfNames.{has_name-append, has_name-last}
@@ -273,7 +275,7 @@ images_writable names (x ∷ i ∷ j ∷ rest) h k =
         (variable_writable names x p.0 k.0, image_writable names i k.1.0) (g (both (is_image i) (are_images (j ∷ rest)) p.1).1)
 
 -- steps
-chosen : {A : Type 0} (P : A → Type 0) (t : Bool) (x y : A) → (if t then Some x else None) ≡ Some y → (t ≡ true → P x) → P y
+pub chosen : {A : Type 0} (P : A → Type 0) (t : Bool) (x y : A) → (if t then Some x else None) ≡ Some y → (t ≡ true → P x) → P y
 chosen P true x y h g = let same : x ≡ y = cc in subst P same (g refl)
 chosen P false x y h g = cc
 
@@ -290,11 +292,40 @@ red_writable : (names front : List (List ℕ)) (b : Option (List (List ℕ))) (s
 red_writable names front None step h k s = cc
 red_writable names front (Some witness) step h k s = by (constraint_of names front) refl h
   where
-    by : (o : Option Signed) → constraint_of names front ≡ o → red_with names (unclosed witness) o ≡ Some step → IsStepWritable (length names) step
+    w : Halves
+    w = halves witness
+
+    parts : (c : Signed) → constraint_of names front ≡ Some c → are_images w.front ≡ true → IsConstraintWritable (length names) c × All (IsPairWritable (length names)) (images_of names w.front)
+    parts c e t = (constraint_writable names front c e (HasNames-front names front w.front k) (front_small front w.front s), images_writable names w.front t (HasNames-back names front w.front k))
+
+    made : (c : Signed) (t : Bool) (o : Option Bool) → (t ≡ true → IsConstraintWritable (length names) c × All (IsPairWritable (length names)) (images_of names w.front))
+        → (if t then option_map (λ block. red_step c (images_of names w.front) block) o else None) ≡ Some step → IsStepWritable (length names) step
+    made c true None g f = cc
+    made c true (Some true) g f = let same : steps.RedBegin c (images_of names w.front) ≡ step = cc in subst (IsStepWritable (length names)) same (g refl)
+    made c true (Some false) g f = let same : steps.Red c (images_of names w.front) ≡ step = cc in subst (IsStepWritable (length names)) same (g refl)
+    made c false o g f = cc
+
+    by : (o : Option Signed) → constraint_of names front ≡ o → red_with names w o ≡ Some step → IsStepWritable (length names) step
     by None e f = cc
-    by (Some c) e f =
-        chosen (IsStepWritable (length names)) (are_images (unclosed witness)) (steps.Red c (images_of names (unclosed witness))) step f
-        (λ t. (constraint_writable names front c e (HasNames-front names front (unclosed witness) k) (front_small front (unclosed witness) s), images_writable names (unclosed witness) t (HasNames-back names front (unclosed witness) k)))
+    by (Some c) e f = made c (are_images w.front) (begins_block w.behind) (parts c e) f
+
+goal_writable : (ws : List (List ℕ)) (goal : GoalName) → goal_of ws ≡ Some goal → AreSmall ws → IsGoalWritable goal
+goal_writable [] goal h s = cc
+goal_writable (w ∷ []) goal h s = by (is_integer (kind_of w)) (bytes_eq w (codes "#1")) (bytes_eq w (codes "#2")) refl h
+  where
+    by : (i a b : Bool) → is_integer (kind_of w) ≡ i → (if i then Some (goals.Live (integer_value w)) else if a then Some goals.Itself else if b then Some goals.Objective else None) ≡ Some goal → IsGoalWritable goal
+    by true a b e h = let same : goals.Live (integer_value w) ≡ goal = cc in subst IsGoalWritable same (integer_writable w (first_small w [] s) e)
+    by false true b e h = let same : goals.Itself ≡ goal = cc in subst IsGoalWritable same tt
+    by false false true e h = let same : goals.Objective ≡ goal = cc in subst IsGoalWritable same tt
+    by false false false e h = cc
+goal_writable (w ∷ v ∷ rest) goal h s = cc
+
+goal_step_writable : (count : ℕ) (ws : List (List ℕ)) (step : Step) → option_map (λ x. steps.Goal x) (goal_of ws) ≡ Some step → AreSmall ws → IsStepWritable count step
+goal_step_writable count ws step h s = by (goal_of ws) refl h
+  where
+    by : (o : Option GoalName) → goal_of ws ≡ o → option_map (λ x. steps.Goal x) o ≡ Some step → IsStepWritable count step
+    by None e f = cc
+    by (Some goal) e f = let same : steps.Goal goal ≡ step = cc in subst (IsStepWritable count) same (goal_writable ws goal e s)
 
 ruled_writable : (rule : Rule) (names ws : List (List ℕ)) (step : Step) → step_by rule names ws ≡ Some step → HasNames names (counted_by rule ws) → AreSmall (counted_by rule ws) → IsStepWritable (length names) step
 ruled_writable rules.Pol names ws step h k s =
@@ -308,6 +339,8 @@ ruled_writable rules.Soli names ws step h k s =
 ruled_writable rules.Del names ws step h k s =
     chosen (IsStepWritable (length names)) (is_deletion ws) (steps.Del (integers_of (unclosed (drop 1 ws)))) step h
     (λ t. integers_writable (unclosed (drop 1 ws)) (both (is_first (codes "id") ws) (are_integers (unclosed (drop 1 ws))) t).1 s)
+ruled_writable rules.Goal names ws step h k s = goal_step_writable (length names) (unclosed ws) step h s
+ruled_writable rules.End names ws step h k s = chosen (IsStepWritable (length names)) (is_closing (unclosed ws)) steps.End step h (λ t. tt)
 
 words_writable : (names ws : List (List ℕ)) (step : Step) → step_of names ws ≡ Some step → HasNames names (counted ws) → AreSmall (counted ws) → IsStepWritable (length names) step
 unfolding step_of counted
@@ -393,6 +426,18 @@ conclusion_writable old ws new c n h s = by (is_first (codes "conclusion") ws) h
         (subst (λ m. HasNames m (literals_said (unclosed (drop 1 ws)))) (sym n) (has_names old (literals_said (unclosed (drop 1 ws))))) s
     by false h = cc
 
+-- so can a step at its section
+step_line_writable : (section : Section) (old ws new : List (List ℕ)) (line : Line) → new ≡ names_in old (counted ws) → option_map (λ x. lines.Step x) (step_at_section section new ws) ≡ Some line → AreSmall (counted ws)
+    → IsLineWritable (length new) line
+step_line_writable section old ws new line n h s = by (is_misplaced section ws) (step_of new ws) refl h
+  where
+    by : (t : Bool) (o : Option Step) → step_of new ws ≡ o → option_map (λ x. lines.Step x) (if t then None else o) ≡ Some line → IsLineWritable (length new) line
+    by true o e f = cc
+    by false None e f = cc
+    by false (Some step) e f =
+        let same : lines.Step step ≡ line = cc in
+        subst (IsLineWritable (length new)) same (words_writable new ws step e (subst (λ m. HasNames m (counted ws)) (sym n) (has_names old (counted ws))) s)
+
 -- so can whatever a line says
 said_writable : (section : Section) (old ws new : List (List ℕ)) (line : Line) → new ≡ names_in old (naming section ws) → line_of section new ws ≡ Some line → AreSmall (measured section ws) → IsLineWritable (length new) line
 said_writable sections.Header old ws new line n h s = chosen (IsLineWritable (length new)) (are_words header (unclosed ws)) lines.Header line h (λ t. tt)
@@ -401,14 +446,13 @@ said_writable sections.Count old ws new line n h s = by (count_of (unclosed ws))
     by : (o : Option ℤ) → option_map (λ m. lines.Count m) o ≡ Some line → IsLineWritable (length new) line
     by None e = cc
     by (Some m) e = let same : lines.Count m ≡ line = cc in subst (IsLineWritable (length new)) same tt
-said_writable sections.Step old ws new line n h s = by (are_words output (unclosed ws)) (step_of new ws) refl h
+said_writable sections.Step old ws new line n h s = by (are_words output (unclosed ws)) h
   where
-    by : (t : Bool) (o : Option Step) → step_of new ws ≡ o → (if t then Some lines.Output else option_map (λ x. lines.Step x) o) ≡ Some line → IsLineWritable (length new) line
-    by true o e f = let same : lines.Output ≡ line = cc in subst (IsLineWritable (length new)) same tt
-    by false None e f = cc
-    by false (Some step) e f =
-        let same : lines.Step step ≡ line = cc in
-        subst (IsLineWritable (length new)) same (words_writable new ws step e (subst (λ m. HasNames m (counted ws)) (sym n) (has_names old (counted ws))) s)
+    by : (t : Bool) → (if t then Some lines.Output else option_map (λ x. lines.Step x) (step_at_section sections.Step new ws)) ≡ Some line → IsLineWritable (length new) line
+    by true f = let same : lines.Output ≡ line = cc in subst (IsLineWritable (length new)) same tt
+    by false f = step_line_writable sections.Step old ws new line n f s
+said_writable sections.Block old ws new line n h s = step_line_writable sections.Block old ws new line n h s
+said_writable sections.Goal old ws new line n h s = step_line_writable sections.Goal old ws new line n h s
 said_writable sections.Conclusion old ws new line n h s = by (conclusion_of new ws) refl h
   where
     by : (o : Option Conclusion) → conclusion_of new ws ≡ o → option_map (λ x. lines.Conclusion x) o ≡ Some line → IsLineWritable (length new) line

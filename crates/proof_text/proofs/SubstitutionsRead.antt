@@ -11,7 +11,7 @@ use Rattle.linear.specs.declared.term.Lit.{Lit}
 use Rattle.linear.specs.declared.term.Var.{Var}
 use Rattle.substitution.specs.declared.image.Image.{Image}
 use Rattle.substitution.specs.declared.image.Image.TheVariants as images
-use Rattle.proof_text.specs.Kinds.{is_integer, is_literal, is_semicolon, is_arrow}
+use Rattle.proof_text.specs.Kinds.{is_integer, is_literal, is_arrow}
 use Rattle.proof_text.specs.Words.{AreSmall, past_arrow}
 use Rattle.proof_text.specs.NamesMet.{NamesMet, met, met_in}
 use Rattle.proof_text.specs.Numbering.{lit_of}
@@ -19,7 +19,7 @@ use Rattle.proof_text.specs.Forms.{is_variable, variable_of, is_image, image_of,
 use Rattle.proof_text.specs.PartsRead.{Takes, IsImageRead}
 use Rattle.proof_text.specs.PartsDenied.{Denies}
 use Rattle.proof_text.specs.declared.fault.ProofFault.{ProofFault}
-use Rattle.proof_text.proofs.WordsByKind.{all_small, rest_small, only_small, small_other, literal_alone, semicolon_alone, denied_more}
+use Rattle.proof_text.proofs.WordsByKind.{all_small, rest_small, only_small, small_other, literal_alone, denied_more}
 use Rattle.proof_text.proofs.NamesNumbered.{met_literal, met_other, met_in-append}
 use Rattle.proof_text.proofs.PartsInTurn.{lit_met}
 use Rattle.proof_text.proofs.PolItems.{same_word, and_true}
@@ -253,15 +253,3 @@ not_plain x h = by (is_literal (kind_of x)) h
 
 pub not_named : (x : List ℕ) → is_literal (kind_of x) ≡ false → is_variable x ≡ false
 not_named x h = ap (λ t. t && not (is_negated x)) h
-
--- a subproof begins where a name is due
-pub no_subproof : (f : ProofFault) (x : List ℕ) (left : List (List ℕ)) (kind : Kind) (begin : Bool) → kind ≡ kind_of x → (is_semicolon kind && begin) ≡ true → ((ws : List (List ℕ)) → Denies f false ws)
-    → Denies f (are_images (x ∷ left)) (x ∷ left)
-no_subproof f x left kind begin k h d = subst (λ t. Denies f t (x ∷ left)) (sym none) (d (x ∷ left))
-  where
-    first : (p q : Bool) → (p && q) ≡ true → p ≡ true
-    first true q e = refl
-    first false q e = cc
-
-    none : are_images (x ∷ left) ≡ false
-    none = no_name x left (not_named x (semicolon_alone (kind_of x) (ap is_semicolon (sym k) ∙ first (is_semicolon kind) begin h)).1)

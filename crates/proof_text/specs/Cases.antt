@@ -6,6 +6,7 @@ use Rattle.linear.specs.declared.term.Term.{Term}
 use Rattle.linear.specs.declared.constraint.Signed.{Signed}
 use Rattle.linear.specs.declared.constraint.Relation.TheVariants.{AtLeast}
 use Rattle.proof_steps.specs.declared.step.Item.TheVariants.{Id, Axiom, Add, Weaken}
+use Rattle.proof_steps.specs.declared.step.GoalName.TheVariants as goals
 use Rattle.proof_steps.specs.declared.step.Step.{Step}
 use Rattle.proof_steps.specs.declared.step.Step.TheVariants as steps
 use Rattle.proof_steps.specs.declared.conclusion.Lower.TheVariants as lowers
@@ -78,6 +79,20 @@ growing_steps = steps.Pol (Id (pos 1) ∷ Axiom (negated 2) ∷ Add ∷ []) ∷ 
 
 abbrev pub growing_conclusion : Conclusion
 growing_conclusion = conclusions.Sat (Some (plain 4 ∷ negated 2 ∷ []))
+
+-- a block with a goal, and steps in both
+abbrev pub nested_proof : List ℕ
+nested_proof = codes "pseudo-Boolean proof version 2.0\nf 5\nred >= 1 ; ; begin\nproofgoal #1\npol 1 2 +\nend 8\nrup >= 0 ;\nend\noutput NONE\nconclusion UNSAT : 9\nend pseudo-Boolean proof\n"
+
+abbrev pub nested_steps : List Step
+nested_steps =
+    steps.RedBegin (at_least [] (pos 1)) []
+    ∷ steps.Goal goals.Itself
+    ∷ steps.Pol (Id (pos 1) ∷ Id (pos 2) ∷ Add ∷ [])
+    ∷ steps.End
+    ∷ steps.Rup (at_least [] (pos 0))
+    ∷ steps.End
+    ∷ []
 
 -- a text that is no proof of any steps and any conclusion
 abbrev pub IsNoProof : List ℕ → Type 0

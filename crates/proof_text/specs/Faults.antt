@@ -1,5 +1,5 @@
 -- What the faults of a line say of it.
-use Rattle.std.specs.Prelude.{◌≡◌, ℕ, ◌<◌, Some, List, length, codes, ⊤}
+use Rattle.std.specs.Prelude.{◌≡◌, ℕ, ◌<◌, true, Some, List, length, codes, ⊤}
 use Rattle.proof_steps.specs.declared.step.Step.{Step}
 use Rattle.proof_text.specs.declared.line.Section.{Section}
 use Rattle.proof_text.specs.declared.line.Section.TheVariants as sections
@@ -10,7 +10,7 @@ use Rattle.proof_text.specs.Words.{AreSmall}
 use Rattle.linear.specs.Largest.{most_names}
 use Rattle.proof_text.specs.Numbering.{names_in}
 use Rattle.proof_text.specs.Steps.{step_of, counted, IsProper}
-use Rattle.proof_text.specs.Spells.{line_of, naming, measured, IsProperLine}
+use Rattle.proof_text.specs.Spells.{is_misplaced, line_of, naming, measured, IsProperLine}
 
 -- a table with more names than 32 bits can number
 abbrev pub AreTooMany : List (List ℕ) → Type 0
@@ -60,6 +60,10 @@ abbrev pub DeniesAt : ProofFault → Section → List (List ℕ) → List (List 
 DeniesAt fault section names ws =
     DeniesBy fault (NoLine section names ws) (SomeLine section names ws) (measured section ws) (names_in names (naming section ws))
 
+-- what a fault says of a line at a section of steps: where no step of its rule may stand, it is BadLine
+abbrev pub DeniesAmong : ProofFault → Section → List (List ℕ) → List (List ℕ) → Type 0
+DeniesAmong fault section names ws = (is_misplaced section ws ≡ true → fault ≡ faults.BadLine) × DeniesAt fault section names ws
+
 -- What a fault says of a line at its section, `names` being the table before it. At the header the one fault is BadHeader:
 -- the line is no header. At the count it is BadCount: the line is no count, or its integer is too large. At the conclusion
 -- no rule is unknown or left out. Behind the end the fault is TextAfterEnd.
@@ -67,7 +71,9 @@ unfoldable pub DeniesLine : ProofFault → Section → List (List ℕ) → List 
 DeniesLine fault sections.Header names ws = (fault ≡ faults.BadHeader) × NoLine sections.Header names ws
 DeniesLine fault sections.Count names ws =
     (fault ≡ faults.BadCount) × ((line : Line) → line_of sections.Count names ws ≡ Some line → AreSmall (measured sections.Count ws) → ⊥)
-DeniesLine fault sections.Step names ws = DeniesAt fault sections.Step names ws
+DeniesLine fault sections.Step names ws = DeniesAmong fault sections.Step names ws
+DeniesLine fault sections.Block names ws = DeniesAmong fault sections.Block names ws
+DeniesLine fault sections.Goal names ws = DeniesAmong fault sections.Goal names ws
 DeniesLine fault sections.Conclusion names ws = IsPlain fault × DeniesAt fault sections.Conclusion names ws
 DeniesLine fault sections.End names ws = (fault ≡ faults.BadLine) × NoLine sections.End names ws
 DeniesLine fault sections.After names ws = fault ≡ faults.TextAfterEnd

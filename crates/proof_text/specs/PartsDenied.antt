@@ -1,10 +1,12 @@
 -- Of the code, not of the format: what the fault of a function that reads a part of a line says of the words of that part.
-use Rattle.std.specs.Prelude.{◌≡◌, ℕ, Bool, false, Some, List, ⊤}
+use Rattle.std.specs.Prelude.{◌≡◌, ℕ, Bool, true, false, Some, List, ⊤}
 use Rattle.proof_steps.specs.declared.step.Step.{Step}
 use Rattle.proof_text.specs.declared.keyword.Rule.{Rule}
 use Rattle.proof_text.specs.Numbering.{names_in}
 use Rattle.proof_text.specs.Steps.{step_by, counted_by, IsProper}
-use Rattle.proof_text.specs.Faults.{DeniesBy}
+use Rattle.proof_text.specs.Faults.{DeniesBy, DeniesStep}
+use Rattle.proof_text.specs.Spells.{is_misplaced}
+use Rattle.proof_text.specs.declared.line.Section.{Section}
 use Rattle.proof_text.specs.Words.{AreSmall}
 use Rattle.proof_text.specs.declared.fault.ProofFault.{ProofFault}
 use Rattle.proof_text.specs.declared.fault.ProofFault.TheVariants as faults
@@ -36,3 +38,9 @@ SomeStepBy rule names ws = (step : Step) × (step_by rule (names_in names (count
 -- what a fault says of the words behind a rule's own word
 abbrev pub DeniesRule : ProofFault → Rule → List (List ℕ) → List (List ℕ) → Type 0
 DeniesRule fault rule names ws = DeniesBy fault (NoStepBy rule names ws) (SomeStepBy rule names ws) (counted_by rule ws) (names_in names (counted_by rule ws))
+
+-- What a fault says of the words of a step at a section: where no step of their rule may stand it is BadLine, and elsewhere
+-- it is a fault of the step.
+pub record DeniesStepAt (fault : ProofFault) (section : Section) (names ws : List (List ℕ)) : Type 0 where
+  pub misplaced : is_misplaced section ws ≡ true → fault ≡ faults.BadLine
+  pub placed : is_misplaced section ws ≡ false → DeniesStep fault names ws

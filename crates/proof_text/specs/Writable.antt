@@ -11,6 +11,8 @@ use Rattle.substitution.specs.declared.image.Image.{Image}
 use Rattle.substitution.specs.declared.image.Image.TheVariants as images
 use Rattle.proof_steps.specs.declared.step.Item.{Item}
 use Rattle.proof_steps.specs.declared.step.Item.TheVariants as items
+use Rattle.proof_steps.specs.declared.step.GoalName.{GoalName}
+use Rattle.proof_steps.specs.declared.step.GoalName.TheVariants as goals
 use Rattle.proof_steps.specs.declared.step.Step.{Step}
 use Rattle.proof_steps.specs.declared.step.Step.TheVariants as steps
 use Rattle.proof_steps.specs.declared.conclusion.Lower.{Lower}
@@ -59,6 +61,11 @@ IsPairWritable count p = IsNamed count p.0 × IsImageWritable count p.1
 abbrev pub IsLitWritable : ℕ → Lit → Type 0
 IsLitWritable count l = IsNamed count l.var
 
+abbrev pub IsGoalWritable : GoalName → Type 0
+IsGoalWritable (goals.Live id) = IsWritable id
+IsGoalWritable goals.Itself = ⊤
+IsGoalWritable goals.Objective = ⊤
+
 -- a step whose integers are at most 2^120 in size, whose relation is `>=`, and whose variables the table numbers
 abbrev pub IsStepWritable : ℕ → Step → Type 0
 IsStepWritable count (steps.Pol is) = All (IsItemWritable count) is
@@ -67,6 +74,9 @@ IsStepWritable count (steps.Red c w) = IsConstraintWritable count c × All (IsPa
 IsStepWritable count (steps.Sol ls) = All (IsLitWritable count) ls
 IsStepWritable count (steps.Soli ls) = All (IsLitWritable count) ls
 IsStepWritable count (steps.Del ids) = All IsWritable ids
+IsStepWritable count (steps.RedBegin c w) = IsConstraintWritable count c × All (IsPairWritable count) w
+IsStepWritable count (steps.Goal goal) = IsGoalWritable goal
+IsStepWritable count steps.End = ⊤
 
 abbrev pub IsLowerWritable : Lower → Type 0
 IsLowerWritable lowers.MinusInf = ⊤

@@ -1,7 +1,8 @@
-//! The words of a line up to its first `;`, which is due.
+//! The words of a line up to its first `;`.
 //!
 //! The constraint of `rup` and `red` ends with a `;` that may not be missing, since more stands behind it: hints, which
-//! are never judged, or a substitution. So the words before it and those behind it are read by different readers.
+//! are never judged, or a substitution. So does a substitution behind which a block begins. So the words before a `;` and those behind
+//! it are read by different readers.
 
 ghost use Rattle.std.specs.Prelude.{◌≡◌, [], ◌∷◌, None, Some, false, drop, MatchOption};
 ghost use Rattle.pb_text.specs.TokensOf.{texts_of};
@@ -71,6 +72,18 @@ impl<'a> BeforeSemicolon<'a> {
             return None;
         };
         self.take()
+    }
+
+    /// Passes an arrow, if one stands next.
+    pub(crate) fn pass_arrow(&mut self)
+        ensures front { self.new.front ≡ words.past_arrow self.old.front }
+        ensures behind { self.new.behind ≡ self.old.behind }
+    {
+        if let Some(token) = self.next() {
+            if let Kind::Symbol(Symbol::Arrow) = token.kind {
+                self.take();
+            }
+        }
     }
 
     /// Whether no word is left before the `;`.

@@ -7,6 +7,7 @@
 ghost use Rattle.std.specs.Prelude.{◌^◌, pos, None, Some, [], ◌∷◌, codes};
 ghost use Rattle.substitution.specs.declared.image.Image.TheVariants as images;
 ghost use Rattle.proof_steps.specs.declared.step.Item.TheVariants.{Id, Axiom, Add, Multiply, Divide, Saturate, Weaken};
+ghost use Rattle.proof_steps.specs.declared.step.GoalName.TheVariants as goals;
 ghost use Rattle.proof_steps.specs.declared.step.Step.TheVariants as steps;
 ghost use Rattle.proof_steps.specs.declared.conclusion.Lower.TheVariants as lowers;
 ghost use Rattle.proof_steps.specs.declared.conclusion.Upper.TheVariants as uppers;
@@ -14,7 +15,7 @@ ghost use Rattle.proof_steps.specs.declared.conclusion.Conclusion.TheVariants as
 ghost use Rattle.proof_text.specs.declared.line.Line.TheVariants as lines;
 ghost use Rattle.proof_text.specs.declared.line.Section.TheVariants as sections;
 ghost use Rattle.proof_text.specs.ProofSpells.{SpellsProof};
-ghost use Rattle.proof_text.specs.Cases.{file, variable, plain, negated, term, at_least, minus, Spells, SpellsNothing, line_at, AreLines, improving_proof, improving_steps, one_and_one, growing_proof, growing_steps, growing_conclusion, IsNoProof};
+ghost use Rattle.proof_text.specs.Cases.{file, variable, plain, negated, term, at_least, minus, Spells, SpellsNothing, line_at, AreLines, improving_proof, improving_steps, one_and_one, growing_proof, growing_steps, growing_conclusion, nested_proof, nested_steps, IsNoProof};
 
 /// `pol`: an integer directly before `*` or `d` belongs to it, and a name before `w`. `x3`, `zz` and others are names that the file has not:
 /// they are numbered behind its own, in order of first occurrence. An integer may be as large as 2^120.
@@ -73,16 +74,56 @@ pub fn substitutions()
     ensures no_images { Spells sections.Step (codes "red 1 x1 >= 1 ;") (lines.Step (steps.Red (at_least (term (pos 1) (plain 0) ∷ []) (pos 1)) [])) file }
 {}
 
-/// An image is a literal or the very text `0` or `1`; on the left stands a name, once; a subproof is left out.
+/// An image is a literal or the very text `0` or `1`; on the left stands a name, once.
 pub fn no_substitutions()
     ensures no_substitution { SpellsNothing sections.Step (codes "red 1 x1 >= 1") }
-    ensures subproof { SpellsNothing sections.Step (codes "red 1 x1 >= 1 ; x1 -> 1 ; begin") }
     ensures image_zeros { SpellsNothing sections.Step (codes "red 1 x1 >= 1 ; x1 00") }
     ensures image_signed { SpellsNothing sections.Step (codes "red 1 x1 >= 1 ; x1 +1") }
     ensures no_image { SpellsNothing sections.Step (codes "red 1 x1 >= 1 ; x1 ->") }
     ensures two_arrows { SpellsNothing sections.Step (codes "red 1 x1 >= 1 ; x1 -> -> 1") }
     ensures left_negated { SpellsNothing sections.Step (codes "red 1 x1 >= 1 ; ~x1 -> 0") }
     ensures name_twice { SpellsNothing sections.Step (codes "red 1 x1 >= 1 ; x1 -> 1 x1 -> 0") }
+{}
+
+/// Subproofs. A `red` line opens a block by `; begin`, behind a substitution that may be empty; a goal is an id, `#1` or `#2`; `pol` and `rup`
+/// stand in a block and in its goals, and the `end` of a goal may have an id.
+pub fn subproofs()
+    ensures block { Spells sections.Step (codes "red 1 x1 >= 1 ; x1 -> 1 ; begin") (lines.Step (steps.RedBegin (at_least (term (pos 1) (plain 0) ∷ []) (pos 1)) ((variable 0, images.One) ∷ []))) file }
+    ensures block_closed { Spells sections.Step (codes "red >= 1 ; x1 0 ; begin ;") (lines.Step (steps.RedBegin (at_least [] (pos 1)) ((variable 0, images.Zero) ∷ []))) file }
+    ensures block_without_images { Spells sections.Step (codes "red >= 1 ; ; begin") (lines.Step (steps.RedBegin (at_least [] (pos 1)) [])) file }
+    ensures goal_of_id { Spells sections.Block (codes "proofgoal 3") (lines.Step (steps.Goal (goals.Live (pos 3)))) file }
+    ensures goal_of_newest { Spells sections.Block (codes "proofgoal -1 ;") (lines.Step (steps.Goal (goals.Live (minus 1)))) file }
+    ensures goal_of_itself { Spells sections.Block (codes "proofgoal #1") (lines.Step (steps.Goal goals.Itself)) file }
+    ensures goal_of_objective { Spells sections.Block (codes "proofgoal #2 ;") (lines.Step (steps.Goal goals.Objective)) file }
+    ensures derived_in_block { Spells sections.Block (codes "pol 1 2 +") (lines.Step (steps.Pol (Id (pos 1) ∷ Id (pos 2) ∷ Add ∷ []))) file }
+    ensures shown_in_goal { Spells sections.Goal (codes "u >= 1 ;") (lines.Step (steps.Rup (at_least [] (pos 1)))) file }
+    ensures end_of_goal { Spells sections.Goal (codes "end") (lines.Step steps.End) file }
+    ensures end_of_goal_by_id { Spells sections.Goal (codes "end 8 ;") (lines.Step steps.End) file }
+    ensures end_of_block { Spells sections.Block (codes "end ;") (lines.Step steps.End) file }
+{}
+
+/// No line of a subproof: `begin` without its `;`, or with more behind it; goals and ends outside blocks; other steps inside; an id
+/// behind the `end` of a block; a larger integer.
+pub fn no_subproofs()
+    ensures begin_at_once { SpellsNothing sections.Step (codes "red 1 x1 >= 1 ; begin") }
+    ensures more_than_begin { SpellsNothing sections.Step (codes "red 1 x1 >= 1 ; ; begin x1") }
+    ensures three_semicolons { SpellsNothing sections.Step (codes "red 1 x1 >= 1 ; ; ; begin") }
+    ensures goal_outside { SpellsNothing sections.Step (codes "proofgoal #1") }
+    ensures goal_in_goal { SpellsNothing sections.Goal (codes "proofgoal #1") }
+    ensures third_goal { SpellsNothing sections.Block (codes "proofgoal #3") }
+    ensures no_goal { SpellsNothing sections.Block (codes "proofgoal") }
+    ensures two_goals { SpellsNothing sections.Block (codes "proofgoal 1 2") }
+    ensures goal_of_name { SpellsNothing sections.Block (codes "proofgoal x1") }
+    ensures end_outside { SpellsNothing sections.Step (codes "end") }
+    ensures end_of_block_by_id { SpellsNothing sections.Block (codes "end 8") }
+    ensures end_by_two_ids { SpellsNothing sections.Goal (codes "end 8 9") }
+    ensures end_of_proof_in_block { SpellsNothing sections.Block (codes "end pseudo-Boolean proof") }
+    ensures block_in_block { SpellsNothing sections.Block (codes "red >= 1 ; ; begin") }
+    ensures solution_in_block { SpellsNothing sections.Block (codes "sol x1") }
+    ensures deletion_in_goal { SpellsNothing sections.Goal (codes "del id 1") }
+    ensures output_in_block { SpellsNothing sections.Block (codes "output NONE") }
+    ensures goal_too_large { SpellsNothing sections.Block (codes "proofgoal 1329227995784915872903807060280344577") }
+    ensures end_too_large { SpellsNothing sections.Goal (codes "end -1329227995784915872903807060280344577") }
 {}
 
 /// `sol` and `soli`: literals alone.
@@ -165,11 +206,14 @@ pub fn texts()
 pub fn proofs()
     ensures improving { SpellsProof improving_proof file (pos 1) improving_steps one_and_one }
     ensures growing { SpellsProof growing_proof file (pos 3) growing_steps growing_conclusion }
+    ensures nested { SpellsProof nested_proof file (pos 5) nested_steps conclusions.Unsat }
 {}
 
-/// No proofs: one without an end line, one with a line that counts behind it, and one with a step behind the output line.
+/// No proofs: one without an end line, one with a line that counts behind it, one with a step behind the output line, and one
+/// whose block is left open.
 pub fn no_proofs()
     ensures no_end { IsNoProof (codes "pseudo-Boolean proof version 2.0\nf 1\noutput NONE\nconclusion NONE\n") }
     ensures text_behind { IsNoProof (codes "pseudo-Boolean proof version 2.0\nf 1\noutput NONE\nconclusion NONE\nend pseudo-Boolean proof\npol 1\n") }
+    ensures block_open { IsNoProof (codes "pseudo-Boolean proof version 2.0\nf 1\nred >= 1 ; ; begin\noutput NONE\nconclusion NONE\nend pseudo-Boolean proof\n") }
     ensures step_behind { IsNoProof (codes "pseudo-Boolean proof version 2.0\nf 1\noutput NONE\npol 1\nconclusion NONE\nend pseudo-Boolean proof\n") }
 {}

@@ -14,6 +14,8 @@ pub enum Rule {
     Sol,
     Soli,
     Del,
+    Goal,
+    End,
 }
 
 /// What a conclusion is about.
@@ -23,6 +25,19 @@ pub enum ConclusionKind {
     Sat,
     Unsat,
     Bounds,
+}
+
+/// The rule of a word in a subproof.
+fn subproof_rule_of(word: &[u8]) -> Option<Rule>
+    ensures { result ≡ rules.subproof_rule_of word.now }
+{
+    if word == b"proofgoal".as_slice() {
+        Some(Rule::Goal)
+    } else if word == b"end".as_slice() {
+        Some(Rule::End)
+    } else {
+        None
+    }
 }
 
 /// The rule of a word.
@@ -37,7 +52,7 @@ pub(crate) fn rule_of(word: &[u8]) -> Option<Rule>
         b"sol" => Some(Rule::Sol),
         b"soli" => Some(Rule::Soli),
         b"del" => Some(Rule::Del),
-        _ => None,
+        _ => subproof_rule_of(word),
     }
 }
 

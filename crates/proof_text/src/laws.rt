@@ -11,6 +11,7 @@ ghost use Rattle.proof_steps.specs.declared.conclusion.Conclusion.{Conclusion};
 ghost use Rattle.proof_text.specs.declared.line.Line.{Line};
 ghost use Rattle.proof_text.specs.declared.line.Section.{Section};
 ghost use Rattle.proof_text.specs.Lines.{Numbered, breaks, counting_from};
+ghost use Rattle.proof_text.specs.Sections.{AreNested, LineStands};
 ghost use Rattle.proof_text.specs.Spells.{IsLine};
 ghost use Rattle.proof_text.specs.ProofSpells.{AreSteps, SpellsProof};
 
@@ -20,10 +21,10 @@ pub fn one_line()
         → IsLine section old ws line new → IsLine section old ws other later → (line ≡ other) × (new ≡ later) }
 {}
 
-/// Lines spell one list of steps, and leave one table of names.
+/// Lines spell one list of steps from a section on, and leave one table of names.
 pub fn one_list_of_steps()
-    ensures { (old : List (List ℕ)) → (lines : List Numbered) → (steps others : List Step) → (new later : List (List ℕ))
-        → AreSteps old lines steps new → AreSteps old lines others later → (steps ≡ others) × (new ≡ later) }
+    ensures { (section : Section) → (old : List (List ℕ)) → (lines : List Numbered) → (steps others : List Step) → (new later : List (List ℕ))
+        → AreSteps section old lines steps new → AreSteps section old lines others later → (steps ≡ others) × (new ≡ later) }
 {}
 
 /// A text spells one proof at most: one count, one list of steps and one conclusion.
@@ -31,6 +32,22 @@ pub fn one_proof()
     ensures { (text : List ℕ) → (file : List (List ℕ)) → (count other : ℤ) → (steps others : List Step) → (c d : Conclusion)
         → SpellsProof text file count steps c → SpellsProof text file other others d
         → (count ≡ other) × (steps ≡ others) × (c ≡ d) }
+{}
+
+/// A line says what may stand at its section: `proofgoal` in a block alone, `end` in a block or a goal, `pol` and `rup` there
+/// too, and anything else outside.
+pub fn lines_stand_in_their_places()
+    ensures { (section : Section) → (old ws : List (List ℕ)) → (line : Line) → (new : List (List ℕ))
+        → IsLine section old ws line new → LineStands section line }
+{}
+
+/// The steps of a text are well nested: each may stand where it stands, and no block is left open. So whoever judges them in
+/// their order never meets a step that wants a block where none is open, or none where one is.
+pub fn steps_are_nested()
+    ensures lines { (section : Section) → (old : List (List ℕ)) → (lines : List Numbered) → (steps : List Step) → (new : List (List ℕ))
+        → AreSteps section old lines steps new → AreNested section steps }
+    ensures proof { (text : List ℕ) → (file : List (List ℕ)) → (count : ℤ) → (steps : List Step) → (c : Conclusion)
+        → SpellsProof text file count steps c → AreNested Section.Step steps }
 {}
 
 /// The lines of two texts with an LF between them are those of the one and then those of the other, numbered on: so a text

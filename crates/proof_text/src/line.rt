@@ -3,12 +3,14 @@
 use proof_steps::{Conclusion, Step};
 
 /// Where in a proof a line stands: the lines that count are, in order, the header, the count, the steps and the output,
-/// the conclusion and the end.
+/// the conclusion and the end. Among the steps a subproof of `red` has a block, and goals in it.
 #[derive(Clone, Copy, Debug, PartialEq, Eq)]
 pub enum Section {
     Header,
     Count,
     Step,
+    Block,
+    Goal,
     Conclusion,
     End,
     After,

@@ -65,17 +65,6 @@ impl<'a> LineWords<'a> {
         }
     }
 
-    /// Passes an arrow, if one stands next.
-    pub(crate) fn pass_arrow(&mut self)
-        ensures { self.new ≡ words.past_arrow self.old }
-    {
-        if let Some(token) = self.next() {
-            if let Kind::Symbol(Symbol::Arrow) = token.kind {
-                self.take();
-            }
-        }
-    }
-
     /// Whether no word is left: nothing but a closing `;`, which may be missing.
     pub(crate) fn is_empty(&self) -> bool
         ensures { result ≡ words.is_empty self.now }

@@ -4,13 +4,15 @@
 //! them. The section decides which faults there are. Among the steps a rule may be unknown or left out; at the conclusion no rule is
 //! due, so that whatever stands there is a bad line; the header, the count and the text behind the end have one fault each.
 
-ghost use Rattle.std.specs.Prelude.{◌≡◌, false, length, IfOk, IfErr, OnErr};
+ghost use Rattle.std.specs.Prelude.{◌≡◌, ◌⊎◌, false, length, IfOk, IfErr, OnOk, OnErr};
 ghost use Rattle.pb_text.specs.TokensOf.{texts_of};
 ghost use Rattle.proof_text.specs.Words.{words, is_first};
 ghost use Rattle.proof_text.specs.Steps.{IsStep};
 ghost use Rattle.proof_text.specs.StepsRead.{IsStepLineRead};
+ghost use Rattle.proof_text.specs.Spells as spells;
 ghost use Rattle.proof_text.specs.Spells.{IsLine};
 ghost use Rattle.proof_text.specs.Faults.{DeniesStep, DeniesLine};
+ghost use Rattle.proof_text.specs.PartsDenied.{DeniesStepAt};
 ghost use Rattle.proof_text.specs.Writable.{IsStepWritable, IsLineWritable};
 
 use super::conclude::conclusion;
@@ -20,10 +22,11 @@ use super::keyword::rule_of;
 use super::line::{Line, Section};
 use super::line_names::LineNames;
 use super::line_words::LineWords;
+use super::places::may_stand;
 use super::refusal::rule_fault;
 use super::step::step;
 use linear::Names;
-use pb_text::Lookahead;
+use pb_text::{Kind, Lookahead};
 use proof_steps::Step;
 use std::alloc::Global;
 use std::mem;
@@ -67,7 +70,7 @@ fn step_of_words(alloc: Global, words: Lookahead<'_>, names: &mut Names) -> Read
     }
 }
 
-/// The step that a line says. Names that the table does not have are added in order; a refused line adds none.
+/// The step that a line says, wherever in a proof it may stand. Names that the table does not have are added in order; a refused line adds none.
 ///
 /// All integers are at most 2^120 in size, so the step can be written again. What stands behind the `;` of `rup` is passed
 /// over.
@@ -117,6 +120,57 @@ fn begins(words: &Lookahead<'_>, word: &[u8]) -> bool
     }
 }
 
+/// Whether the words begin with the word of a rule of which no step may stand at a section.
+fn is_misplaced(section: Section, words: &Lookahead<'_>) -> bool
+    ensures { result ≡ spells.is_misplaced section (texts_of words.now) }
+{
+    let Some(token) = words.next() else {
+        return false;
+    };
+    let Some(rule) = rule_of(token.text) else {
+        return false;
+    };
+    let numbered = match words.after() {
+        Some(token) => matches!(token.kind, Kind::Integer),
+        None => false,
+    };
+    !may_stand(rule, section, numbered)
+}
+
+/// A step at a section of steps. A step in a wrong place is a bad line, whatever stands behind its first word.
+fn step_at_section(
+    alloc: Global,
+    section: Section,
+    words: Lookahead<'_>,
+    names: &mut Names,
+) -> Reading<Step>
+    ensures step { IfOk result (λ s. IsStep names.old (texts_of words.entry) s names.new) }
+    ensures placed { OnOk result (spells.is_misplaced section (texts_of words.entry) ≡ false) }
+    ensures err { OnErr result (names.new ≡ names.old) }
+    ensures denies { IfErr result (λ f. DeniesStepAt f section names.old (texts_of words.entry)) }
+{
+    if is_misplaced(section, &words) {
+        return Err(ProofFault::BadLine);
+    }
+    step_of_words(alloc, words, names)
+}
+
+/// A step in a block or in a goal of one.
+fn step_inside(
+    alloc: Global,
+    section: Section,
+    words: Lookahead<'_>,
+    names: &mut Names,
+) -> Reading<Line>
+    requires { (section ≡ Section.Block) ⊎ (section ≡ Section.Goal) }
+    ensures line { IfOk result (λ l. IsLine section names.old (texts_of words.entry) l names.new) }
+    ensures err { OnErr result (names.new ≡ names.old) }
+    ensures denies { IfErr result (λ f. DeniesLine f section names.old (texts_of words.entry)) }
+{
+    let step = step_at_section(alloc, section, words, names)?;
+    Ok(Line::Step(step))
+}
+
 /// A step, or the output line behind the steps.
 fn step_or_output(alloc: Global, words: Lookahead<'_>, names: &mut Names) -> Reading<Line>
     ensures line { IfOk result (λ l. IsLine Section.Step names.old (texts_of words.entry) l names.new) }
@@ -129,7 +183,7 @@ fn step_or_output(alloc: Global, words: Lookahead<'_>, names: &mut Names) -> Rea
         output(LineWords::new(words))?;
         return Ok(Line::Output);
     }
-    let step = step_of_words(alloc, words, names)?;
+    let step = step_at_section(alloc, Section::Step, words, names)?;
     Ok(Line::Step(step))
 }
 
@@ -139,8 +193,8 @@ fn step_or_output(alloc: Global, words: Lookahead<'_>, names: &mut Names) -> Rea
 ///
 /// The fault is `BadHeader` at the header, `BadCount` at the count (also for an integer above 2^120 in size),
 /// `TextAfterEnd` behind the end line, whatever the line is, and `BadLine` at the end. Among the steps and at the
-/// conclusion the faults are those of `read_step`; at the conclusion no rule is due, so `UnknownRule` and `RuleLeftOut` do
-/// not come.
+/// conclusion the faults are those of `read_step`; a step in a wrong place, as `sol` in a block, or `proofgoal` and `end`
+/// outside one, is a `BadLine`. At the conclusion no rule is due, so `UnknownRule` and `RuleLeftOut` do not come.
 pub fn read_line(
     alloc: Global,
     section: Section,
@@ -168,6 +222,7 @@ pub fn read_line(
             None => Err(ProofFault::BadCount),
         },
         Section::Step => step_or_output(alloc, words, names),
+        Section::Block | Section::Goal => step_inside(alloc, section, words, names),
         Section::Conclusion => conclusion_line(alloc, words, names),
         Section::End => {
             if is_end(LineWords::new(words)) {

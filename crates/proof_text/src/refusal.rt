@@ -1,7 +1,7 @@
 //! First words that begin no step, and which fault they are.
 //!
 //! A user should see apart what is misspelt, what belongs elsewhere, and what is right VeriPB that this profile leaves out
-//! (orders, core sets, checked deletions, subproofs): the last is no reproach to the proof.
+//! (orders, core sets, checked deletions): the last is no reproach to the proof.
 
 ghost use Rattle.proof_text.specs.PartsDenied.{IsForm};
 
@@ -10,7 +10,7 @@ use super::witness::is_among;
 use pb_text::{Kind, Token};
 
 /// The rules of the format that this profile leaves out.
-const LEFT_OUT: [&[u8]; 16] = [
+const LEFT_OUT: [&[u8]; 15] = [
     b"dom",
     b"pre_order",
     b"load_order",
@@ -18,7 +18,6 @@ const LEFT_OUT: [&[u8]; 16] = [
     b"solx",
     b"core",
     b"begin",
-    b"proofgoal",
     b"e",
     b"ea",
     b"i",
@@ -29,8 +28,8 @@ const LEFT_OUT: [&[u8]; 16] = [
     b"deld",
 ];
 
-/// The first words of lines that may not stand among the steps.
-const FRAME: [&[u8]; 5] = [b"pseudo-Boolean", b"f", b"output", b"conclusion", b"end"];
+/// The first words of lines that may not stand among the steps. (`end` is one too, and begins a step.)
+const FRAME: [&[u8]; 4] = [b"pseudo-Boolean", b"f", b"output", b"conclusion"];
 
 /// The fault of a line among the steps by its first word, which is no rule that is read.
 pub(crate) fn rule_fault(token: Token<'_>) -> ProofFault

@@ -5,24 +5,38 @@
 
 ghost use Rattle.std.specs.Prelude.{◌≡◌, false, IfOk, IfErr};
 ghost use Rattle.pb_text.specs.TokensOf.{texts_of};
+ghost use Rattle.proof_text.specs.Steps as steps;
 ghost use Rattle.proof_text.specs.StepsRead.{IsStepRead};
 ghost use Rattle.proof_text.specs.PartsDenied.{DeniesRule};
 
 use super::before_semicolon::BeforeSemicolon;
 use super::constraint::constraint;
 use super::fault::{ProofFault, Reading};
+use super::goal::{closing, goal};
 use super::keyword::Rule;
 use super::line_names::LineNames;
 use super::line_words::LineWords;
 use super::pol::items;
 use super::values::{lits, numbers};
-use super::witness::{images, unless_twice};
+use super::witness::{begins_block, images, unless_twice};
+use linear::Signed;
 use pb_text::Lookahead;
 use proof_steps::Step;
 use std::alloc::Global;
 use substitution::Substitution;
 
-/// `red`: a constraint, `;`, and a substitution.
+/// A step of redundance, with or without a block.
+fn red_step(constraint: Signed, witness: Substitution, block: bool) -> Step
+    ensures { result ≡ steps.red_step constraint witness block }
+{
+    if block {
+        Step::RedBegin(constraint, witness)
+    } else {
+        Step::Red(constraint, witness)
+    }
+}
+
+/// `red`: a constraint, `;`, a substitution, and perhaps `;` and `begin`.
 fn red(alloc: Global, words: Lookahead<'_>, table: &mut LineNames) -> Reading<Step>
     requires { table.old.full ≡ false }
     ensures read { IfOk result (λ s. IsStepRead Rule.Red table.old (texts_of words.entry) s table.new) }
@@ -30,7 +44,9 @@ fn red(alloc: Global, words: Lookahead<'_>, table: &mut LineNames) -> Reading<St
     ensures denies { IfErr result (λ f. DeniesRule f Rule.Red table.old.names (texts_of words.entry)) }
 {
     let (constraint, behind) = constraint(alloc, BeforeSemicolon::new(words), table)?;
-    let witness = images(alloc, LineWords::new(behind), table)?;
+    let mut words = BeforeSemicolon::new(behind);
+    let witness = images(alloc, &mut words, table)?;
+    let block = begins_block(words)?;
     if table.is_full() {
         return Err(unless_twice(&witness, ProofFault::TooManyIds));
     }
@@ -38,7 +54,7 @@ fn red(alloc: Global, words: Lookahead<'_>, table: &mut LineNames) -> Reading<St
         Some(witness) => {
             // That no variable stands twice is known by the type; this makes it known here.
             witness.reveal();
-            Ok(Step::Red(constraint, witness))
+            Ok(red_step(constraint, witness, block))
         }
         None => Err(ProofFault::BadLine),
     }
@@ -85,5 +101,10 @@ pub(crate) fn step(
         Rule::Sol => Ok(Step::Sol(lits(alloc, LineWords::new(words), table)?)),
         Rule::Soli => Ok(Step::Soli(lits(alloc, LineWords::new(words), table)?)),
         Rule::Del => del(alloc, words, table),
+        Rule::Goal => Ok(Step::Goal(goal(LineWords::new(words))?)),
+        Rule::End => {
+            closing(LineWords::new(words))?;
+            Ok(Step::End)
+        }
     }
 }

@@ -1,25 +1,25 @@
-//! Substitutions: names and their images in turn.
+//! Substitutions: names and their images in turn, and whether a block begins behind them.
 //!
 //! The arrow may be missing and leaves one reading all the same, since names and images alternate. A name stands on the left once:
 //! two images would be two substitutions. That is seen from the variables' numbers, or, where names found no number, from the names themselves, so
 //! that the second occurrence, which is the first word that cannot stand, is the fault in either case.
 
-ghost use Rattle.std.specs.Prelude.{◌≡◌, ℕ, List, [], ◌∷◌, true, false, ◌&&◌, map, None, Some, if◌then◌else◌, IfOk, IfErr, OnOk, codes, bytes_eq};
+ghost use Rattle.std.specs.Prelude.{◌≡◌, [], ◌∷◌, map, None, Some, if◌then◌else◌, IfOk, IfErr, OnOk, OnErr, bytes_eq};
 ghost use Rattle.std.specs.List.{list_any};
-ghost use Rattle.substitution.specs.Images.{NamesOnce};
-ghost use Rattle.proof_text.specs.Kinds.{is_semicolon};
 ghost use Rattle.proof_text.specs.Forms as forms;
+ghost use Rattle.proof_text.specs.Steps as steps;
 ghost use Rattle.proof_text.specs.PartsRead.{Takes, IsRead, IsImageRead};
-ghost use Rattle.proof_text.specs.PartsDenied.{Denies};
+ghost use Rattle.proof_text.specs.PartsDenied.{Denies, IsForm};
 
+use super::before_semicolon::BeforeSemicolon;
 use super::fault::{ProofFault, Reading};
 use super::line_names::LineNames;
 use super::line_words::LineWords;
 use super::values::lit;
 use linear::Var;
-use pb_text::{Kind, Symbol, Token};
+use pb_text::{Kind, Token};
 use std::alloc::Global;
-use substitution::{Image, Substitution};
+use substitution::Image;
 
 /// A substitution as it is read.
 #[derive(Drop)]
@@ -76,16 +76,6 @@ fn image(token: Token<'_>, table: &mut LineNames) -> Reading<Image>
     Err(ProofFault::BadLine)
 }
 
-/// Whether a subproof begins: a `;` with `begin` behind it. Subproofs are left out.
-fn begins_subproof(token: Token<'_>, behind: Option<Token<'_>>) -> bool
-    ensures { result ≡ (is_semicolon token.entry.kind && elim behind.entry [ None ↦ false | Some t ↦ bytes_eq t.text.now (codes "begin") ]) }
-{
-    match (token.kind, behind) {
-        (Kind::Symbol(Symbol::Semicolon), Some(behind)) => behind.text == b"begin".as_slice(),
-        _ => false,
-    }
-}
-
 /// This fault, or that of a name that stands twice on the left, which came first.
 pub(crate) fn unless_twice(witness: &Witness<'_>, fault: ProofFault) -> ProofFault
     ensures { result ≡ (if forms.repeats (map (λ s. s.now) witness.now.names.items) then ProofFault.BadLine else fault) }
@@ -97,34 +87,17 @@ pub(crate) fn unless_twice(witness: &Witness<'_>, fault: ProofFault) -> ProofFau
     }
 }
 
-/// The fault of a subproof behind a substitution. A name that stands twice on the left came first; where names found no
-/// number, the words tell.
-fn subproof_fault(alloc: Global, witness: Witness<'_>, full: bool) -> ProofFault
-    ensures denies { (ws : List (List ℕ)) → Denies result false ws }
-    ensures once { full ≡ false → result ≡ ProofFault.BadLine → NamesOnce witness.entry.images.items → ⊥ }
-    ensures left_out { full ≡ false → result ≡ ProofFault.RuleLeftOut → NamesOnce witness.entry.images.items }
-    ensures full { full ≡ true → result ≡ (if forms.repeats (map (λ s. s.now) witness.entry.names.items) then ProofFault.BadLine else ProofFault.RuleLeftOut) }
-{
-    if full {
-        return unless_twice(&witness, ProofFault::RuleLeftOut);
-    }
-    match Substitution::new(alloc, witness.images) {
-        Ok(Some(witness)) => {
-            // That no variable stands twice is known by the type; this makes it known here.
-            witness.reveal();
-            ProofFault::RuleLeftOut
-        }
-        Ok(None) => ProofFault::BadLine,
-        Err(_) => ProofFault::OutOfMemory,
-    }
-}
-
 /// A name and its image; between the two an arrow may stand.
-fn pair(token: Token<'_>, words: &mut LineWords<'_>, table: &mut LineNames) -> Reading<(Var, Image)>
-    ensures takes { IfOk result (λ p. Takes forms.are_images forms.images_of table.old (token.entry.text.now ∷ words.old) p table.new words.new) }
-    ensures left { OnOk result (forms.lefts (token.entry.text.now ∷ words.old) ≡ token.entry.text.now ∷ forms.lefts words.new) }
+fn pair(
+    token: Token<'_>,
+    words: &mut BeforeSemicolon<'_>,
+    table: &mut LineNames,
+) -> Reading<(Var, Image)>
+    ensures takes { IfOk result (λ p. Takes forms.are_images forms.images_of table.old (token.entry.text.now ∷ words.old.front) p table.new words.new.front) }
+    ensures left { OnOk result (forms.lefts (token.entry.text.now ∷ words.old.front) ≡ token.entry.text.now ∷ forms.lefts words.new.front) }
+    ensures behind { words.new.behind ≡ words.old.behind }
     ensures kept { table.new.before ≡ table.old.before }
-    ensures denies { let ws = token.entry.text.now ∷ words.old in IfErr result (λ f. Denies f (forms.are_images ws) ws) }
+    ensures denies { let ws = token.entry.text.now ∷ words.old.front in IfErr result (λ f. Denies f (forms.are_images ws) ws) }
 {
     let Kind::Literal = token.kind else {
         return Err(ProofFault::BadLine);
@@ -141,27 +114,46 @@ fn pair(token: Token<'_>, words: &mut LineWords<'_>, table: &mut LineNames) -> R
     Ok((lit.var, image))
 }
 
-/// Names and images up to the end of a line.
+/// Names and images up to a `;`, or up to the end of a line.
 pub(crate) fn images<'a>(
     alloc: Global,
-    mut words: LineWords<'a>,
+    words: &mut BeforeSemicolon<'a>,
     table: &mut LineNames,
 ) -> Reading<Witness<'a>>
-    ensures read { IfOk result (λ w. IsRead forms.are_images forms.images_of table.old words.entry w.images.items table.new) }
-    ensures names { IfOk result (λ w. map (λ s. s.now) w.names.items ≡ forms.lefts words.entry) }
+    ensures read { IfOk result (λ w. IsRead forms.are_images forms.images_of table.old words.old.front w.images.items table.new) }
+    ensures names { IfOk result (λ w. map (λ s. s.now) w.names.items ≡ forms.lefts words.old.front) }
+    ensures end { OnOk result (words.new.front ≡ []) }
+    ensures behind { words.new.behind ≡ words.old.behind }
     ensures kept { table.new.before ≡ table.old.before }
-    ensures denies { IfErr result (λ f. Denies f (forms.are_images words.entry) words.entry) }
+    ensures denies { IfErr result (λ f. Denies f (forms.are_images words.old.front) words.old.front) }
 {
     let mut images = Vec::new(alloc);
     let mut names = Vec::new(alloc);
     while let Some(token) = words.take() {
-        if begins_subproof(token, words.next()) {
-            let witness = Witness { images, names };
-            return Err(subproof_fault(alloc, witness, table.is_full()));
-        }
-        let pair = pair(token, &mut words, table)?;
+        let pair = pair(token, words, table)?;
         images.push(pair)?;
         names.push(token.text)?;
     }
     Ok(Witness { images, names })
+}
+
+/// Whether a block begins behind a substitution: nothing stands there, or `;` alone, or `;` and `begin`.
+pub(crate) fn begins_block(words: BeforeSemicolon<'_>) -> Reading<bool>
+    requires { words.front ≡ [] }
+    ensures block { IfOk result (λ block. steps.begins_block words.entry.behind ≡ Some block) }
+    ensures form { IfErr result IsForm }
+    ensures denies { OnErr result (steps.begins_block words.entry.behind ≡ None) }
+{
+    let Some(behind) = words.into_behind() else {
+        return Ok(false);
+    };
+    if behind.next().is_none() {
+        return Ok(false);
+    }
+    let mut behind = LineWords::new(behind);
+    if behind.takes(b"begin") && behind.is_empty() {
+        Ok(true)
+    } else {
+        Err(ProofFault::BadLine)
+    }
 }

@@ -1,5 +1,5 @@
 -- The text of a proof grows by the line of a step, and with the last lines it spells what it was made of.
-use Rattle.std.proofs.Common.{◌≡◌, ℕ, pos, List, [], ◌∷◌, ◌++◌, length, sym, ap, subst, ◌∙◌, append_assoc, ◌≤◌, arith, codes}
+use Rattle.std.proofs.Common.{◌≡◌, ℕ, pos, List, [], ◌∷◌, ◌++◌, length, refl, sym, ap, subst, ◌∙◌, append_assoc, ◌≤◌, arith, codes}
 use Rattle.std.specs.List.{flat_map}
 use Rattle.std.proofs.lemmas.List.{append-nil, length-append}
 use Rattle.std.proofs.lemmas.List.Elements.{All-nil, All-cons, All-append}
@@ -8,8 +8,11 @@ use Rattle.linear.specs.Table.{IsTable}
 use Rattle.proof_steps.specs.declared.conclusion.Conclusion.{Conclusion}
 use Rattle.proof_steps.specs.declared.step.Step.{Step}
 use Rattle.proof_text.specs.ProofSpells.{SpellsProof}
+use Rattle.proof_text.specs.declared.line.Section.TheVariants as sections
+use Rattle.proof_text.specs.Sections.{StepStands, behind_step}
 use Rattle.proof_text.specs.Steps.{IsProper}
 use Rattle.proof_text.specs.Writable.{IsConclusionWritable, IsStepWritable}
+use Rattle.proof_text.proofs.Placed.{nested_more}
 use Rattle.proof_write.specs.Whole.{AreWritten, first_lines, step_line, last_lines}
 use Rattle.proof_write.specs.Writing.{IsEndWritten, IsStepWritten, conclusion_words, line_text, spaced, step_words}
 use Rattle.proof_write.proofs.WholeBack.{whole_back}
@@ -36,11 +39,12 @@ nothing_written text names count is table few = record {
   few = few;
   writable = All-nil (IsStepWritable (length names));
   proper = All-nil IsProper;
+  nested = refl;
 }
 
 pub one_more_written : (text : List ℕ) (names : List (List ℕ)) (count : ℕ) (steps : List Step) (step : Step) → AreWritten text names count steps → IsStepWritable (length names) step → IsProper step
-    → AreWritten (text ++ step_line names step) names count (steps ++ step ∷ [])
-one_more_written text names count steps step w writable proper = record {
+    → StepStands sections.Step step → behind_step sections.Step step ≡ sections.Step → AreWritten (text ++ step_line names step) names count (steps ++ step ∷ [])
+one_more_written text names count steps step w writable proper stands behind = record {
   lines =
       ap (λ t. t ++ step_line names step) w.lines
       ∙ append_assoc (first_lines count) (flat_map (step_line names) steps) (step_line names step)
@@ -49,6 +53,7 @@ one_more_written text names count steps step w writable proper = record {
   few = w.few;
   writable = All-append (IsStepWritable (length names)) steps (step ∷ []) w.writable (All-cons (IsStepWritable (length names)) step [] writable (All-nil (IsStepWritable (length names))));
   proper = All-append IsProper steps (step ∷ []) w.proper (All-cons IsProper step [] proper (All-nil IsProper));
+  nested = nested_more sections.Step steps step w.nested stands behind;
 }
 
 -- with the last lines, the text spells its steps and what they conclude
@@ -56,7 +61,7 @@ pub written_spells : (text : List ℕ) (names : List (List ℕ)) (count : ℕ) (
     → SpellsProof (text ++ last_lines names c) names (pos count) steps c
 written_spells text names count steps c w writable =
     subst (λ t. SpellsProof (t ++ last_lines names c) names (pos count) steps c) (sym w.lines)
-    (whole_back names count steps c w.table w.few w.writable w.proper writable)
+    (whole_back names count steps c w.table w.few w.writable w.proper w.nested writable)
 
 lines_long : (names : List (List ℕ)) (steps : List Step) → length steps ≤ length (flat_map (step_line names) steps)
 lines_long names [] = omega arith

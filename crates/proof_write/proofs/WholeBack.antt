@@ -1,5 +1,5 @@
 -- A whole written proof reads back: its lines are those that were written, and each says what it was made of.
-use Rattle.std.proofs.Common.{◌≡◌, ℕ, pos, ◌+◌, ◌==◌, Bool, true, false, if◌then◌else◌, Some, None, Option, List, [], ◌∷◌, ◌++◌, drop, length, refl, sym, ap, subst, ◌∙◌, arith, append_assoc, codes}
+use Rattle.std.proofs.Common.{◌≡◌, ℕ, pos, ◌+◌, ◌==◌, Bool, true, false, if◌then◌else◌, Some, None, List, [], ◌∷◌, ◌++◌, drop, length, refl, sym, ap, subst, ◌∙◌, arith, append_assoc, codes}
 use Rattle.std.specs.Prelude.{All, ◌≤◌}
 use Rattle.std.specs.List.{flat_map}
 use Rattle.std.specs.Option.{option_map}
@@ -18,24 +18,23 @@ use Rattle.proof_text.specs.Frame.{count_of, header, output, ending}
 use Rattle.proof_text.specs.Kinds.{is_integer, is_semicolon}
 use Rattle.proof_text.specs.Lines.{Numbered, Parted, parted, counts, counting, counting_from}
 use Rattle.proof_text.specs.ProofSpells.{AreSteps, SpellsProof}
-use Rattle.proof_text.specs.Rules.{rule_of}
 use Rattle.proof_text.specs.Spells.{IsLine, line_of}
-use Rattle.proof_text.specs.Steps.{IsProper, IsStep, step_of}
-use Rattle.proof_text.specs.Words.{is_first, are_words, unclosed, words, AreSmall}
+use Rattle.proof_text.specs.Sections.{StepStands, AreNested, behind_step}
+use Rattle.proof_text.specs.Steps.{IsProper, step_of}
+use Rattle.proof_text.specs.Words.{are_words, unclosed, words, AreSmall}
 use Rattle.proof_text.specs.Writable.{IsConclusionWritable, IsStepWritable}
 use Rattle.proof_text.specs.declared.line.Line.{Line}
 use Rattle.proof_text.specs.declared.line.Line.TheVariants as lines
 use Rattle.proof_text.specs.declared.line.Section.{Section}
 use Rattle.proof_text.specs.declared.line.Section.TheVariants as sections
-use Rattle.proof_text.proofs.LinesOfSections.{output_placed, step_at, step_placed}
+use Rattle.proof_text.proofs.LinesOfSections.{output_placed}
 use Rattle.proof_text.proofs.LinesParted.{nothing_left}
-use Rattle.proof_text.proofs.PolItems.{first_word}
 use Rattle.proof_text.proofs.WordsByKind.{none_small, all_small, small_other, integer_alone}
 use Rattle.proof_write.specs.Whole.{first_lines, step_line, last_lines, whole_text}
 use Rattle.proof_write.specs.Writing.{spaced, number_words, step_words, conclusion_words, line_text}
 use Rattle.proof_write.proofs.ConclusionsBack.{end_back}
 use Rattle.proof_write.proofs.NumeralsBack.{numeral}
-use Rattle.proof_write.proofs.StepsBack.{step_back}
+use Rattle.proof_write.proofs.StepsBack.{step_back, placed_back}
 use Rattle.proof_write.proofs.WordsCut.{AreTokens, IsToken, plain_token, line_words, line_alone}
 
 -- a line with its LF, in front of others: it is the first one, and they are behind it
@@ -65,6 +64,8 @@ unfolding step_of conclusion_of
 no_words sections.Header names said h = cc
 no_words sections.Count names said h = cc
 no_words sections.Step names said h = cc
+no_words sections.Block names said h = cc
+no_words sections.Goal names said h = cc
 no_words sections.Conclusion names said h = cc
 no_words sections.End names said h = cc
 no_words sections.After names said h = cc
@@ -92,47 +93,31 @@ line_ahead number section names line rest said h =
     ap (λ (p : Parted). counting number (p.first ∷ p.others)) (parted_line line rest h.one)
     ∙ ap (in_front (record { number = number; text = line }) (counting (number + 1) ((parted rest).first ∷ (parted rest).others))) (said_counts section names line said h.is)
 
--- the line of a step is not the output line
-output_rule : rule_of (codes "output") ≡ None
-unfolding rule_of
-output_rule = refl
+step_says : (section : Section) (names : List (List ℕ)) (step : Step) → IsTable names → IsStepWritable (length names) step → IsProper step → StepStands section step
+    → Says section names (line_text (step_words names step)) (lines.Step step)
+step_says section names step t h p stands = record { one = (step_back names step t h p).one; is = placed_back section names step t h p stands }
 
-not_output : (names ws : List (List ℕ)) (step : Step) → IsStep names ws step names → is_first (codes "output") ws ≡ false
-not_output names ws step h = by (is_first (codes "output") ws) refl
-  where
-    by : (t : Bool) → is_first (codes "output") ws ≡ t → t ≡ false
-    by false e = refl
-    by true e =
-        let nothing : step_of names ws ≡ None = ap (step_of names) (first_word (codes "output") ws e) ∙ step_at names (codes "output") (drop 1 ws) None output_rule in
-        let x : ◌≡◌ {A = Option Step} None (Some step) = sym nothing ∙ h.says in
-        cc
-
-step_says : (names : List (List ℕ)) (step : Step) → IsTable names → IsStepWritable (length names) step → IsProper step → Says sections.Step names (line_text (step_words names step)) (lines.Step step)
-step_says names step t h p =
-    let b = step_back names step t h p in
-    let line = line_text (step_words names step) in
-    record { one = b.one; is = step_placed names names (words line) step (not_output names (words line) step b.says) b.says }
-
--- the lines of steps, and what stands behind them
-record Behind (names : List (List ℕ)) (number : ℕ) (steps : List Step) (rest : List ℕ) : Type 0 where
+-- the lines of steps from a section on, and what stands behind them
+record Behind (section : Section) (names : List (List ℕ)) (number : ℕ) (steps : List Step) (rest : List ℕ) : Type 0 where
   between : List Numbered
   next : ℕ
   in_order : counting_from number (flat_map (step_line names) steps ++ rest) ≡ between ++ counting_from next rest
-  are : AreSteps names between steps names
+  are : AreSteps section names between steps names
 
-steps_ahead : (names : List (List ℕ)) (number : ℕ) (steps : List Step) (rest : List ℕ) → IsTable names → All (IsStepWritable (length names)) steps → All IsProper steps → Behind names number steps rest
-steps_ahead names number [] rest t h p = record { between = []; next = number; in_order = refl; are = refl }
-steps_ahead names number (step ∷ more) rest t h p =
-    let later = steps_ahead names (number + 1) more rest t (All-tail (IsStepWritable (length names)) step more h) (All-tail IsProper step more p) in
+steps_ahead : (section : Section) (names : List (List ℕ)) (number : ℕ) (steps : List Step) (rest : List ℕ) → IsTable names → All (IsStepWritable (length names)) steps → All IsProper steps → AreNested section steps
+    → Behind section names number steps rest
+steps_ahead section names number [] rest t h p n = record { between = []; next = number; in_order = refl; are = (n, refl) }
+steps_ahead section names number (step ∷ more) rest t h p n =
+    let later = steps_ahead (behind_step section step) names (number + 1) more rest t (All-tail (IsStepWritable (length names)) step more h) (All-tail IsProper step more p) n.1 in
     let line = line_text (step_words names step) in
     let behind = flat_map (step_line names) more in
-    let says = step_says names step t (All-head (IsStepWritable (length names)) step more h) (All-head IsProper step more p) in
+    let says = step_says section names step t (All-head (IsStepWritable (length names)) step more h) (All-head IsProper step more p) n.0 in
     record {
       between = record { number = number; text = line } ∷ later.between;
       next = later.next;
       in_order =
           ap (counting_from number) (append_assoc (line ++ 10 ∷ []) behind rest ∙ append_assoc line (10 ∷ []) (behind ++ rest))
-          ∙ line_ahead number sections.Step names line (behind ++ rest) (lines.Step step) says
+          ∙ line_ahead number section names line (behind ++ rest) (lines.Step step) says
           ∙ ap (λ ls. record { number = number; text = line } ∷ ls) later.in_order;
       are = (names, says.is, later.are);
     }
@@ -241,10 +226,10 @@ whole_apart names count steps c =
     ∙ ap (λ t. header_line ++ 10 ∷ t) (append_assoc (count_line count) (10 ∷ []) (flat_map (step_line names) steps ++ last_lines names c))
 
 pub whole_back : (names : List (List ℕ)) (count : ℕ) (steps : List Step) (c : Conclusion) → IsTable names → count ≤ largest_number → All (IsStepWritable (length names)) steps → All IsProper steps
-    → IsConclusionWritable (length names) c → SpellsProof (whole_text names count steps c) names (pos count) steps c
-whole_back names count steps c t small h p w =
+    → AreNested sections.Step steps → IsConclusionWritable (length names) c → SpellsProof (whole_text names count steps c) names (pos count) steps c
+whole_back names count steps c t small h p nested w =
     let concluded = line_text (codes "conclusion" ∷ conclusion_words names c) in
-    let middle = steps_ahead names 3 steps (last_lines names c) t h p in
+    let middle = steps_ahead sections.Step names 3 steps (last_lines names c) t h p nested in
     let n = middle.next in
     let first = header_says names t in
     let counted = count_says names count t small in

@@ -46,6 +46,15 @@ four_parts a b c d e vs ws xs ys f g h k =
 pub three_parts : (a b c d w : List ℕ) (vs ws : List (List ℕ)) → b ≡ a ++ w → c ≡ b ++ spaced vs → d ≡ c ++ spaced ws → d ≡ a ++ (w ++ spaced (vs ++ ws))
 three_parts a b c d w vs ws e f g = more_words b c d vs ws f g ∙ ap (λ x. x ++ spaced (vs ++ ws)) e ∙ append_assoc a w (spaced (vs ++ ws))
 
+-- a line begun, and two words behind it
+pub two_behind : (a b c d w y z : List ℕ) (vs : List (List ℕ)) → b ≡ a ++ (w ++ spaced vs) → c ≡ b ++ spaced (y ∷ []) → d ≡ c ++ spaced (z ∷ []) → d ≡ a ++ (w ++ spaced (vs ++ y ∷ z ∷ []))
+two_behind a b c d w y z vs e f g =
+    let last = spaced (y ∷ z ∷ []) in
+    two_words b c d y z f g
+    ∙ ap (λ x. x ++ last) e
+    ∙ append_assoc a (w ++ spaced vs) last
+    ∙ ap (λ x. a ++ x) (append_assoc w (spaced vs) last ∙ ap (λ x. w ++ x) (sym (spaced-append vs (y ∷ z ∷ []))))
+
 -- four texts, one behind another
 pub four_texts : (a b c d e x y z w : List ℕ) → b ≡ a ++ x → c ≡ b ++ y → d ≡ c ++ z → e ≡ d ++ w → e ≡ a ++ x ++ y ++ z ++ w
 four_texts a b c d e x y z w f g h k = k ∙ ap (λ t. t ++ w) (h ∙ ap (λ t. t ++ z) (g ∙ ap (λ t. t ++ y) f))

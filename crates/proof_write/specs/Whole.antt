@@ -5,8 +5,10 @@ use Rattle.pb_text.specs.Number.{largest_number}
 use Rattle.linear.specs.Table.{IsTable}
 use Rattle.proof_steps.specs.declared.conclusion.Conclusion.{Conclusion}
 use Rattle.proof_steps.specs.declared.step.Step.{Step}
+use Rattle.proof_text.specs.Sections.{AreNested}
 use Rattle.proof_text.specs.Steps.{IsProper}
 use Rattle.proof_text.specs.Writable.{IsStepWritable}
+use Rattle.proof_text.specs.declared.line.Section.TheVariants as sections
 use Rattle.proof_write.specs.Writing.{spaced, number_words, step_words, conclusion_words, line_text}
 
 -- the header, and the line that says how many constraints the file has
@@ -30,10 +32,11 @@ abbrev pub whole_text : List (List ℕ) → ℕ → List Step → Conclusion →
 whole_text names count steps c = begun_text names count steps ++ last_lines names c
 
 -- The text is that of a proof as far as it has come, of a file with these names and so many constraints: the first lines,
--- and a line for each of these steps, of which each can be written.
+-- and a line for each of these steps, of which each can be written. They are well nested, and no block is open.
 pub record AreWritten (text : List ℕ) (names : List (List ℕ)) (count : ℕ) (steps : List Step) : Type 0 where
   pub lines : text ≡ begun_text names count steps
   pub table : IsTable names
   pub few : count ≤ largest_number
   pub writable : All (IsStepWritable (length names)) steps
   pub proper : All IsProper steps
+  pub nested : AreNested sections.Step steps

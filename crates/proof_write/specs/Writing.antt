@@ -10,6 +10,8 @@ use Rattle.substitution.specs.declared.image.Image.{Image}
 use Rattle.substitution.specs.declared.image.Image.TheVariants as images
 use Rattle.proof_steps.specs.declared.step.Item.{Item}
 use Rattle.proof_steps.specs.declared.step.Item.TheVariants as items
+use Rattle.proof_steps.specs.declared.step.GoalName.{GoalName}
+use Rattle.proof_steps.specs.declared.step.GoalName.TheVariants as goals
 use Rattle.proof_steps.specs.declared.step.Step.{Step}
 use Rattle.proof_steps.specs.declared.step.Step.TheVariants as steps
 use Rattle.proof_steps.specs.declared.conclusion.Lower.{Lower}
@@ -21,7 +23,9 @@ use Rattle.proof_steps.specs.declared.conclusion.Conclusion.TheVariants as concl
 use Rattle.proof_text.specs.Words.{words}
 use Rattle.proof_text.specs.Lines.{parted}
 use Rattle.proof_text.specs.declared.line.Line.TheVariants as lines
+use Rattle.proof_text.specs.declared.line.Section.{Section}
 use Rattle.proof_text.specs.declared.line.Section.TheVariants as sections
+use Rattle.proof_text.specs.Sections.{StepStands}
 use Rattle.proof_text.specs.Spells.{IsLine}
 use Rattle.proof_text.specs.Steps.{IsStep}
 
@@ -68,14 +72,27 @@ image_word names images.One = codes "1"
 abbrev pub pair_words : List (List ℕ) → Var × Image → List (List ℕ)
 pair_words names p = name_at names p.0 ∷ codes "->" ∷ image_word names p.1 ∷ []
 
+-- a constraint and a substitution
+abbrev pub red_words : List (List ℕ) → Signed → List (Var × Image) → List (List ℕ)
+red_words names c w = constraint_words names c ++ flat_map (pair_words names) w
+
+-- a goal: an id, `#1` or `#2`
+abbrev pub goal_word : GoalName → List ℕ
+goal_word (goals.Live id) = signed_decimal id
+goal_word goals.Itself = codes "#1"
+goal_word goals.Objective = codes "#2"
+
 -- the words of a step
 abbrev pub step_words : List (List ℕ) → Step → List (List ℕ)
 step_words names (steps.Pol is) = codes "pol" ∷ flat_map (item_words names) is
 step_words names (steps.Rup c) = codes "rup" ∷ constraint_words names c
-step_words names (steps.Red c w) = codes "red" ∷ (constraint_words names c ++ flat_map (pair_words names) w)
+step_words names (steps.Red c w) = codes "red" ∷ red_words names c w
 step_words names (steps.Sol ls) = codes "sol" ∷ flat_map (lit_words names) ls
 step_words names (steps.Soli ls) = codes "soli" ∷ flat_map (lit_words names) ls
 step_words names (steps.Del ids) = codes "del" ∷ codes "id" ∷ flat_map number_words ids
+step_words names (steps.RedBegin c w) = codes "red" ∷ (red_words names c w ++ codes ";" ∷ codes "begin" ∷ [])
+step_words names (steps.Goal goal) = codes "proofgoal" ∷ goal_word goal ∷ []
+step_words names steps.End = codes "end" ∷ []
 
 -- a hint of literals
 abbrev pub hint_words : List (List ℕ) → Option (List Lit) → List (List ℕ)
@@ -103,14 +120,15 @@ abbrev pub line_text : List (List ℕ) → List ℕ
 line_text [] = []
 line_text (w ∷ ws) = w ++ spaced ws
 
--- what is appended is one line with its LF: the words of this step, single spaces between them. It spells this step and
--- brings no name
+-- what is appended is one line with its LF: the words of this step, single spaces between them. It spells this step, at each
+-- section at which the step may stand, and brings no name
 pub record IsStepWritten (names : List (List ℕ)) (old : List ℕ) (step : Step) (new : List ℕ) : Type 0 where
   pub line : List ℕ
   pub text : line ≡ line_text (step_words names step)
   pub appended : new ≡ old ++ line ++ 10 ∷ []
   pub one : (parted line).others ≡ []
   pub says : IsStep names (words line) step names
+  pub at : (section : Section) → StepStands section step → IsLine section names (words line) (lines.Step step) names
 
 -- what is appended are the lines `output NONE`, one of the word `conclusion` and the words of this conclusion, and
 -- `end pseudo-Boolean proof`. The second spells this conclusion and brings no name

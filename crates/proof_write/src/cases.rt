@@ -7,6 +7,7 @@
 ghost use Rattle.std.specs.Prelude.{◌≡◌, pos, None, Some, [], ◌∷◌, ◌++◌, codes};
 ghost use Rattle.substitution.specs.declared.image.Image.TheVariants as images;
 ghost use Rattle.proof_steps.specs.declared.step.Item.TheVariants.{Id, Axiom, Add, Multiply, Divide, Saturate, Weaken};
+ghost use Rattle.proof_steps.specs.declared.step.GoalName.TheVariants as goals;
 ghost use Rattle.proof_steps.specs.declared.step.Step.TheVariants as steps;
 ghost use Rattle.proof_steps.specs.declared.conclusion.Lower.TheVariants as lowers;
 ghost use Rattle.proof_steps.specs.declared.conclusion.Upper.TheVariants as uppers;
@@ -23,6 +24,17 @@ pub fn written_steps()
     ensures solution { line_text (step_words file (steps.Sol (negated 0 ∷ plain 1 ∷ []))) ≡ codes "sol ~x1 x2" }
     ensures improving { line_text (step_words file (steps.Soli (plain 0 ∷ negated 1 ∷ []))) ≡ codes "soli x1 ~x2" }
     ensures deletion { line_text (step_words file (steps.Del (pos 2 ∷ minus 1 ∷ []))) ≡ codes "del id 2 -1" }
+{}
+
+/// The lines of subproofs.
+pub fn written_subproofs()
+    ensures block { line_text (step_words file (steps.RedBegin (at_least (term (pos 1) (plain 0) ∷ []) (pos 1)) ((variable 0, images.One) ∷ []))) ≡ codes "red 1 x1 >= 1 ; x1 -> 1 ; begin" }
+    ensures block_without_images { line_text (step_words file (steps.RedBegin (at_least [] (pos 1)) [])) ≡ codes "red >= 1 ; ; begin" }
+    ensures goal_of_id { line_text (step_words file (steps.Goal (goals.Live (pos 3)))) ≡ codes "proofgoal 3" }
+    ensures goal_of_newest { line_text (step_words file (steps.Goal (goals.Live (minus 1)))) ≡ codes "proofgoal -1" }
+    ensures goal_of_itself { line_text (step_words file (steps.Goal goals.Itself)) ≡ codes "proofgoal #1" }
+    ensures goal_of_objective { line_text (step_words file (steps.Goal goals.Objective)) ≡ codes "proofgoal #2" }
+    ensures ending { line_text (step_words file steps.End) ≡ codes "end" }
 {}
 
 /// Conclusions: an infinite bound by its word, a hint behind a colon, and no hint without one.

@@ -6,6 +6,7 @@
 ghost use Rattle.std.specs.Prelude.{◌≡◌, ◌++◌, length, All, pos, OnOk, OnErr, IfOk};
 ghost use Rattle.std.specs.List.{flat_map};
 ghost use Rattle.proof_text.specs.ProofSpells.{SpellsProof};
+ghost use Rattle.proof_text.specs.Sections.{AreNested};
 ghost use Rattle.proof_text.specs.Steps.{IsProper};
 ghost use Rattle.proof_text.specs.Writable.{IsConclusionWritable, IsStepWritable};
 ghost use Rattle.proof_write.specs.Growth.{Extends};
@@ -15,6 +16,7 @@ use super::write::{begin, end_lines, step_text};
 use super::writer::number;
 use linear::Names;
 use proof_steps::{Conclusion, Step};
+use proof_text::Section;
 use std::alloc::{AllocError, Global};
 
 /// The header and the count.
@@ -61,7 +63,7 @@ fn step_lines(out: &mut Vec<u8>, names: &Names, steps: &[Step]) -> Result<(), Al
 /// and what `write_end` writes. It spells just these steps and this conclusion, of a file with these names.
 ///
 /// The integers of steps and conclusion are at most 2^120 in size, their variables stand in the table, and each relation is
-/// `>=`. Running out of memory is the only error.
+/// `>=`. The steps are well nested: each stands where it may, and every block is closed. Running out of memory is the only error.
 pub fn write_proof(
     alloc: Global,
     names: &Names,
@@ -70,6 +72,7 @@ pub fn write_proof(
     conclusion: &Conclusion,
 ) -> Result<Vec<u8>, AllocError>
     requires steps { All (IsStepWritable (length names.now)) steps.now }
+    requires nested { AreNested Section.Step steps.now }
     requires conclusion { IsConclusionWritable (length names.now) conclusion.now }
     ensures text { IfOk result (λ text. text.items ≡ whole_text names.now count steps.now conclusion.now) }
     ensures spells { IfOk result (λ text. SpellsProof text.items names.now (pos count) steps.now conclusion.now) }

@@ -4,13 +4,13 @@
 //! bounds. A step of a solver is no text yet, and whoever does not know that its steps are within them asks here first.
 
 ghost use Rattle.std.specs.Prelude.{◌↔◌, ◌<◌, All, IsTrue};
-ghost use Rattle.proof_text.specs.Writable.{IsConstraintWritable, IsImageWritable, IsItemWritable};
+ghost use Rattle.proof_text.specs.Writable.{IsConstraintWritable, IsGoalWritable, IsImageWritable, IsItemWritable};
 ghost use Rattle.proof_text.specs.Writable.{IsLitWritable, IsPairWritable, IsStepWritable, IsTermWritable, IsWritable};
 
 use linear::{Lit, Relation, Signed, Term, Var};
 use pb_text::LARGEST_NUMBER;
-use proof_steps::{Item, Step};
-use substitution::Image;
+use proof_steps::{GoalName, Item, Step};
+use substitution::{Image, Substitution};
 
 fn is_writable(number: i128) -> bool
     ensures { IsTrue result ↔ IsWritable number }
@@ -78,6 +78,24 @@ fn are_literals_writable(count: usize, literals: &[Lit]) -> bool
     literals.iter().all(|lit| is_named(count, lit.var))
 }
 
+fn are_images_writable(count: usize, witness: &Substitution) -> bool
+    ensures { IsTrue result ↔ All (IsPairWritable count) witness.now }
+{
+    witness
+        .as_slice()
+        .iter()
+        .all(|pair| is_pair_writable(count, *pair))
+}
+
+fn is_goal_writable(goal: GoalName) -> bool
+    ensures { IsTrue result ↔ IsGoalWritable goal }
+{
+    match goal {
+        GoalName::Live(id) => is_writable(id),
+        GoalName::Itself | GoalName::Objective => true,
+    }
+}
+
 /// Whether a table of `count` names has all variables of a step, its integers are at most 2^120 in size, and its relation
 /// is `>=`.
 pub fn is_step_writable(count: usize, step: &Step) -> bool
@@ -89,15 +107,13 @@ pub fn is_step_writable(count: usize, step: &Step) -> bool
             .iter()
             .all(|item| is_item_writable(count, *item)),
         Step::Rup(constraint) => is_constraint_writable(count, constraint),
-        Step::Red(constraint, witness) => {
-            is_constraint_writable(count, constraint)
-                && witness
-                    .as_slice()
-                    .iter()
-                    .all(|pair| is_pair_writable(count, *pair))
+        Step::Red(constraint, witness) | Step::RedBegin(constraint, witness) => {
+            is_constraint_writable(count, constraint) && are_images_writable(count, witness)
         }
         Step::Sol(literals) => are_literals_writable(count, literals.as_slice()),
         Step::Soli(literals) => are_literals_writable(count, literals.as_slice()),
         Step::Del(ids) => ids.as_slice().iter().all(|id| is_writable(*id)),
+        Step::Goal(goal) => is_goal_writable(*goal),
+        Step::End => true,
     }
 }

@@ -3,7 +3,8 @@
 //! A writer that fails in the middle of a line would leave a text that a later append turns into nonsense, so a refused growth
 //! takes the line out again.
 
-ghost use Rattle.std.specs.Prelude.{◌≡◌, [], ◌∷◌, ◌++◌, length, codes, OnOk, OnErr};
+ghost use Rattle.std.specs.Prelude.{◌≡◌, [], ◌∷◌, ◌++◌, All, length, codes, OnOk, OnErr};
+ghost use Rattle.substitution.specs.Images.{NamesOnce};
 ghost use Rattle.linear.specs.Table.{IsTable};
 ghost use Rattle.proof_write.specs.Growth.{Extends};
 ghost use Rattle.proof_text.specs.Steps.{IsProper};
@@ -13,8 +14,9 @@ ghost use Rattle.proof_write.specs.Writing.{IsStepWritten, IsEndWritten};
 
 use super::writer::{items, literals, number, numbers, pairs, terms, word};
 use linear::{Lit, Names, Seq, Signed};
-use proof_steps::{Conclusion, Lower, Step, Upper};
+use proof_steps::{Conclusion, GoalName, Lower, Step, Upper};
 use std::alloc::AllocError;
+use substitution::Substitution;
 
 /// The first word of a line, or a whole one.
 pub(crate) fn begin(out: &mut Vec<u8>, word: &[u8]) -> Result<(), AllocError>
@@ -37,6 +39,36 @@ fn constraint(out: &mut Vec<u8>, names: &Names, constraint: &Signed) -> Result<(
     word(out, b";")
 }
 
+/// `red`, a constraint and a substitution.
+fn red(
+    out: &mut Vec<u8>,
+    names: &Names,
+    written: &Signed,
+    witness: &Substitution,
+) -> Result<(), AllocError>
+    requires constraint { writable.IsConstraintWritable (length names.now) written.now }
+    requires witness { All (writable.IsPairWritable (length names.now)) witness.now }
+    ensures ok { OnOk result (out.new.items ≡ out.old.items ++ writing.line_text (codes "red" ∷ writing.red_words names.now written.now witness.now)) }
+    ensures once { OnOk result (NamesOnce witness.now) }
+    ensures grows { Extends out.old.items out.new.items }
+{
+    begin(out, b"red")?;
+    constraint(out, names, written)?;
+    pairs(out, names, witness.as_slice())
+}
+
+/// The word of a goal.
+fn goal(out: &mut Vec<u8>, name: GoalName) -> Result<(), AllocError>
+    ensures ok { OnOk result (out.new.items ≡ out.old.items ++ writing.spaced (writing.goal_word name ∷ [])) }
+    ensures grows { Extends out.old.items out.new.items }
+{
+    match name {
+        GoalName::Live(id) => number(out, id),
+        GoalName::Itself => word(out, b"#1"),
+        GoalName::Objective => word(out, b"#2"),
+    }
+}
+
 /// The words of a step.
 fn step_words(out: &mut Vec<u8>, names: &Names, step: &Step) -> Result<(), AllocError>
     requires { writable.IsStepWritable (length names.now) step.now }
@@ -53,11 +85,7 @@ fn step_words(out: &mut Vec<u8>, names: &Names, step: &Step) -> Result<(), Alloc
             begin(out, b"rup")?;
             constraint(out, names, written)
         }
-        Step::Red(written, witness) => {
-            begin(out, b"red")?;
-            constraint(out, names, written)?;
-            pairs(out, names, witness.as_slice())
-        }
+        Step::Red(written, witness) => red(out, names, written, witness),
         Step::Sol(lits) => {
             begin(out, b"sol")?;
             literals(out, names, lits.as_slice())
@@ -71,13 +99,24 @@ fn step_words(out: &mut Vec<u8>, names: &Names, step: &Step) -> Result<(), Alloc
             word(out, b"id")?;
             numbers(out, ids.as_slice())
         }
+        Step::RedBegin(written, witness) => {
+            red(out, names, written, witness)?;
+            word(out, b";")?;
+            word(out, b"begin")
+        }
+        Step::Goal(name) => {
+            begin(out, b"proofgoal")?;
+            goal(out, *name)
+        }
+        Step::End => begin(out, b"end"),
     }
 }
 
 /// Writes a step as one line with its LF: its words, single spaces between them, integers in plain decimal without `+`.
 ///
 /// `pol`, `sol` and `soli` stand before their items and literals, `del id` before the ids as they stand in the step; `rup`
-/// and `red` before the terms, `>=`, the right side and `;`, behind which `red` has its names, each with `->` and its image.
+/// and `red` before the terms, `>=`, the right side and `;`, behind which `red` has its names, each with `->` and its image. Behind
+/// those stand `;` and `begin` where a block begins; `proofgoal` stands before its goal, and `end` alone.
 ///
 /// The step's integers are at most 2^120 in size, its relation is `>=`, and the table has its variables, as is so of every
 /// step that was read by the table; then the line reads back as the step and brings no name. Where a growth is refused,

@@ -16,7 +16,7 @@ use Rattle.proof_rules.specs.Legal.{worth_of}
 use Rattle.proof_rules.specs.Preserved.{IsPreserved}
 use Rattle.proof_rules.specs.Shown.{IsShown, absurdity}
 use Rattle.proof_rules.specs.Solution.{at_least}
-use Rattle.proof_rules.specs.State.{State, constraints}
+use Rattle.proof_rules.specs.State.{State, IsOutside, constraints}
 use Rattle.proof_steps.specs.declared.conclusion.Conclusion.TheVariants.{Unsat, Bounds}
 use Rattle.proof_steps.specs.declared.conclusion.Lower.TheVariants as lowers
 use Rattle.proof_steps.specs.declared.conclusion.Upper.TheVariants as uppers
@@ -28,14 +28,14 @@ pub refuted_shows : (live : List NormalConstraint) (n : NormalConstraint) → Ri
 refuted_shows live n rises refuted =
     inr (negation n, negation_is n rises, conflict_of_more live (live ++ negation n ∷ []) (λ k c. Contains-append_left live (negation n ∷ []) k c) [] refuted)
 
-pub unsatisfiable : (p : Opb) (s : State) → s.logged ≡ [] → IsRefuted (constraints s) → IsEntitled p s Unsat
-unsatisfiable p s empty refuted =
-    (None, (s, refl, record { unlogged = empty; shown = refuted_shows (constraints s) absurdity tt refuted }, empty))
+pub unsatisfiable : (p : Opb) (s : State) → IsOutside s → s.logged ≡ [] → IsRefuted (constraints s) → IsEntitled p s Unsat
+unsatisfiable p s outside empty refuted =
+    (None, (outside, (s, refl, record { unlogged = empty; shown = refuted_shows (constraints s) absurdity tt refuted }, empty)))
 
-best_there : (p : Opb) (s : State) → (best : Option (List Bool)) × IsBest p s.logged best
-best_there p s =
-    let nothing = nothing_justified p s in
-    (nothing.0, subst (λ (t : State). IsBest p t.logged nothing.0) nothing.1.1 nothing.1.3)
+best_there : (p : Opb) (s : State) → IsOutside s → (best : Option (List Bool)) × IsBest p s.logged best
+best_there p s outside =
+    let nothing = nothing_justified p s outside in
+    (nothing.0, subst (λ (t : State). IsBest p t.logged nothing.0) nothing.1.1.1 nothing.1.1.3)
 
 -- some logged solution has the least improving value
 least_logged : (p : Opb) (s : State) (best : ℤ) → IsPreserved p s → s.least ≡ Some best → Any (λ g. worth_of p g ≡ best) s.logged
@@ -61,11 +61,14 @@ lower p s objective best within is least_is least refuted = record {
 upper : (p : Opb) (s : State) (best : ℤ) → Any (λ g. worth_of p g ≡ best) s.logged → EntitlesUpper p s (uppers.At best)
 upper p s best (i, g, below, is, worth) = (i, g, below, is, omega (arith, ints, worth))
 
-pub optimum : (p : Opb) (s : State) (objective : List Term) (best : ℤ) → IsWithin p → IsPreserved p s → p.objective ≡ Some objective → s.least ≡ Some best
+pub optimum : (p : Opb) (s : State) (objective : List Term) (best : ℤ) → IsOutside s → IsWithin p → IsPreserved p s → p.objective ≡ Some objective → s.least ≡ Some best
     → IsRefuted (constraints s) → IsEntitled p s (Bounds (lowers.At best) (uppers.At best) None)
-optimum p s objective best within kept is least_is refuted =
+optimum p s objective best outside within kept is least_is refuted =
     let least = least_logged p s best kept least_is in
-    let found = best_there p s in (
+    let found = best_there p s outside in (
       found.0,
-      (s, refl, (objective, is, (form (at_least objective best), lower p s objective best within is least_is least refuted), upper p s best least), found.1),
+      (
+        outside,
+        (s, refl, (objective, is, (form (at_least objective best), lower p s objective best within is least_is least refuted), upper p s best least), found.1),
+      ),
     )

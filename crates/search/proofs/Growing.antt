@@ -15,16 +15,23 @@ use Rattle.proof_rules.specs.Justified.{IsLegalProof}
 use Rattle.proof_rules.proofs.Concluding.{justified_claim}
 use Rattle.proof_rules.proofs.FileForms.{start_preserved, start_normal}
 use Rattle.proof_rules.proofs.Preserving.{steps_preserve}
+use Rattle.proof_rules.specs.Fault.{IsConclusionFault}
 use Rattle.proof_rules.specs.Legal.{Legal, Leads}
-use Rattle.proof_rules.specs.State.{State, IsStart}
-use Rattle.proof_rules.proofs.ConclusionJudged.{conclusion_judged}
+use Rattle.proof_rules.specs.State.{State, IsOutside, IsStart}
+use Rattle.proof_rules.specs.declared.fault.StepFault.{StepFault}
+use Rattle.proof_rules.specs.declared.fault.StepFault.TheVariants as faults
+use Rattle.proof_rules.proofs.ConclusionJudged.{faultless_justified}
+use Rattle.kernel.proofs.Deleting.{del_outside}
 use Rattle.proof_text.specs.ProofSpells.{SpellsProof}
+use Rattle.proof_text.specs.Sections.{StepStands, behind_step}
 use Rattle.proof_text.specs.Steps.{IsProper}
 use Rattle.proof_text.specs.Writable.{IsConclusionWritable, IsStepWritable}
+use Rattle.proof_text.specs.declared.line.Section.TheVariants as sections
 use Rattle.proof_write.specs.Whole.{AreWritten, first_lines, last_lines, step_line}
 use Rattle.proof_write.specs.Writing.{line_text, step_words}
 use Rattle.proof_write.proofs.TextGrows.{nothing_written, no_more_steps, one_more_written, written_spells}
-use Rattle.search.specs.Log.{IsSpelledBy, Logbook, StepBites, LeadsBiting, LeadsImproving, improvement, ImprovesNothing, IsEntitled, IsProof}
+use Rattle.search.specs.Log.{IsSpelledBy, Logbook, StepBites, LeadsBiting, LeadsImproving, improvement, ImprovesIfAsked, ImprovesNothing, IsEntitled, IsProof, StandsAlone}
+use Rattle.search.proofs.Worth.{all_improve_more, none_logged}
 
 -- the last element is changed
 pub put_last : (xs ys : List ℤ) (z v : ℤ) (n : ℕ) → ys ≡ xs ++ z ∷ [] → n ≡ length ys → set ys (n - 1) v ≡ xs ++ v ∷ []
@@ -40,6 +47,9 @@ no_improvement (kinds.Red c images) t values h = append-nil values
 no_improvement (kinds.Sol assigned) t values h = append-nil values
 no_improvement (kinds.Soli assigned) t values h = absurd h
 no_improvement (kinds.Del ids) t values h = append-nil values
+no_improvement (kinds.RedBegin c images) t values h = append-nil values
+no_improvement (kinds.Goal name) t values h = append-nil values
+no_improvement kinds.End t values h = append-nil values
 
 pub biting_other : (s : State) (step : Step) → StepBites s step → ImprovesNothing step
 biting_other s (kinds.Pol items) h = tt
@@ -48,13 +58,74 @@ biting_other s (kinds.Red c images) h = absurd h
 biting_other s (kinds.Sol assigned) h = absurd h
 biting_other s (kinds.Soli assigned) h = absurd h
 biting_other s (kinds.Del ids) h = absurd h
+biting_other s (kinds.RedBegin c images) h = absurd h
+biting_other s (kinds.Goal name) h = absurd h
+biting_other s kinds.End h = absurd h
 
--- `NONE` is always justified
-pub nothing_justified : (p : Opb) (s : State) → IsEntitled p s Nothing
-nothing_justified p s = elim (conclusion_judged p s Nothing) as (λ _. IsEntitled p s Nothing) [
-  | inl justified ↦ justified
-  | inr fault ↦ absurd fault.1
-]
+pub biting_alone : (s : State) (step : Step) → StepBites s step → StandsAlone step
+biting_alone s (kinds.Pol items) h = tt
+biting_alone s (kinds.Rup c) h = tt
+biting_alone s (kinds.Red c images) h = absurd h
+biting_alone s (kinds.Sol assigned) h = absurd h
+biting_alone s (kinds.Soli assigned) h = absurd h
+biting_alone s (kinds.Del ids) h = absurd h
+biting_alone s (kinds.RedBegin c images) h = absurd h
+biting_alone s (kinds.Goal name) h = absurd h
+biting_alone s kinds.End h = absurd h
+
+biting_asked : (p : Opb) (s : State) (step : Step) → StepBites s step → ImprovesIfAsked p step
+biting_asked p s (kinds.Pol items) h = tt
+biting_asked p s (kinds.Rup c) h = tt
+biting_asked p s (kinds.Red c images) h = tt
+biting_asked p s (kinds.Sol assigned) h = absurd h
+biting_asked p s (kinds.Soli assigned) h = tt
+biting_asked p s (kinds.Del ids) h = tt
+biting_asked p s (kinds.RedBegin c images) h = tt
+biting_asked p s (kinds.Goal name) h = tt
+biting_asked p s kinds.End h = tt
+
+-- outside blocks `NONE` is always justified
+pub nothing_justified : (p : Opb) (s : State) → IsOutside s → IsEntitled p s Nothing
+nothing_justified p s outside = faultless_justified p s Nothing never
+  where
+    never : (f : StepFault) → IsConclusionFault p s Nothing f → ⊥
+    never faults.BlockOpen inside = inside outside
+    never f h = h.1
+
+-- a step that stands alone leaves no block open
+pub stays_outside : (p : Opb) (s t : State) (step : Step) → StandsAlone step → Legal p s step t → IsOutside s → IsOutside t
+stays_outside p s t (kinds.Pol items) alone (m, written, adds) outside = ap (λ (u : State). u.block) adds.1 ∙ outside
+stays_outside p s t (kinds.Rup c) alone (m, admitted, shown, adds) outside = ap (λ (u : State). u.block) adds.1 ∙ outside
+stays_outside p s t (kinds.Red c images) alone (_, (m, k, admitted, redundant, adds)) outside = ap (λ (u : State). u.block) adds.1 ∙ outside
+stays_outside p s t (kinds.Sol assigned) alone (_, (g, logs, is)) outside = ap (λ (u : State). u.block) is ∙ outside
+stays_outside p s t (kinds.Soli assigned) alone (_, (objective, g, m, improves, is)) outside = ap (λ (u : State). u.block) is ∙ outside
+stays_outside p s t (kinds.Del ids) alone (_, legal) outside = del_outside s t ids legal outside
+stays_outside p s t (kinds.RedBegin c images) alone legal outside = absurd alone
+stays_outside p s t (kinds.Goal name) alone legal outside = absurd alone
+stays_outside p s t kinds.End alone legal outside = absurd alone
+
+-- and may be written where no block is open
+stands_outside : (step : Step) → StandsAlone step → StepStands sections.Step step
+stands_outside (kinds.Pol items) alone = inl refl
+stands_outside (kinds.Rup c) alone = inl refl
+stands_outside (kinds.Red c images) alone = refl
+stands_outside (kinds.Sol assigned) alone = refl
+stands_outside (kinds.Soli assigned) alone = refl
+stands_outside (kinds.Del ids) alone = refl
+stands_outside (kinds.RedBegin c images) alone = absurd alone
+stands_outside (kinds.Goal name) alone = absurd alone
+stands_outside kinds.End alone = absurd alone
+
+opens_nothing : (step : Step) → StandsAlone step → behind_step sections.Step step ≡ sections.Step
+opens_nothing (kinds.Pol items) alone = refl
+opens_nothing (kinds.Rup c) alone = refl
+opens_nothing (kinds.Red c images) alone = refl
+opens_nothing (kinds.Sol assigned) alone = refl
+opens_nothing (kinds.Soli assigned) alone = refl
+opens_nothing (kinds.Del ids) alone = refl
+opens_nothing (kinds.RedBegin c images) alone = absurd alone
+opens_nothing (kinds.Goal name) alone = absurd alone
+opens_nothing kinds.End alone = absurd alone
 
 -- one more legal step
 pub leads_push : (p : Opb) (a b c : State) (before : List Step) (step : Step) → Leads p a before b → Legal p b step c → Leads p a (before ++ step ∷ []) c
@@ -105,8 +176,9 @@ starts p s text values first nothing table few start = record {
   starts = start;
   leads = refl;
   improves = (refl, nothing);
+  solutions = none_logged p s values start nothing;
   bites = (refl, refl);
-  entitled = nothing_justified p s;
+  entitled = nothing_justified p s (ap (λ (u : State). u.block) start.2);
 }
 
 -- one more step, which can be written
@@ -118,25 +190,27 @@ pub written_behind : (p : Opb) (text : List ℕ) (step : Step) (new : List ℕ) 
 written_behind p text step new names same is writable proper =
     (is ∙ ap (λ ns. text ++ step_line ns step) same, subst (λ ns. IsStepWritable (length ns) step) same writable, proper)
 
-one_more : (l : Logbook) (step : Step) (new : List ℕ) → (proof : IsProof l) → IsWrittenBehind l.problem l.text step new
+one_more : (l : Logbook) (step : Step) (new : List ℕ) → (proof : IsProof l) → IsWrittenBehind l.problem l.text step new → StandsAlone step
     → AreWritten new l.problem.names (problem_ids l.problem.constraints) (proof.steps ++ step ∷ [])
-one_more l step new proof (is, writable, proper) =
+one_more l step new proof (is, writable, proper) alone =
     let count = problem_ids l.problem.constraints in
     subst (λ t. AreWritten t l.problem.names count (proof.steps ++ step ∷ [])) (sym is)
-    (one_more_written l.text l.problem.names count proof.steps step proof.written writable proper)
+    (one_more_written l.text l.problem.names count proof.steps step proof.written writable proper (stands_outside step alone) (opens_nothing step alone))
 
 pub grows : (p : Opb) (text new : List ℕ) (s t : State) (values : List ℤ) (count : ℕ) (conclusion : Conclusion) (asking later : Option ℕ) (step : Step)
     → IsProof (logbook p text s values count conclusion asking)
-    → IsWrittenBehind p text step new → Legal p s step t → IsProof (logbook p new t (values ++ improvement step t) count Nothing later)
-grows p text new s t values count conclusion asking later step proof behind legal = record {
+    → IsWrittenBehind p text step new → StandsAlone step → ImprovesIfAsked p step → Legal p s step t
+    → IsProof (logbook p new t (values ++ improvement step t) count Nothing later)
+grows p text new s t values count conclusion asking later step proof behind alone asked legal = record {
   steps = proof.steps ++ step ∷ [];
-  written = one_more (logbook p text s values count conclusion asking) step new proof behind;
+  written = one_more (logbook p text s values count conclusion asking) step new proof behind alone;
   start = proof.start;
   starts = proof.starts;
   leads = leads_push p proof.start s t proof.steps step proof.leads legal;
   improves = improves_push p proof.start s t proof.steps step values proof.improves legal;
+  solutions = all_improve_more p s t values step asked legal proof.solutions;
   bites = bites_push p proof.start s t proof.steps step count proof.bites legal;
-  entitled = nothing_justified p t;
+  entitled = nothing_justified p t (stays_outside p s t step alone legal proof.entitled.1.0);
 }
 
 pub grows_biting : (p : Opb) (text new : List ℕ) (s t : State) (values : List ℤ) (count : ℕ) (conclusion : Conclusion) (asking : Option ℕ) (step : Step)
@@ -144,13 +218,14 @@ pub grows_biting : (p : Opb) (text new : List ℕ) (s t : State) (values : List 
     → IsWrittenBehind p text step new → Legal p s step t → StepBites s step → IsProof (logbook p new t (values ++ improvement step t) (count + 1) Nothing asking)
 grows_biting p text new s t values count conclusion asking step proof behind legal here = record {
   steps = proof.steps ++ step ∷ [];
-  written = one_more (logbook p text s values count conclusion asking) step new proof behind;
+  written = one_more (logbook p text s values count conclusion asking) step new proof behind (biting_alone s step here);
   start = proof.start;
   starts = proof.starts;
   leads = leads_push p proof.start s t proof.steps step proof.leads legal;
   improves = improves_push p proof.start s t proof.steps step values proof.improves legal;
+  solutions = all_improve_more p s t values step (biting_asked p s step here) legal proof.solutions;
   bites = bites_push_one p proof.start s t proof.steps step count proof.bites legal here;
-  entitled = nothing_justified p t;
+  entitled = nothing_justified p t (stays_outside p s t step (biting_alone s step here) legal proof.entitled.1.0);
 }
 
 -- each step that bites takes a byte at least
@@ -177,6 +252,7 @@ concluded p text s values count old new asking proof entitled = record {
   starts = proof.starts;
   leads = proof.leads;
   improves = proof.improves;
+  solutions = proof.solutions;
   bites = proof.bites;
   entitled = entitled;
 }

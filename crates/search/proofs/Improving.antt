@@ -8,6 +8,7 @@ use Rattle.proof_steps.specs.declared.step.Step.TheVariants as kinds
 use Rattle.proof_rules.specs.Legal.{Legal, LegalDel, without, worth_of}
 use Rattle.proof_rules.specs.State.{State, id_of}
 use Rattle.search.specs.Log.{Logbook, LeadsImproving, improvement, value_list, IsFalling, last_of, IsProof}
+use Rattle.search.proofs.Blocks.{begin_logs, end_logs, goal_logs}
 
 -- a value is below the least one so far, if there is one
 abbrev Below : Option ℤ → ℤ → Type 0
@@ -29,11 +30,14 @@ OneStep start new end = ((new ≡ []) × (end ≡ start)) ⊎ ((value : ℤ) × 
 one_step : (p : Opb) (s t : State) (step : Step) → Legal p s step t → OneStep s.least (improvement step t) t.least
 one_step p s t (kinds.Pol items) (m, written, adds) = inl (refl, ap (λ (u : State). u.least) adds.1)
 one_step p s t (kinds.Rup c) (m, admitted, shown, adds) = inl (refl, ap (λ (u : State). u.least) adds.1)
-one_step p s t (kinds.Red c images) (m, k, admitted, redundant, adds) = inl (refl, ap (λ (u : State). u.least) adds.1)
-one_step p s t (kinds.Sol assigned) (g, logs, is) = inl (refl, ap (λ (u : State). u.least) is)
-one_step p s t (kinds.Soli assigned) (objective, g, m, improves, is) =
+one_step p s t (kinds.Red c images) (outside, (m, k, admitted, redundant, adds)) = inl (refl, ap (λ (u : State). u.least) adds.1)
+one_step p s t (kinds.Sol assigned) (outside, (g, logs, is)) = inl (refl, ap (λ (u : State). u.least) is)
+one_step p s t (kinds.Soli assigned) (outside, (objective, g, m, improves, is)) =
     inr (worth_of p g, ap (λ (u : State). value_list u.least) is, ap (λ (u : State). u.least) is, improves.better)
-one_step p s t (kinds.Del ids) legal = inl (refl, improve_deleted p s t ids legal)
+one_step p s t (kinds.Del ids) (outside, legal) = inl (refl, improve_deleted p s t ids legal)
+one_step p s t (kinds.RedBegin c images) (outside, legal) = inl (refl, (begin_logs s t c images legal).0)
+one_step p s t (kinds.Goal name) legal = inl (refl, (goal_logs p s t name legal).0)
+one_step p s t kinds.End legal = inl (refl, (end_logs p s t legal).0)
 
 further : (start : Option ℤ) (v w : ℤ) → Below start v → w <ℤ v → Below start w
 further None v w b h = tt

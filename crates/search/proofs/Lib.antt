@@ -1,3 +1,4 @@
+pub mod Blocks
 pub mod Choices
 pub mod Clauses
 pub mod BitingClauses
@@ -11,3 +12,4 @@ pub mod Trying
 pub mod StaysLive
 pub mod UpToDate
 pub mod Descending
+pub mod Worth

@@ -1,10 +1,11 @@
 -- Steps that spare the file's constraints, and the one that asks for a better solution, leave these live.
-use Rattle.std.proofs.Common.{◌≡◌, ◌≢◌, ℕ, zero, suc, ◌+◌, ◌<◌, ℤ, pos, ◌-ℤ◌, Bool, true, false, cond, List, [], ◌∷◌, length, get_or, All, Contains, Option, Some, None, IfSome, refl, sym, ap, subst, ◌∙◌, arith}
+use Rattle.std.proofs.Common.{◌≡◌, ◌≢◌, ℕ, zero, suc, ◌+◌, ◌<◌, ◌≤◌, inl, inr, ℤ, pos, ◌-ℤ◌, Bool, true, false, cond, List, [], ◌∷◌, length, get_or, All, Contains, Option, Some, None, IfSome, refl, sym, ap, subst, ◌∙◌, arith}
 use Rattle.std.specs.declared.cmp.Ordering.TheVariants.{Less, Equal, Greater}
 use Rattle.std.specs.Ordering.{nat_cmp, eq_by_cmp, is_eq}
 use Rattle.std.specs.Cmp.{nat_cmp_is}
 use Rattle.std.specs.List.{slice_get}
 use Rattle.std.specs.FinMap as fin
+use Rattle.std.proofs.lemmas.Bool.{cases_lt}
 use Rattle.std.proofs.lemmas.Cmp.{nat_cmp_total}
 use Rattle.std.proofs.lemmas.List.Elements.{All-head, All-tail}
 use Rattle.linear.specs.Opb.{Opb}
@@ -14,13 +15,14 @@ use Rattle.normal_form.specs.Normal.{NormalConstraint}
 use Rattle.normal_form.specs.NormalOf.{IsNormalOf}
 use Rattle.proof_steps.specs.declared.step.Step.{Step}
 use Rattle.proof_steps.specs.declared.step.Step.TheVariants as kinds
+use Rattle.proof_rules.specs.Block.{EndsOpen, new_block, with_block, with_goal}
 use Rattle.proof_rules.specs.Forms.{problem_ids}
 use Rattle.proof_rules.specs.Legal.{Legal, LegalDel, LegalSoli, Adds, without, with_improvement, worth_of}
 use Rattle.proof_rules.specs.Solution.{at_most}
-use Rattle.proof_rules.specs.State.{State, Live, IsStart, constraints, id_of, numbered, with_constraint}
+use Rattle.proof_rules.specs.State.{State, Block, Live, IsStart, constraints, id_of, numbered, up_to, with_constraint}
 use Rattle.proof_rules.proofs.FileForms.{all_count}
-use Rattle.proof_rules.proofs.LiveConstraints.{Any-from_get, key_of}
-use Rattle.search.specs.Kept.{AsksForLess, FileStands, ImprovementStands, IsSpare, KeepsLive, Spares}
+use Rattle.proof_rules.proofs.LiveConstraints.{Any-from_get, found_up_to, key_of}
+use Rattle.search.specs.Kept.{AsksForLess, FileStands, ImprovementStands, IsSpare, KeepsLive, Spares, first_gone}
 use Rattle.search.specs.Log.{ImprovesNothing, Logbook, StepBites}
 use Rattle.search.specs.Solving.{FileIsLive, ImprovementIsLive}
 
@@ -119,6 +121,10 @@ improvement_removed p asking s gone other =
       a.3,
     ))
 
+-- without the constraints from an id on, and with another block, or none
+abbrev ended : ℕ → Option Block → State → State
+ended end block s = record s { live = up_to end s.live; block = block }
+
 -- both stand
 abbrev Stand : Opb → Option ℕ → State → Type 0
 Stand p asking s = FileStands p s × ImprovementStands p asking s
@@ -135,13 +141,58 @@ stand_deleted p asking s t (id ∷ ids) spare (file, improvement) (deletable, re
     stand_deleted p asking (without gone s) t ids (All-tail (λ k. IsSpare p asking (id_of s.next k)) id ids spare)
     (file_removed p s gone first.0 file, improvement_removed p asking s gone first.1 improvement) rest
 
+-- a negation is added, and a block opened or changed
+stand_in_block : (p : Opb) (asking : Option ℕ) (s t : State) (k : Block) (m : NormalConstraint) → Stand p asking s → t ≡ with_block k m s → Stand p asking t
+stand_in_block p asking s t k m (file, improvement) is =
+    subst (Stand p asking) (sym is) (file_added p s m file, improvement_added p asking s m improvement)
+
+-- what is spare from an id on goes
+file_up_to : (p : Opb) (s : State) (end : ℕ) (block : Option Block) → ((id : ℕ) → end ≤ id → problem_ids p.constraints < id) → FileStands p s → FileStands p (ended end block s)
+file_up_to p s end block behind (ns, forms, below, there) =
+    (ns, forms, below, λ i n here. found_up_to s.live end (i + 1) n (before i (in_list ns i n here)) (there i n here))
+  where
+    before : (i : ℕ) → i < length ns → i + 1 < end
+    before i inside = elim (cases_lt (i + 1) end) as (λ _. i + 1 < end) [
+      | inl less ↦ less
+      | inr gone ↦ absurd (omega (arith, inside, all_count p.constraints ns forms, behind (i + 1) gone))
+    ]
+
+improvement_up_to : (p : Opb) (asking : Option ℕ) (s : State) (end : ℕ) (block : Option Block) → ((id : ℕ) → end ≤ id → asking ≢ Some id) → ImprovementStands p asking s → ImprovementStands p asking (ended end block s)
+improvement_up_to p asking s end block behind =
+    improvement_kept p asking s (ended end block s) refl (λ objective least id is a. (a.0, a.1, found_up_to s.live end id a.1 (before id is) a.2, a.3))
+  where
+    before : (id : ℕ) → asking ≡ Some id → id < end
+    before id is = elim (cases_lt id end) as (λ _. id < end) [ inl less ↦ less | inr gone ↦ absurd (behind id gone is) ]
+
+stand_up_to : (p : Opb) (asking : Option ℕ) (s : State) (end : ℕ) (block : Option Block) → ((id : ℕ) → end ≤ id → IsSpare p asking id) → Stand p asking s → Stand p asking (ended end block s)
+stand_up_to p asking s end block spare (file, improvement) =
+    (file_up_to p s end block (λ id h. (spare id h).0) file, improvement_up_to p asking s end block (λ id h. (spare id h).1) improvement)
+
+-- what a block's end spares
+abbrev EndSpares : Opb → Option ℕ → Block → Type 0
+EndSpares p asking k = (id : ℕ) → first_gone k.first k.goal ≤ id → IsSpare p asking id
+
+stand_ended : (p : Opb) (asking : Option ℕ) (s t : State) (k : Block) → Stand p asking s → (o : Option ℕ) → ((id : ℕ) → first_gone k.first o ≤ id → IsSpare p asking id) → EndsOpen p s k o t → Stand p asking t
+stand_ended p asking s t k stand (Some goal) spare (shown, is) =
+    subst (Stand p asking) (sym is) (stand_up_to p asking s goal (Some (record k { goal = None })) spare stand)
+stand_ended p asking s t k stand None spare ends =
+    let left : Stand p asking (ended k.first None s) = stand_up_to p asking s k.first None spare stand in
+    subst (Stand p asking) (sym ends.becomes)
+    (file_added p (ended k.first None s) k.constraint left.0, improvement_added p asking (ended k.first None s) k.constraint left.1)
+
 stand_step : (l : Logbook) (t : State) (step : Step) → Stand l.problem l.asking l.state → Spares l step → ImprovesNothing step → Legal l.problem l.state step t → Stand l.problem l.asking t
 stand_step l t (kinds.Pol items) stand spares other (m, written, adds) = stand_added l.problem l.asking l.state t m stand adds
 stand_step l t (kinds.Rup c) stand spares other (m, admitted, shown, adds) = stand_added l.problem l.asking l.state t m stand adds
-stand_step l t (kinds.Red c images) stand spares other (m, k, admitted, redundant, adds) = stand_added l.problem l.asking l.state t m stand adds
-stand_step l t (kinds.Sol assigned) stand spares other (g, logs, is) = subst (Stand l.problem l.asking) (sym is) stand
+stand_step l t (kinds.Red c images) stand spares other (outside, (m, k, admitted, redundant, adds)) = stand_added l.problem l.asking l.state t m stand adds
+stand_step l t (kinds.Sol assigned) stand spares other (outside, (g, logs, is)) = subst (Stand l.problem l.asking) (sym is) stand
 stand_step l t (kinds.Soli assigned) stand spares other legal = absurd other
-stand_step l t (kinds.Del ids) stand spares other legal = stand_deleted l.problem l.asking l.state t ids spares stand legal
+stand_step l t (kinds.Del ids) stand spares other (outside, legal) = stand_deleted l.problem l.asking l.state t ids spares stand legal
+stand_step l t (kinds.RedBegin c images) stand spares other (outside, (n, m, admitted, negated, fits, room, is)) =
+    stand_in_block l.problem l.asking l.state t (new_block n images l.state.next) m stand is
+stand_step l t (kinds.Goal name) stand spares other (k, r, m, some, none, asks, negated, fits, room, is) =
+    stand_in_block l.problem l.asking l.state t (with_goal l.state.next name k) m stand is
+stand_step l t kinds.End stand spares other (k, some, ends) =
+    stand_ended l.problem l.asking l.state t k stand k.goal (subst (λ o. IfSome o (EndSpares l.problem l.asking)) some spares) ends
 
 -- what bites deletes nothing
 pub spares_biting : (l : Logbook) (step : Step) → StepBites l.state step → Spares l step
@@ -151,6 +202,9 @@ spares_biting l (kinds.Red c images) bites = absurd bites
 spares_biting l (kinds.Sol assigned) bites = absurd bites
 spares_biting l (kinds.Soli assigned) bites = absurd bites
 spares_biting l (kinds.Del ids) bites = absurd bites
+spares_biting l (kinds.RedBegin c images) bites = absurd bites
+spares_biting l (kinds.Goal name) bites = absurd bites
+spares_biting l kinds.End bites = absurd bites
 
 -- where nothing was logged as an improving solution yet
 pub kept_first : (l : Logbook) → IsStart l.problem l.state → KeepsLive l

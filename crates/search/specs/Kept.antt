@@ -1,6 +1,6 @@
 -- What a log never loses, so that what a search finds is a solution, and a better one: the file's constraints, and the one that asks for
 -- less than the last improving solution is worth. Every other constraint may be deleted.
-use Rattle.std.specs.Prelude.{◌≡◌, ◌≢◌, ℕ, ◌+◌, ◌<◌, ℤ, pos, ◌-ℤ◌, List, Option, Some, All, IfSome, length}
+use Rattle.std.specs.Prelude.{◌≡◌, ◌≢◌, ℕ, ◌+◌, ◌<◌, ◌≤◌, ℤ, pos, ◌-ℤ◌, List, Option, None, Some, All, IfSome, length}
 use Rattle.std.specs.FinMap as map
 use Rattle.std.specs.List.{slice_get}
 use Rattle.linear.specs.Opb.{Opb}
@@ -39,6 +39,11 @@ pub record KeepsLive (l : Logbook) : Type 0 where
 abbrev pub IsSpare : Opb → Option ℕ → ℕ → Type 0
 IsSpare p asking id = (problem_ids p.constraints < id) × (asking ≢ Some id)
 
+-- the first id of what an end takes out: that of the goal, where one is open, or else of the block
+abbrev pub first_gone : ℕ → Option ℕ → ℕ
+first_gone first None = first
+first_gone first (Some goal) = goal
+
 -- a step deletes nothing else
 abbrev pub Spares : Logbook → Step → Type 0
 Spares l (kinds.Del ids) = All (λ id. IsSpare l.problem l.asking (id_of l.state.next id)) ids
@@ -47,3 +52,6 @@ Spares l (kinds.Rup c) = Unit {0}
 Spares l (kinds.Red c images) = Unit {0}
 Spares l (kinds.Sol assigned) = Unit {0}
 Spares l (kinds.Soli assigned) = Unit {0}
+Spares l (kinds.RedBegin c images) = Unit {0}
+Spares l (kinds.Goal name) = Unit {0}
+Spares l kinds.End = IfSome l.state.block (λ k. (id : ℕ) → first_gone k.first k.goal ≤ id → IsSpare l.problem l.asking id)

@@ -1,5 +1,5 @@
 -- A solver's log: a proof that grows, and how much of it says something new.
-use Rattle.std.specs.Prelude.{◌≡◌, ℕ, ◌+◌, ◌⊎◌, ℤ, pos, ◌<ℤ◌, Bool, List, [], ◌∷◌, ◌++◌, Option, None, Some, All, length}
+use Rattle.std.specs.Prelude.{◌≡◌, ℕ, ◌+◌, ◌⊎◌, ℤ, pos, ◌<ℤ◌, Bool, List, [], ◌∷◌, ◌++◌, Option, None, Some, All, IfSome, MatchOption, length, map, ⊤}
 use Rattle.linear.specs.Opb.{Opb}
 use Rattle.normal_form.specs.Normal.{NormalConstraint}
 use Rattle.normal_form.specs.NormalOf.{IsNormalOf}
@@ -8,7 +8,7 @@ use Rattle.proof_rules.specs.Expression.{IsPostfixOf}
 use Rattle.proof_rules.specs.Fault.{OrMemory, IsStepFault}
 use Rattle.proof_rules.specs.Forms.{problem_ids}
 use Rattle.proof_rules.specs.Justified.{IsJustified}
-use Rattle.proof_rules.specs.Legal.{Legal, Leads}
+use Rattle.proof_rules.specs.Legal.{Legal, Leads, worth_of}
 use Rattle.proof_rules.specs.State.{State, constraints, constraint_of, IsStart}
 use Rattle.proof_steps.specs.declared.conclusion.Conclusion.{Conclusion}
 use Rattle.proof_steps.specs.declared.step.Step.{Step}
@@ -42,6 +42,9 @@ StepBites old (kinds.Red c images) = ⊥
 StepBites old (kinds.Sol assigned) = ⊥
 StepBites old (kinds.Soli assigned) = ⊥
 StepBites old (kinds.Del ids) = ⊥
+StepBites old (kinds.RedBegin c images) = ⊥
+StepBites old (kinds.Goal name) = ⊥
+StepBites old kinds.End = ⊥
 
 -- legal steps lead from one state to another, and at least so many of them bite
 abbrev pub LeadsBiting : Opb → State → List Step → State → ℕ → Type 0
@@ -63,6 +66,9 @@ improvement (kinds.Pol items) new = []
 improvement (kinds.Rup c) new = []
 improvement (kinds.Red c images) new = []
 improvement (kinds.Del ids) new = []
+improvement (kinds.RedBegin c images) new = []
+improvement (kinds.Goal name) new = []
+improvement kinds.End new = []
 
 -- legal steps lead from one state to another, and these are the values of their improving solutions, in order
 abbrev pub LeadsImproving : Opb → State → List Step → State → List ℤ → Type 0
@@ -82,6 +88,18 @@ last_of [] = None
 last_of (value ∷ []) = Some value
 last_of (value ∷ later ∷ more) = last_of (later ∷ more)
 
+-- the step opens no block, and needs none that is open: a log takes no other, so no block is open in its state
+abbrev pub StandsAlone : Step → Type 0
+StandsAlone (kinds.Pol items) = Unit {0}
+StandsAlone (kinds.Rup c) = Unit {0}
+StandsAlone (kinds.Red c images) = Unit {0}
+StandsAlone (kinds.Sol assigned) = Unit {0}
+StandsAlone (kinds.Soli assigned) = Unit {0}
+StandsAlone (kinds.Del ids) = Unit {0}
+StandsAlone (kinds.RedBegin c images) = ⊥
+StandsAlone (kinds.Goal name) = ⊥
+StandsAlone kinds.End = ⊥
+
 -- the step logs no improving solution
 abbrev pub ImprovesNothing : Step → Type 0
 ImprovesNothing (kinds.Soli assigned) = ⊥
@@ -90,6 +108,25 @@ ImprovesNothing (kinds.Pol items) = Unit {0}
 ImprovesNothing (kinds.Rup c) = Unit {0}
 ImprovesNothing (kinds.Red c images) = Unit {0}
 ImprovesNothing (kinds.Del ids) = Unit {0}
+ImprovesNothing (kinds.RedBegin c images) = Unit {0}
+ImprovesNothing (kinds.Goal name) = Unit {0}
+ImprovesNothing kinds.End = Unit {0}
+
+-- the step logs a solution that improves nothing only where there is no objective
+abbrev pub ImprovesIfAsked : Opb → Step → Type 0
+ImprovesIfAsked p (kinds.Sol assigned) = p.objective ≡ None
+ImprovesIfAsked p (kinds.Soli assigned) = Unit {0}
+ImprovesIfAsked p (kinds.Pol items) = Unit {0}
+ImprovesIfAsked p (kinds.Rup c) = Unit {0}
+ImprovesIfAsked p (kinds.Red c images) = Unit {0}
+ImprovesIfAsked p (kinds.Del ids) = Unit {0}
+ImprovesIfAsked p (kinds.RedBegin c images) = Unit {0}
+ImprovesIfAsked p (kinds.Goal name) = Unit {0}
+ImprovesIfAsked p kinds.End = Unit {0}
+
+-- where there is an objective, the logged solutions are the improving ones: what they are worth, in order, is what was improved to
+abbrev pub AllImprove : Opb → State → List ℤ → Type 0
+AllImprove p s improved = IfSome p.objective (λ _. map (worth_of p) s.logged ≡ improved)
 
 -- the state entitles to the conclusion
 abbrev pub IsEntitled : Opb → State → Conclusion → Type 0
@@ -103,6 +140,7 @@ pub record IsProof (l : Logbook) : Type 0 where
   pub starts : IsStart l.problem start
   pub leads : Leads l.problem start steps l.state
   pub improves : LeadsImproving l.problem start steps l.state l.improved
+  pub solutions : AllImprove l.problem l.state l.improved
   pub bites : LeadsBiting l.problem start steps l.state l.biting
   pub entitled : IsEntitled l.problem l.state l.conclusion
 
@@ -126,11 +164,14 @@ Keeps old step new = new.text ≡ old.text ++ step_line old.problem.names step
 abbrev pub IsRefusedBy : List (List ℕ) → Opb → State → Step → SearchFault → Type 0
 IsRefusedBy names p s step (faults.Kernel f) = OrMemory f (IsStepFault p s step f)
 IsRefusedBy names p s step faults.Unwritable = IsStepWritable (length names) step → ⊥
-IsRefusedBy names p s step faults.Unimproved = ⊥
 
 -- why a log does not take a step
 abbrev pub IsRefused : Logbook → Step → SearchFault → Type 0
 IsRefused l step f = IsRefusedBy l.problem.names l.problem l.state step f
+
+-- where there is an objective, the assignment is worth the least value that the log improved to
+abbrev pub IsWorthLeast : Logbook → List Bool → Type 0
+IsWorthLeast l values = MatchOption l.problem.objective ⊤ (λ _. l.state.least ≡ Some (worth_of l.problem values))
 
 -- the same with another conclusion
 abbrev pub with_conclusion : Conclusion → Logbook → Logbook

@@ -12,9 +12,11 @@ ghost use Rattle.proof_rules.specs.State.{HasRoom, State};
 ghost use Rattle.proof_steps.specs.declared.conclusion.Conclusion.TheVariants as conclusions;
 ghost use Rattle.proof_steps.specs.declared.conclusion.Lower.TheVariants as lowers;
 ghost use Rattle.proof_steps.specs.declared.conclusion.Upper.TheVariants as uppers;
+ghost use Rattle.proof_steps.specs.declared.step.GoalName.TheVariants as goals;
+ghost use Rattle.proof_steps.specs.declared.step.Step.TheVariants as steps;
 ghost use Rattle.proof_steps.specs.declared.step.Step.TheVariants.{Sol, Soli, Del};
 ghost use Rattle.search.specs.Clause.{negated_clause};
-ghost use Rattle.search.specs.Log.{ImprovesNothing, IsFalling, LeadsBiting, LeadsImproving, Logbook, StepBites, improvement, last_of};
+ghost use Rattle.search.specs.Log.{ImprovesNothing, IsFalling, LeadsBiting, LeadsImproving, Logbook, StandsAlone, StepBites, improvement, last_of};
 ghost use Rattle.search.specs.Solving.{BearsOut, MayStop};
 ghost use Rattle.search.specs.Values.{AreValuesUnder, IsValueUnder};
 ghost use Rattle.branching.specs.declared.brancher.Value.{Value};
@@ -28,6 +30,15 @@ pub fn nothing_counts_without_learning()
     ensures solution { (s : State) → StepBites s (Sol (x 1 ∷ [])) → ⊥ }
     ensures deletion { (s : State) → StepBites s (Del (pos 3 ∷ [])) → ⊥ }
     ensures logged { (p : Opb) → (s t : State) → LeadsBiting p s (Sol (x 1 ∷ []) ∷ []) t 1 → ⊥ }
+{}
+
+/// What opens a block stands not alone, nor does what needs one that is open; a derivation and a clause do.
+pub fn steps_of_blocks()
+    ensures begun { StandsAlone (steps.RedBegin (negated_clause []) []) → ⊥ }
+    ensures goal { StandsAlone (steps.Goal goals.Itself) → ⊥ }
+    ensures ended { StandsAlone steps.End → ⊥ }
+    ensures derived { StandsAlone (steps.Pol []) }
+    ensures shown { StandsAlone (steps.Rup (negated_clause (x 1 ∷ []))) }
 {}
 
 /// Of no literals the clause says that there is a conflict; of x1 and ~x2 it is 1 ~x1 1 x2 >= 1.

@@ -43,7 +43,7 @@ pub(crate) fn may_stop<'a, P: Propagator>(log: &Log<'a, P>, limit: u64) -> bool
     limit.saturating_sub(1) <= log.biting() || !log.has_room()
 }
 
-/// The search stops before its end.
+/// The search stops before its end. Where there is an objective, whatever was logged has improved on what was there before.
 pub(crate) fn end_stopped<'a, P: Propagator>(
     log: &mut Log<'a, P>,
     limit: u64,
@@ -57,7 +57,7 @@ pub(crate) fn end_stopped<'a, P: Propagator>(
         return Ok(Found::Unknown(Unfinished::Limit));
     }
     let Some(best) = log.least_value() else {
-        return Err(SearchFault::Unimproved);
+        return Ok(end_solved(log)?);
     };
     log.conclude(Conclusion::Bounds(Lower::MinusInf, Upper::At(best), None))?;
     Ok(Found::Sat)

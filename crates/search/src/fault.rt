@@ -12,9 +12,6 @@ pub enum SearchFault {
     /// The step cannot be written as a line of a proof: an integer is above 2^120 in size, or the problem has not all of the
     /// variables.
     Unwritable,
-    /// Solutions were logged, and none as an improving one, so there is no value that a search which stops could conclude. No log
-    /// answers this.
-    Unimproved,
 }
 
 impl From<StepFault> for SearchFault {

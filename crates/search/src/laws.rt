@@ -19,7 +19,7 @@ ghost use Rattle.proof_rules.specs.Legal.{Leads, Legal, LegalRup, LegalSol, Lega
 ghost use Rattle.proof_rules.specs.Preserved.{IsPreserved};
 ghost use Rattle.proof_rules.specs.Shown.{IsShown};
 ghost use Rattle.proof_rules.specs.Solution.{NamesAll};
-ghost use Rattle.proof_rules.specs.State.{State, HasRoom, IsStart, constraints};
+ghost use Rattle.proof_rules.specs.State.{State, HasRoom, IsOutside, IsStart, constraints};
 ghost use Rattle.proof_steps.specs.declared.conclusion.Conclusion.TheVariants.{Unsat, Bounds};
 ghost use Rattle.proof_steps.specs.declared.conclusion.Lower.TheVariants as lowers;
 ghost use Rattle.proof_steps.specs.declared.conclusion.Upper.TheVariants as uppers;
@@ -40,12 +40,12 @@ pub fn clause_is_shown()
         → LeadsToConflict (constraints s) assigned → HasRoom s → (t : State) × LegalRup s (negated_clause assigned) t }
 {}
 
-/// A conflict with nothing listed shows every constraint. So without a logged solution the problem has none, and with an
-/// improving one its value is the least.
+/// A conflict with nothing listed shows every constraint. So where no block is open, the problem has no solution if none is logged, and
+/// the value of an improving one is the least.
 pub fn conflict_ends()
     ensures shown { (live : List NormalConstraint) → (n : NormalConstraint) → Rises 0 n.terms → IsRefuted live → IsShown live n }
-    ensures unsatisfiable { (p : Opb) → (s : State) → s.logged ≡ [] → IsRefuted (constraints s) → IsEntitled p s Unsat }
-    ensures optimum { (p : Opb) → (s : State) → (objective : List Term) → (best : ℤ) → IsWithin p → IsPreserved p s
+    ensures unsatisfiable { (p : Opb) → (s : State) → IsOutside s → s.logged ≡ [] → IsRefuted (constraints s) → IsEntitled p s Unsat }
+    ensures optimum { (p : Opb) → (s : State) → (objective : List Term) → (best : ℤ) → IsOutside s → IsWithin p → IsPreserved p s
         → p.objective ≡ Some objective → s.least ≡ Some best → IsRefuted (constraints s)
         → IsEntitled p s (Bounds (lowers.At best) (uppers.At best) None) }
 {}
@@ -75,12 +75,13 @@ pub fn kept_stays_live()
         → KeepsLive (record l { state = t; asking = Some l.state.next }) }
 {}
 
-/// The text of a log is that of steps which are a legal proof of its conclusion; with the lines behind the steps it spells them and
-/// the conclusion, where that can be written. Its count of biting steps is no more than the steps that bite, and so no more than
-/// there are steps.
+/// The text of a log is that of steps which are a legal proof of its conclusion, and no block is open behind them; with the lines behind
+/// the steps it spells them and the conclusion, where that can be written. Its count of biting steps is no more than the steps that bite,
+/// and so no more than there are steps.
 pub fn log_is_legal_proof()
     ensures legal { (l : Logbook) → IsProof l → (steps : List Step) × (best : Option (List Bool)) × IsLegalProof l.problem steps l.conclusion best
         × (l.text ≡ begun_text l.problem.names (problem_ids l.problem.constraints) steps) }
+    ensures outside { (l : Logbook) → IsProof l → IsOutside l.state }
     ensures spelled { (l : Logbook) → IsProof l → IsConclusionWritable (length l.problem.names) l.conclusion
         → IsSpelledBy l (l.text ++ last_lines l.problem.names l.conclusion) }
     ensures spells_proof { (l : Logbook) → (proof : List ℕ) → IsProof l → (spelled : IsSpelledBy l proof)

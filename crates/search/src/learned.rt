@@ -5,14 +5,12 @@
 //! (Audemard and Simon, 2009). What stays in any case: a constraint in which a literal is forced, one of two literals,
 //! and one of few levels that was met not long ago.
 
-ghost use Rattle.std.specs.Prelude.{◌≡◌, All, IfOk, IfSome, OnOk};
+ghost use Rattle.std.specs.Prelude.{All, IfOk, IfSome};
 ghost use Rattle.propagate.specs.Ids.{HasId};
 ghost use Rattle.search.specs.Undoing.{IsNoReason};
 
-use super::fault::SearchFault;
-use super::log::Log;
 use analysis::Entry;
-use propagate::{Id, Ids, Propagator};
+use propagate::{Id, Ids};
 use std::alloc::{AllocError, Global};
 
 /// So many conflicts come before the first time that half is forgotten.
@@ -188,7 +186,11 @@ impl LearnedConstraints {
     }
 
     /// Takes out half of those that may go: those of the lowest ranks.
-    fn take_half(&mut self, alloc: Global, trail: &[Entry]) -> Result<Vec<Id>, AllocError>
+    pub(crate) fn take_half(
+        &mut self,
+        alloc: Global,
+        trail: &[Entry],
+    ) -> Result<Vec<Id>, AllocError>
         ensures { IfOk result (λ gone. All (IsNoReason trail.now) gone.items) }
     {
         let reasons = reasons_of(alloc, trail)?;
@@ -207,19 +209,5 @@ impl LearnedConstraints {
         self.all = kept;
         self.terms = terms;
         Ok(gone)
-    }
-
-    /// Forgets half of those that may go.
-    pub(crate) fn forget<'a, P: Propagator>(
-        &mut self,
-        alloc: Global,
-        log: &mut Log<'a, P>,
-        trail: &[Entry],
-    ) -> Result<(), SearchFault>
-        ensures problem { log.new.problem ≡ log.old.problem }
-        ensures next { OnOk result (log.new.state.next ≡ log.old.state.next) }
-    {
-        let gone = self.take_half(alloc, trail)?;
-        log.forget(alloc, gone.as_slice())
     }
 }

@@ -7,6 +7,12 @@
 //! steps that are known to bite, that is to say more than propagation over the live constraints before them: a search that
 //! learns nothing cannot count up.
 //!
+//! Where there is an objective, every solution in a log is an improving one: `sol` and an objective do not meet in it, which its calls ask
+//! for. So what the best solution is worth is the last value that was improved to, and the least; this is a fact of its type, too.
+//!
+//! Only steps that stand by themselves enter a log, and none of a block: so something may be concluded from each of its states, `NONE` at
+//! least, and its text is a whole proof wherever the search stops.
+//!
 //! Any constraint may be deleted by a legal step. That those which a search needs are not, the file's and the one that asks for a better
 //! solution, is a fact of this type too: the call that deletes asks for it.
 
@@ -110,7 +116,7 @@ impl<'a, P: Propagator> Log<'a, P> {
     ghost use Rattle.proof_text.specs.Writable.{IsConclusionWritable};
     ghost use Rattle.proof_write.specs.Whole.{first_lines, last_lines};
     ghost use Rattle.search.specs.Kept.{IsSpare, Spares};
-    ghost use Rattle.search.specs.Log.{CanBeWritten, ImprovesNothing, IsEntitled, IsFalling, IsProof, IsRefused, IsSpelledBy, Keeps, StepBites, improvement, last_of, with_conclusion};
+    ghost use Rattle.search.specs.Log.{CanBeWritten, ImprovesIfAsked, ImprovesNothing, IsEntitled, IsFalling, IsProof, IsRefused, IsSpelledBy, IsWorthLeast, Keeps, StandsAlone, StepBites, improvement, last_of, with_conclusion};
 
     /// The log of a problem's file, with no step. Running out of memory is the only fault.
     pub fn new(alloc: Global, problem: &'a Problem) -> Result<Self, StepFault>
@@ -138,12 +144,15 @@ impl<'a, P: Propagator> Log<'a, P> {
         })
     }
 
-    /// Applies a step that logs no improving solution, whole or not at all, and keeps it. It deletes neither a constraint of the file nor
-    /// the one that asks for a better solution. Nothing is concluded from the new state yet. A refusal is the kernel's, or that memory ran out, or that the step cannot be written, and leaves the log as
-    /// before.
+    /// Applies a step that logs no improving solution and belongs to no block, whole or not at all, and keeps it. It logs another solution
+    /// only where there is no objective, and deletes neither a constraint of the file nor the one that asks for a better solution. Nothing
+    /// is concluded from the new state yet. A refusal is the kernel's, or that memory ran out, or that the step cannot be written, and
+    /// leaves the log as before.
     pub fn apply(&mut self, step: Step) -> Result<Applied, SearchFault>
         requires relation { HasAtLeast step }
+        requires alone { StandsAlone step }
         requires other { ImprovesNothing step }
+        requires asked { ImprovesIfAsked self.old.problem step }
         requires spares { Spares self.old step }
         ensures problem { self.new.problem ≡ self.old.problem }
         ensures ok { OnOk result (Legal self.old.problem self.old.state step self.new.state) }
@@ -349,11 +358,12 @@ impl<'a, P: Propagator> Log<'a, P> {
         self.kernel.least_value()
     }
 
-    /// A copy of the logged solution of the least value, the earliest among equals; none where nothing is logged. Running out of
-    /// memory is the only fault.
+    /// A copy of the logged solution of the least value, the earliest among equals; none where nothing is logged. Where there is an
+    /// objective it is worth the least value of an improving solution. Running out of memory is the only fault.
     pub fn best(&self) -> Result<Option<Assignment>, AllocError>
         ensures best { IfOk result (IsBest self.now.problem self.now.state.logged) }
         ensures solution { IfOk result (λ best. IfSome best (IsSolution self.now.problem)) }
+        ensures least { IfOk result (λ best. IfSome best (IsWorthLeast self.now)) }
     {
         self.kernel.best_logged()
     }

@@ -3,13 +3,9 @@
 //! The constraint of the last improving solution asks for more than all before it, so these only make propagation dearer. Each goes as
 //! soon as no literal of the trail is forced in it.
 
-ghost use Rattle.std.specs.Prelude.{◌≡◌, OnOk};
-
-use super::fault::SearchFault;
 use super::learned::reasons_of;
-use super::log::Log;
 use analysis::Entry;
-use propagate::{Id, Propagator};
+use propagate::Id;
 use std::alloc::{AllocError, Global};
 
 /// Those that are live still, by rising id.
@@ -19,7 +15,7 @@ pub(crate) struct Outdone {
 }
 
 impl Outdone {
-    ghost use Rattle.std.specs.Prelude.{◌≡◌, All, IfOk, OnOk};
+    ghost use Rattle.std.specs.Prelude.{All, IfOk};
     ghost use Rattle.search.specs.Undoing.{IsNoReason};
 
     /// None yet.
@@ -36,7 +32,7 @@ impl Outdone {
     }
 
     /// Takes out those in which no literal of a trail is forced.
-    fn take(&mut self, alloc: Global, trail: &[Entry]) -> Result<Vec<Id>, AllocError>
+    pub(crate) fn take(&mut self, alloc: Global, trail: &[Entry]) -> Result<Vec<Id>, AllocError>
         ensures { IfOk result (λ gone. All (IsNoReason trail.now) gone.items) }
     {
         let reasons = reasons_of(alloc, trail)?;
@@ -51,19 +47,5 @@ impl Outdone {
         }
         self.ids = kept;
         Ok(gone)
-    }
-
-    /// Deletes those in which no literal of a trail is forced.
-    pub(crate) fn forget<'a, P: Propagator>(
-        &mut self,
-        alloc: Global,
-        log: &mut Log<'a, P>,
-        trail: &[Entry],
-    ) -> Result<(), SearchFault>
-        ensures problem { log.new.problem ≡ log.old.problem }
-        ensures next { OnOk result (log.new.state.next ≡ log.old.state.next) }
-    {
-        let gone = self.take(alloc, trail)?;
-        log.forget(alloc, gone.as_slice())
     }
 }

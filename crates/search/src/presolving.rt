@@ -12,7 +12,7 @@ ghost use Rattle.presolve.specs.Fixing.{AreFixed};
 ghost use Rattle.presolve.specs.Swapping.{AreUsed};
 ghost use Rattle.presolve.specs.declared.swapping.Swap.{Swap};
 ghost use Rattle.search.specs.Kept.{Spares};
-ghost use Rattle.search.specs.Log.{ImprovesNothing};
+ghost use Rattle.search.specs.Log.{ImprovesIfAsked, ImprovesNothing, StandsAlone};
 ghost use Rattle.search.specs.Presolving.{Tries, TriesAll, exchange, fixing, in_order, is_true, made_true, swapping, variable};
 
 use super::fault::SearchFault;
@@ -117,7 +117,9 @@ fn unless_refused(fault: SearchFault) -> Result<(), SearchFault>
 /// Puts a step into the log where it is legal and can be written.
 fn attempt<'a, P: Propagator>(log: &mut Log<'a, P>, step: Step) -> Result<(), SearchFault>
     requires relation { HasAtLeast step }
+    requires alone { StandsAlone step }
     requires other { ImprovesNothing step }
+    requires asked { ImprovesIfAsked log.old.problem step }
     requires spares { Spares log.old step }
     ensures problem { log.new.problem ≡ log.old.problem }
     ensures tried { OnOk result (Tries step log.old log.new) }

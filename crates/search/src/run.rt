@@ -174,10 +174,9 @@ impl<'a, P: Propagator> Run<'a, P> {
             self.tell_progress();
         }
         if self.learned.is_due() {
-            self.learned
-                .forget(self.alloc, &mut self.log, self.trail.entries())?;
-            self.outdone
-                .forget(self.alloc, &mut self.log, self.trail.entries())?;
+            let gone = self.learned.take_half(self.alloc, self.trail.entries())?;
+            self.log.forget(self.alloc, gone.as_slice())?;
+            self.forget_outdone()?;
         }
         if self.restarts.is_due() {
             self.decisions.clear();
@@ -185,6 +184,16 @@ impl<'a, P: Propagator> Run<'a, P> {
             self.advisers.brancher.restarted();
         }
         Ok(())
+    }
+
+    /// Deletes the constraints that asked for solutions which are there by now, but for those in which a literal of the trail is forced.
+    fn forget_outdone(&mut self) -> Result<(), SearchFault>
+        ensures problem { self.new.log.problem ≡ self.old.log.problem }
+        ensures next { OnOk result (self.new.log.state.next ≡ self.old.log.state.next) }
+        ensures decisions { self.new.decisions.items ≡ self.old.decisions.items }
+    {
+        let gone = self.outdone.take(self.alloc, self.trail.entries())?;
+        self.log.forget(self.alloc, gone.as_slice())
     }
 
     /// Logs a better solution. The constraint that asked for it is of no use then.
@@ -199,8 +208,7 @@ impl<'a, P: Propagator> Run<'a, P> {
         if let Some(id) = asked {
             self.outdone.push(id)?;
         }
-        self.outdone
-            .forget(self.alloc, &mut self.log, self.trail.entries())
+        self.forget_outdone()
     }
 
     /// Logs a solution. Where there is an objective the search goes on for a better one.

@@ -73,7 +73,7 @@ pub(crate) fn agree_on(alloc: Global, opb: &[u8], proof: &[u8]) -> Result<bool, 
     Ok(matches!(agree(alloc, &problem, lines.as_slice()), Ok(Some(_))))
 }
 
-const RUNS: [Run; 4] = [
+const RUNS: [Run; 5] = [
     Run {
         problem: "1 x1 1 x2 >= 1 ; 1 ~x2 1 x3 >= 1 ; 1 ~x1 1 x3 >= 1 ; 2 x3 1 x4 1 x5 >= 2 ; 1 ~x4 1 ~x5 >= 1 ;",
         lines: &[
@@ -152,6 +152,38 @@ const RUNS: [Run; 4] = [
             "sol x1 x2 ~x3 ~x4",
             "sol x1 ~x2 x4",
             "sol x1 x4 ~x5",
+        ],
+    },
+    Run {
+        problem: "min: 2 x1 2 x2 2 x3 2 x4 5 x5 ; 1 x1 1 x2 1 x3 1 x4 3 x5 >= 3 ; 1 ~x1 1 ~x2 1 x5 >= 1 ;",
+        lines: &[
+            "soli x1 x2 ~x3 ~x4 x5",
+            "del id 3",
+            "red -1 x1 -1 x2 -1 x3 -1 x4 >= -2 ; x1 0 x2 0 x3 0 x4 0 x5 1 ; begin",
+            "rup 1 x1 1 x2 >= 1 ;",
+            "sol x1",
+            "end",
+            "proofgoal 1",
+            "rup 1 x3 1 x4 >= 1 ;",
+            "end",
+            "proofgoal 1",
+            "proofgoal #2",
+            "end",
+            "pol 4 2 * -1 +",
+            "end -1",
+            "pol 8",
+            "rup 1 x1 1 x2 1 x3 >= 2 ;",
+            "end",
+            "pol -1 1 + s",
+            "rup 1 x5 >= 1 ;",
+            "red 1 ~x1 >= 1 ; x1 0 ; begin",
+            "proofgoal -2",
+            "proofgoal #1",
+            "end",
+            "end",
+            "end",
+            "del id 2 -1",
+            "rup 1 x5 1 x1 >= 2 ;",
         ],
     },
 ];

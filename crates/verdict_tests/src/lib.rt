@@ -8,6 +8,8 @@ mod agreement;
 #[cfg(test)]
 mod answers;
 #[cfg(test)]
+mod blocks;
+#[cfg(test)]
 mod claims;
 #[cfg(test)]
 mod damaged;
@@ -21,5 +23,7 @@ mod redundance;
 mod rows;
 #[cfg(test)]
 mod solutions;
+#[cfg(test)]
+mod subproofs;
 #[cfg(test)]
 mod verdicts;

@@ -41,7 +41,7 @@ fn redundant_constraints_are_added(rt: HostRuntime) -> Result<(), Fail> {
 }
 
 /// Third lines of proofs that are refused, and with what.
-const REFUSED: [(Problem, &str, &str); 19] = [
+const REFUSED: [(Problem, &str, &str); 18] = [
     // sums before goals; a live constraint before the new one and before the objective, and that after the new one
     (
         Problem::Either,
@@ -107,11 +107,6 @@ const REFUSED: [(Problem, &str, &str); 19] = [
         Problem::Either,
         "red 1 x1 >= 1 ; x1 -> 1 x1 -> 0",
         "5 BadLine",
-    ),
-    (
-        Problem::Either,
-        "red 1 x1 >= 1 ; x1 -> 1 ; begin",
-        "4 RuleLeftOut",
     ),
     (Problem::Either, "red 1 x1 >= 1 ; begin", "5 BadLine"),
     (Problem::Either, "red 1 x1 >= 1 ; x1 -> 00", "5 BadLine"),

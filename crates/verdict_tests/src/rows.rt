@@ -42,6 +42,8 @@ pub(crate) enum Problem {
     FourAndOne,
     /// Two of three are true and two are false, which no assignment meets.
     Majorities,
+    /// Four of one price, of which three are wanted, or a fifth in the place of all.
+    Tickets,
 }
 
 impl Problem {
@@ -67,6 +69,9 @@ impl Problem {
             }
             Problem::FourAndOne => "min: 1 x1 1 x2 1 x3 1 x4 ; 1 x1 -1 x5 >= 0 ;",
             Problem::Majorities => "1 x1 1 x2 1 x3 >= 2 ; 1 ~x1 1 ~x2 1 ~x3 >= 2 ;",
+            Problem::Tickets => {
+                "min: 2 x1 2 x2 2 x3 2 x4 5 x5 ; 1 x1 1 x2 1 x3 1 x4 3 x5 >= 3 ;"
+            }
         }
     }
 
@@ -81,7 +86,8 @@ impl Problem {
             | Problem::Cheaper
             | Problem::Equal
             | Problem::Contradiction
-            | Problem::FourAndOne => 1,
+            | Problem::FourAndOne
+            | Problem::Tickets => 1,
             Problem::NotBoth
             | Problem::SecondAlone
             | Problem::SecondEitherWay

@@ -1,8 +1,8 @@
-use Rattle.std.proofs.Common.{◌++◌, List, refl, sym, ◌∙◌}
-use Rattle.std.proofs.lemmas.Bool.{false≢true}
+use Rattle.std.proofs.Common.{◌++◌, true, List, refl, sym, ◌∙◌}
 use Rattle.std.specs.FinMap as map
 use Rattle.normal_form.specs.Normal.{NormalConstraint}
 use Rattle.kernel.specs.Database.{Constraints}
+use Rattle.kernel.specs.Redundance.{IsAsked}
 use Rattle.kernel.proofs.TouchedJudged.{judging_first, judging_more, judging_open, judging_end, judged, fewer}
 use Rattle.kernel.proofs.redundance.judge_live.Goals as goal
 
@@ -10,7 +10,8 @@ pub loop-id-init : goal.loop-id-init
 loop-id-init g c = (
   c.in_ok-touched.ensures.same,
   refl,
-  judging_first c.args.database.now.live c.args.beside.now.items c.args.witness.now c.in_ok-touched.touched c.requires.normal c.in_ok-touched.ensures.touched,
+  judging_first c.args.database.now.live c.args.end c.args.opened.now c.args.beside.now.items c.args.witness.now c.in_ok-touched.touched c.requires.normal
+      c.in_ok-touched.ensures.touched,
 )
 
 pub loop-id-preserved : goal.loop-id-preserved
@@ -19,10 +20,13 @@ loop-id-preserved g c =
     let beside : List NormalConstraint = c.args.beside.now.items in
     let kept = c.loop-id.invariant in
     let images = c.args.witness.now in
-    let answered = judged d c.loop-id.database beside c.loop-id.beside.items images c.in-Some.id c.in_ok-shows_live.field-0 kept.0 kept.1 c.in_ok-shows_live.ensures.shown in (
-      c.in_ok-shows_live.ensures.same ∙ kept.0,
-      c.in_ok-shows_live.ensures.beside ∙ kept.1,
-      judging_more d.live (map.values d.live ++ beside) images c.loop-id.touched c.pop_first.new.self c.in-Some.id kept.2 c.in-Some.ensures.removed (λ n is. (answered n is).0 c.if-not-branch.false),
+    let end = c.args.end in
+    let opened = c.args.opened.now in
+    let shown = judged d c.loop-id.database beside c.loop-id.beside.items images c.in-Some.id (λ Shown n. IsAsked end opened c.in-Some.id → Shown n) kept.0 kept.1
+    (λ n is. c.in_ok-shows_asked.ensures.shown n is c.if-not-branch.false) in (
+      c.in_ok-shows_asked.ensures.same ∙ kept.0,
+      c.in_ok-shows_asked.ensures.beside ∙ kept.1,
+      judging_more d.live end opened (map.values d.live ++ beside) images c.loop-id.touched c.pop_first.new.self c.in-Some.id kept.2 c.in-Some.ensures.removed shown,
     )
 
 pub loop-id-smaller : goal.loop-id-smaller
@@ -34,10 +38,11 @@ returns-then-not-branch-clause-fault g c =
     let beside : List NormalConstraint = c.args.beside.now.items in
     let kept = c.loop-id.invariant in
     let images = c.args.witness.now in
-    let answered = judged d c.loop-id.database beside c.loop-id.beside.items images c.in-Some.id c.in_ok-shows_live.field-0 kept.0 kept.1 c.in_ok-shows_live.ensures.shown in
-    judging_open d.live (map.values d.live ++ beside) images c.loop-id.touched c.in-Some.id kept.2 c.in-Some.ensures.least (λ n is shown. false≢true (sym c.if-not-branch.true ∙ (answered n is).1 shown))
+    let opened = c.in_ok-shows_asked.ensures.unshown c.if-not-branch.true in
+    let never = judged d c.loop-id.database beside c.loop-id.beside.items images c.in-Some.id (λ Shown n. Shown n → ⊥) kept.0 kept.1 opened.1 in
+    judging_open d.live c.args.end c.args.opened.now (map.values d.live ++ beside) images c.loop-id.touched c.in-Some.id kept.2 c.in-Some.ensures.least opened.0 never
 
 pub returns-clause-shown : goal.returns-clause-shown
 returns-clause-shown g c =
     let d : Constraints = c.args.database.now in
-    judging_end d.live (map.values d.live ++ c.args.beside.now.items) c.args.witness.now c.loop-id.touched c.loop-id.invariant.2 c.in_default.ensures.least
+    judging_end d.live c.args.end c.args.opened.now (map.values d.live ++ c.args.beside.now.items) c.args.witness.now c.loop-id.touched c.loop-id.invariant.2 c.in_default.ensures.least

@@ -12,4 +12,4 @@ abbrev pub invariant-loop-id : goal.invariant-loop-id
 invariant-loop-id g l =
     (l.database ≡ l.fn.database)
     × (l.beside.items ≡ l.fn.beside.items)
-    × IsJudging l.fn.database.live (map.values l.fn.database.live ++ l.fn.beside.items) l.fn.witness l.touched
+    × IsJudging l.fn.database.live l.fn.end l.fn.opened (map.values l.fn.database.live ++ l.fn.beside.items) l.fn.witness l.touched

@@ -2,7 +2,7 @@ use Rattle.std.proofs.Common.{◌≡◌, ◌↔◌, ◌++◌, List, None, Some, 
 use Rattle.std.proofs.lemmas.Result.{IfOk-weaker}
 use Rattle.std.specs.FinMap as map
 use Rattle.normal_form.specs.Normal.{NormalConstraint}
-use Rattle.proof_rules.specs.Legal.{IsShownUnder}
+use Rattle.proof_rules.specs.Redundant.{IsShownUnder}
 use Rattle.proof_rules.specs.Shown.{IsShown}
 use Rattle.kernel.specs.Redundance.{BecomesBeyond}
 use Rattle.kernel.proofs.GoalsShown.{shown_under, covered_under}

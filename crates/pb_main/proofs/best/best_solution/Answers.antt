@@ -10,4 +10,4 @@ returns g c =
     let names = ap (λ (s : NamedValues). s.names) made ∙ c.in_ok-names.ensures ∙ c.names.ensures in
     let values = ap (λ (s : NamedValues). s.values) made in
     let improved = ap (λ (s : NamedValues). s.improved) made ∙ c.in_ok-improved.ensures.items ∙ c.improved.ensures.improved in
-    handed_out c.args.log.now c.in_ok-values.values c.new.result c.improved.ensures.proof best.best best.solution c.requires.least names values improved
+    handed_out c.args.log.now c.in_ok-values.values c.new.result c.improved.ensures.proof best.best best.solution best.least names values improved

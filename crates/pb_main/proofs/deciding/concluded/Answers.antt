@@ -4,7 +4,7 @@ use Rattle.pb_main.specs.Checked.{IsAcceptedOf}
 use Rattle.pb_main.specs.Finding.{IsFindingOf}
 use Rattle.pb_main.specs.Outcome.{unchecked}
 use Rattle.pb_main.proofs.Accepting.{checked_optimum}
-use Rattle.pb_main.proofs.Outcomes.{solution_said, untold}
+use Rattle.pb_main.proofs.Outcomes.{solution_said}
 use Rattle.pb_main.proofs.deciding.concluded.Goals as goal
 
 pub returns-in-Optimum-Some : goal.returns-in-Optimum-Some
@@ -32,7 +32,3 @@ returns-in-Open-default c l limit of_text written found = record {
   written = written;
   stopped = subst (IsFindingOf limit l) c.in-Open-default.is-0 found;
 }
-
-pub returns-in-Untold-default : goal.returns-in-Untold-default
-returns-in-Untold-default c l limit of_text written found =
-    untold c.args.opb.now c.args.proof.now limit l c.in-Untold-default.why of_text (inl written) (subst (IsFindingOf limit l) c.in-Untold-default.is-0 found)

@@ -10,7 +10,7 @@ use Rattle.substitution.specs.Covering.{Covers}
 use Rattle.substitution.specs.Under.{substituted}
 use Rattle.substitution.proofs.Covered.{covers_itself}
 use Rattle.proof_rules.specs.Cases.{first_or_second, first_or_not_second, not_first_and_second}
-use Rattle.proof_rules.specs.Legal.{IsShownUnder}
+use Rattle.proof_rules.specs.Redundant.{IsShownUnder}
 use Rattle.proof_rules.proofs.ShownBySearch.{shown_by_search}
 use Rattle.proof_rules.proofs.cases.swap_is_redundant.Goals as goal
 

@@ -19,11 +19,14 @@ large = Bounds (lower.At (pos (2 ^ 121))) upper.Inf None
 
 above : IsConclusionFault least_cover solved large LowerAboveBest
 above = (
-  min_both,
   refl,
-  inr (
-    (solved, refl),
-    λ t is. subst (λ u. IsBoundsFault least_cover u min_both (lower.At (pos (2 ^ 121))) upper.Inf LowerAboveBest) (sym is) (inl (pos 1, refl, omega (arith, ints))),
+  (
+    min_both,
+    refl,
+    inr (
+      (solved, refl),
+      λ t is. subst (λ u. IsBoundsFault least_cover u min_both (lower.At (pos (2 ^ 121))) upper.Inf LowerAboveBest) (sym is) (inl (pos 1, refl, omega (arith, ints))),
+    ),
   ),
 )
 

@@ -19,12 +19,15 @@ two = Bounds (lower.At (pos 2)) upper.Inf None
 
 not_shown : IsConclusionFault least_cover solved two LowerNotShown
 not_shown = (
-  min_both,
   refl,
-  inr (
-    (solved, refl),
-    λ t is. subst (λ u. IsBoundsFault least_cover u min_both (lower.At (pos 2)) upper.Inf LowerNotShown) (sym is)
-        (inl (bound_open 2 1 None (second_alone ∷ []) tt refl (omega arith) refl refl refl)),
+  (
+    min_both,
+    refl,
+    inr (
+      (solved, refl),
+      λ t is. subst (λ u. IsBoundsFault least_cover u min_both (lower.At (pos 2)) upper.Inf LowerNotShown) (sym is)
+          (inl (bound_open 2 1 None (second_alone ∷ []) tt refl (omega arith) refl refl refl)),
+    ),
   ),
 )
 

@@ -15,11 +15,14 @@ solved = cover_state (Some (pos 1)) (second_alone ∷ [])
 
 above : IsConclusionFault least_cover solved (Bounds (lower.At (pos 2)) (upper.At (pos 2)) None) LowerAboveBest
 above = (
-  min_both,
   refl,
-  inr (
-    (solved, refl),
-    λ t is. subst (λ u. IsBoundsFault least_cover u min_both (lower.At (pos 2)) (upper.At (pos 2)) LowerAboveBest) (sym is) (inl (pos 1, refl, omega (arith, ints))),
+  (
+    min_both,
+    refl,
+    inr (
+      (solved, refl),
+      λ t is. subst (λ u. IsBoundsFault least_cover u min_both (lower.At (pos 2)) (upper.At (pos 2)) LowerAboveBest) (sym is) (inl (pos 1, refl, omega (arith, ints))),
+    ),
   ),
 )
 

@@ -8,13 +8,16 @@ use Rattle.proof_rules.proofs.conclusion_cases.bound_at_the_best.Goals as goal
 
 pub returns : goal.returns
 returns c = (
-  cover_state (Some (pos 1)) (second_alone ∷ []),
   refl,
   (
-    min_both,
+    cover_state (Some (pos 1)) (second_alone ∷ []),
     refl,
-    cover_is_bound (Some (pos 1)) (second_alone ∷ []) (omega (arith, ints)),
-    any_here (λ g. worth_of least_cover g ≤ℤ pos 1) second_alone [] (omega (arith, ints)),
+    (
+      min_both,
+      refl,
+      cover_is_bound (Some (pos 1)) (second_alone ∷ []) (omega (arith, ints)),
+      any_here (λ g. worth_of least_cover g ≤ℤ pos 1) second_alone [] (omega (arith, ints)),
+    ),
+    alone_is_best least_cover second_alone,
   ),
-  alone_is_best least_cover second_alone,
 )

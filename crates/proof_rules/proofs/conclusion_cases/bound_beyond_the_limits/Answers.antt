@@ -32,11 +32,14 @@ never_fits n is fits =
 
 limits : IsConclusionFault least_cover start (Bounds (lower.At (pos (2 ^ 121))) upper.Inf None) TooLarge
 limits = (
-  min_both,
   refl,
-  inr (
-    (start, refl),
-    λ t is. subst (λ u. IsBoundsFault least_cover u min_both (lower.At (pos (2 ^ 121))) upper.Inf TooLarge) (sym is) (inl (tt, never_fits)),
+  (
+    min_both,
+    refl,
+    inr (
+      (start, refl),
+      λ t is. subst (λ u. IsBoundsFault least_cover u min_both (lower.At (pos (2 ^ 121))) upper.Inf TooLarge) (sym is) (inl (tt, never_fits)),
+    ),
   ),
 )
 

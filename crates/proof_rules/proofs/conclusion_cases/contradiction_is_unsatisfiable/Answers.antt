@@ -4,7 +4,7 @@ use Rattle.proof_rules.proofs.SmallStates.{exhausted}
 use Rattle.proof_rules.proofs.conclusion_cases.contradiction_is_unsatisfiable.Goals as goal
 
 pub returns-clause-unsatisfiable : goal.returns-clause-unsatisfiable
-returns-clause-unsatisfiable c = (contradicting_state, refl, exhausted, refl)
+returns-clause-unsatisfiable c = (refl, (contradicting_state, refl, exhausted, refl))
 
 pub returns-clause-infinite_bounds : goal.returns-clause-infinite_bounds
-returns-clause-infinite_bounds c = (contradicting_state, refl, (min_both, refl, exhausted, tt), refl)
+returns-clause-infinite_bounds c = (refl, (contradicting_state, refl, (min_both, refl, exhausted, tt), refl))

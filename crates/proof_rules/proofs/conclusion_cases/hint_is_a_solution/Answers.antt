@@ -8,8 +8,11 @@ use Rattle.proof_rules.proofs.conclusion_cases.hint_is_a_solution.Goals as goal
 
 pub returns : goal.returns
 returns c = (
-  cover_state None (both ∷ []),
-  (both, both_logged (cover_state None []), refl),
-  (min_both, refl, zero_is_bound (cover_state None (both ∷ [])) tt, any_here (λ g. worth_of least_cover g ≤ℤ pos 5) both [] (omega (arith, ints))),
-  alone_is_best least_cover both,
+  refl,
+  (
+    cover_state None (both ∷ []),
+    (both, both_logged (cover_state None []), refl),
+    (min_both, refl, zero_is_bound (cover_state None (both ∷ [])) tt, any_here (λ g. worth_of least_cover g ≤ℤ pos 5) both [] (omega (arith, ints))),
+    alone_is_best least_cover both,
+  ),
 )

@@ -9,7 +9,7 @@ use Rattle.proof_rules.specs.declared.fault.StepFault.TheVariants.{LowerNotShown
 use Rattle.proof_rules.specs.Cases.{least_cover, min_both, both, cover_state, contradicting_state}
 use Rattle.proof_rules.specs.Fault.{IsConclusionFault, IsBoundsFault}
 use Rattle.proof_rules.specs.Legal.{LegalSol, with_solution}
-use Rattle.proof_rules.specs.State.{State}
+use Rattle.proof_rules.specs.State.{State, IsOutside}
 use Rattle.proof_rules.proofs.OneConclusionFault.{one_conclusion_fault}
 use Rattle.proof_rules.proofs.SmallStates.{both_logged}
 use Rattle.proof_rules.proofs.conclusion_cases.hint_is_logged_before_infinite_bounds.Goals as goal
@@ -27,16 +27,16 @@ behind s t none (g, logs, is) =
     let longer : s.logged ++ g ∷ [] ≡ [] = sym (ap (λ (u : State). u.logged) is) ∙ empty in
     let same : g ∷ [] ≡ [] = subst (λ l. l ++ g ∷ [] ≡ []) none longer in absurd (cc))
 
-refused : (s : State) → s.logged ≡ [] → IsConclusionFault least_cover s unsatisfiable SolutionLogged
-refused s none = (min_both, refl, inr ((with_solution both s, (both, both_logged s, refl)), λ t takes. behind s t none takes))
+refused : (s : State) → IsOutside s → s.logged ≡ [] → IsConclusionFault least_cover s unsatisfiable SolutionLogged
+refused s outside none = (outside, (min_both, refl, inr ((with_solution both s, (both, both_logged s, refl)), λ t takes. behind s t none takes)))
 
 pub returns-clause-logged : goal.returns-clause-logged
-returns-clause-logged c = refused (cover_state None []) refl
+returns-clause-logged c = refused (cover_state None []) refl refl
 
 pub returns-clause-not_shown : goal.returns-clause-not_shown
 returns-clause-not_shown c h =
-    let same : SolutionLogged ≡ LowerNotShown = one_conclusion_fault least_cover (cover_state None []) unsatisfiable SolutionLogged LowerNotShown (refused (cover_state None []) refl) h in
+    let same : SolutionLogged ≡ LowerNotShown = one_conclusion_fault least_cover (cover_state None []) unsatisfiable SolutionLogged LowerNotShown (refused (cover_state None []) refl refl) h in
     absurd (cc)
 
 pub returns-clause-though_shown : goal.returns-clause-though_shown
-returns-clause-though_shown c = refused contradicting_state refl
+returns-clause-though_shown c = refused contradicting_state refl refl

@@ -7,7 +7,7 @@ logged : both ∷ [] ≡ [] → ⊥
 logged none = absurd (cc)
 
 pub returns-clause-logged : goal.returns-clause-logged
-returns-clause-logged c = (cover_state None (both ∷ []), refl, logged, alone_is_best cover_file both)
+returns-clause-logged c = (refl, (cover_state None (both ∷ []), refl, logged, alone_is_best cover_file both))
 
 pub returns-clause-hint_judged : goal.returns-clause-hint_judged
-returns-clause-hint_judged c = inl first_leaves_open
+returns-clause-hint_judged c = (refl, inl first_leaves_open)

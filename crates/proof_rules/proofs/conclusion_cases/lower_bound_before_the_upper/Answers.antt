@@ -16,12 +16,15 @@ three = Bounds (lower.At (pos 3)) (upper.At (pos 1)) None
 
 not_shown : IsConclusionFault least_cover cover_start three LowerNotShown
 not_shown = (
-  min_both,
   refl,
-  inr (
-    (cover_start, refl),
-    λ t is. subst (λ u. IsBoundsFault least_cover u min_both (lower.At (pos 3)) (upper.At (pos 1)) LowerNotShown) (sym is)
-        (inl (bound_open 3 0 None [] tt refl (omega arith) refl refl refl)),
+  (
+    min_both,
+    refl,
+    inr (
+      (cover_start, refl),
+      λ t is. subst (λ u. IsBoundsFault least_cover u min_both (lower.At (pos 3)) (upper.At (pos 1)) LowerNotShown) (sym is)
+          (inl (bound_open 3 0 None [] tt refl (omega arith) refl refl refl)),
+    ),
   ),
 )
 
@@ -41,12 +44,15 @@ unsatisfiable = Bounds lower.Inf (upper.At (pos 1)) None
 
 infinite : IsConclusionFault least_cover solved unsatisfiable SolutionLogged
 infinite = (
-  min_both,
   refl,
-  inr (
-    (solved, refl),
-    λ t is. subst (λ u. IsBoundsFault least_cover u min_both lower.Inf (upper.At (pos 1)) SolutionLogged) (sym is)
-        (inl (λ empty. let same : both ∷ [] ≡ [] = empty in absurd (cc))),
+  (
+    min_both,
+    refl,
+    inr (
+      (solved, refl),
+      λ t is. subst (λ u. IsBoundsFault least_cover u min_both lower.Inf (upper.At (pos 1)) SolutionLogged) (sym is)
+          (inl (λ empty. let same : both ∷ [] ≡ [] = empty in absurd (cc))),
+    ),
   ),
 )
 

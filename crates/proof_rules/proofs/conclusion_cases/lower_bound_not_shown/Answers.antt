@@ -12,12 +12,15 @@ use Rattle.proof_rules.proofs.conclusion_cases.lower_bound_not_shown.Goals as go
 
 two : IsConclusionFault least_cover cover_start (Bounds (lower.At (pos 2)) upper.Inf None) LowerNotShown
 two = (
-  min_both,
   refl,
-  inr (
-    (cover_start, refl),
-    λ t is. subst (λ u. IsBoundsFault least_cover u min_both (lower.At (pos 2)) upper.Inf LowerNotShown) (sym is)
-        (inl (bound_open 2 1 None [] tt refl (omega arith) refl refl refl)),
+  (
+    min_both,
+    refl,
+    inr (
+      (cover_start, refl),
+      λ t is. subst (λ u. IsBoundsFault least_cover u min_both (lower.At (pos 2)) upper.Inf LowerNotShown) (sym is)
+          (inl (bound_open 2 1 None [] tt refl (omega arith) refl refl refl)),
+    ),
   ),
 )
 
@@ -32,14 +35,17 @@ returns-clause-not_limits c h =
 pub returns-clause-covered : goal.returns-clause-covered
 returns-clause-covered c h =
     conclusion_never least_cover cover_start (Bounds (lower.At (pos 1)) upper.Inf None) LowerNotShown None h
-    (cover_start, refl, (min_both, refl, cover_is_bound None [] tt, tt), refl)
+    (refl, (cover_start, refl, (min_both, refl, cover_is_bound None [] tt, tt), refl))
 
 pub returns-clause-infinite : goal.returns-clause-infinite
 returns-clause-infinite c = (
-  min_both,
   refl,
-  inr (
-    (cover_start, refl),
-    λ t is. subst (λ u. IsBoundsFault least_cover u min_both lower.Inf upper.Inf LowerNotShown) (sym is) (inl (refl, absurdity_not_shown)),
+  (
+    min_both,
+    refl,
+    inr (
+      (cover_start, refl),
+      λ t is. subst (λ u. IsBoundsFault least_cover u min_both lower.Inf upper.Inf LowerNotShown) (sym is) (inl (refl, absurdity_not_shown)),
+    ),
   ),
 )

@@ -16,7 +16,7 @@ solved = cover_state None (both ∷ [])
 
 pub returns-clause-upper : goal.returns-clause-upper
 returns-clause-upper c =
-    (solved, refl, (min_both, refl, tt, any_here (λ g. worth_of least_cover g ≤ℤ pos 2) both [] (omega (arith, ints))), alone_is_best least_cover both)
+    (refl, (solved, refl, (min_both, refl, tt, any_here (λ g. worth_of least_cover g ≤ℤ pos 2) both [] (omega (arith, ints))), alone_is_best least_cover both))
 
 none_worth_one : Any (λ g. worth_of least_cover g ≤ℤ pos 1) (both ∷ []) → ⊥
 none_worth_one h = elim (any_split (λ g. worth_of least_cover g ≤ℤ pos 1) both [] h) as (λ _. ⊥) [
@@ -26,24 +26,30 @@ none_worth_one h = elim (any_split (λ g. worth_of least_cover g ≤ℤ pos 1) b
 
 pub returns-clause-below_best : goal.returns-clause-below_best
 returns-clause-below_best c = (
-  min_both,
   refl,
-  inr (
-    (solved, refl),
-    λ t is. subst (λ u. IsBoundsFault least_cover u min_both lower.MinusInf (upper.At (pos 1)) UpperNotLogged) (sym is) (inr (tt, none_worth_one)),
+  (
+    min_both,
+    refl,
+    inr (
+      (solved, refl),
+      λ t is. subst (λ u. IsBoundsFault least_cover u min_both lower.MinusInf (upper.At (pos 1)) UpperNotLogged) (sym is) (inr (tt, none_worth_one)),
+    ),
   ),
 )
 
 pub returns-clause-neither : goal.returns-clause-neither
-returns-clause-neither c = (cover_start, refl, (min_both, refl, tt, tt), refl)
+returns-clause-neither c = (refl, (cover_start, refl, (min_both, refl, tt, tt), refl))
 
 pub returns-clause-unlogged : goal.returns-clause-unlogged
 returns-clause-unlogged c = (
-  min_both,
   refl,
-  inr (
-    (cover_start, refl),
-    λ t is. subst (λ u. IsBoundsFault least_cover u min_both lower.MinusInf (upper.At (pos 2)) UpperNotLogged) (sym is)
-        (inr (tt, any_none (λ g. worth_of least_cover g ≤ℤ pos 2))),
+  (
+    min_both,
+    refl,
+    inr (
+      (cover_start, refl),
+      λ t is. subst (λ u. IsBoundsFault least_cover u min_both lower.MinusInf (upper.At (pos 2)) UpperNotLogged) (sym is)
+          (inr (tt, any_none (λ g. worth_of least_cover g ≤ℤ pos 2))),
+    ),
   ),
 )

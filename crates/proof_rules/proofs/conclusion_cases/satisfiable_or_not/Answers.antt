@@ -11,23 +11,26 @@ logged : both ∷ [] ≡ [] → ⊥
 logged none = absurd (cc)
 
 pub returns-clause-unsatisfiable : goal.returns-clause-unsatisfiable
-returns-clause-unsatisfiable c = logged
+returns-clause-unsatisfiable c = (refl, logged)
 
 pub returns-clause-unsatisfiable_not_shown : goal.returns-clause-unsatisfiable_not_shown
-returns-clause-unsatisfiable_not_shown c h = logged h.0
+returns-clause-unsatisfiable_not_shown c h = logged h.1.0
 
 pub returns-clause-infinite_bounds : goal.returns-clause-infinite_bounds
 returns-clause-infinite_bounds c = (
-  min_both,
   refl,
-  inr (
-    (cover_state None (both ∷ []), refl),
-    λ t is. subst (λ u. IsBoundsFault least_cover u min_both lower.Inf upper.Inf SolutionLogged) (sym is) (inl logged),
+  (
+    min_both,
+    refl,
+    inr (
+      (cover_state None (both ∷ []), refl),
+      λ t is. subst (λ u. IsBoundsFault least_cover u min_both lower.Inf upper.Inf SolutionLogged) (sym is) (inl logged),
+    ),
   ),
 )
 
 pub returns-clause-satisfiable : goal.returns-clause-satisfiable
-returns-clause-satisfiable c = inr ((cover_state None [], refl), λ t is. subst (λ u. IsSatFault u UpperNotLogged) (sym is) refl)
+returns-clause-satisfiable c = (refl, inr ((cover_state None [], refl), λ t is. subst (λ u. IsSatFault u UpperNotLogged) (sym is) refl))
 
 pub returns-clause-nothing_shown : goal.returns-clause-nothing_shown
-returns-clause-nothing_shown c = (refl, absurdity_not_shown)
+returns-clause-nothing_shown c = (refl, (refl, absurdity_not_shown))

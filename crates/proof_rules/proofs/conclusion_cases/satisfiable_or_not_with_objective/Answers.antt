@@ -17,15 +17,18 @@ solved = cover_state None (both ∷ second_alone ∷ [])
 
 satisfiable : IsJustified least_cover solved (Sat None) (Some second_alone)
 satisfiable = (
-  solved,
   refl,
-  λ empty. let same : both ∷ second_alone ∷ [] ≡ [] = empty in absurd (cc),
   (
-    both ∷ [],
-    [],
+    solved,
     refl,
-    All-cons (λ h. worth_of least_cover second_alone <ℤ worth_of least_cover h) both [] (omega (arith, ints)) (All-nil (λ h. worth_of least_cover second_alone <ℤ worth_of least_cover h)),
-    All-nil (λ h. worth_of least_cover second_alone ≤ℤ worth_of least_cover h),
+    λ empty. let same : both ∷ second_alone ∷ [] ≡ [] = empty in absurd (cc),
+    (
+      both ∷ [],
+      [],
+      refl,
+      All-cons (λ h. worth_of least_cover second_alone <ℤ worth_of least_cover h) both [] (omega (arith, ints)) (All-nil (λ h. worth_of least_cover second_alone <ℤ worth_of least_cover h)),
+      All-nil (λ h. worth_of least_cover second_alone ≤ℤ worth_of least_cover h),
+    ),
   ),
 )
 
@@ -38,13 +41,13 @@ returns-clause-not_the_first c h =
     absurd (cc)
 
 pub returns-clause-unsatisfiable : goal.returns-clause-unsatisfiable
-returns-clause-unsatisfiable c = (contradicting_state, refl, exhausted, refl)
+returns-clause-unsatisfiable c = (refl, (contradicting_state, refl, exhausted, refl))
 
 pub returns-clause-logged : goal.returns-clause-logged
-returns-clause-logged c empty = let same : both ∷ [] ≡ [] = empty in absurd (cc)
+returns-clause-logged c = (refl, λ empty. let same : both ∷ [] ≡ [] = empty in absurd (cc))
 
 pub returns-clause-nothing_shown : goal.returns-clause-nothing_shown
-returns-clause-nothing_shown c = (refl, absurdity_not_shown)
+returns-clause-nothing_shown c = (refl, (refl, absurdity_not_shown))
 
 pub returns-clause-unlogged : goal.returns-clause-unlogged
-returns-clause-unlogged c = inr ((cover_state None [], refl), λ t is. subst (λ u. IsSatFault u UpperNotLogged) (sym is) refl)
+returns-clause-unlogged c = (refl, inr ((cover_state None [], refl), λ t is. subst (λ u. IsSatFault u UpperNotLogged) (sym is) refl))

@@ -22,11 +22,14 @@ none_worth_zero h = elim (any_split (λ g. worth_of least_cover g ≤ℤ pos 0) 
 
 pub returns : goal.returns
 returns c = (
-  min_both,
   refl,
-  inr (
-    (solved, refl),
-    λ t is. subst (λ u. IsBoundsFault least_cover u min_both (lower.At (pos 0)) (upper.At (pos 0)) UpperNotLogged) (sym is)
-        (inr (zero_is_bound solved (omega (arith, ints)), none_worth_zero)),
+  (
+    min_both,
+    refl,
+    inr (
+      (solved, refl),
+      λ t is. subst (λ u. IsBoundsFault least_cover u min_both (lower.At (pos 0)) (upper.At (pos 0)) UpperNotLogged) (sym is)
+          (inr (zero_is_bound solved (omega (arith, ints)), none_worth_zero)),
+    ),
   ),
 )

@@ -9,7 +9,7 @@ use Rattle.substitution.specs.Under.{substituted}
 use Rattle.substitution.specs.declared.image.Image.TheVariants.{One}
 use Rattle.proof_rules.specs.Cases.{least_cover, cover, not_first_written, cover_start}
 use Rattle.proof_rules.specs.Fault.{IsRedFault}
-use Rattle.proof_rules.specs.Legal.{IsShownUnder}
+use Rattle.proof_rules.specs.Redundant.{IsShownUnder}
 use Rattle.proof_rules.specs.declared.fault.StepFault.TheVariants.{GoalOpen, GoalOpenSelf, GoalOpenObjective}
 use Rattle.proof_rules.proofs.OneStepFault.{one_step_fault}
 use Rattle.proof_rules.proofs.ShownBySearch.{not_shown_under}
@@ -36,10 +36,10 @@ returns-clause-itself c = fault
 
 pub returns-clause-not_objective : goal.returns-clause-not_objective
 returns-clause-not_objective c h =
-    let same : GoalOpenSelf ≡ GoalOpenObjective = one_step_fault least_cover cover_start (Red not_first_written (single 1 One)) GoalOpenSelf GoalOpenObjective fault h in
+    let same : GoalOpenSelf ≡ GoalOpenObjective = one_step_fault least_cover cover_start (Red not_first_written (single 1 One)) GoalOpenSelf GoalOpenObjective (refl, fault) (refl, h) in
     absurd (cc)
 
 pub returns-clause-not_live : goal.returns-clause-not_live
 returns-clause-not_live c h =
-    let same : GoalOpenSelf ≡ GoalOpen 1 = one_step_fault least_cover cover_start (Red not_first_written (single 1 One)) GoalOpenSelf (GoalOpen 1) fault h in
+    let same : GoalOpenSelf ≡ GoalOpen 1 = one_step_fault least_cover cover_start (Red not_first_written (single 1 One)) GoalOpenSelf (GoalOpen 1) (refl, fault) (refl, h) in
     absurd (cc)

@@ -8,7 +8,7 @@ use Rattle.substitution.specs.Under.{substituted}
 use Rattle.substitution.specs.declared.image.Image.TheVariants.{Zero}
 use Rattle.proof_rules.specs.Cases.{cover_file, cover, not_second_alone, not_first_written, derived_state}
 use Rattle.proof_rules.specs.Fault.{IsGoalFault, IsRedFault}
-use Rattle.proof_rules.specs.Legal.{IsShownUnder}
+use Rattle.proof_rules.specs.Redundant.{IsShownUnder}
 use Rattle.proof_rules.specs.declared.fault.StepFault.TheVariants.{GoalOpen, GoalOpenSelf}
 use Rattle.proof_rules.proofs.OneStepFault.{one_step_fault}
 use Rattle.proof_rules.proofs.ShownBySearch.{not_shown_under}
@@ -41,10 +41,10 @@ returns-clause-first c = fault
 
 pub returns-clause-not_second : goal.returns-clause-not_second
 returns-clause-not_second c h =
-    let same : GoalOpen 1 ≡ GoalOpen 2 = one_step_fault cover_file derived_state (Red not_first_written (single 0 Zero)) (GoalOpen 1) (GoalOpen 2) fault h in
+    let same : GoalOpen 1 ≡ GoalOpen 2 = one_step_fault cover_file derived_state (Red not_first_written (single 0 Zero)) (GoalOpen 1) (GoalOpen 2) (refl, fault) (refl, h) in
     let ids : ◌≡◌ {A = ℕ} 1 2 = cc in absurd (omega (arith, ids))
 
 pub returns-clause-not_itself : goal.returns-clause-not_itself
 returns-clause-not_itself c h =
-    let same : GoalOpen 1 ≡ GoalOpenSelf = one_step_fault cover_file derived_state (Red not_first_written (single 0 Zero)) (GoalOpen 1) GoalOpenSelf fault h in
+    let same : GoalOpen 1 ≡ GoalOpenSelf = one_step_fault cover_file derived_state (Red not_first_written (single 0 Zero)) (GoalOpen 1) GoalOpenSelf (refl, fault) (refl, h) in
     absurd (cc)

@@ -7,7 +7,7 @@ use Rattle.substitution.specs.Under.{substituted}
 use Rattle.substitution.specs.declared.image.Image.TheVariants.{Zero}
 use Rattle.proof_rules.specs.Cases.{cover_file, cover, cover_start}
 use Rattle.proof_rules.specs.Fault.{IsGoalFault}
-use Rattle.proof_rules.specs.Legal.{IsShownUnder}
+use Rattle.proof_rules.specs.Redundant.{IsShownUnder}
 use Rattle.proof_rules.specs.declared.fault.StepFault.TheVariants.{GoalOpen}
 use Rattle.proof_rules.proofs.ShownBySearch.{not_shown_under}
 use Rattle.proof_rules.proofs.SmallStates.{found_in, live_of, none_below_one, none_left}

@@ -11,7 +11,8 @@ use Rattle.substitution.specs.Under.{substituted}
 use Rattle.substitution.specs.declared.image.Image.TheVariants.{One}
 use Rattle.proof_rules.specs.Cases.{cover_file, least_cover, min_both, cover, first_written, cover_start}
 use Rattle.proof_rules.specs.Fault.{IsRedFault}
-use Rattle.proof_rules.specs.Legal.{IsShownUnder, IsShownNotRaised, LegalRed, Redundant}
+use Rattle.proof_rules.specs.Legal.{LegalRed}
+use Rattle.proof_rules.specs.Redundant.{IsShownUnder, IsShownNotRaised, Redundant}
 use Rattle.proof_rules.specs.State.{with_constraint}
 use Rattle.proof_rules.specs.declared.fault.StepFault.TheVariants.{GoalOpenSelf, GoalOpenObjective}
 use Rattle.proof_rules.proofs.NotLegal.{step_never}
@@ -55,7 +56,7 @@ returns-clause-raised c = fault
 
 pub returns-clause-not_itself : goal.returns-clause-not_itself
 returns-clause-not_itself c h =
-    let same : GoalOpenObjective ≡ GoalOpenSelf = one_step_fault least_cover cover_start (Red first_written (single 0 One)) GoalOpenObjective GoalOpenSelf fault h in
+    let same : GoalOpenObjective ≡ GoalOpenSelf = one_step_fault least_cover cover_start (Red first_written (single 0 One)) GoalOpenObjective GoalOpenSelf (refl, fault) (refl, h) in
     absurd (cc)
 
 redundant : Redundant cover_file (cover ∷ []) (single 0 One) (unit 0) (unit_not 0)
@@ -79,4 +80,4 @@ pub returns-clause-legal : goal.returns-clause-legal
 returns-clause-legal c = legal
 
 pub returns-clause-not_raised : goal.returns-clause-not_raised
-returns-clause-not_raised c h = step_never cover_file cover_start (Red first_written (single 0 One)) GoalOpenObjective (with_constraint (unit 0) cover_start) h legal
+returns-clause-not_raised c h = step_never cover_file cover_start (Red first_written (single 0 One)) GoalOpenObjective (with_constraint (unit 0) cover_start) (refl, h) (refl, legal)

@@ -17,4 +17,4 @@ pub returns-clause-file : goal.returns-clause-file
 returns-clause-file c h = h
 
 pub returns-clause-live : goal.returns-clause-live
-returns-clause-live c h = step_never cover_file derived_state (steps.Del (pos 1 ∷ [])) DeadId (without 1 derived_state) h (first_live, refl)
+returns-clause-live c h = step_never cover_file derived_state (steps.Del (pos 1 ∷ [])) DeadId (without 1 derived_state) (refl, h) (refl, (first_live, refl))

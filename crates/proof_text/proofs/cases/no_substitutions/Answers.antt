@@ -14,10 +14,6 @@ pub returns-clause-no_substitution : goal.returns-clause-no_substitution
 unfolding words step_of counted rule_of lexemes lexemes_from kind_of kind_of_word integer_word literal_word is_misspelt is_name integer_size integer_value
 returns-clause-no_substitution c = nothing StepSection (codes "red 1 x1 >= 1") (λ names. refl)
 
-pub returns-clause-subproof : goal.returns-clause-subproof
-unfolding words step_of counted rule_of lexemes lexemes_from kind_of kind_of_word integer_word literal_word is_misspelt is_name integer_size integer_value
-returns-clause-subproof c = nothing StepSection (codes "red 1 x1 >= 1 ; x1 -> 1 ; begin") (λ names. refl)
-
 pub returns-clause-image_zeros : goal.returns-clause-image_zeros
 unfolding words step_of counted rule_of lexemes lexemes_from kind_of kind_of_word integer_word literal_word is_misspelt is_name integer_size integer_value
 returns-clause-image_zeros c = nothing StepSection (codes "red 1 x1 >= 1 ; x1 00") (λ names. refl)

@@ -27,6 +27,15 @@ returns-in-Step-clause-writable c =
     IfOk-weaker c.step_or_output.result (λ l. IsLine sections.Step old ws l new) (λ l. IsLineWritable (length new) l)
     (λ l r. line_writable sections.Step old ws new l r) c.step_or_output.ensures.line
 
+pub returns-in-Block-clause-writable : goal.returns-in-Block-clause-writable
+returns-in-Block-clause-writable c =
+    let section = c.args.section in
+    let old = c.args.names.now in
+    let new = c.step_inside.new.names in
+    let ws = texts_of c.new-words.result in
+    IfOk-weaker c.step_inside.result (λ l. IsLine section old ws l new) (λ l. IsLineWritable (length new) l)
+    (λ l r. line_writable section old ws new l r) c.step_inside.ensures.line
+
 pub returns-in-Conclusion-clause-writable : goal.returns-in-Conclusion-clause-writable
 returns-in-Conclusion-clause-writable c =
     let old = c.args.names.now in

@@ -4,7 +4,8 @@ use Rattle.pb_text.specs.TokensOf.{texts_of}
 use Rattle.proof_text.specs.Words.{is_first, are_words}
 use Rattle.proof_text.specs.Frame.{output}
 use Rattle.proof_text.specs.Faults.{DeniesLine}
-use Rattle.proof_text.proofs.LinesOfSections.{output_placed, output_denied, step_placed, step_denied_here}
+use Rattle.proof_text.specs.declared.line.Section.TheVariants as sections
+use Rattle.proof_text.proofs.LinesOfSections.{outside, output_placed, output_denied, step_placed, step_denied_at}
 use Rattle.proof_text.proofs.read.step_or_output.Goals as goal
 
 pub returns-in_err-output-clause-denies : goal.returns-in_err-output-clause-denies
@@ -31,10 +32,11 @@ returns-in_err-step-clause-denies c =
     let ws = texts_of c.args.words in
     let first : is_first (codes "output") ws ≡ false = sym c.begins.ensures ∙ c.if-begins.false in
     let p = err_from_is_err_and c.from_residual-in_err-step.result c.from_residual-in_err-step.ensures.1 in
-    rw (p.1, p.2) (step_denied_here f c.args.names.now ws first c.in_err-step.ensures.denies)
+    rw (p.1, p.2) (step_denied_at f sections.Step c.args.names.now ws (outside ws first) c.in_err-step.ensures.denies)
 
 pub returns-clause-line : goal.returns-clause-line
 returns-clause-line c =
     let ws = texts_of c.args.words in
     let first : is_first (codes "output") ws ≡ false = sym c.begins.ensures ∙ c.if-begins.false in
-    step_placed c.args.names.now c.step_of_words.new.names ws c.in_ok-step.step first c.in_ok-step.ensures.step
+    let e = c.in_ok-step.ensures in
+    step_placed sections.Step c.args.names.now c.step_at_section.new.names ws c.in_ok-step.step (outside ws first) e.placed e.step

@@ -5,8 +5,9 @@ use Rattle.proof_text.proofs.witness.images.Given as goal
 
 abbrev pub invariant-loop-token : goal.invariant-loop-token
 invariant-loop-token l =
-    SoFar are_images images_of l.fn.table l.fn.words l.images.items l.table l.words
-    × (map (λ s. s.now) l.names.items ++ lefts l.words ≡ lefts l.fn.words)
+    SoFar are_images images_of l.fn.table l.fn.words.front l.images.items l.table l.words.front
+    × (map (λ s. s.now) l.names.items ++ lefts l.words.front ≡ lefts l.fn.words.front)
+    × (l.words.behind ≡ l.fn.words.behind)
 
 abbrev pub decreases-loop-token : goal.decreases-loop-token
-decreases-loop-token l = length l.words
+decreases-loop-token l = length l.words.front

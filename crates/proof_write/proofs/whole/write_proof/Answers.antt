@@ -20,4 +20,4 @@ returns-clause-spells c =
     ∙ ap (λ t. t ++ last_lines names conclusion)
     (c.in_ok-step_lines.ensures.ok ∙ ap (λ t. t ++ flat_map (step_line names) steps) (c.in_ok-first.ensures.ok ∙ ap (λ t. t ++ first_lines c.args.count) c.new-out.ensures.items)) in
     subst (λ t. SpellsProof t names (pos c.args.count) steps conclusion) (sym text)
-    (whole_back names c.args.count steps conclusion c.in_ok-end_lines.ensures.table small c.requires.steps c.in_ok-step_lines.ensures.proper c.requires.conclusion)
+    (whole_back names c.args.count steps conclusion c.in_ok-end_lines.ensures.table small c.requires.steps c.in_ok-step_lines.ensures.proper c.requires.nested c.requires.conclusion)

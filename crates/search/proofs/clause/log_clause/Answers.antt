@@ -37,7 +37,6 @@ refused_by_memory : (l : Logbook) (step : Step) (f : SearchFault) → CanBeWritt
     → f ≡ refusals.Kernel faults.OutOfMemory
 refused_by_memory l step (refusals.Kernel fault) writable never h = ap (λ x. refusals.Kernel x) (only_memory fault (IsStepFault l.problem l.state step fault) h (never fault))
 refused_by_memory l step refusals.Unwritable writable never h = absurd (h writable)
-refused_by_memory l step refusals.Unimproved writable never h = absurd h
 
 pub returns-in_err-learn-clause-memory : goal.returns-in_err-learn-clause-memory
 returns-in_err-learn-clause-memory g c named =

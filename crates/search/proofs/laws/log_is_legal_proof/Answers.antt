@@ -6,6 +6,9 @@ use Rattle.search.proofs.laws.log_is_legal_proof.Goals as goal
 pub returns-clause-legal : goal.returns-clause-legal
 returns-clause-legal _ l proof = (proof.steps, proof.entitled.0, legal_steps l proof, proof.written.lines)
 
+pub returns-clause-outside : goal.returns-clause-outside
+returns-clause-outside _ l proof = proof.entitled.1.0
+
 pub returns-clause-spelled : goal.returns-clause-spelled
 returns-clause-spelled _ l proof writable = spells l (l.text ++ last_lines l.problem.names l.conclusion) proof writable refl
 

@@ -11,7 +11,7 @@ returns-then-is_better-clause-best g c =
     let last : List Bool = c.in-Some.last in
     let best = best_changes k.source.now k.log.logged last c.in_ok-logged.logged c.in_ok-logged.ensures.best (c.if-is_better.ensures.0 refl) in
     subst (λ (x : Held). IsBest x.problem (with_extra c.args.extra x.state).logged (Some last)) c.self.view_is
-    (subst (λ e. IsBest k.source.now (with_extra e (state_with k.database k.log)).logged (Some last)) (sym c.in-Some.is) best)
+    (subst (λ e. IsBest k.source.now (with_extra e (state_with k.database k.log k.block)).logged (Some last)) (sym c.in-Some.is) best)
 
 pub returns-clause-best : goal.returns-clause-best
 returns-clause-best g c =
@@ -20,4 +20,4 @@ returns-clause-best g c =
     let logged : Option (List Bool) = c.in_ok-logged.logged in
     let best = best_stays k.source.now k.log.logged last logged c.in_ok-logged.ensures.best (λ a. false≢true (c.if-is_better.ensures.1 a)) in
     subst (λ (x : Held). IsBest x.problem (with_extra c.args.extra x.state).logged logged) c.self.view_is
-    (subst (λ e. IsBest k.source.now (with_extra e (state_with k.database k.log)).logged logged) (sym c.in-Some.is) best)
+    (subst (λ e. IsBest k.source.now (with_extra e (state_with k.database k.log k.block)).logged logged) (sym c.in-Some.is) best)

@@ -15,7 +15,7 @@ use Rattle.kernel.proofs.kernel.Kernel.completion.Goals as goal
 pub returns-in-Some-clause-completes : goal.returns-in-Some-clause-completes
 returns-in-Some-clause-completes g c =
     let k = c.self.inside in
-    let s : State = state_with k.database k.log in
+    let s : State = state_with k.database k.log k.block in
     let assigned : List Lit = c.args.assigned.now in
     let count : c.len-count.result ≡ length k.source.now.names = c.len-count.ensures.len ∙ ap length c.names.ensures.names in
     let consistent : IsConsistent assigned = c.in_ok-is_consistent.ensures.0 c.if-not-branch.false in
@@ -30,7 +30,7 @@ returns-in-Some-clause-completes g c =
 pub returns-in_default-2-clause-fault : goal.returns-in_default-2-clause-fault
 returns-in_default-2-clause-fault g c =
     let k = c.self.inside in
-    let s : State = state_with k.database k.log in
+    let s : State = state_with k.database k.log k.block in
     let assigned : List Lit = c.args.assigned.now in
     let count : c.len-count.result ≡ length k.source.now.names = c.len-count.ensures.len ∙ ap length c.names.ensures.names in
     let consistent : IsConsistent assigned = c.in_ok-is_consistent.ensures.0 c.if-not-branch.false in
@@ -45,7 +45,7 @@ returns-in_default-2-clause-fault g c =
 pub returns-in-Some-2-clause-completes : goal.returns-in-Some-2-clause-completes
 returns-in-Some-2-clause-completes g c =
     let k = c.self.inside in
-    let s : State = state_with k.database k.log in
+    let s : State = state_with k.database k.log k.block in
     let assigned : List Lit = c.args.assigned.now in
     let count : c.len-count.result ≡ length k.source.now.names = c.len-count.ensures.len ∙ ap length c.names.ensures.names in
     let consistent : IsConsistent assigned = c.in_ok-is_consistent.ensures.0 c.if-not-branch.false in
@@ -64,7 +64,7 @@ returns-in-Some-2-clause-completes g c =
 pub returns-clause-fault : goal.returns-clause-fault
 returns-clause-fault g c =
     let k = c.self.inside in
-    let s : State = state_with k.database k.log in
+    let s : State = state_with k.database k.log k.block in
     let assigned : List Lit = c.args.assigned.now in
     let count : c.len-count.result ≡ length k.source.now.names = c.len-count.ensures.len ∙ ap length c.names.ensures.names in
     let consistent : IsConsistent assigned = c.in_ok-is_consistent.ensures.0 c.if-not-branch.false in

@@ -3,11 +3,17 @@ use Rattle.std.proofs.lemmas.Int.{to_z-of_z}
 use mir.Syntax.{w128}
 use Rattle.proof_rules.specs.Legal.{LegalDel}
 use Rattle.kernel.specs.Held.{Held}
-use Rattle.kernel.proofs.Deleting.{del_next, del_take}
+use Rattle.kernel.proofs.Deleting.{del_next, del_outside, del_take}
 use Rattle.kernel.proofs.kernel.Kernel.del.Goals as goal
 
-pub remove-requires : goal.remove-requires
-remove-requires g c =
+pub remove-requires-clause-outside : goal.remove-requires-clause-outside
+remove-requires-clause-outside g c =
+    let k : Held = c.args.self.now in
+    let at = c.loop-number in
+    del_outside k.state at.self.state (take at.number-index c.args.numbers.now) at.invariant.1 c.requires.outside
+
+pub remove-requires-clause-live : goal.remove-requires-clause-live
+remove-requires-clause-live g c =
     let k : Held = c.args.self.now in
     let at = c.loop-number in
     let number = get_or c.args.numbers.now at.number-index (pos 0) in

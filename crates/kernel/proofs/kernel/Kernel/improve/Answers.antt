@@ -16,12 +16,12 @@ pub invariant_of-self-then-is_err : goal.invariant_of-self-then-is_err
 invariant_of-self-then-is_err g c =
     let k = c.self.inside in
     let back = restored g c in
-    subst (λ d. Keeps (record { problem = k.source.now; state = state_with d c.improve.new.self }) k.problem_ids k.objective) (sym back.0)
-    (subst (λ l. Keeps (record { problem = k.source.now; state = state_with k.database l }) k.problem_ids k.objective) (sym back.1) c.self.invariant)
+    subst (λ d. Keeps (record { problem = k.source.now; state = state_with d c.improve.new.self k.block }) k.problem_ids k.objective) (sym back.0)
+    (subst (λ l. Keeps (record { problem = k.source.now; state = state_with k.database l k.block }) k.problem_ids k.objective) (sym back.1) c.self.invariant)
 
 pub returns-then-is_err-clause-err : goal.returns-then-is_err-clause-err
 returns-then-is_err-clause-err g c =
     let k = c.self.inside in
     let back = restored g c in
-    ap (λ d. record { problem = k.source.now; state = state_with d c.improve.new.self }) back.0
-    ∙ ap (λ l. record { problem = k.source.now; state = state_with k.database l }) back.1 ∙ c.self.view_is
+    ap (λ d. record { problem = k.source.now; state = state_with d c.improve.new.self k.block }) back.0
+    ∙ ap (λ l. record { problem = k.source.now; state = state_with k.database l k.block }) back.1 ∙ c.self.view_is

@@ -7,7 +7,7 @@ use Rattle.substitution.proofs.Difference.{objective_read}
 use Rattle.proof_steps.specs.declared.conclusion.Conclusion.TheVariants as conclusions
 use Rattle.proof_rules.specs.declared.fault.StepFault.TheVariants as faults
 use Rattle.proof_rules.specs.Claim.{ClaimsUpper}
-use Rattle.proof_rules.specs.Fault.{OrMemory, IsBoundsFault, IsConclusionFault, IsHintFault, IsLowerFault}
+use Rattle.proof_rules.specs.Fault.{OrMemory, IsBoundsFault, IsUnjustified, IsHintFault, IsLowerFault}
 use Rattle.proof_rules.specs.Justified.{EntitlesLower, EntitlesUpper, IsBest}
 use Rattle.proof_rules.specs.State.{State}
 use Rattle.proof_rules.proofs.ConclusionJudged.{bounds_fault}
@@ -24,7 +24,7 @@ returns-in_err-extra-clause-fault g c =
     let f = c.in_err-extra.field-0.0 in
     let p = err_from_is_err_and c.from_residual.result c.from_residual.ensures.1 in
     rw (p.1, p.2)
-    (or_memory f (IsHintFault k.problem k.state c.args.hint.now f) (IsConclusionFault k.problem k.state (conclusions.Bounds c.args.lower c.args.upper c.args.hint.now) f)
+    (or_memory f (IsHintFault k.problem k.state c.args.hint.now f) (IsUnjustified k.problem k.state (conclusions.Bounds c.args.lower c.args.upper c.args.hint.now) f)
     (λ h. bounds_fault k.problem k.state objective c.args.lower c.args.upper c.args.hint.now f is (inl h))
     c.in_err-extra.ensures.fault)
 
@@ -45,7 +45,7 @@ returns-in_err-judge_lower-clause-fault g c =
     subst (λ (x : Held). OrMemory f (IsLowerFault (with_extra extra x.state) objective c.args.lower f)) c.in_ok-extra.ensures.same c.in_err-judge_lower.ensures.fault in
     let p = err_from_is_err_and c.from_residual-in_err-judge_lower.result c.from_residual-in_err-judge_lower.ensures.1 in
     rw (p.1, p.2)
-    (or_memory f (IsLowerFault t objective c.args.lower f) (IsConclusionFault k.problem k.state (conclusions.Bounds c.args.lower c.args.upper c.args.hint.now) f)
+    (or_memory f (IsLowerFault t objective c.args.lower f) (IsUnjustified k.problem k.state (conclusions.Bounds c.args.lower c.args.upper c.args.hint.now) f)
     (λ h. bounds_fault k.problem k.state objective c.args.lower c.args.upper c.args.hint.now f is
     (inr (behind k.problem k.state t c.args.hint.now (λ u. IsBoundsFault k.problem u objective c.args.lower c.args.upper f) c.in_ok-extra.ensures.takes (inl h))))
     fault)

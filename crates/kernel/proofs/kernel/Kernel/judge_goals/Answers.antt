@@ -1,18 +1,19 @@
-use Rattle.std.proofs.Common.{◌≡◌, ◌++◌, ◌∷◌, [], All, Some, IfSome, ap, refl, sym, subst, ◌∙◌}
+use Rattle.std.proofs.Common.{◌≡◌, ℕ, ◌++◌, ◌∷◌, [], All, Some, IfSome, ap, refl, sym, subst, ◌∙◌}
 use Rattle.std.proofs.lemmas.Bool.{false≢true}
 use Rattle.std.proofs.lemmas.Result.{err_from_is_err_and}
 use Rattle.std.specs.FinMap as map
+use Rattle.normal_form.specs.Normal.{NormalConstraint}
 use Rattle.normal_form.proofs.Negations.{negation}
 use Rattle.normal_form.proofs.NormalForm.{one_form}
 use Rattle.substitution.specs.Under.{substituted}
 use Rattle.substitution.specs.Objective.{not_raised}
-use Rattle.proof_rules.specs.Legal.{IsShownUnder, IsShownNotRaised}
+use Rattle.proof_rules.specs.Redundant.{IsShownUnder, IsShownNotRaised}
 use Rattle.proof_rules.specs.Shown.{IsShown}
 use Rattle.proof_rules.specs.State.{constraints}
 use Rattle.proof_rules.proofs.PolFaults.{or_memory}
 use Rattle.kernel.specs.Held.{Held}
-use Rattle.kernel.specs.Redundance.{IsGoalOpen, IsOpenLive}
-use Rattle.kernel.proofs.GoalsShown.{zero_redundant, open_live, beside_negation, same_from, no_objective_goal, objective_judged}
+use Rattle.kernel.specs.Redundance.{IsAsked, IsGoalOpen, IsOpenLive}
+use Rattle.kernel.proofs.GoalsShown.{zero_redundant, open_live, asked_all, all_asked_shown, beside_negation, same_from, no_objective_goal, objective_judged}
 use Rattle.kernel.proofs.kernel.Kernel.judge_goals.Goals as goal
 
 pub returns-then-degree-eq0-clause-shown : goal.returns-then-degree-eq0-clause-shown
@@ -28,17 +29,19 @@ returns-in_err-judge_live-clause-fault g c =
     let m = c.in_ok-negate.field-0 in
     let images = c.args.witness.now in
     let live = ap (λ (x : Held). x.state.live) c.self.view_is in
+    let asked = subst (λ l. (q : ℕ) (x : NormalConstraint) → map.get l q ≡ Some x → IsAsked c.next_id-end.result c.empty-opened.result q) live
+    (asked_all c.self.inside.database.live c.self.inside.database.next c.next_id-end.result c.empty-opened.result c.next_id-end.ensures.numbered c.next_id-end.ensures.value c.empty-opened.ensures) in
     let alone = beside_negation c.new-beside.result.items c.push.new.self.items m c.new-beside.ensures.items c.in_ok-push.ensures.items in
     let from = same_from c.self.inside.database c.self.inside.database k.state c.push.new.self.items c.push.new.self.items m refl live alone refl in
     let f = c.in_err-judge_live.field-0.0 in
     let p = err_from_is_err_and c.from_residual-in_err-judge_live.result c.from_residual-in_err-judge_live.ensures.1 in
     rw (p.1, p.2)
-    (or_memory f (IsOpenLive c.self.inside.database.live (map.values c.self.inside.database.live ++ c.push.new.self.items) images f) (IsGoalOpen k images n f)
+    (or_memory f (IsOpenLive c.self.inside.database.live c.next_id-end.result c.empty-opened.result (map.values c.self.inside.database.live ++ c.push.new.self.items) images f) (IsGoalOpen k images n f)
     (λ h. (
       m,
       c.in_ok-negate.ensures.form,
-      open_live k.problem k.state (constraints k.state ++ m ∷ []) images n f
-          (subst (λ xs. IsOpenLive k.state.live xs images f) from (subst (λ l. IsOpenLive l (map.values c.self.inside.database.live ++ c.push.new.self.items) images f) live h)),
+      open_live k.problem k.state c.next_id-end.result c.empty-opened.result (constraints k.state ++ m ∷ []) images n f asked
+          (subst (λ xs. IsOpenLive k.state.live c.next_id-end.result c.empty-opened.result xs images f) from (subst (λ l. IsOpenLive l c.next_id-end.result c.empty-opened.result (map.values c.self.inside.database.live ++ c.push.new.self.items) images f) live h)),
     ))
     c.in_err-judge_live.ensures.fault)
 
@@ -49,12 +52,15 @@ returns-then-not-branch-clause-fault g c =
     let m = c.in_ok-negate.field-0 in
     let images = c.args.witness.now in
     let live = ap (λ (x : Held). x.state.live) c.self.view_is in
+    let asked = asked_all c.self.inside.database.live c.self.inside.database.next c.next_id-end.result c.empty-opened.result c.next_id-end.ensures.numbered c.next_id-end.ensures.value c.empty-opened.ensures in
+    let here : All (IsShownUnder (map.values c.self.inside.database.live ++ c.push.new.self.items) images) (map.values c.self.inside.database.live) =
+    all_asked_shown c.self.inside.database.live c.next_id-end.result c.empty-opened.result (map.values c.self.inside.database.live ++ c.push.new.self.items) images asked c.in_ok-judge_live.ensures.shown in
     let alone = beside_negation c.new-beside.result.items c.push.new.self.items m c.new-beside.ensures.items c.in_ok-push.ensures.items in
     let from = same_from c.self.inside.database c.self.inside.database k.state c.push.new.self.items c.push.new.self.items m refl live alone refl in
     let then = same_from c.self.inside.database c.judge_live.new.database k.state c.push.new.self.items c.judge_live.new.beside.items m c.in_ok-judge_live.ensures.same live alone c.in_ok-judge_live.ensures.beside in
     let each : All (IsShownUnder (constraints k.state ++ m ∷ []) images) (constraints k.state) =
     subst (λ xs. All (IsShownUnder xs images) (constraints k.state)) from
-    (subst (λ l. All (IsShownUnder (map.values c.self.inside.database.live ++ c.push.new.self.items) images) (map.values l)) live c.in_ok-judge_live.ensures.shown) in
+    (subst (λ l. All (IsShownUnder (map.values c.self.inside.database.live ++ c.push.new.self.items) images) (map.values l)) live here) in
     let never : IsShownUnder (constraints k.state ++ m ∷ []) images n → ⊥ = λ h.
     false≢true (sym c.if-not-branch.true ∙ c.in_ok-is_shown.ensures.shown.1
     (subst (λ xs. IsShown xs c.in_ok-goal.goal) (sym then) (subst (IsShown (constraints k.state ++ m ∷ [])) (one_form (substituted n images) h.0 c.in_ok-goal.goal h.1 c.in_ok-goal.ensures.under) h.2))) in
@@ -67,6 +73,9 @@ returns-in_default-clause-shown g c =
     let m = c.in_ok-negate.field-0 in
     let images = c.args.witness.now in
     let live = ap (λ (x : Held). x.state.live) c.self.view_is in
+    let asked = asked_all c.self.inside.database.live c.self.inside.database.next c.next_id-end.result c.empty-opened.result c.next_id-end.ensures.numbered c.next_id-end.ensures.value c.empty-opened.ensures in
+    let here : All (IsShownUnder (map.values c.self.inside.database.live ++ c.push.new.self.items) images) (map.values c.self.inside.database.live) =
+    all_asked_shown c.self.inside.database.live c.next_id-end.result c.empty-opened.result (map.values c.self.inside.database.live ++ c.push.new.self.items) images asked c.in_ok-judge_live.ensures.shown in
     let objective : c.self.inside.objective ≡ k.problem.objective = c.self.invariant.objective_is ∙ ap (λ (x : Held). x.problem.objective) c.self.view_is in
     let alone = beside_negation c.new-beside.result.items c.push.new.self.items m c.new-beside.ensures.items c.in_ok-push.ensures.items in
     let from = same_from c.self.inside.database c.self.inside.database k.state c.push.new.self.items c.push.new.self.items m refl live alone refl in
@@ -75,7 +84,7 @@ returns-in_default-clause-shown g c =
       record {
         negation = c.in_ok-negate.ensures.form;
         each_live = subst (λ xs. All (IsShownUnder xs images) (constraints k.state)) from
-            (subst (λ l. All (IsShownUnder (map.values c.self.inside.database.live ++ c.push.new.self.items) images) (map.values l)) live c.in_ok-judge_live.ensures.shown);
+            (subst (λ l. All (IsShownUnder (map.values c.self.inside.database.live ++ c.push.new.self.items) images) (map.values l)) live here);
         itself = (c.in_ok-goal.goal, c.in_ok-goal.ensures.under, subst (λ xs. IsShown xs c.in_ok-goal.goal) then (c.in_ok-is_shown.ensures.shown.0 c.if-not-branch.false));
         objective = subst (λ o. IfSome o (IsShownNotRaised (constraints k.state ++ m ∷ []) images)) objective
             (no_objective_goal c.self.inside.objective c.in_ok-goal-2.field-0 images (constraints k.state ++ m ∷ []) c.in_ok-goal-2.ensures.goal c.in_default.is);
@@ -89,6 +98,9 @@ returns-then-not-branch-2-clause-fault g c =
     let m = c.in_ok-negate.field-0 in
     let images = c.args.witness.now in
     let live = ap (λ (x : Held). x.state.live) c.self.view_is in
+    let asked = asked_all c.self.inside.database.live c.self.inside.database.next c.next_id-end.result c.empty-opened.result c.next_id-end.ensures.numbered c.next_id-end.ensures.value c.empty-opened.ensures in
+    let here : All (IsShownUnder (map.values c.self.inside.database.live ++ c.push.new.self.items) images) (map.values c.self.inside.database.live) =
+    all_asked_shown c.self.inside.database.live c.next_id-end.result c.empty-opened.result (map.values c.self.inside.database.live ++ c.push.new.self.items) images asked c.in_ok-judge_live.ensures.shown in
     let objective : c.self.inside.objective ≡ k.problem.objective = c.self.invariant.objective_is ∙ ap (λ (x : Held). x.problem.objective) c.self.view_is in
     let alone = beside_negation c.new-beside.result.items c.push.new.self.items m c.new-beside.ensures.items c.in_ok-push.ensures.items in
     let from = same_from c.self.inside.database c.self.inside.database k.state c.push.new.self.items c.push.new.self.items m refl live alone refl in
@@ -97,7 +109,7 @@ returns-then-not-branch-2-clause-fault g c =
     (c.in_ok-is_shown.ensures.same ∙ c.in_ok-judge_live.ensures.same) live alone (c.in_ok-is_shown.ensures.beside ∙ c.in_ok-judge_live.ensures.beside) in
     let each : All (IsShownUnder (constraints k.state ++ m ∷ []) images) (constraints k.state) =
     subst (λ xs. All (IsShownUnder xs images) (constraints k.state)) from
-    (subst (λ l. All (IsShownUnder (map.values c.self.inside.database.live ++ c.push.new.self.items) images) (map.values l)) live c.in_ok-judge_live.ensures.shown) in
+    (subst (λ l. All (IsShownUnder (map.values c.self.inside.database.live ++ c.push.new.self.items) images) (map.values l)) live here) in
     let itself : IsShownUnder (constraints k.state ++ m ∷ []) images n =
     (c.in_ok-goal.goal, c.in_ok-goal.ensures.under, subst (λ xs. IsShown xs c.in_ok-goal.goal) then (c.in_ok-is_shown.ensures.shown.0 c.if-not-branch.false)) in
     let o = objective_judged c.self.inside.objective c.in_ok-goal-2.field-0 c.in-Some.goal images (constraints k.state) c.in_ok-goal-2.ensures.goal c.in-Some.is in
@@ -114,6 +126,9 @@ returns-clause-shown g c =
     let m = c.in_ok-negate.field-0 in
     let images = c.args.witness.now in
     let live = ap (λ (x : Held). x.state.live) c.self.view_is in
+    let asked = asked_all c.self.inside.database.live c.self.inside.database.next c.next_id-end.result c.empty-opened.result c.next_id-end.ensures.numbered c.next_id-end.ensures.value c.empty-opened.ensures in
+    let here : All (IsShownUnder (map.values c.self.inside.database.live ++ c.push.new.self.items) images) (map.values c.self.inside.database.live) =
+    all_asked_shown c.self.inside.database.live c.next_id-end.result c.empty-opened.result (map.values c.self.inside.database.live ++ c.push.new.self.items) images asked c.in_ok-judge_live.ensures.shown in
     let objective : c.self.inside.objective ≡ k.problem.objective = c.self.invariant.objective_is ∙ ap (λ (x : Held). x.problem.objective) c.self.view_is in
     let alone = beside_negation c.new-beside.result.items c.push.new.self.items m c.new-beside.ensures.items c.in_ok-push.ensures.items in
     let from = same_from c.self.inside.database c.self.inside.database k.state c.push.new.self.items c.push.new.self.items m refl live alone refl in
@@ -127,7 +142,7 @@ returns-clause-shown g c =
       record {
         negation = c.in_ok-negate.ensures.form;
         each_live = subst (λ xs. All (IsShownUnder xs images) (constraints k.state)) from
-            (subst (λ l. All (IsShownUnder (map.values c.self.inside.database.live ++ c.push.new.self.items) images) (map.values l)) live c.in_ok-judge_live.ensures.shown);
+            (subst (λ l. All (IsShownUnder (map.values c.self.inside.database.live ++ c.push.new.self.items) images) (map.values l)) live here);
         itself = (c.in_ok-goal.goal, c.in_ok-goal.ensures.under, subst (λ xs. IsShown xs c.in_ok-goal.goal) then (c.in_ok-is_shown.ensures.shown.0 c.if-not-branch.false));
         objective = subst (λ x. IfSome x (IsShownNotRaised (constraints k.state ++ m ∷ []) images)) (sym is) shown;
       },

@@ -11,7 +11,7 @@ use Rattle.kernel.proofs.kernel.Kernel.pol.Goals as goal
 pub returns-in_err-value-clause-fault : goal.returns-in_err-value-clause-fault
 returns-in_err-value-clause-fault g c =
     let h = c.self.inside in
-    let s : State = state_with h.database h.log in
+    let s : State = state_with h.database h.log h.block in
     let f = c.in_err-value.field-0.0 in
     let p = err_from_is_err_and c.from_residual.result c.from_residual.ensures.1 in
     let whole = or_memory f (IsWritingFault (constraint_of s) c.args.items.now f) (IsPolFault s c.args.items.now f) (writing_pol s c.args.items.now f) c.in_err-value.ensures.fault in
@@ -20,7 +20,7 @@ returns-in_err-value-clause-fault g c =
 pub add-requires-clause-kept : goal.add-requires-clause-kept
 add-requires-clause-kept g c =
     let h = c.self.inside in
-    let s : State = state_with h.database h.log in
+    let s : State = state_with h.database h.log h.block in
     let n = c.in_ok-value.value in
     let room : HasRoom s = c.if-not-has_room.ensures.0 refl in
     kept_step h.source.now s (with_constraint n s) (steps.Pol c.args.items.now) c.self.invariant.kept (n, c.in_ok-value.ensures.value, (room, refl))

@@ -29,5 +29,5 @@ add-requires-clause-kept g c =
     let room : HasRoom k.state = subst HasRoom state (c.if-not-has_room.ensures.0 refl) in
     let shown : AreGoalsShown k c.args.witness.now n = c.in_ok-judge_goals.ensures.shown in
     let after : IsKept (record { problem = k.problem; state = with_constraint n k.state }) =
-    kept_step k.problem k.state (with_constraint n k.state) (steps.Red c.args.constraint.now c.args.witness.now) kept (n, shown.0, c.in_ok-constraint.ensures.form, shown.1, (room, refl)) in
+    kept_step k.problem k.state (with_constraint n k.state) (steps.Red c.args.constraint.now c.args.witness.now) kept (c.requires.outside, (n, shown.0, c.in_ok-constraint.ensures.form, shown.1, (room, refl))) in
     subst (λ (x : Held). IsKept (record { problem = x.problem; state = with_constraint n x.state })) (sym c.in_ok-judge_goals.ensures.same) after

@@ -4,7 +4,7 @@ use Rattle.proof_steps.specs.declared.conclusion.Conclusion.TheVariants.{Nothing
 use Rattle.proof_rules.specs.Legal.{Legal}
 use Rattle.proof_rules.specs.State.{State}
 use Rattle.search.specs.Kept.{Spares}
-use Rattle.search.specs.Log.{IsProof, Logbook}
+use Rattle.search.specs.Log.{ImprovesIfAsked, IsProof, Logbook}
 use Rattle.search.proofs.Growing.{grows, logbook, no_improvement, written_behind}
 use Rattle.search.proofs.StaysLive.{kept_spared}
 use Rattle.search.proofs.log.Log.apply.Goals as goal
@@ -18,7 +18,8 @@ invariant_of-self-2 g c =
     let kept = c.in_ok-applied.ensures in
     let legal : Legal p log.kernel.state c.args.step new = subst (λ q. Legal q log.kernel.state c.args.step new) c.self.invariant.0 kept.ok in
     let behind = written_behind p log.text.items c.args.step text c.names.result.now c.names.ensures.names kept.kept kept.writable kept.proper in
-    let grown = grows p log.text.items text log.kernel.state new log.improved.items log.biting log.conclusion log.asking log.asking c.args.step c.self.invariant.1 behind legal in
+    let asked : ImprovesIfAsked p c.args.step = subst (λ (l : Logbook). ImprovesIfAsked l.problem c.args.step) (sym c.self.view_is) c.requires.asked in
+    let grown = grows p log.text.items text log.kernel.state new log.improved.items log.biting log.conclusion log.asking log.asking c.args.step c.self.invariant.1 behind c.requires.alone asked legal in
     let same = no_improvement c.args.step new log.improved.items c.requires.other in
     let proof : IsProof (logbook p text new log.improved.items log.biting Nothing log.asking) =
     subst (λ vs. IsProof (logbook p text new vs log.biting Nothing log.asking)) same grown in

@@ -49,11 +49,11 @@ invariant_of-self-2 g c =
     let kept = c.in-Ok.ensures in
     let legal : Legal p log.kernel.state step new = subst (λ q. Legal q log.kernel.state step new) c.self.invariant.0 kept.ok in
     let behind = written_behind p log.text.items step text c.names.result.now c.names.ensures.names kept.kept kept.writable kept.proper in
-    let grown = grows p log.text.items text log.kernel.state new log.improved.items log.biting log.conclusion log.asking (Some log.kernel.state.next) step c.self.invariant.1 behind legal in
+    let grown = grows p log.text.items text log.kernel.state new log.improved.items log.biting log.conclusion log.asking (Some log.kernel.state.next) step c.self.invariant.1 behind tt tt legal in
     let proof : IsProof (logbook p text new values log.biting Nothing (Some log.kernel.state.next)) =
     subst (λ vs. IsProof (logbook p text new vs log.biting Nothing (Some log.kernel.state.next))) (sym (value_kept g c)) grown in
     let book : Logbook = logbook p log.text.items log.kernel.state log.improved.items log.biting log.conclusion log.asking in
-    let live = kept_improved book c.args.assigned new c.self.invariant.2 legal in (
+    let live = kept_improved book c.args.assigned new c.self.invariant.2 legal.1 in (
       c.keep.ensures.problem ∙ c.self.invariant.0,
       subst (λ o. IsProof (logbook p text new values log.biting c.replace.new.dest o)) (sym kept.id)
           (subst (λ x. IsProof (logbook p text new values log.biting x (Some log.kernel.state.next))) (sym c.replace.ensures.after) proof),
