@@ -71,7 +71,7 @@ pub record IsMereSolution (opb proof : List ℕ) (limit : ℕ) (s : NamedValues)
   pub why : IsNoOptimum limit log
 
 -- The search stopped without a solution, and the bytes are the proof so far: all conflicts that it may meet, but one,
--- have each taught it a constraint that bites, or no id was left.
+-- have each taught it a constraint that bites, and it met one more; or no id was left.
 pub record IsLeftOpen (opb proof : List ℕ) (limit : ℕ) : Type 0 where
   pub log : Logbook
   pub of_text : IsLogOf opb log

@@ -1,8 +1,8 @@
 -- The clause of negated decisions bites, where what stands before the last one is closed without a conflict.
-use Rattle.std.proofs.Common.{◌≡◌, ℕ, ◌+◌, ◌<◌, ◌≤◌, inl, inr, ◌⊎◌, Bool, true, false, cond, not, List, [], ◌∷◌, ◌++◌, ◌-◌, length, get_or, take, drop, refl, sym, ap, subst, ◌∙◌, arith}
+use Rattle.std.proofs.Common.{◌≡◌, ℕ, ◌+◌, ◌<◌, ◌≤◌, ◌≢◌, inl, inr, ◌⊎◌, Bool, true, false, cond, not, List, [], ◌∷◌, ◌++◌, ◌-◌, length, get_or, take, drop, refl, sym, ap, subst, ◌∙◌, arith}
 use Rattle.std.proofs.lemmas.Bool.{false≢true}
 use Rattle.std.proofs.lemmas.Int.{ints}
-use Rattle.std.proofs.lemmas.List.{take_more, take-append-drop}
+use Rattle.std.proofs.lemmas.List.{get_or_default, take_all, take_more, take-append-drop}
 use Rattle.linear.specs.declared.constraint.Signed.{Signed}
 use Rattle.linear.specs.declared.term.Lit.{Lit}
 use Rattle.normal_form.specs.declared.term.NormalTerm.{NormalTerm}
@@ -11,15 +11,17 @@ use Rattle.normal_form.specs.NormalOf.{IsNormalOf}
 use Rattle.normal_form.proofs.NormalForm.{form, form_is}
 use Rattle.normal_form.proofs.SetSums.{only_itself}
 use Rattle.propagate.specs.Biting.{Bites}
-use Rattle.propagate.specs.Chain.{IsClosure, IsImpossible}
+use Rattle.propagate.specs.Chain.{IsClosure, IsImpossible, IsReached}
 use Rattle.linear.specs.Literal.{opposite}
 use Rattle.propagate.specs.Literals.{among, lists, IsConsistent}
 use Rattle.propagate.specs.Reach.{IsReach}
 use Rattle.propagate.specs.declared.reach.Reach.TheVariants as reaches
 use Rattle.propagate.specs.Slack.{IsFalsified, IsForced, not_false}
 use Rattle.propagate.proofs.Consistency.{only_here}
+use Rattle.propagate.proofs.SearchEnds.{one_end_or_conflict}
 use Rattle.propagate.proofs.Assignments.{among_cases, among_head, among_left, among_right}
 use Rattle.search.specs.Clause.{negated_clause}
+use Rattle.search.specs.Conflicts.{TakesLast}
 use Rattle.search.proofs.Clauses.{clause_degree, clause_has, clause_lacks}
 
 -- a set counts no more than another one that has all of its literals which occur
@@ -132,21 +134,25 @@ take_consistent n items consistent (l, here, opposed) =
       ap (λ xs. lists xs (opposite l)) (sym whole) ∙ among_left (take n items) (drop n items) (l.var.0) (not l.negated) opposed,
     )
 
-one_more : (n : ℕ) (items : List Lit) (d : Lit) → 0 < n → n ≤ length items → d ≡ get_or items (n - 1) d → take n items ≡ take (n - 1) items ++ d ∷ []
-one_more n items d some within is =
-    let on : n ≡ (n - 1) + 1 = omega arith in
-    ap (λ k. take k items) on ∙ take_more items (n - 1) d (omega arith) ∙ ap (λ x. take (n - 1) items ++ x ∷ []) (sym is)
-
-pub learned_bites : (live : List NormalConstraint) (n : ℕ) (items closed : List Lit) (d : Lit) (c : Signed) → IsConsistent items → 0 < n → n ≤ length items
-    → d ≡ get_or items (n - 1) d → c ≡ negated_clause (take n items) → IsReach live (take (n - 1) items) (reaches.Closed closed) → lists closed (opposite d) ≡ false
+-- so does the clause of all decisions, where a conflict takes the last one
+pub decisions_bite : (live : List NormalConstraint) (items : List Lit) (c : Signed) → items ≢ [] → IsConsistent items → TakesLast live items → c ≡ negated_clause items
     → (m : NormalConstraint) × IsNormalOf c m × Bites live m
-learned_bites live n items closed d c consistent some within is clause reach unset =
-    let split = one_more n items d some within is in
-    let before : List Lit = take (n - 1) items in
-    let all : c ≡ negated_clause (before ++ d ∷ []) = clause ∙ ap negated_clause split in
+decisions_bite live [] c some consistent takes is = absurd (some refl)
+decisions_bite live (first ∷ more) c some consistent takes is =
+    let items : List Lit = first ∷ more in
+    let k = length more in
+    let d : Lit = get_or items k first in
+    let split : items ≡ take k items ++ d ∷ [] = sym (take_all (k + 1) items (omega arith)) ∙ take_more items k first (omega arith) in
     let m : NormalConstraint = form c in
-    let formed : IsNormalOf (negated_clause (before ++ d ∷ [])) m = subst (λ x. IsNormalOf x m) all (form_is c) in
-    (m, form_is c, clause_bites live before closed d m (subst IsConsistent split (take_consistent n items consistent)) formed reach.0 reach.1 unset)
+    let formed : IsNormalOf (negated_clause (take k items ++ d ∷ [])) m = subst (λ x. IsNormalOf x m) (is ∙ ap negated_clause split) (form_is c) in
+    let needed = takes k (omega arith) in
+    let other : (e : Lit) → get_or items k e ≡ d = λ e. get_or_default items k e first (omega arith) in
+    elim (one_end_or_conflict live (take k items)) [
+      | inl conflict ↦ absurd (needed.0 (inr conflict))
+      | inr (closed, fixpoint, closure) ↦
+          let unset : lists closed (opposite d) ≡ false = is_none (lists closed (opposite d)) (λ h. needed.1 (λ e. subst (λ x. IsReached live (take k items) (opposite x)) (sym (other e)) ((closure (opposite d)).0 h))) in
+          (m, form_is c, clause_bites live (take k items) closed d m (subst IsConsistent split consistent) formed needed.0 closure unset)
+    ]
 
 -- what forces something under a closure bites
 pub fixpoint_bites : (live : List NormalConstraint) (given closed : List Lit) (n : NormalConstraint) → IsReach live given (reaches.Closed closed)

@@ -10,6 +10,6 @@ pub mod Improving
 pub mod Solutions
 pub mod Trying
 pub mod StaysLive
-pub mod UpToDate
+pub mod Taking
 pub mod Descending
 pub mod Worth

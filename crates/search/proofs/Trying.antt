@@ -1,5 +1,5 @@
 -- Steps that are tried one after the other.
-use Rattle.std.proofs.Common.{◌≡◌, ◌≢◌, ℕ, zero, suc, arith, ◌+◌, ◌<◌, List, [], ◌∷◌, ◌++◌, map, length, get_or, take, refl, sym, ap, subst, ◌∙◌}
+use Rattle.std.proofs.Common.{◌≡◌, ◌≢◌, ℕ, zero, suc, arith, ◌+◌, ◌<◌, List, [], ◌∷◌, ◌++◌, inl, inr, map, length, get_or, take, refl, sym, ap, subst, ◌∙◌}
 use Rattle.std.proofs.lemmas.List.{map-append, take_more}
 use Rattle.linear.specs.declared.term.Var.{Var}
 use Rattle.substitution.specs.Images.{NamesOnce}
@@ -39,3 +39,9 @@ two_named a b other zero (suc (suc j)) d before within = absurd (omega (arith, w
 two_named a b other (suc i) zero d before within = absurd (omega (arith, before))
 two_named a b other (suc i) (suc zero) d before within = absurd (omega (arith, before))
 two_named a b other (suc i) (suc (suc j)) d before within = absurd (omega (arith, within))
+
+-- what is tried is no lesson
+pub tries_no_lesson : (steps : List Step) (a b : Logbook) → TriesAll steps a b → b.biting ≡ a.biting
+tries_no_lesson [] a b same = ap (λ (l : Logbook). l.biting) same
+tries_no_lesson (s ∷ ss) a b (m, inl enters, rest) = tries_no_lesson ss m b rest ∙ enters.biting
+tries_no_lesson (s ∷ ss) a b (m, inr left, rest) = tries_no_lesson ss m b rest ∙ ap (λ (l : Logbook). l.biting) left.same

@@ -11,12 +11,21 @@ use Rattle.search.specs.declared.descent.Descent.TheVariants as descents
 -- what is so where they end in a conflict
 abbrev pub IfConflict : Descent → Type 0 → Type 0
 IfConflict (descents.Conflict id) P = P
+IfConflict descents.Undone P = Unit {0}
 IfConflict (descents.Advised line) P = Unit {0}
 IfConflict (descents.Fixpoint assigned) P = Unit {0}
+
+-- what is so where some were undone
+abbrev pub IfUndone : Descent → Type 0 → Type 0
+IfUndone descents.Undone P = P
+IfUndone (descents.Conflict id) P = Unit {0}
+IfUndone (descents.Advised line) P = Unit {0}
+IfUndone (descents.Fixpoint assigned) P = Unit {0}
 
 -- what is so of the line, where they end with one
 abbrev pub IfAdvised : Descent → (Line → Type 0) → Type 0
 IfAdvised (descents.Conflict id) P = Unit {0}
+IfAdvised descents.Undone P = Unit {0}
 IfAdvised (descents.Advised line) P = P line
 IfAdvised (descents.Fixpoint assigned) P = Unit {0}
 

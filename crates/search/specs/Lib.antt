@@ -1,5 +1,6 @@
 pub mod Advised
 pub mod Clause
+pub mod Conflicts
 pub mod Descents
 pub mod Kept
 pub mod Log

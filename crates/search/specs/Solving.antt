@@ -1,5 +1,5 @@
 -- Which constraints are live while a search looks for solutions, and what it may answer.
-use Rattle.std.specs.Prelude.{◌≡◌, ◌≢◌, ℕ, ◌+◌, ◌≤◌, ◌⊎◌, ℤ, pos, ◌-ℤ◌, List, [], Option, None, Some, Contains, IfSome, MatchOption}
+use Rattle.std.specs.Prelude.{◌≡◌, ◌≢◌, ℕ, ◌+◌, ◌<◌, ◌⊎◌, ℤ, pos, ◌-ℤ◌, List, [], Option, None, Some, Contains, IfSome, MatchOption}
 use Rattle.linear.specs.Opb.{Opb}
 use Rattle.linear.specs.declared.term.Term.{Term}
 use Rattle.normal_form.specs.Normal.{NormalConstraint}
@@ -13,6 +13,7 @@ use Rattle.proof_steps.specs.declared.conclusion.Upper.TheVariants as uppers
 use Rattle.search.specs.declared.found.Found.{Found}
 use Rattle.search.specs.declared.found.Found.TheVariants as founds
 use Rattle.search.specs.declared.found.Unfinished.TheVariants as reasons
+use Rattle.search.specs.Conflicts.{MeetsConflict}
 use Rattle.search.specs.Log.{Logbook}
 
 -- every normal constraint of the file is live
@@ -29,9 +30,9 @@ ImprovementIsLive objective s =
 abbrev pub TakesId : State → State → Type 0
 TakesId old new = HasRoom old × (new.next ≡ old.next + 1)
 
--- a search may stop: as many conflicts as it may meet, but one, have taught it something, or no id is left
+-- a search may stop: just as many conflicts as it may meet, but one, have taught it something, and it meets one more; or no id is left
 abbrev pub MayStop : ℕ → Logbook → Type 0
-MayStop limit l = (limit ≤ l.biting + 1) ⊎ (HasRoom l.state → ⊥)
+MayStop limit l = ((limit ≡ l.biting + 1) × MeetsConflict (constraints l.state)) ⊎ (HasRoom l.state → ⊥)
 
 -- a solution that no other one is better than
 abbrev pub IsOptimum : Logbook → Type 0
@@ -58,7 +59,8 @@ BearsOut limit l founds.Sat = MatchOption l.problem.objective (IsSolvedByAny l) 
 BearsOut limit l (founds.Unknown reasons.Limit) = IsOpen limit l
 BearsOut limit l (founds.Unknown reasons.Memory) = ⊥
 
--- what a search answers: without a log only that it ran out of memory, else what its log of the problem bears out
+-- what a search answers: without a log only that it ran out of memory, else what its log of the problem bears out, which has learned from
+-- fewer conflicts than it may meet
 abbrev pub IsSolved : Opb → ℕ → Found → Option Logbook → Type 0
 IsSolved p limit found None = found ≡ founds.Unknown reasons.Memory
-IsSolved p limit found (Some l) = (l.problem ≡ p) × BearsOut limit l found
+IsSolved p limit found (Some l) = (l.problem ≡ p) × BearsOut limit l found × (l.biting < limit)

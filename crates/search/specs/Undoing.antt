@@ -1,24 +1,13 @@
 -- What is undone, and what is forgotten.
-use Rattle.std.specs.Prelude.{◌≡◌, ◌≢◌, ◌<◌, ◌≤◌, ◌⊎◌, ℕ, List, All, IfSome, length, slice_index_or, take}
+use Rattle.std.specs.Prelude.{◌≡◌, ◌≢◌, ◌<◌, ◌⊎◌, ℕ, List, All, IfSome, length, take}
 use Rattle.linear.specs.declared.term.Lit.{Lit}
-use Rattle.normal_form.specs.Normal.{NormalConstraint}
 use Rattle.analysis.specs.declared.entry.Entry.{Entry}
-use Rattle.propagate.specs.Chain.{IsReached}
-use Rattle.linear.specs.Literal.{opposite}
 use Rattle.search.specs.Log.{Logbook}
 use Rattle.search.specs.Solving.{TakesId}
 
 -- the decisions without the last one, or without the last ones
 abbrev pub IsUndone : List Lit → List Lit → Type 0
 IsUndone old new = (kept : ℕ) × (kept < length old) × (new ≡ take kept old)
-
--- decisions before that of a number lead by propagation to its opposite
-abbrev pub IsOvertaken : List NormalConstraint → List Lit → ℕ → Type 0
-IsOvertaken live decisions k = (d : Lit) → IsReached live (take k decisions) (opposite (slice_index_or decisions k d))
-
--- behind the first decisions none is overtaken
-abbrev pub AreUpToDate : List NormalConstraint → ℕ → List Lit → Type 0
-AreUpToDate live first decisions = (k : ℕ) → first ≤ k → k < length decisions → IsOvertaken live decisions k → ⊥
 
 -- a search nears its end: one more id is taken, or fewer decisions are open and all else is as it was
 abbrev pub NearsEnd : Logbook → List Lit → Logbook → List Lit → Type 0

@@ -54,6 +54,7 @@ impl<'a, P: Propagator> Run<'a, P> {
         requires { IsConsistent self.old.decisions.items }
         ensures problem { self.new.log.problem ≡ self.old.log.problem }
         ensures id { OnOk result (TakesId self.old.log.state self.new.log.state) }
+        ensures biting { OnOk result (self.new.log.biting ≡ self.old.log.biting) }
         ensures consistent { OnOk result (IsConsistent self.new.decisions.items) }
     {
         let Line { items, effect } = line;
@@ -81,6 +82,7 @@ impl<'a, P: Propagator> Run<'a, P> {
         requires { IsConsistent self.old.decisions.items }
         ensures problem { self.new.log.problem ≡ self.old.log.problem }
         ensures next { OnOk result (self.new.log.state.next ≡ self.old.log.state.next) }
+        ensures biting { OnOk result (self.new.log.biting ≡ self.old.log.biting) }
         ensures consistent { OnOk result (IsConsistent self.new.decisions.items) }
     {
         self.advisers.brancher.met(advised.variables.as_slice());
@@ -104,6 +106,7 @@ impl<'a, P: Propagator> Run<'a, P> {
     pub(crate) fn drop_passing(&mut self) -> Result<(), SearchFault>
         ensures problem { self.new.log.problem ≡ self.old.log.problem }
         ensures next { OnOk result (self.new.log.state.next ≡ self.old.log.state.next) }
+        ensures biting { OnOk result (self.new.log.biting ≡ self.old.log.biting) }
         ensures decisions { self.new.decisions.items ≡ self.old.decisions.items }
     {
         let Some(id) = self.passing else {

@@ -4,11 +4,11 @@ ghost use Rattle.std.specs.Prelude.{◌≡◌, ℕ, [], ◌∷◌, List, None, S
 ghost use Rattle.linear.specs.Opb.{Opb};
 ghost use Rattle.linear.specs.declared.term.Lit.{Lit};
 ghost use Rattle.linear.specs.declared.constraint.Relation.TheVariants.{AtLeast};
-ghost use Rattle.normal_form.specs.Cases.{signed, signed_not};
-ghost use Rattle.propagate.specs.Cases.{x, not_x};
+ghost use Rattle.normal_form.specs.Cases.{negated, normal, plain, signed, signed_not};
+ghost use Rattle.propagate.specs.Cases.{one_of_two, x, not_x};
 ghost use Rattle.propagate.specs.Literals.{IsConsistent, among};
 ghost use Rattle.proof_rules.specs.Legal.{Legal};
-ghost use Rattle.proof_rules.specs.State.{HasRoom, State};
+ghost use Rattle.proof_rules.specs.State.{HasRoom, State, constraints};
 ghost use Rattle.proof_steps.specs.declared.conclusion.Conclusion.TheVariants as conclusions;
 ghost use Rattle.proof_steps.specs.declared.conclusion.Lower.TheVariants as lowers;
 ghost use Rattle.proof_steps.specs.declared.conclusion.Upper.TheVariants as uppers;
@@ -16,6 +16,7 @@ ghost use Rattle.proof_steps.specs.declared.step.GoalName.TheVariants as goals;
 ghost use Rattle.proof_steps.specs.declared.step.Step.TheVariants as steps;
 ghost use Rattle.proof_steps.specs.declared.step.Step.TheVariants.{Sol, Soli, Del};
 ghost use Rattle.search.specs.Clause.{negated_clause};
+ghost use Rattle.search.specs.Conflicts.{LeadsAtLast, MeetsConflict, TakesLast};
 ghost use Rattle.search.specs.Log.{ImprovesNothing, IsFalling, LeadsBiting, LeadsImproving, Logbook, StandsAlone, StepBites, improvement, last_of};
 ghost use Rattle.search.specs.Solving.{BearsOut, MayStop};
 ghost use Rattle.search.specs.Values.{AreValuesUnder, IsValueUnder};
@@ -68,10 +69,22 @@ pub fn values_that_fall()
     ensures none { last_of [] ≡ None }
 {}
 
-/// With two conflicts to meet a search may stop where one taught it something, and not before, while an id is left.
+/// Under `1 x1 1 x2 >= 1 ; 1 x1 1 ~x2 >= 1` a conflict takes ~x1, and nothing that is decided behind it. Under the first alone none takes ~x2
+/// behind ~x1, which forces its opposite. Without constraints there is no conflict.
+pub fn conflicts_that_take_the_last()
+    ensures taken { LeadsAtLast (one_of_two ∷ normal (plain 1 1 ∷ negated 1 2 ∷ []) 1 ∷ []) (not_x 1 ∷ []) }
+    ensures behind { TakesLast (one_of_two ∷ normal (plain 1 1 ∷ negated 1 2 ∷ []) 1 ∷ []) (not_x 1 ∷ x 3 ∷ []) → ⊥ }
+    ensures overtaken { TakesLast (one_of_two ∷ []) (not_x 1 ∷ not_x 2 ∷ []) → ⊥ }
+    ensures nothing { MeetsConflict [] → ⊥ }
+{}
+
+/// With two conflicts to meet a search may stop where one taught it something and it meets another one, and neither before nor
+/// behind that, while an id is left.
 pub fn stops_after_conflicts()
-    ensures at_two { (l : Logbook) → l.biting ≡ 1 → MayStop 2 l }
+    ensures at_two { (l : Logbook) → l.biting ≡ 1 → MeetsConflict (constraints l.state) → MayStop 2 l }
+    ensures without_conflict { (l : Logbook) → (MeetsConflict (constraints l.state) → ⊥) → HasRoom l.state → MayStop 2 l → ⊥ }
     ensures at_once { (l : Logbook) → l.biting ≡ 0 → HasRoom l.state → MayStop 2 l → ⊥ }
+    ensures beyond { (l : Logbook) → l.biting ≡ 2 → HasRoom l.state → MayStop 2 l → ⊥ }
 {}
 
 /// A log that concludes nothing bears out neither that there is no solution nor an optimum, and one of an optimum of 7 not that

@@ -4,7 +4,7 @@
 //! that are left is computed once more, and the constraint is looked at under it. So a trail that is out of date costs a
 //! weaker step, and never a wrong count.
 
-ghost use Rattle.std.specs.Prelude.{◌≡◌, IfOk, IsTrue, OnOk, false};
+ghost use Rattle.std.specs.Prelude.{◌≡◌, ◌+◌, IfOk, IsTrue, OnOk, false};
 ghost use Rattle.propagate.specs.Literals.{IsConsistent};
 ghost use Rattle.search.specs.Solving.{TakesId};
 ghost use Rattle.search.specs.Undoing.{IsUndone};
@@ -42,6 +42,7 @@ pub(crate) fn learn_constraint<'a, P: Propagator>(
     requires { IsConsistent decisions.old.items }
     ensures problem { log.new.problem ≡ log.old.problem }
     ensures learned { IfOk result (λ yes. IsTrue yes → TakesId log.old.state log.new.state) }
+    ensures biting { IfOk result (λ yes. IsTrue yes → log.new.biting ≡ log.old.biting + 1) }
     ensures unchanged { IfOk result (λ yes. yes ≡ false → log.new ≡ log.old) }
     ensures consistent { OnOk result (IsConsistent decisions.new.items) }
     ensures undone { IfOk result (λ yes. IsTrue yes → IsUndone decisions.old.items decisions.new.items) }

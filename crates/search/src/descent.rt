@@ -1,19 +1,21 @@
 //! Deciding one literal after another, until there is a conflict, or an adviser comes to a line, or every variable has a value.
 //!
 //! What the open decisions force is asked once. From there on each question is about one literal more, and its answer, and
-//! what is noted of it, are as long as what that literal forces.
+//! what is noted of it, are as long as what that literal forces. Where the open decisions lead to a conflict that does not take all of
+//! them, those that it does not take are undone, and nothing is decided.
 
-ghost use Rattle.std.specs.Prelude.{◌≡◌, [], ◌∷◌, ◌++◌, IfOk, MatchOption, OnOk, length};
+ghost use Rattle.std.specs.Prelude.{◌≡◌, ◌<◌, [], ◌∷◌, ◌++◌, IfOk, MatchOption, OnOk, length};
 ghost use Rattle.propagate.specs.Chain.{LeadsToConflict};
 ghost use Rattle.propagate.specs.Content.{IsEnd};
 ghost use Rattle.propagate.specs.Literals.{IsConsistent};
 ghost use Rattle.proof_rules.specs.State.{constraints};
-ghost use Rattle.search.specs.Descents.{IfAdvised, IfConflict, IsAdvisedUnder};
-ghost use Rattle.search.specs.Undoing.{AreUpToDate};
+ghost use Rattle.search.specs.Conflicts.{LeadsAtLast};
+ghost use Rattle.search.specs.Descents.{IfAdvised, IfConflict, IfUndone, IsAdvisedUnder};
 
 use super::advisers::{Advisers, Line};
 use super::choice::choose;
 use super::log::Log;
+use super::overtaken::undo_overtaken;
 use super::standing::Standing;
 use super::trail::{Trail, level_of};
 use linear::{Lit, Seq};
@@ -23,8 +25,10 @@ use std::alloc::{AllocError, Global};
 /// Where decisions end.
 #[derive(Drop)]
 pub(crate) enum Descent {
-    /// The constraint of this id has negative slack.
+    /// The constraint of this id has negative slack, and it takes the last decision for that.
     Conflict(Id),
+    /// Decisions that a conflict does not take were undone.
+    Undone,
     /// This line derives a constraint that says something under what stands.
     Advised(Line),
     /// Every variable has a value, by these literals, and there is no conflict.
@@ -82,7 +86,8 @@ fn decide<'a, P: Propagator>(
     Ok(trace.conflict)
 }
 
-/// Decides until there is a conflict, or an adviser comes to a line, or every variable has a value.
+/// Decides until there is a conflict, or an adviser comes to a line, or every variable has a value; or undoes decisions that a conflict does
+/// not take.
 pub(crate) fn descend<'a, P: Propagator>(
     alloc: Global,
     log: &mut Log<'a, P>,
@@ -94,12 +99,15 @@ pub(crate) fn descend<'a, P: Propagator>(
     requires { IsConsistent decisions.old.items }
     ensures same { log.new ≡ log.old }
     ensures consistent { OnOk result (IsConsistent decisions.new.items) }
-    ensures up_to_date { OnOk result (AreUpToDate (constraints log.old.state) (length decisions.old.items) decisions.new.items) }
-    ensures conflict { IfOk result (λ end. IfConflict end (LeadsToConflict (constraints log.old.state) decisions.new.items)) }
+    ensures conflict { IfOk result (λ end. IfConflict end (LeadsAtLast (constraints log.old.state) decisions.new.items)) }
+    ensures undone { IfOk result (λ end. IfUndone end (length decisions.new.items < length decisions.old.items)) }
     ensures advised { IfOk result (λ end. IfAdvised end (IsAdvisedUnder log.old.state decisions.new.items)) }
 {
     let mut standing = Standing::new(alloc, count)?;
     if let Some(conflict) = stand(log, decisions.as_slice(), &mut standing, trail)? {
+        if undo_overtaken(log, decisions)? {
+            return Ok(Descent::Undone);
+        }
         return Ok(Descent::Conflict(conflict));
     }
     loop {

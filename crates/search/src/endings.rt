@@ -1,7 +1,8 @@
 //! How a search ends: each way with the conclusion that bears it out.
 
-ghost use Rattle.std.specs.Prelude.{◌≡◌, ℕ, false, IfOk, IsTrue, None};
-ghost use Rattle.proof_rules.specs.State.{HasRoom};
+ghost use Rattle.std.specs.Prelude.{◌≡◌, ℕ, ◌+◌, ◌<◌, false, IfOk, IsTrue, None, OnOk};
+ghost use Rattle.proof_rules.specs.State.{HasRoom, constraints};
+ghost use Rattle.search.specs.Conflicts.{MeetsConflict};
 ghost use Rattle.search.specs.Solving.{BearsOut, MayStop};
 
 use super::fault::SearchFault;
@@ -15,6 +16,7 @@ use propagate::Propagator;
 /// is no solution.
 pub(crate) fn end_exhausted<'a, P: Propagator>(log: &mut Log<'a, P>) -> Result<Found, StepFault>
     ensures problem { log.new.problem ≡ log.old.problem }
+    ensures biting { OnOk result (log.new.biting ≡ log.old.biting) }
     ensures found { (limit : ℕ) → IfOk result (BearsOut limit log.new) }
 {
     let Some(best) = log.least_value() else {
@@ -29,18 +31,22 @@ pub(crate) fn end_exhausted<'a, P: Propagator>(log: &mut Log<'a, P>) -> Result<F
 pub(crate) fn end_solved<'a, P: Propagator>(log: &mut Log<'a, P>) -> Result<Found, StepFault>
     requires { log.old.problem.objective ≡ None }
     ensures problem { log.new.problem ≡ log.old.problem }
+    ensures biting { OnOk result (log.new.biting ≡ log.old.biting) }
     ensures found { (limit : ℕ) → IfOk result (BearsOut limit log.new) }
 {
     log.conclude(Conclusion::Sat(None))?;
     Ok(Found::Sat)
 }
 
-/// Whether a search may stop before its end.
+/// Whether a search may stop before its end, at a conflict: it has learned from all but one of those that it may meet, or no id is left.
 pub(crate) fn may_stop<'a, P: Propagator>(log: &Log<'a, P>, limit: u64) -> bool
+    requires within { log.now.biting < limit }
+    requires conflict { MeetsConflict (constraints log.now.state) }
     ensures stop { IsTrue result → MayStop limit log.now }
     ensures room { result ≡ false → HasRoom log.now.state }
+    ensures more { result ≡ false → log.now.biting + 1 < limit }
 {
-    limit.saturating_sub(1) <= log.biting() || !log.has_room()
+    limit - 1 <= log.biting() || !log.has_room()
 }
 
 /// The search stops before its end. Where there is an objective, whatever was logged has improved on what was there before.
@@ -50,6 +56,7 @@ pub(crate) fn end_stopped<'a, P: Propagator>(
 ) -> Result<Found, SearchFault>
     requires { MayStop limit log.old }
     ensures problem { log.new.problem ≡ log.old.problem }
+    ensures biting { OnOk result (log.new.biting ≡ log.old.biting) }
     ensures found { IfOk result (BearsOut limit log.new) }
 {
     if log.best()?.is_none() {

@@ -20,6 +20,7 @@ pub mod laws;
 mod learned;
 mod log;
 mod outdone;
+mod overtaken;
 mod presolving;
 mod restarts;
 mod run;

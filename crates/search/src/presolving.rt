@@ -170,6 +170,7 @@ pub(crate) fn presolve<'a, P: Propagator>(
     log: &mut Log<'a, P>,
 ) -> Result<(), SearchFault>
     ensures problem { log.new.problem ≡ log.old.problem }
+    ensures biting { OnOk result (log.new.biting ≡ log.old.biting) }
     ensures tried { OnOk result ((ls : List Lit) × (ss : List Swap) × AreFixed log.old.problem ls × AreUsed log.old.problem ls ss
         × TriesAll (map fixing ls ++ map swapping ss) log.old log.new) }
 {

@@ -1,7 +1,7 @@
 //! A run of the search: decisions, propagation, and what conflicts teach, a turn at a time.
 
 use super::advisers::Advisers;
-use super::clause::{ConflictEnd, learn_clause, least_conflict};
+use super::clause::learn_clause;
 use super::cutting::learn_constraint;
 use super::descent::{Descent, descend};
 use super::endings::{end_exhausted, end_solved, end_stopped, may_stop};
@@ -42,12 +42,12 @@ pub(crate) struct Run<'a, P: Propagator> {
 }
 
 impl<'a, P: Propagator> Run<'a, P> {
-    ghost use Rattle.std.specs.Prelude.{◌≡◌, ◌<◌, ℕ, [], IfOk, IfSome, IsNone, IsSome, OnOk, Some, length};
-    ghost use Rattle.propagate.specs.Chain.{LeadsToConflict};
+    ghost use Rattle.std.specs.Prelude.{◌≡◌, ◌≢◌, ◌<◌, ◌+◌, [], IfOk, IfSome, IsNone, OnOk};
     ghost use Rattle.propagate.specs.Literals.{IsConsistent};
     ghost use Rattle.proof_rules.specs.State.{HasRoom, constraints};
+    ghost use Rattle.search.specs.Conflicts.{LeadsAtLast};
     ghost use Rattle.search.specs.Solving.{BearsOut, TakesId};
-    ghost use Rattle.search.specs.Undoing.{AreUpToDate, IsUndone, NearsEnd};
+    ghost use Rattle.search.specs.Undoing.{IsUndone, NearsEnd};
 
     /// A run that begins, with no decision.
     pub(crate) fn new(
@@ -74,20 +74,19 @@ impl<'a, P: Propagator> Run<'a, P> {
         })
     }
 
-    /// Learns from a conflict under the decisions, as long as an id is left; none where no decision is needed for it.
-    fn resolve(&mut self, conflict: Id) -> Result<Option<ConflictEnd>, SearchFault>
+    /// Learns from a conflict under the decisions, as long as an id is left.
+    fn resolve(&mut self, conflict: Id) -> Result<(), SearchFault>
+        requires some { self.old.decisions.items ≢ [] }
         requires consistent { IsConsistent self.old.decisions.items }
-        requires conflict { LeadsToConflict (constraints self.old.log.state) self.old.decisions.items }
+        requires conflict { LeadsAtLast (constraints self.old.log.state) self.old.decisions.items }
         requires room { HasRoom self.old.log.state }
         ensures problem { self.new.log.problem ≡ self.old.log.problem }
-        ensures learned { IfOk result (λ conflict_end. conflict_end ≡ Some ConflictEnd.Learned → TakesId self.old.log.state self.new.log.state) }
-        ensures same { IfOk result (λ conflict_end. conflict_end ≡ Some ConflictEnd.Undone → self.new.log ≡ self.old.log) }
-        ensures fewer { (first : ℕ) → AreUpToDate (constraints self.old.log.state) first self.old.decisions.items
-            → IfOk result (λ conflict_end. conflict_end ≡ Some ConflictEnd.Undone → length self.new.decisions.items < first) }
+        ensures learned { OnOk result (TakesId self.old.log.state self.new.log.state) }
+        ensures biting { OnOk result (self.new.log.biting ≡ self.old.log.biting + 1) }
         ensures consistent { OnOk result (IsConsistent self.new.decisions.items) }
-        ensures undone { IfOk result (λ conflict_end. IsSome conflict_end → IsUndone self.old.decisions.items self.new.decisions.items) }
+        ensures undone { OnOk result (IsUndone self.old.decisions.items self.new.decisions.items) }
     {
-        let learned = learn_constraint(
+        let is_learned = learn_constraint(
             self.alloc,
             &mut self.log,
             &mut self.decisions,
@@ -96,23 +95,16 @@ impl<'a, P: Propagator> Run<'a, P> {
             &mut self.analyser,
             &mut self.advisers.brancher,
         )?;
-        if learned {
-            self.go_back();
-            return Ok(Some(ConflictEnd::Learned));
+        if !is_learned {
+            learn_clause(
+                self.alloc,
+                &mut self.log,
+                &mut self.decisions,
+                &mut self.advisers.brancher,
+            )?;
         }
-        let count = least_conflict(&mut self.log, self.decisions.as_slice())?;
-        if count == 0 {
-            return Ok(None);
-        }
-        let conflict_end = learn_clause(
-            self.alloc,
-            &mut self.log,
-            &mut self.decisions,
-            count,
-            &mut self.advisers.brancher,
-        )?;
         self.go_back();
-        Ok(Some(conflict_end))
+        Ok(())
     }
 
     /// Takes off the trail what came with decisions that are undone.
@@ -129,6 +121,7 @@ impl<'a, P: Propagator> Run<'a, P> {
         requires { IsConsistent self.old.decisions.items }
         ensures problem { self.new.log.problem ≡ self.old.log.problem }
         ensures next { OnOk result (self.new.log.state.next ≡ self.old.log.state.next) }
+        ensures biting { OnOk result (self.new.log.biting ≡ self.old.log.biting) }
         ensures consistent { OnOk result (IsConsistent self.new.decisions.items) }
     {
         let met = &self.analyser.met;
@@ -165,6 +158,7 @@ impl<'a, P: Propagator> Run<'a, P> {
         requires { IsConsistent self.old.decisions.items }
         ensures problem { self.new.log.problem ≡ self.old.log.problem }
         ensures next { OnOk result (self.new.log.state.next ≡ self.old.log.state.next) }
+        ensures biting { OnOk result (self.new.log.biting ≡ self.old.log.biting) }
         ensures consistent { IsConsistent self.new.decisions.items }
     {
         let met = self.analyser.met.variables.len();
@@ -190,6 +184,7 @@ impl<'a, P: Propagator> Run<'a, P> {
     fn forget_outdone(&mut self) -> Result<(), SearchFault>
         ensures problem { self.new.log.problem ≡ self.old.log.problem }
         ensures next { OnOk result (self.new.log.state.next ≡ self.old.log.state.next) }
+        ensures biting { OnOk result (self.new.log.biting ≡ self.old.log.biting) }
         ensures decisions { self.new.decisions.items ≡ self.old.decisions.items }
     {
         let gone = self.outdone.take(self.alloc, self.trail.entries())?;
@@ -200,6 +195,7 @@ impl<'a, P: Propagator> Run<'a, P> {
     fn improve(&mut self, assigned: Seq<Lit>) -> Result<(), SearchFault>
         ensures problem { self.new.log.problem ≡ self.old.log.problem }
         ensures id { OnOk result (TakesId self.old.log.state self.new.log.state) }
+        ensures biting { OnOk result (self.new.log.biting ≡ self.old.log.biting) }
         ensures decisions { self.new.decisions.items ≡ self.old.decisions.items }
     {
         let asked = self.log.asking();
@@ -216,6 +212,7 @@ impl<'a, P: Propagator> Run<'a, P> {
         ensures problem { self.new.log.problem ≡ self.old.log.problem }
         ensures found { IfOk result (λ end. IfSome end (BearsOut limit self.new.log)) }
         ensures improved { IfOk result (λ end. IsNone end → TakesId self.old.log.state self.new.log.state) }
+        ensures biting { OnOk result (self.new.log.biting ≡ self.old.log.biting) }
         ensures decisions { self.new.decisions.items ≡ self.old.decisions.items }
     {
         if self.log.problem().objective().is_none() {
@@ -229,11 +226,14 @@ impl<'a, P: Propagator> Run<'a, P> {
         Ok(None)
     }
 
-    /// Decides until there is a conflict, a line of an adviser or a solution, and learns from that.
+    /// Decides until there is a conflict, a line of an adviser or a solution, and learns from that; or undoes decisions that a conflict does
+    /// not take.
     pub(crate) fn turn(&mut self, limit: u64) -> Result<Option<Found>, SearchFault>
-        requires { IsConsistent self.old.decisions.items }
+        requires consistent { IsConsistent self.old.decisions.items }
+        requires within { self.old.log.biting < limit }
         ensures problem { self.new.log.problem ≡ self.old.log.problem }
         ensures found { IfOk result (λ end. IfSome end (BearsOut limit self.new.log)) }
+        ensures within { OnOk result (self.new.log.biting < limit) }
         ensures goes_on { IfOk result (λ end. IsNone end
             → NearsEnd self.old.log self.old.decisions.items self.new.log self.new.decisions.items) }
         ensures consistent { OnOk result (IsConsistent self.new.decisions.items) }
@@ -254,11 +254,12 @@ impl<'a, P: Propagator> Run<'a, P> {
                 if may_stop(&self.log, limit) {
                     return Ok(Some(end_stopped(&mut self.log, limit)?));
                 }
-                match self.resolve(conflict)? {
-                    None => return Ok(Some(end_exhausted(&mut self.log)?)),
-                    Some(ConflictEnd::Learned) => self.count_analysed()?,
-                    Some(ConflictEnd::Undone) => {}
-                }
+                self.resolve(conflict)?;
+                self.count_analysed()?;
+                Ok(None)
+            }
+            Descent::Undone => {
+                self.go_back();
                 Ok(None)
             }
             Descent::Advised(line) => {

@@ -33,6 +33,7 @@ fn search<'a, P: Propagator>(
     limit: u64,
     brancher: Box<dyn Brancher>,
 ) -> Result<Solved<'a, P>, SearchFault>
+    requires { 1 ≤ limit }
     ensures { IfOk result (λ solved. IsSolved problem.now limit solved.found solved.log) }
 {
     let mut log = Log::new(alloc, problem)?;

@@ -1,20 +1,16 @@
--- What is chosen is free in the table of what stands, so it is one more, and its opposite does not follow.
+-- What is chosen is free in the table of what stands, so it is one more, and a conflict takes it.
 use Rattle.std.proofs.Common.{◌<◌, List, MatchOption, length, sym, subst, ◌∙◌}
 use Rattle.linear.specs.declared.term.Lit.{Lit}
 use Rattle.propagate.specs.Chain.{LeadsToConflict}
 use Rattle.propagate.specs.Content.{IsEnd}
 use Rattle.propagate.specs.Literals.{IsConsistent}
 use Rattle.proof_rules.specs.State.{constraints}
+use Rattle.search.specs.Conflicts.{LeadsAtLast, TakesLast}
 use Rattle.search.specs.Log.{Logbook}
-use Rattle.search.specs.Undoing.{AreUpToDate}
 use Rattle.search.specs.Values.{unlisted_below}
-use Rattle.search.proofs.UpToDate.{IsChosen, chosen, one_behind}
+use Rattle.search.proofs.Taking.{IsChosen, chosen}
 use Rattle.search.proofs.descent.descend.Given.{Over}
 use Rattle.search.proofs.descent.descend.Goals as goal
-
-pub returns-in_default-choose-clause-up_to_date : goal.returns-in_default-choose-clause-up_to_date
-returns-in_default-choose-clause-up_to_date g c =
-    subst (λ (x : Logbook). AreUpToDate (constraints x.state) (length c.args.decisions.now.items) c.loop-standing.decisions.items) (c.loop-standing.invariant.0 ∙ c.stand.ensures.same) c.loop-standing.invariant.4
 
 pub decide-requires-clause-consistent : goal.decide-requires-clause-consistent
 decide-requires-clause-consistent g c =
@@ -35,14 +31,15 @@ going g c =
 pub returns-in-Some-2-clause-consistent : goal.returns-in-Some-2-clause-consistent
 returns-in-Some-2-clause-consistent g c = subst IsConsistent (sym c.in_ok-conflict-2.ensures.decided) (ended g c).consistent
 
-pub returns-in-Some-2-clause-up_to_date : goal.returns-in-Some-2-clause-up_to_date
-returns-in-Some-2-clause-up_to_date g c =
-    let decisions : List Lit = c.loop-standing.decisions.items in
-    let l : Lit = c.in-Some-choose.literal in
-    let first = length c.args.decisions.now.items in
-    let live = constraints c.loop-standing.log.state in
-    subst (λ (x : Logbook). AreUpToDate (constraints x.state) first c.decide.new.decisions.items) (c.loop-standing.invariant.0 ∙ c.stand.ensures.same)
-    (subst (AreUpToDate live first) (sym c.in_ok-conflict-2.ensures.decided) (one_behind live first decisions l c.loop-standing.invariant.4 (ended g c).not_reached))
+pub returns-in-Some-2-clause-conflict : goal.returns-in-Some-2-clause-conflict
+returns-in-Some-2-clause-conflict g c =
+    let old : Logbook = c.loop-standing.log in
+    let new : List Lit = c.decide.new.decisions.items in
+    let same = c.loop-standing.invariant.0 ∙ c.stand.ensures.same in
+    let conflict : LeadsToConflict (constraints old.state) new =
+    subst (λ o. MatchOption o (IsEnd old.state.live new c.decide.new.standing.0) (λ id. LeadsToConflict (constraints old.state) new)) c.in-Some-2.is c.in_ok-conflict-2.ensures.end in
+    let takes : TakesLast (constraints old.state) new = subst (TakesLast (constraints old.state)) (sym c.in_ok-conflict-2.ensures.decided) (ended g c).takes in
+    subst (λ (x : Logbook). LeadsAtLast (constraints x.state) new) same (conflict, takes)
 
 pub loop-standing-smaller : goal.loop-standing-smaller
 loop-standing-smaller g c =
@@ -51,21 +48,12 @@ loop-standing-smaller g c =
 pub loop-standing-preserved : goal.loop-standing-preserved
 loop-standing-preserved g c =
     let old : Logbook = c.loop-standing.log in
-    let decisions : List Lit = c.loop-standing.decisions.items in
     let new : List Lit = c.decide.new.decisions.items in
-    let l : Lit = c.in-Some-choose.literal in
-    let first = length c.args.decisions.now.items in
     let decided = c.in_ok-conflict-2.ensures.decided in
     let end : IsEnd old.state.live new c.decide.new.standing.0 =
-    subst (λ o. MatchOption o (IsEnd old.state.live new c.decide.new.standing.0) (λ id. LeadsToConflict (constraints old.state) new)) c.in_default-2.is c.in_ok-conflict-2.ensures.end in
-    let fresh : AreUpToDate (constraints old.state) first new = subst (AreUpToDate (constraints old.state) first) (sym decided) (one_behind (constraints old.state) first decisions l c.loop-standing.invariant.4 (going g c).not_reached) in (
+    subst (λ o. MatchOption o (IsEnd old.state.live new c.decide.new.standing.0) (λ id. LeadsToConflict (constraints old.state) new)) c.in_default-2.is c.in_ok-conflict-2.ensures.end in (
       c.decide.ensures.same ∙ c.loop-standing.invariant.0,
       subst IsConsistent (sym decided) (going g c).consistent,
       c.decide.ensures.count ∙ c.loop-standing.invariant.2,
       subst (λ (x : Logbook). IsEnd x.state.live new c.decide.new.standing.0) (sym c.decide.ensures.same) end,
-      subst (λ (x : Logbook). AreUpToDate (constraints x.state) first new) (sym c.decide.ensures.same) fresh,
     )
-
-pub returns-in-Some-found-clause-up_to_date : goal.returns-in-Some-found-clause-up_to_date
-returns-in-Some-found-clause-up_to_date g c =
-    subst (λ (x : Logbook). AreUpToDate (constraints x.state) (length c.args.decisions.now.items) c.loop-standing.decisions.items) (c.loop-standing.invariant.0 ∙ c.stand.ensures.same) c.loop-standing.invariant.4

@@ -1,8 +1,6 @@
 use Rattle.std.proofs.Common.{◌≡◌, length}
 use Rattle.propagate.specs.Content.{IsEnd}
 use Rattle.propagate.specs.Literals.{IsConsistent}
-use Rattle.proof_rules.specs.State.{constraints}
-use Rattle.search.specs.Undoing.{AreUpToDate}
 use Rattle.search.specs.Values.{unlisted_below}
 use Rattle.search.proofs.descent.descend.Given as goal
 
@@ -10,7 +8,6 @@ abbrev pub invariant-loop-standing : goal.invariant-loop-standing
 invariant-loop-standing g l =
     (l.log ≡ l.initial.log) × IsConsistent l.decisions.items × (length l.standing.1 ≡ l.count)
     × IsEnd l.log.state.live l.decisions.items l.standing.0
-    × AreUpToDate (constraints l.log.state) (length l.initial.decisions.items) l.decisions.items
 
 abbrev pub decreases-loop-standing : goal.decreases-loop-standing
 decreases-loop-standing g l = unlisted_below l.count l.decisions.items

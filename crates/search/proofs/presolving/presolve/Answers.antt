@@ -8,7 +8,7 @@ use Rattle.presolve.specs.Swapping.{AreUsed}
 use Rattle.presolve.specs.declared.swapping.Swap.{Swap}
 use Rattle.search.specs.Log.{Logbook}
 use Rattle.search.specs.Presolving.{TriesAll, fixing, swapping}
-use Rattle.search.proofs.Trying.{tries_both}
+use Rattle.search.proofs.Trying.{tries_both, tries_no_lesson}
 use Rattle.search.proofs.presolving.presolve.Goals as goal
 
 pub order-requires : goal.order-requires
@@ -29,3 +29,8 @@ returns-clause-tried g c =
     let first : TriesAll (map fixing ls) old mid = subst (λ us. TriesAll (map fixing us) old mid) c.as_slice.ensures.value c.in_ok-fix.ensures.tried in
     on_ok_weaker c.order.result
     (λ tried. (ls, ss, fixed, used, tries_both (map fixing ls) (map swapping ss) old mid new first (subst (λ us. TriesAll (map swapping us) mid new) c.as_slice-3.ensures.value tried))) c.order.ensures.tried
+
+pub returns-clause-biting : goal.returns-clause-biting
+returns-clause-biting g c =
+    let fixed = tries_no_lesson (map fixing c.as_slice.result.now) c.args.log.now c.fix.new.log c.in_ok-fix.ensures.tried in
+    on_ok_weaker c.order.result (λ tried. tries_no_lesson (map swapping c.as_slice-3.result.now) c.fix.new.log c.order.new.log tried ∙ fixed) c.order.ensures.tried

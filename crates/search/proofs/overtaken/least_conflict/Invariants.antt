@@ -1,7 +1,7 @@
 use Rattle.std.proofs.Common.{◌≡◌, ◌-◌, ◌<◌, ◌≤◌, length, take}
 use Rattle.propagate.specs.Chain.{IsImpossible}
 use Rattle.proof_rules.specs.State.{constraints}
-use Rattle.search.proofs.clause.least_conflict.Given as goal
+use Rattle.search.proofs.overtaken.least_conflict.Given as goal
 
 abbrev pub invariant-loop-low : goal.invariant-loop-low
 invariant-loop-low g l =

@@ -1,0 +1,23 @@
+-- The conflicts that a search meets.
+use Rattle.std.specs.Prelude.{◌≡◌, ◌≢◌, ◌+◌, ℕ, List, [], length, slice_index_or, take}
+use Rattle.linear.specs.declared.term.Lit.{Lit}
+use Rattle.linear.specs.Literal.{opposite}
+use Rattle.normal_form.specs.Normal.{NormalConstraint}
+use Rattle.propagate.specs.Chain.{IsImpossible, IsReached, LeadsToConflict}
+use Rattle.propagate.specs.Literals.{IsConsistent}
+
+-- decisions before that of a number lead by propagation to its opposite
+abbrev pub IsOvertaken : List NormalConstraint → List Lit → ℕ → Type 0
+IsOvertaken live decisions k = (d : Lit) → IsReached live (take k decisions) (opposite (slice_index_or decisions k d))
+
+-- a conflict takes the last decision: those before it lead to none, and not to its opposite
+abbrev pub TakesLast : List NormalConstraint → List Lit → Type 0
+TakesLast live decisions = (k : ℕ) → length decisions ≡ k + 1 → (IsImpossible live (take k decisions) → ⊥) × (IsOvertaken live decisions k → ⊥)
+
+-- decisions lead to a conflict, which takes the last of them
+abbrev pub LeadsAtLast : List NormalConstraint → List Lit → Type 0
+LeadsAtLast live decisions = LeadsToConflict live decisions × TakesLast live decisions
+
+-- there is a conflict under open decisions
+abbrev pub MeetsConflict : List NormalConstraint → Type 0
+MeetsConflict live = (decisions : List Lit) × (decisions ≢ []) × IsConsistent decisions × LeadsAtLast live decisions
