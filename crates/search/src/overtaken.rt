@@ -39,6 +39,19 @@ fn has_conflict<'a, P: Propagator>(log: &mut Log<'a, P>, given: &[Lit]) -> Resul
     }
 }
 
+/// The number that is asked next: all but one at first, and then the middle.
+fn asked(low: usize, high: usize, count: usize) -> usize
+    requires { low < high }
+    ensures low { low ≤ result }
+    ensures high { result < high }
+{
+    if high == count {
+        high - 1
+    } else {
+        low + (high - low) / 2
+    }
+}
+
 /// How many of the first decisions it takes for a conflict, where all of them lead to one. With more decisions there is no less
 /// of a conflict, so halving finds the number; most of the time it takes all of them, so that is asked first.
 fn least_conflict<'a, P: Propagator>(
@@ -53,11 +66,7 @@ fn least_conflict<'a, P: Propagator>(
     let mut low = 0;
     let mut high = decisions.len();
     while low < high {
-        let middle = if high == decisions.len() {
-            high - 1
-        } else {
-            low + (high - low) / 2
-        };
+        let middle = asked(low, high, decisions.len());
         if has_conflict(log, &decisions[..middle])? {
             high = middle;
         } else {
@@ -110,7 +119,9 @@ pub(crate) fn undo_overtaken<'a, P: Propagator>(
 {
     let count = least_conflict(log, decisions.as_slice())?;
     let left = left_of(log, decisions.as_slice(), count)?;
-    let is_undone = left < decisions.len();
+    if left == decisions.len() {
+        return Ok(false);
+    }
     decisions.truncate(left);
-    Ok(is_undone)
+    Ok(true)
 }

@@ -1,5 +1,5 @@
 -- By the slow search.
-use Rattle.std.proofs.Common.{◌≡◌, ◌×◌, ℕ, ◌+◌, zero, suc, List, [], ◌∷◌, take, length, refl, inl, inr, arith}
+use Rattle.std.proofs.Common.{◌≡◌, ℕ, ◌+◌, zero, suc, List, [], ◌∷◌, take, length, refl, inl, inr, arith}
 use Rattle.linear.specs.declared.term.Lit.{Lit}
 use Rattle.normal_form.specs.Cases.{negated, normal, plain}
 use Rattle.normal_form.specs.Normal.{NormalConstraint}
@@ -35,4 +35,4 @@ pub returns-clause-overtaken : goal.returns-clause-overtaken
 returns-clause-overtaken c t = (t 1 refl).1 (λ d. (closure_met 3 (one_of_two ∷ []) (not_x 1 ∷ []) (not_x 1 ∷ x 2 ∷ []) refl (x 2)).0 refl)
 
 pub returns-clause-nothing : goal.returns-clause-nothing
-returns-clause-nothing c m = m.3.0.2
+returns-clause-nothing c m = absurd (omega (arith, m.3.0.2.2))

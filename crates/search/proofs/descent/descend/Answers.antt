@@ -31,6 +31,17 @@ going g c =
 pub returns-in-Some-2-clause-consistent : goal.returns-in-Some-2-clause-consistent
 returns-in-Some-2-clause-consistent g c = subst IsConsistent (sym c.in_ok-conflict-2.ensures.decided) (ended g c).consistent
 
+-- what the open decisions lead to by themselves, where none of them is undone
+pub returns-in-Some-clause-conflict : goal.returns-in-Some-clause-conflict
+returns-in-Some-clause-conflict g c =
+    let live = constraints c.args.log.now.state in
+    let kept = c.in_ok-undo_overtaken.ensures.kept c.if-branch.false in
+    let given : LeadsToConflict live c.as_slice.result.now =
+    subst (λ o. MatchOption o (IsEnd c.args.log.now.state.live c.as_slice.result.now c.stand.new.standing.0) (λ id. LeadsToConflict live c.as_slice.result.now)) c.in-Some.is c.in_ok-conflict.ensures.end in (
+      subst (λ (xs : List Lit). LeadsToConflict live xs) (c.as_slice.ensures.value ∙ sym kept) given,
+      subst (λ (xs : List Lit). TakesLast live xs) (sym kept) (subst (λ (x : Logbook). TakesLast (constraints x.state) c.args.decisions.now.items) c.stand.ensures.same (c.in_ok-undo_overtaken.ensures.takes c.if-branch.false)),
+    )
+
 pub returns-in-Some-2-clause-conflict : goal.returns-in-Some-2-clause-conflict
 returns-in-Some-2-clause-conflict g c =
     let old : Logbook = c.loop-standing.log in

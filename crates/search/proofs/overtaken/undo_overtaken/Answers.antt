@@ -1,0 +1,21 @@
+-- None is undone only where all are left.
+use Rattle.std.proofs.Common.{◌≡◌, List, length, ap, sym, subst, ◌∙◌, arith}
+use Rattle.linear.specs.declared.term.Lit.{Lit}
+use Rattle.propagate.specs.Literals.{IsConsistent}
+use Rattle.proof_rules.specs.State.{constraints}
+use Rattle.search.specs.Conflicts.{TakesLast}
+use Rattle.search.specs.Log.{Logbook}
+use Rattle.search.proofs.BitingClauses.{take_consistent}
+use Rattle.search.proofs.overtaken.undo_overtaken.Goals as goal
+
+pub returns-clause-consistent : goal.returns-clause-consistent
+returns-clause-consistent g c =
+    subst IsConsistent (sym c.truncate.ensures.items) (take_consistent c.in_ok-left.left c.args.decisions.now.items c.requires.consistent)
+
+pub returns-then-left-len-clause-takes : goal.returns-then-left-len-clause-takes
+returns-then-left-len-clause-takes g c all =
+    let items : List Lit = c.args.decisions.now.items in
+    let live = constraints c.args.log.now.state in
+    let left : c.in_ok-left.left ≡ length c.as_slice-2.result.now = omega (arith, c.if-left-len.true, ap length c.as_slice-2.ensures.value, c.len.ensures) in
+    subst (λ (xs : List Lit). TakesLast live xs) c.as_slice-2.ensures.value
+    (subst (λ (l : Logbook). TakesLast (constraints l.state) c.as_slice-2.result.now) c.least_conflict.ensures.same (c.in_ok-left.ensures.takes left))
