@@ -118,7 +118,7 @@ fn symbol_length(text: &[u8]) -> usize
 
 /// What follows the byte of a word at the front; `None` where white space, a symbol or the end stands there.
 #[inline(always)]
-fn past_word_byte(text: &[u8]) -> Option<&[u8]>
+pub(crate) fn past_word_byte(text: &[u8]) -> Option<&[u8]>
     ensures { MatchOption
         result
         (begins_word text.now ≡ false)
