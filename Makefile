@@ -2,7 +2,7 @@
 # does so for the checker alone; `make test` runs the gate: every proof from nothing, the edits that must fail, and the tests;
 # `make demo` finds an optimum and has its proof checked, and runs the checker on three pigeons in two holes, an optimum, a
 # symmetry, a new name and a subproof; `make install` puts both programs and their manual pages under PREFIX.
-.PHONY: FORCE all test demo check install dist dist-check library demo-embed layout refused-growths statuses bench differential fuzz optima pigeons wrong-edits wrong-definitions wrong-bodies gate-minutes links picture sizes shared-names
+.PHONY: FORCE all test demo check install dist dist-check library demo-embed layout refused-growths statuses bench differential fuzz optima pigeons families wrong-edits wrong-definitions wrong-bodies gate-minutes links picture sizes shared-names
 
 PREFIX ?= /usr/local
 
@@ -94,6 +94,10 @@ optima: all
 # Pigeons in too few holes, up to twenty: a hundred conflicts at most.
 pigeons: all
 	scripts/pigeons
+
+# Solves problems of nineteen kinds, each with its proof checked.
+families: all
+	scripts/families
 
 # Times the checker on large problems and proofs.
 bench: bin/pbcheck
