@@ -206,7 +206,7 @@ impl Names {
     {
         let mut copy = Names::new(alloc);
         for name in self.set.as_slice() {
-            copy.intern(name.as_slice())?;
+            copy.add(name.as_slice())?;
         }
         Ok(copy)
     }

@@ -14,7 +14,8 @@ ghost use Rattle.pb_text.specs.Said.{Says};
 ghost use Rattle.pb_text.specs.Token.{lexeme_of};
 ghost use Rattle.opb_read.specs.Kinds.{begins_objective, relation_at, statements_of};
 ghost use Rattle.opb_read.specs.Progress.{HoldsLimits, IsLargeCode, IsOneTooMany, Reaches, Refuses, Step, StopsAt, closed, start_of, with_coefficient, with_relation, with_right, with_term, without_terms};
-ghost use Rattle.opb_read.specs.Codes.{IsTooManyOr};
+ghost use Rattle.opb_read.specs.Codes.{IsForm, IsTooManyOr};
+ghost use Rattle.opb_read.specs.FaultCodes.{code_at};
 ghost use Rattle.opb_read.specs.Reading.{progress_at, progress_of};
 ghost use Rattle.opb_read.specs.Spots.{begun, next_spot};
 
@@ -79,8 +80,18 @@ impl<'a> Reader<'a> {
         }
         match self.spot {
             Spot::Start => Ok(()),
-            spot => Err(spot.fault(&Lookahead::over(&self.left))),
+            _ => Err(self.fault()),
         }
+    }
+
+    /// The fault of the token that stands next, or of the end of the text, where it may not stand.
+    // Kept out of the loop that reads, which would make room for it at each token.
+    #[inline(never)]
+    fn fault(&self) -> OpbCode
+        ensures form { IsForm result }
+        ensures code { result ≡ code_at self.now.spot self.now.left }
+    {
+        self.spot.fault(&Lookahead::over(&self.left))
     }
 
     /// Passes the token that stands next.
@@ -101,7 +112,7 @@ impl<'a> Reader<'a> {
             behind,
         } = found;
         let Some(next) = self.spot.next(token.kind) else {
-            return Err(self.spot.fault(&Lookahead::over(&self.left)));
+            return Err(self.fault());
         };
         if next.is_in_constraint() && self.constraints.len() >= MOST_CONSTRAINTS {
             return Err(OpbCode::TooMany);

@@ -1,21 +1,24 @@
 -- A scanned word is the token at the front of its text: an integer with its number, or a literal.
-use Rattle.std.proofs.Common.{◌≡◌, ℕ, ℤ, zero, suc, ◌+◌, ◌<◌, ◌≤◌, ◌==◌, Bool, true, false, ◌&&◌, ◌||◌, not, Option, Some, None, IfSome, List, [], ◌∷◌, length, take, drop, pos, refl, ap, sym, subst, ◌∙◌, arith, add-one}
+use Rattle.std.proofs.Common.{◌≡◌, ℕ, ℤ, ◌+◌, ◌<◌, ◌≤◌, ◌==◌, Bool, true, false, ◌&&◌, Option, Some, None, IfSome, List, [], ◌∷◌, length, take, drop, pos, refl, ap, sym, subst, ◌∙◌, arith, add-one}
 use Rattle.std.specs.Prelude.{nat_lt, neg_ℤ, if◌then◌else◌}
 use Rattle.std.specs.List.{list_all}
 use Rattle.std.proofs.lemmas.Bool.Decides.{nat_tests, Decides-eqb}
 use Rattle.std.proofs.lemmas.List.{length-take-le}
 use Rattle.pb_text.specs.Name.{is_digit, begins_name, continues_name, is_name}
 use Rattle.pb_text.specs.Number.{digits_value, integer_size, integer_value, is_negative}
-use Rattle.pb_text.specs.Word.{is_sign, without_sign, is_integer, is_literal, name_of}
-use Rattle.pb_text.specs.Lexeme.{begins, begins_arrow_head, symbol_length}
-use Rattle.pb_text.specs.Cutting.{begins_word, IsWordFront}
+use Rattle.pb_text.specs.Word.{without_sign, is_integer, is_literal, name_of}
+use Rattle.pb_text.specs.Lexeme.{begins, begins_arrow_head, kind_of, lexemes_from, lexeme_at, symbol_length}
+use Rattle.pb_text.specs.Cutting.{begins_white, begins_word, behind, IsWordFront}
 use Rattle.pb_text.specs.Said.{Says, SaysName}
 use Rattle.pb_text.specs.Scan.{IsRun, AreDigits, IsIntegerWord, IsNameWord, IsReadName, IsLiteralWord, IsFirst}
 use Rattle.pb_text.specs.ShortName.{IsShort}
 use Rattle.pb_text.specs.declared.said.Said.{Said}
 use Rattle.pb_text.specs.declared.scan.Named.{Named}
 use Rattle.pb_text.specs.declared.said.Said.TheVariants as said
+use Rattle.pb_text.specs.declared.kind.Kind.{Kind}
 use Rattle.pb_text.specs.declared.kind.Kind.TheVariants as kinds
+use Rattle.pb_text.specs.declared.kind.Symbol.TheVariants as symbols
+use Rattle.pb_text.proofs.Cutting.{begins_is, symbol_first}
 use Rattle.pb_text.proofs.KindTests.{integer_is, literal_is}
 use Rattle.pb_text.proofs.FirstToken.{word_token, word_longer}
 use Rattle.pb_text.proofs.BytesRead.{other_byte, plain_byte, run_front}
@@ -254,3 +257,46 @@ pub says_name : (s : Said) (word : List ℕ) → Says s word → SaysName s (nam
 says_name said.Nothing word h = tt
 says_name (said.Number z) word h = tt
 says_name (said.Short k) word h = h
+
+-- symbols
+
+symbol_token : (n : ℕ) (k : Kind) (text : List ℕ) → begins_white text ≡ false → symbol_length text ≡ n → 0 < n → n ≤ length text → k ≡ kind_of (take n text) →
+    IsFirst text (record { size = n; kind = k; said = said.Nothing })
+symbol_token n k text white size some within kind = record {
+  within = within;
+  some = some;
+  kind = kind;
+  says = tt;
+  token = λ p plain.
+      let first = symbol_first p text plain white (omega (arith, size, some)) in
+      subst (λ (m : ℕ). lexemes_from p text ≡ lexeme_at p (take m text) ∷ lexemes_from (behind m p) (drop m text)) size first;
+}
+
+semicolon_kind : kinds.Symbol symbols.Semicolon ≡ kind_of (59 ∷ [])
+unfolding kind_of
+semicolon_kind = refl
+
+equals_kind : kinds.Symbol symbols.Equals ≡ kind_of (61 ∷ [])
+unfolding kind_of
+equals_kind = refl
+
+at_least_kind : kinds.Symbol symbols.AtLeast ≡ kind_of (62 ∷ 61 ∷ [])
+unfolding kind_of
+at_least_kind = refl
+
+pub semicolon_first : (text rest : List ℕ) → text ≡ 59 ∷ rest → IsFirst text (record { size = 1; kind = kinds.Symbol symbols.Semicolon; said = said.Nothing })
+semicolon_first text rest at =
+    subst (λ (xs : List ℕ). IsFirst xs (record { size = 1; kind = kinds.Symbol symbols.Semicolon; said = said.Nothing })) (sym at)
+    (symbol_token 1 (kinds.Symbol symbols.Semicolon) (59 ∷ rest) refl refl (omega arith) (omega arith) semicolon_kind)
+
+pub equals_first : (text rest : List ℕ) → text ≡ 61 ∷ rest → IsFirst text (record { size = 1; kind = kinds.Symbol symbols.Equals; said = said.Nothing })
+equals_first text rest at =
+    subst (λ (xs : List ℕ). IsFirst xs (record { size = 1; kind = kinds.Symbol symbols.Equals; said = said.Nothing })) (sym at)
+    (symbol_token 1 (kinds.Symbol symbols.Equals) (61 ∷ rest) refl refl (omega arith) (omega arith) equals_kind)
+
+pub at_least_first : (text rest : List ℕ) → text ≡ 62 ∷ rest → begins 61 rest ≡ true → IsFirst text (record { size = 2; kind = kinds.Symbol symbols.AtLeast; said = said.Nothing })
+at_least_first text rest at equals =
+    let behind_it = begins_is 61 rest equals in
+    let here : text ≡ 62 ∷ 61 ∷ behind_it.0 = at ∙ ap (λ (xs : List ℕ). 62 ∷ xs) behind_it.1 in
+    subst (λ (xs : List ℕ). IsFirst xs (record { size = 2; kind = kinds.Symbol symbols.AtLeast; said = said.Nothing })) (sym here)
+    (symbol_token 2 (kinds.Symbol symbols.AtLeast) (62 ∷ 61 ∷ behind_it.0) refl refl (omega arith) (omega arith) at_least_kind)

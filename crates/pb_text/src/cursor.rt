@@ -58,6 +58,10 @@ fn past_gap(c: Cursor<'_>) -> Option<Cursor<'_>>
     let [b, tail @ ..] = c.rest else {
         return None;
     };
+    // Most bytes that stand here begin a word, which one look shows.
+    if *b > b'*' {
+        return None;
+    }
     match *b {
         b'\n' => Some(Cursor {
             rest: tail,

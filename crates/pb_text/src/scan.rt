@@ -1,15 +1,16 @@
-//! Words that are read while they are cut.
+//! Tokens that are read while they are cut.
 //!
-//! Nearly all tokens of a problem and of a proof are integers of a few digits and names. One pass over such a word finds its end,
-//! its kind and what it says; a token of any other make is cut first and looked at then (`cursor`, `classify`).
+//! Nearly all tokens of a problem and of a proof are integers of a few digits, names, and a few symbols. One pass over such a token
+//! finds its end, its kind and what it says; a token of any other make is cut first and looked at then (`cursor`, `classify`).
 
 ghost use Rattle.std.specs.Prelude.{◌≡◌, ◌↔◌, ◌<◌, ◌^◌, pos, neg_ℤ, false, [], if◌then◌else◌, IfSome, IsTrue, MatchOption};
 ghost use Rattle.pb_text.specs.Cutting.{begins_white, begins_word};
+ghost use Rattle.pb_text.specs.Lexeme.{begins};
 ghost use Rattle.pb_text.specs.Scan.{AreDigits, IsFirst, IsLiteralWord, IsReadName};
 
 use super::classify::{begins_name, kind_of};
 use super::cursor::{past_word_byte, token_length};
-use super::kind::Kind;
+use super::kind::{Kind, Symbol};
 use super::runs::{digits, name_bytes, short_digits};
 use super::said::Said;
 
@@ -190,16 +191,66 @@ fn literal_word(text: &[u8]) -> Option<Named>
     }
 }
 
+// Symbols.
+
+/// Whether a text begins with `=`.
+#[inline(always)]
+fn begins_equals(text: &[u8]) -> bool
+    ensures { result ≡ begins 61 text.now }
+{
+    match text {
+        [b, ..] => *b == b'=',
+        [] => false,
+    }
+}
+
+/// A symbol of so many bytes.
+#[inline(always)]
+fn symbol_of(size: usize, symbol: Symbol) -> Scanned
+    ensures { result ≡ record { size = size; kind = Kind.Symbol symbol; said = Said.Nothing } }
+{
+    Scanned {
+        size,
+        kind: Kind::Symbol(symbol),
+        said: Said::Nothing,
+    }
+}
+
+/// The symbol at the front of a text, where it is one of those that a problem has in each statement.
+#[inline(always)]
+fn symbol_word(text: &[u8]) -> Option<Scanned>
+    ensures { IfSome result (IsFirst text.now) }
+{
+    let Some((first, rest)) = text.split_first() else {
+        return None;
+    };
+    match *first {
+        b';' => Some(symbol_of(1, Symbol::Semicolon)),
+        b'=' => Some(symbol_of(1, Symbol::Equals)),
+        b'>' => {
+            if begins_equals(rest) {
+                Some(symbol_of(2, Symbol::AtLeast))
+            } else {
+                None
+            }
+        }
+        _ => None,
+    }
+}
+
 // Tokens.
 
-/// The word at the front of a text, where it is read while it is cut.
+/// The token at the front of a text, where it is read while it is cut.
 #[inline(always)]
-fn quick_word(text: &[u8]) -> Option<Scanned>
+fn quick_token(text: &[u8]) -> Option<Scanned>
     ensures { IfSome result (IsFirst text.now) }
 {
     let first = text.first()?;
     if *first <= b'9' {
         return integer_word(text);
+    }
+    if *first <= b'>' {
+        return symbol_word(text);
     }
     let found = literal_word(text)?;
     Some(Scanned {
@@ -210,6 +261,7 @@ fn quick_word(text: &[u8]) -> Option<Scanned>
 }
 
 /// The token at the front of a text, cut first and looked at then; `None` at its end.
+#[inline(never)]
 fn any_token(text: &[u8]) -> Option<Scanned>
     requires { begins_white text.now ≡ false }
     ensures { MatchOption result (text.now ≡ []) (IsFirst text.now) }
@@ -231,7 +283,7 @@ pub(crate) fn first_token(text: &[u8]) -> Option<Scanned>
     requires { begins_white text.now ≡ false }
     ensures { MatchOption result (text.now ≡ []) (IsFirst text.now) }
 {
-    match quick_word(text) {
+    match quick_token(text) {
         Some(word) => Some(word),
         None => any_token(text),
     }
