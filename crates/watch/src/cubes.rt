@@ -2,8 +2,7 @@
 //!
 //! The negation of a clause is one. It forces each of its literals, whatever else is assigned, and once all are true it says nothing
 //! more. So beside others it need not stand at a place: its literals are assigned as given ones are, and when they are backtracked,
-//! nothing of it is left. To enter it into the lists of its literals, and to take it off them again, would cost more than all else
-//! that is done for a clause which is shown at once.
+//! nothing of it is left. To enter it would cost a copy and an entry for each literal, and as much to take it off again.
 
 ghost use Rattle.std.specs.Prelude.{◌≡◌, ◌<◌, ◌≤◌, ◌∷◌, [], All, IfOk, IsTrue, length, slice_index_or};
 ghost use Rattle.normal_form.specs.declared.term.NormalTerm.{NormalTerm};
