@@ -411,7 +411,7 @@ impl Ledger {
         ensures err { OnErr result (self.new ≡ self.old) }
     {
         make_room(&mut self.slots, &mut self.counters, &mut self.limits)?;
-        let limit = constraint.degree() + largest(&constraint);
+        let limit = constraint.degree() + constraint.sum();
         enter_watched(&mut self.clauses, &mut self.watchers, &constraint, pair)?;
         self.counters.push_reserved(0);
         self.limits.push_reserved(limit);
