@@ -411,6 +411,7 @@ impl Ledger {
         ensures err { OnErr result (self.new ≡ self.old) }
     {
         make_room(&mut self.slots, &mut self.counters, &mut self.limits)?;
+        // No counter is held against the limit of a clause that is watched, so the sum does in place of the largest coefficient.
         let limit = constraint.degree() + constraint.sum();
         enter_watched(&mut self.clauses, &mut self.watchers, &constraint, pair)?;
         self.counters.push_reserved(0);
