@@ -7,15 +7,21 @@ use Rattle.propagate.specs.Slack.{IsFalsified, IsForced}
 use Rattle.proof_rules.specs.Expression.{IsPostfixOf}
 use Rattle.proof_rules.specs.State.{State, constraint_of}
 use Rattle.bounding.specs.declared.advice.Advice.{Advice}
-use Rattle.bounding.specs.declared.advice.Advice.TheVariants.{Conflict, Forcing, Values, Nothing}
+use Rattle.bounding.specs.declared.advice.Advice.TheVariants.{Conflict, Forcing, Cut, Values, Nothing}
 
 -- the items write an expression of the live constraints, and this is its value
 abbrev pub Derives : State → List Item → NormalConstraint → Type 0
 Derives s items n = IsPostfixOf (constraint_of s) items n
 
--- a conflict derives a constraint that has negative slack under the literals that stand, and what forces one that forces a literal there
+-- the items write an expression of the live constraints
+abbrev pub IsDerivable : State → List Item → Type 0
+IsDerivable s items = (n : NormalConstraint) × Derives s items n
+
+-- a conflict derives a constraint that has negative slack under the literals that stand, and what forces one that forces a literal there; a
+-- cut derives a constraint, and nothing is said of it
 abbrev pub IsBorneOut : State → List Lit → Advice → Type 0
 IsBorneOut s standing (Conflict items) = (n : NormalConstraint) × Derives s items n × IsFalsified standing n
 IsBorneOut s standing (Forcing items) = (n : NormalConstraint) × (l : Lit) × Derives s items n × IsForced standing l n
+IsBorneOut s standing (Cut items) = IsDerivable s items
 IsBorneOut s standing Values = Unit {0}
 IsBorneOut s standing Nothing = Unit {0}

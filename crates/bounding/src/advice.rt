@@ -23,6 +23,8 @@ pub enum Advice {
     Conflict(Seq<Item>),
     /// The items of a `pol` line whose constraint forces a literal more.
     Forcing(Seq<Item>),
+    /// The items of a `pol` line whose constraint the best point of the relaxation violates, at the root. Nothing more is said of it.
+    Cut(Seq<Item>),
     /// The relaxation has a best point, to which `leanings` lead.
     Values,
     /// Nothing was asked of the relaxation, or nothing came of it.
@@ -38,6 +40,8 @@ pub struct Figures {
     pub conflicts: u64,
     /// How many lines were handed out that force a literal.
     pub forcings: u64,
+    /// How many cuts were handed out.
+    pub cuts: u64,
     /// How often multipliers summed up to nothing that says anything.
     pub failed: u64,
 }

@@ -7,16 +7,20 @@ ghost use Rattle.std.specs.Prelude.{◌≡◌, IfOk};
 ghost use Rattle.bounding.specs.Advice.{IsBorneOut};
 
 use super::advice::{Advice, Figures, Node};
+use super::cut_rows::CutRows;
+use super::cuts::{Cuts, Point};
 use super::effort::{Aim, Effort};
 use super::judgement::{Judgement, judge};
+use super::rounds::Rounds;
 use super::sources::Sources;
 use super::standing::Standing;
 use super::summing::line_of;
 use kernel::Kernel;
-use linear::{Integer, Lit, Problem, Var};
+use linear::{Integer, Lit, Problem, Seq, Var};
 use proof_rules::StepFault;
+use proof_steps::Item;
 use propagate::{Id, Propagator};
-use relaxation::{End, Fixed, Relaxation, whole_multipliers};
+use relaxation::{End, Fixed, Limits, Relaxation, whole_multipliers};
 use std::alloc::{AllocError, Global};
 
 /// How many variables a problem may have. Beyond that one call takes too long.
@@ -41,6 +45,9 @@ pub struct Adviser {
     relaxation: Relaxation,
     sources: Sources,
     effort: Effort,
+    rounds: Rounds,
+    cuts: Cuts,
+    cut_rows: CutRows,
     /// How many variables the file has.
     count: u32,
     /// The literals that are fixed in the relaxation.
@@ -77,7 +84,7 @@ fn relaxation_of(alloc: Global, problem: &Problem, count: usize) -> Result<Relax
 
 impl Adviser {
     ghost use Rattle.std.specs.Prelude.{◌≤◌, IfOk, IfSome};
-    ghost use Rattle.bounding.specs.Advice.{IsBorneOut};
+    ghost use Rattle.bounding.specs.Advice.{IsBorneOut, IsDerivable};
 
     /// The adviser of a problem whose file's constraints a kernel has. None where the problem is too large for one: above 20,000 variables or
     /// 60,000 terms.
@@ -100,6 +107,9 @@ impl Adviser {
             relaxation,
             sources,
             effort: Effort::new(),
+            rounds: Rounds::new(),
+            cuts: Cuts::new(alloc, kernel, names)?,
+            cut_rows: CutRows::new(alloc),
             count: names as u32,
             fixed: Vec::new(alloc),
             leanings: Vec::new(alloc),
@@ -108,6 +118,7 @@ impl Adviser {
                 calls: 0,
                 conflicts: 0,
                 forcings: 0,
+                cuts: 0,
                 failed: 0,
             },
         }))
@@ -123,8 +134,35 @@ impl Adviser {
         }
     }
 
+    /// Takes note of a cut, whose line is the last step that the kernel applied: from now on its constraint is a row.
+    ///
+    /// `AllocError` comes where a growth was refused. The cut is no row then.
+    pub fn take_cut<'a, P: Propagator>(
+        &mut self,
+        kernel: &Kernel<'a, P>,
+    ) -> Result<(), AllocError> {
+        let Ok(id) = Id::try_from(kernel.last_id()) else {
+            return Ok(());
+        };
+        match kernel.constraint(id) {
+            Some(constraint) => {
+                let sources = &mut self.sources;
+                self.cut_rows
+                    .add(&mut self.relaxation, sources, id, constraint)
+            }
+            None => Ok(()),
+        }
+    }
+
+    /// Takes the ids of the cuts that are no rows any more since they had slack for long: no line will cite them from now on, and they may be
+    /// deleted.
+    pub fn take_slack_cuts(&mut self) -> Vec<Id> {
+        self.cut_rows.take_left()
+    }
+
     /// Solves the relaxation at a node, where that is due. The line of a conflict derives a constraint that has negative slack under
-    /// what stands, and that of a forcing one a constraint that forces a literal there.
+    /// what stands, and that of a forcing one a constraint that forces a literal there. At the root cuts may come, one a call: each is to be
+    /// logged and given to `take_cut`, and the call to be made again.
     ///
     /// `AllocError` comes where a growth was refused. The adviser may be asked again then.
     pub fn ask<'a, P: Propagator>(
@@ -134,17 +172,72 @@ impl Adviser {
     ) -> Result<Advice, AllocError>
         ensures { IfOk result (IsBorneOut kernel.now.state node.entry.standing.now) }
     {
+        if let Some(items) = self.waiting_cut(kernel, node)? {
+            self.figures.cuts = self.figures.cuts.saturating_add(1);
+            return Ok(Advice::Cut(items));
+        }
         let before = self.relaxation.work_done();
-        let aim = self.aim();
-        let Some(limits) = self.effort.limits(before, node, aim) else {
+        let Some(limits) = self.limits(before, node) else {
             return Ok(Advice::Nothing);
         };
         let standing = Standing::of(self.alloc, node.standing)?;
         self.fix(node.standing)?;
         let end = self.relaxation.solve(self.sources.upper(), limits)?;
         let advice = self.answer(kernel, &standing, end)?;
+        self.go_on(&advice);
         self.count(&advice, node, before);
         Ok(advice)
+    }
+
+    /// The next cut of the last round, as long as the search is at the root.
+    fn waiting_cut<'a, P: Propagator>(
+        &mut self,
+        kernel: &Kernel<'a, P>,
+        node: Node<'_>,
+    ) -> Result<Option<Seq<Item>>, AllocError>
+        ensures { IfOk result (λ found. IfSome found (IsDerivable kernel.now.state)) }
+    {
+        if node.decisions > 0 {
+            self.cuts.clear();
+            self.rounds.end();
+            return Ok(None);
+        }
+        self.next_cut(kernel)
+    }
+
+    /// The next cut that waits.
+    fn next_cut<'a, P: Propagator>(
+        &mut self,
+        kernel: &Kernel<'a, P>,
+    ) -> Result<Option<Seq<Item>>, AllocError>
+        ensures { IfOk result (λ found. IfSome found (IsDerivable kernel.now.state)) }
+    {
+        let point = Point {
+            sources: &self.sources,
+            relaxation: &self.relaxation,
+        };
+        self.cuts.next(kernel, point)
+    }
+
+    /// What a call may do at a node, where so much was done so far: it is the next round at the root, or it is due by `effort`.
+    fn limits(&mut self, before: u64, node: Node<'_>) -> Option<Limits> {
+        if let Some(limits) = self.rounds.next(before) {
+            return Some(limits);
+        }
+        let aim = self.aim();
+        let limits = self.effort.limits(before, node, aim)?;
+        if node.decisions == 0 {
+            self.rounds.begin(before, limits);
+        }
+        Some(limits)
+    }
+
+    /// Ends the rounds at the root, unless the answer is one after which the relaxation says more.
+    fn go_on(&mut self, advice: &Advice) {
+        match advice {
+            Advice::Cut(_) | Advice::Forcing(_) => {}
+            Advice::Conflict(_) | Advice::Values | Advice::Nothing => self.rounds.end(),
+        }
     }
 
     /// What solutions are looked for.
@@ -187,13 +280,46 @@ impl Adviser {
             End::Values => {
                 self.lean(standing)?;
                 if !self.relaxation.forces_a_literal() {
-                    return Ok(Advice::Values);
+                    return self.cut(kernel, standing);
                 }
                 let found = self.sum_up(kernel, standing)?;
                 Ok(found.unwrap_or(Advice::Values))
             }
             End::Limit => Ok(Advice::Nothing),
         }
+    }
+
+    /// The best cut of a round at the root, if there is one.
+    fn cut<'a, P: Propagator>(
+        &mut self,
+        kernel: &Kernel<'a, P>,
+        standing: &Standing<'_>,
+    ) -> Result<Advice, AllocError>
+        ensures { IfOk result (IsBorneOut kernel.now.state standing.now) }
+    {
+        if self.rounds.are_open() {
+            self.find_cuts(kernel)?;
+        }
+        match self.next_cut(kernel)? {
+            Some(items) => Ok(Advice::Cut(items)),
+            None => Ok(Advice::Values),
+        }
+    }
+
+    /// Looks for the cuts of a round, unless the rounds end with it.
+    fn find_cuts<'a, P: Propagator>(&mut self, kernel: &Kernel<'a, P>) -> Result<(), AllocError> {
+        self.cut_rows.age(&mut self.relaxation)?;
+        self.rounds.note_bound(self.relaxation.scaled_bound());
+        if !self.rounds.are_open() {
+            return Ok(());
+        }
+        let point = Point {
+            sources: &self.sources,
+            relaxation: &self.relaxation,
+        };
+        let done = self.cuts.find(kernel, point)?;
+        self.relaxation.count_work(done);
+        Ok(())
     }
 
     /// The line of the multipliers of the last call, if it says something under the literals that stand.
@@ -287,6 +413,7 @@ impl Adviser {
         match advice {
             Advice::Conflict(_) => figures.conflicts = figures.conflicts.saturating_add(1),
             Advice::Forcing(_) => figures.forcings = figures.forcings.saturating_add(1),
+            Advice::Cut(_) => figures.cuts = figures.cuts.saturating_add(1),
             Advice::Values | Advice::Nothing => {}
         }
         if node.decisions == 0 {
@@ -295,7 +422,7 @@ impl Adviser {
         }
         match advice {
             Advice::Conflict(_) | Advice::Forcing(_) => self.effort.reward(),
-            Advice::Values | Advice::Nothing => {
+            Advice::Cut(_) | Advice::Values | Advice::Nothing => {
                 let cost = self.relaxation.work_done().saturating_sub(before);
                 self.effort.charge(cost);
             }
@@ -304,7 +431,7 @@ impl Adviser {
 
     /// Notes the bound of a call at the root.
     fn note_bound(&mut self, advice: &Advice) {
-        if let Advice::Values | Advice::Forcing(_) = advice {
+        if let Advice::Values | Advice::Forcing(_) | Advice::Cut(_) = advice {
             self.bound = Some(self.relaxation.bound());
         }
     }

@@ -7,7 +7,7 @@ ghost use Rattle.std.specs.Prelude.{◌≡◌, [], pos, Some, IfOk, OnOk};
 ghost use Rattle.proof_rules.specs.Expression.{Given, IsPostfixOf};
 ghost use Rattle.proof_rules.specs.Running.{LeavesStack};
 
-use linear::Seq;
+use linear::{Lit, Seq, Var};
 use normal_form::Normal;
 use pol_stack::{Accumulator, Operand, Stack};
 use proof_rules::StepFault;
@@ -46,6 +46,23 @@ impl<'k> Line<'k> {
         }
     }
 
+    /// A line of which the items so far write one constraint.
+    pub(crate) fn resume(alloc: Global, items: Seq<Item>, value: Normal) -> Result<Self, StepFault>
+        ensures { (given : Given) → IsPostfixOf given items value → IfOk result (λ line. LeavesStack given line.items.items line.stack) }
+    {
+        let mut stack = Stack::new(alloc, Accumulator::new(alloc));
+        stack.push(Operand::Sum(value))?;
+        Ok(Line {
+            items: items.into_vec(),
+            stack,
+        })
+    }
+
+    /// How many items there are.
+    pub(crate) fn len(&self) -> usize {
+        self.items.len()
+    }
+
     /// Whether there is no item yet.
     pub(crate) fn is_empty(&self) -> bool {
         self.items.is_empty()
@@ -58,6 +75,26 @@ impl<'k> Line<'k> {
     {
         self.items.push(Item::Id(i128::from(id)))?;
         self.stack.push(Operand::Live(constraint))?;
+        Ok(())
+    }
+
+    /// Puts the axiom of a literal on top.
+    pub(crate) fn axiom(&mut self, alloc: Global, literal: Lit) -> Result<(), StepFault>
+        ensures { (given : Given) → LeavesStack given self.old.items.items self.old.stack
+            → OnOk result (LeavesStack given self.new.items.items self.new.stack) }
+    {
+        self.items.push(Item::Axiom(literal))?;
+        self.stack.push_axiom(alloc, literal)?;
+        Ok(())
+    }
+
+    /// Weakens the one on top by a variable.
+    pub(crate) fn weaken(&mut self, alloc: Global, variable: Var) -> Result<(), StepFault>
+        ensures { (given : Given) → LeavesStack given self.old.items.items self.old.stack
+            → OnOk result (LeavesStack given self.new.items.items self.new.stack) }
+    {
+        self.items.push(Item::Weaken(variable))?;
+        self.stack.weaken_top(alloc, variable)?;
         Ok(())
     }
 

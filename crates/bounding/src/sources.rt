@@ -134,6 +134,34 @@ impl Sources {
         Ok(())
     }
 
+    /// Adds the row of a saturated constraint.
+    pub(crate) fn append_row(
+        &mut self,
+        relaxation: &mut Relaxation,
+        id: Id,
+        constraint: &Normal,
+    ) -> Result<Row, AllocError> {
+        self.rows.reserve(1)?;
+        let row = relaxation.add_row(constraint)?;
+        self.rows.push(id)?;
+        Ok(row)
+    }
+
+    /// Puts the row of a saturated constraint in the place of one that was taken out.
+    pub(crate) fn replace_row(
+        &mut self,
+        relaxation: &mut Relaxation,
+        row: Row,
+        id: Id,
+        constraint: &Normal,
+    ) -> Result<Row, AllocError> {
+        relaxation.replace_row(row, constraint)?;
+        if let Some(place) = self.rows.get_mut(row.0) {
+            *place = id;
+        }
+        Ok(row)
+    }
+
     /// Notes the constraint that the newest improving solution added, and what that solution is worth.
     pub(crate) fn improve(&mut self, id: Id, value: Integer, constraint: &Normal) {
         self.improving = Some(Improving {

@@ -72,7 +72,7 @@ fn add<'k, 'a, P: Propagator>(
     line.add(alloc)
 }
 
-/// The line of some multipliers.
+/// The line of some multipliers, divided by what they have in common.
 pub(crate) fn line_of<'k, 'a, P: Propagator>(
     alloc: Global,
     kernel: &'k Kernel<'a, P>,
@@ -82,6 +82,20 @@ pub(crate) fn line_of<'k, 'a, P: Propagator>(
     ensures { IfOk result (λ line. LeavesStack (constraint_of kernel.now.state) line.items.items line.stack) }
 {
     let common = common_factor(multipliers);
+    divided_line(alloc, kernel, sources, multipliers, common)
+}
+
+/// The line of some multipliers, divided by a number.
+pub(crate) fn divided_line<'k, 'a, P: Propagator>(
+    alloc: Global,
+    kernel: &'k Kernel<'a, P>,
+    sources: &Sources,
+    multipliers: &[WholeMultiplier],
+    common: u128,
+) -> Result<Line<'k>, StepFault>
+    requires { 0 < common }
+    ensures { IfOk result (λ line. LeavesStack (constraint_of kernel.now.state) line.items.items line.stack) }
+{
     let mut line = Line::new(alloc);
     for multiplier in multipliers {
         let factor = u128::from(multiplier.factor) / common;

@@ -1,7 +1,8 @@
 -- What the steps of a block do, in the words of the kernel's fields.
-use Rattle.std.proofs.Common.{◌≡◌, ℕ, ◌<◌, ◌≤◌, ℤ, Bool, true, false, List, Result, Ok, Err, OnOk, Option, Some, None, MatchOption, IfSome, IsSomeAnd, refl, sym, ap, subst, ◌∙◌, arith}
+use Rattle.std.proofs.Common.{◌≡◌, ℕ, ◌<◌, ◌≤◌, ℤ, Bool, true, false, List, [], ◌++◌, Result, Ok, Err, OnOk, Option, Some, None, MatchOption, IfSome, IsSomeAnd, refl, sym, ap, subst, ◌∙◌, arith}
 use Rattle.std.specs.Result.{is_err}
 use Rattle.std.proofs.lemmas.Bool.{false≢true}
+use Rattle.std.proofs.lemmas.List.{append-nil}
 use Rattle.std.specs.FinMap as map
 use Rattle.linear.specs.Opb.{Opb}
 use Rattle.normal_form.specs.Normal.{NormalConstraint, Fits, total, largest_sum}
@@ -18,12 +19,12 @@ use Rattle.substitution.specs.Objective.{IsObjectiveGoal, not_raised}
 use Rattle.proof_rules.specs.declared.fault.StepFault.{StepFault}
 use Rattle.proof_rules.specs.declared.fault.StepFault.TheVariants as faults
 use Rattle.proof_rules.specs.Redundant.{IsShownUnder, IsShownNotRaised}
-use Rattle.kernel.specs.Redundance.{IsOpenLive}
-use Rattle.proof_rules.specs.Block.{Asks, IsUnopened}
+use Rattle.kernel.specs.Redundance.{AreAskedShown, IsOpenLive}
+use Rattle.proof_rules.specs.Block.{AreLiveShown, Asks, IsUnopened}
 use Rattle.proof_rules.specs.Fault.{OrMemory, IsInsideFault, IsProofGoalFault, IsRedBeginFault, IsUnopenedFault}
 use Rattle.proof_rules.specs.RuleFault.{of_rule}
 use Rattle.proof_rules.specs.Shown.{IsAdmitted, IsShown}
-use Rattle.proof_rules.specs.State.{State, Block, constraints, id_of}
+use Rattle.proof_rules.specs.State.{State, Block, Live, constraints, id_of}
 use Rattle.proof_rules.proofs.NotLegal.{one_admitted}
 use Rattle.kernel.specs.declared.open_block.Place.{Place}
 use Rattle.kernel.specs.declared.open_block.Place.TheVariants as places
@@ -47,6 +48,16 @@ none_found (Some first) r is not = absurd (not first is)
 
 pub no_goal : (k : Block) (r : Place) → MatchOption k.goal (r ≡ places.Block) (λ first. r ≡ places.Goal first) → ((f : ℕ) → r ≡ places.Goal f → ⊥) → k.goal ≡ None
 no_goal k r is not = none_found k.goal r is not
+
+-- what is shown of the live constraints, as a kernel holds them and the block, is what the block asks for
+pub each_shown : (s : State) (k held : Block) (live : Live) (first : ℕ) (beside : List NormalConstraint) → live ≡ s.live → beside ≡ [] → held ≡ k → first ≡ held.first
+    → AreAskedShown live first held.opened (map.values live ++ beside) held.images → AreLiveShown s k
+each_shown s k held live first beside same none is at h =
+    let from : map.values live ++ beside ≡ constraints s = ap (λ l. map.values l ++ beside) same ∙ ap (λ xs. constraints s ++ xs) none ∙ append-nil (constraints s) in
+    subst (λ xs. AreAskedShown s.live k.first k.opened xs k.images) from
+    (subst (λ l. AreAskedShown l k.first k.opened (map.values live ++ beside) k.images) same
+    (subst (λ (x : Block). AreAskedShown live x.first x.opened (map.values live ++ beside) x.images) is
+    (subst (λ n. AreAskedShown live n held.opened (map.values live ++ beside) held.images) at h)))
 
 -- what a success says of the value afterwards
 pub of_ok : {T E : Type 0} (P : Type 0) (r : Result T E) → false ≡ is_err r → OnOk r P → P

@@ -12,10 +12,13 @@ use super::pair::Pair;
 use linear::Lit;
 use normal_form::Normal;
 
-/// Whether any one of its literals satisfies a constraint.
+/// Whether any one of its literals satisfies a constraint. One that asks for no more than 1 need not be looked through.
 fn is_clause(constraint: &Normal) -> bool
     ensures { IsTrue result → IsClause constraint.now }
 {
+    if constraint.degree() <= 1 {
+        return true;
+    }
     for index in 0..constraint.len() {
         if constraint.term(index).coef < constraint.degree() {
             return false;
@@ -103,7 +106,16 @@ fn later_of(constraint: &Normal, trail: &Assignment, one: usize, other: usize) -
     }
 }
 
-/// Of the terms but for one, that whose literal stays open longest.
+/// Whether the literal of a term is open: then it stays open as long as any other.
+fn is_open_at(constraint: &Normal, trail: &Assignment, index: usize) -> bool
+    requires variables { variable_bound constraint.now.terms ≤ trail.now.1 }
+    requires index { index < length constraint.now.terms }
+    ensures { IsTrue result → (k : ℕ) → OutlastsTerm trail.now.0 constraint.now.terms index k }
+{
+    !trail.has(constraint.term(index).literal().opposite())
+}
+
+/// Of the terms but for one, that whose literal stays open longest. Where one is open, the others behind it are not looked at.
 fn latest_but(constraint: &Normal, trail: &Assignment, excluded: usize) -> usize
     requires variables { variable_bound constraint.now.terms ≤ trail.now.1 }
     requires two { 2 ≤ length constraint.now.terms }
@@ -113,6 +125,9 @@ fn latest_but(constraint: &Normal, trail: &Assignment, excluded: usize) -> usize
 {
     let mut latest = if excluded == 0 { 1 } else { 0 };
     for index in 0..constraint.len() {
+        if is_open_at(constraint, trail, latest) {
+            return latest;
+        }
         if index != excluded {
             latest = later_of(constraint, trail, latest, index);
         }

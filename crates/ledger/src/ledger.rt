@@ -411,7 +411,8 @@ impl Ledger {
         ensures err { OnErr result (self.new ≡ self.old) }
     {
         make_room(&mut self.slots, &mut self.counters, &mut self.limits)?;
-        let limit = constraint.degree() + largest(&constraint);
+        // No counter is held against the limit of a clause that is watched, so the sum does in place of the largest coefficient.
+        let limit = constraint.degree() + constraint.sum();
         enter_watched(&mut self.clauses, &mut self.watchers, &constraint, pair)?;
         self.counters.push_reserved(0);
         self.limits.push_reserved(limit);

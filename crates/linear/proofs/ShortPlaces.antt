@@ -1,12 +1,11 @@
 -- Each list of digits has a number of its own, so what is kept for the number of a name is that name's place; and what is kept
 -- stays right where names come.
-use Rattle.std.proofs.Common.{◌≡◌, ℕ, ◌+◌, ◌*◌, ◌-◌, ◌<◌, ◌⊎◌, inl, inr, Bool, true, false, not, cond, ◌||◌, List, [], ◌∷◌, ◌++◌, Option, Some, None, IfSome, All, length, take, reverse, get_or, zero, suc, refl, sym, ap, subst, ◌∙◌, arith}
+use Rattle.std.proofs.Common.{◌≡◌, ℕ, ◌+◌, ◌-◌, ◌<◌, ◌⊎◌, inl, inr, Bool, true, false, not, cond, ◌||◌, List, [], ◌∷◌, ◌++◌, Option, Some, None, IfSome, All, length, take, reverse, get_or, zero, suc, refl, sym, ap, subst, ◌∙◌, arith}
 use Rattle.std.specs.List.{IsDistinct}
 use Rattle.std.specs.Cmp.Lexicographic.{nat_list_eq_equiv}
 use Rattle.std.proofs.lemmas.Bool.{true≢false}
 use Rattle.std.proofs.lemmas.List.{get_or_append_left, length-append}
-use Rattle.std.proofs.lemmas.Grind.{reverse_onto}
-use Rattle.std.proofs.lemmas.List.Elements.{All-nil, All-cons, All-head, All-tail}
+use Rattle.std.proofs.lemmas.List.Elements.{All-head, All-tail}
 use Rattle.linear.specs.Table.{same_name, has_name, place_of, IsTable}
 use Rattle.linear.specs.ShortNames.{number_from, IsDigit, IsShort, IsKeptAt, AreShortPlaces}
 use Rattle.linear.proofs.Tables.{fresh_name}
@@ -27,24 +26,6 @@ one_list (x ∷ xs) (y ∷ ys) a b e =
 one_name : (name other : List ℕ) (number : ℕ) → IsShort name number → IsShort other number → name ≡ other
 one_name name other number s t =
     s.spelled ∙ ap (λ ds. 120 ∷ reverse ds) (one_list s.digits t.digits s.are_digits t.are_digits (sym s.numbered ∙ t.numbered)) ∙ sym t.spelled
-
--- `x` alone, and one digit more
-
-pub nothing_read : IsShort (120 ∷ []) 0
-nothing_read = record { digits = []; are_digits = All-nil IsDigit; spelled = refl; numbered = refl }
-
-tails : (x : ℕ) (xs ys : List ℕ) → x ∷ xs ≡ x ∷ ys → xs ≡ ys
-tails x xs ys e = cc e
-
-pub digit_read : (read : List ℕ) (number d : ℕ) → IsShort (120 ∷ read) number → IsDigit d → IsShort (120 ∷ (read ++ d ∷ [])) (number * 11 + (d - 47))
-digit_read read number d s is =
-    let before : read ≡ reverse s.digits = tails 120 read (reverse s.digits) s.spelled in
-    record {
-      digits = d ∷ s.digits;
-      are_digits = All-cons IsDigit d s.digits is s.are_digits;
-      spelled = ap (λ xs. 120 ∷ (xs ++ d ∷ [])) before ∙ ap (λ xs. 120 ∷ xs) (sym (reverse_onto s.digits d []));
-      numbered = omega (arith, s.numbered);
-    }
 
 -- the name at a place of a table has that place
 

@@ -8,6 +8,7 @@
 ghost use Rattle.std.specs.Prelude.{◌≡◌, ◌<◌, ◌≤◌, ◌↔◌, true, false, [], Some, None, length, take, slice_get, MatchOption, IfOk, IfSome, OnOk, OnErr, IsTrue};
 ghost use Rattle.std.specs.Option.{option_copied};
 ghost use Rattle.linear.specs.Largest.{most_names};
+ghost use Rattle.linear.specs.ShortNames.{IsShort};
 ghost use Rattle.linear.specs.Table.{has_name, place_of, with_name, IsFullFor, IsTable};
 ghost use Rattle.pb_text.specs.Name.{is_name};
 
@@ -133,6 +134,47 @@ impl Names {
         Ok(Some(var))
     }
 
+    /// The variable of a short name whose number is known, as `intern_within` gives it: where the table has the name, its bytes
+    /// are not looked at.
+    #[inline(always)]
+    pub fn intern_short(
+        &mut self,
+        name: &[u8],
+        number: usize,
+        most: usize,
+    ) -> Result<Option<Var>, AllocError>
+        requires spelled { is_name name.now ≡ true }
+        requires short { IsShort name.now number }
+        requires room { most ≤ most_names }
+        ensures cases { IfOk result (λ found. MatchOption found
+            (IsFullFor self.old most name.now)
+            (λ v. v.0 ≡ place_of self.old name.now)) }
+        ensures some { IfOk result (λ found. IfSome found (λ _. self.new ≡ with_name self.old name.now)) }
+        ensures few { length self.old ≤ most → length self.new ≤ most }
+        ensures table { IsTable self.new }
+        ensures none { IfOk result (λ found. found ≡ None → self.new ≡ self.old) }
+        ensures err { OnErr result (self.new ≡ self.old) }
+    {
+        if let Some(var) = self.find_short(name, number) {
+            return Ok(Some(var));
+        }
+        self.intern_within(name, most)
+    }
+
+    /// The variable of a short name, where its place is kept by its number.
+    #[inline(always)]
+    fn find_short(&self, name: &[u8], number: usize) -> Option<Var>
+        requires { IsShort name.now number }
+        ensures found { IfSome result (λ v. (has_name self.now name.now ≡ true) × (v.0 ≡ place_of self.now name.now)) }
+        ensures table { IsTable self.now }
+    {
+        let _ = name;
+        match self.short.place(number) {
+            Some(place) => Some(Var(place)),
+            None => None,
+        }
+    }
+
     /// The next variable, for a name that the table does not have.
     fn add(&mut self, name: &[u8]) -> Result<Var, AllocError>
         requires spelled { is_name name.now ≡ true }
@@ -164,7 +206,7 @@ impl Names {
     {
         let mut copy = Names::new(alloc);
         for name in self.set.as_slice() {
-            copy.intern(name.as_slice())?;
+            copy.add(name.as_slice())?;
         }
         Ok(copy)
     }

@@ -73,7 +73,8 @@ impl ShortNames {
     }
 
     /// The place that is kept for a number.
-    fn place(&self, number: usize) -> Option<u32>
+    #[inline(always)]
+    pub(crate) fn place(&self, number: usize) -> Option<u32>
         ensures { IfSome result (IsKeptAt self.now number) }
     {
         let mark = *self.marks.as_slice().get(number)?;

@@ -10,10 +10,12 @@ ghost use Rattle.std.specs.Prelude.{◌≡◌, ◌+◌, ◌<◌, ◌≤◌, ◌�
 ghost use Rattle.linear.specs.Limits.{largest_integer, most_constraints, most_terms, most_variables};
 ghost use Rattle.pb_text.specs.Lexeme.{lexemes};
 ghost use Rattle.pb_text.specs.Number.{integer_value};
+ghost use Rattle.pb_text.specs.Said.{Says};
 ghost use Rattle.pb_text.specs.Token.{lexeme_of};
 ghost use Rattle.opb_read.specs.Kinds.{begins_objective, relation_at, statements_of};
 ghost use Rattle.opb_read.specs.Progress.{HoldsLimits, IsLargeCode, IsOneTooMany, Reaches, Refuses, Step, StopsAt, closed, start_of, with_coefficient, with_relation, with_right, with_term, without_terms};
-ghost use Rattle.opb_read.specs.Codes.{IsTooManyOr};
+ghost use Rattle.opb_read.specs.Codes.{IsForm, IsTooManyOr};
+ghost use Rattle.opb_read.specs.FaultCodes.{code_at};
 ghost use Rattle.opb_read.specs.Reading.{progress_at, progress_of};
 ghost use Rattle.opb_read.specs.Spots.{begun, next_spot};
 
@@ -22,13 +24,13 @@ use super::mark::begins_objective;
 use super::spot::Spot;
 use super::variables::Variables;
 use linear::{LARGEST_INTEGER, MOST_CONSTRAINTS, MOST_TERMS, Relation, Seq, Signed, Term};
-use pb_text::{Kind, Lookahead, Symbol, Token, as_literal, integer};
+use pb_text::{Found, Kind, Lookahead, Said, Symbol, Token, Tokens, as_literal, integer};
 use std::alloc::Global;
 
 /// Where reading has come to. At a fault, the token that has it stands next.
 #[derive(Drop)]
 pub struct Reader<'a> {
-    pub left: Lookahead<'a>,
+    pub left: Tokens<'a>,
     /// The spot before the token that stands next.
     pub spot: Spot,
     pub variables: Variables,
@@ -51,7 +53,7 @@ impl<'a> Reader<'a> {
         ensures left { result.left ≡ statements_of (lexemes text.now) }
         ensures start { progress_of result ≡ start_of (lexemes text.now) }
     {
-        let mut left = Lookahead::new(text);
+        let mut left = Tokens::new(text);
         let spot = pass_mark(&mut left);
         Reader {
             left,
@@ -73,39 +75,65 @@ impl<'a> Reader<'a> {
         ensures closed { OnOk result (self.new.spot ≡ Spot.Start) }
         ensures stops { IfErr result (λ code. StopsAt code (progress_of self.old) self.old.left self.new.left) }
     {
-        while let Some(token) = self.left.next() {
-            self.pass(alloc, token)?;
+        while let Some(found) = self.left.peek() {
+            self.pass(alloc, found)?;
         }
         match self.spot {
             Spot::Start => Ok(()),
-            spot => Err(spot.fault(&self.left)),
+            _ => Err(self.fault()),
         }
     }
 
+    /// The fault of the token that stands next, or of the end of the text, where it may not stand.
+    // Kept out of the loop that reads, which would make room for it at each token.
+    #[inline(never)]
+    fn fault(&self) -> OpbCode
+        ensures form { IsForm result }
+        ensures code { result ≡ code_at self.now.spot self.now.left }
+    {
+        self.spot.fault(&Lookahead::over(&self.left))
+    }
+
     /// Passes the token that stands next.
-    fn pass(&mut self, alloc: Global, token: Token<'a>) -> Result<(), OpbCode>
-        requires next { self.old.left ≡ lexeme_of token ∷ drop 1 self.old.left }
+    #[inline(always)]
+    fn pass(&mut self, alloc: Global, found: Found<'a>) -> Result<(), OpbCode>
+        requires next { self.old.left ≡ lexeme_of found.token ∷ drop 1 self.old.left }
+        requires behind { found.behind ≡ drop 1 self.old.left }
+        requires says { Says found.said found.token.text.now }
         requires holds { HoldsLimits (progress_of self.old) }
-        ensures step { OnOk result (Step (progress_of self.old) (lexeme_of token.entry) (progress_of self.new)) }
+        ensures step { OnOk result (Step (progress_of self.old) (lexeme_of found.entry.token) (progress_of self.new)) }
         ensures left { OnOk result (self.new.left ≡ drop 1 self.old.left) }
         ensures stays { OnErr result (self.new.left ≡ self.old.left) }
         ensures refuses { IfErr result (λ code. Refuses code (progress_of self.old) self.old.left) }
     {
+        let Found {
+            token,
+            said,
+            behind,
+        } = found;
         let Some(next) = self.spot.next(token.kind) else {
-            return Err(self.spot.fault(&self.left));
+            return Err(self.fault());
         };
         if next.is_in_constraint() && self.constraints.len() >= MOST_CONSTRAINTS {
             return Err(OpbCode::TooMany);
         }
-        self.take(alloc, token, next)?;
+        self.take(alloc, token, said, next)?;
         self.spot = next;
-        self.left.advance();
+        self.left = behind;
         Ok(())
     }
 
     /// What the token that stands next says, where it leads to this spot.
-    fn take(&mut self, alloc: Global, token: Token<'a>, next: Spot) -> Result<(), OpbCode>
+    #[inline(always)]
+    fn take(
+        &mut self,
+        alloc: Global,
+        token: Token<'a>,
+        said: Said,
+        next: Spot,
+    ) -> Result<(), OpbCode>
         requires next { self.old.left ≡ lexeme_of token ∷ drop 1 self.old.left }
+        requires says { Says said token.text.now }
         requires stands { next_spot self.old.spot token.kind ≡ Some next }
         requires holds { HoldsLimits (progress_of self.old) }
         requires room { length self.old.constraints.items + begun next ≤ most_constraints }
@@ -114,15 +142,15 @@ impl<'a> Reader<'a> {
         ensures refuses { IfErr result (λ code. Refuses code (progress_of self.old) self.old.left) }
     {
         match next {
-            Spot::Coefficient => self.take_coefficient(token),
-            Spot::ObjectiveCoefficient => self.take_coefficient(token),
-            Spot::Literal => self.take_literal(token),
-            Spot::ObjectiveLiteral => self.take_literal(token),
+            Spot::Coefficient => self.take_coefficient(token, said),
+            Spot::ObjectiveCoefficient => self.take_coefficient(token, said),
+            Spot::Literal => self.take_literal(token, said),
+            Spot::ObjectiveLiteral => self.take_literal(token, said),
             Spot::Relation => {
                 self.take_relation(token.kind);
                 Ok(())
             }
-            Spot::RightSide => self.take_right(token),
+            Spot::RightSide => self.take_right(token, said),
             Spot::Start => self.close(alloc),
             // The mark alone leads there, and `new` has passed it.
             Spot::ObjectiveMark => Err(OpbCode::BadToken),
@@ -132,28 +160,33 @@ impl<'a> Reader<'a> {
 
 /// What each token says.
 impl<'a> Reader<'a> {
-    fn take_coefficient(&mut self, token: Token<'a>) -> Result<(), OpbCode>
-        requires { token.kind ≡ Kind.Integer }
+    #[inline(always)]
+    fn take_coefficient(&mut self, token: Token<'a>, said: Said) -> Result<(), OpbCode>
+        requires integer { token.kind ≡ Kind.Integer }
+        requires says { Says said token.text.now }
         ensures moves { OnOk result (progress_of self.new ≡ with_coefficient (progress_of self.old) token.entry.text.now) }
         ensures small { OnOk result (unsigned_abs (integer_value token.entry.text.now) ≤ largest_integer) }
         ensures left { self.new.left ≡ self.old.left }
         ensures large { IfErr result (IsLargeCode token.entry.text.now) }
     {
-        self.coefficient = file_integer(token)?;
+        self.coefficient = file_integer(token, said)?;
         Ok(())
     }
 
-    fn take_right(&mut self, token: Token<'a>) -> Result<(), OpbCode>
-        requires { token.kind ≡ Kind.Integer }
+    #[inline(always)]
+    fn take_right(&mut self, token: Token<'a>, said: Said) -> Result<(), OpbCode>
+        requires integer { token.kind ≡ Kind.Integer }
+        requires says { Says said token.text.now }
         ensures moves { OnOk result (progress_of self.new ≡ with_right (progress_of self.old) token.entry.text.now) }
         ensures small { OnOk result (unsigned_abs (integer_value token.entry.text.now) ≤ largest_integer) }
         ensures left { self.new.left ≡ self.old.left }
         ensures large { IfErr result (IsLargeCode token.entry.text.now) }
     {
-        self.right = file_integer(token)?;
+        self.right = file_integer(token, said)?;
         Ok(())
     }
 
+    #[inline(always)]
     fn take_relation(&mut self, kind: Kind)
         ensures moves { progress_of self.new ≡ with_relation (progress_of self.old) kind }
         ensures left { self.new.left ≡ self.old.left }
@@ -164,8 +197,10 @@ impl<'a> Reader<'a> {
         };
     }
 
-    fn take_literal(&mut self, token: Token<'a>) -> Result<(), OpbCode>
-        requires { token.kind ≡ Kind.Literal }
+    #[inline(always)]
+    fn take_literal(&mut self, token: Token<'a>, said: Said) -> Result<(), OpbCode>
+        requires literal { token.kind ≡ Kind.Literal }
+        requires says { Says said token.text.now }
         ensures moves { OnOk result (progress_of self.new ≡ with_term (progress_of self.old) token.entry.text.now) }
         ensures names { OnOk result (length self.new.variables ≤ most_variables) }
         ensures terms { OnOk result (length self.new.terms.items ≤ most_terms) }
@@ -178,7 +213,7 @@ impl<'a> Reader<'a> {
         if self.terms.len() >= MOST_TERMS {
             return Err(OpbCode::TooMany);
         }
-        let var = self.variables.number(literal.name)?;
+        let var = self.variables.number(literal.name, said)?;
         let term = Term {
             coef: self.coefficient,
             var,
@@ -228,25 +263,30 @@ impl<'a> Reader<'a> {
 }
 
 /// Passes the mark of an objective, if one stands next, and gives the spot behind it.
-fn pass_mark(left: &mut Lookahead<'_>) -> Spot
+fn pass_mark(left: &mut Tokens<'_>) -> Spot
     ensures left { left.new ≡ statements_of left.old }
     ensures spot { result ≡ (if begins_objective left.old then Spot.ObjectiveMark else Spot.Start) }
 {
-    if !begins_objective(left) {
+    if !begins_objective(&Lookahead::over(left)) {
         return Spot::Start;
     }
-    left.advance();
-    left.advance();
+    left.pass();
+    left.pass();
     Spot::ObjectiveMark
 }
 
-/// The number of an integer token, where it is at most 2^90 in size.
-fn file_integer(token: Token<'_>) -> Result<i128, OpbCode>
-    requires { token.kind ≡ Kind.Integer }
+/// The number of an integer token, where it is at most 2^90 in size; one of few digits was read while it was cut.
+#[inline(always)]
+fn file_integer(token: Token<'_>, said: Said) -> Result<i128, OpbCode>
+    requires integer { token.kind ≡ Kind.Integer }
+    requires says { Says said token.text.now }
     ensures value { IfOk result (λ n. n ≡ integer_value token.entry.text.now) }
     ensures small { OnOk result (unsigned_abs (integer_value token.entry.text.now) ≤ largest_integer) }
     ensures large { IfErr result (IsLargeCode token.entry.text.now) }
 {
+    if let Said::Number(number) = said {
+        return Ok(i128::from(number));
+    }
     let Ok(number) = integer(token) else {
         return Err(OpbCode::IntegerTooLarge);
     };

@@ -9,6 +9,7 @@ ghost use Rattle.opb_read.specs.FaultLine.{IsFaultAt};
 use super::fault::{OpbCode, OpbFault};
 use super::reader::Reader;
 use linear::Problem;
+use pb_text::Lookahead;
 use std::alloc::Global;
 
 /// Reads a problem file in the linear OPB format of Roussel and Manquinho: at most one objective `min: <sum> ;` and
@@ -40,7 +41,7 @@ pub fn read(alloc: Global, text: &[u8]) -> Result<Problem, OpbFault>
             Ok(Problem::new(names, reader.objective, reader.constraints))
         }
         Err(code) => {
-            let line = reader.left.line(text);
+            let line = Lookahead::over(&reader.left).line(text);
             Err(OpbFault { line, code })
         }
     }

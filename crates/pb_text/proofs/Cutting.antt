@@ -146,7 +146,7 @@ sized_cut n p b rest plain w s some =
     symbol_cut p b rest plain w e
     ∙ ap (λ (k : ℕ). lexeme_at p (take k (b ∷ rest)) ∷ drop (k - 1) (lexemes_from (behind 1 p) rest)) s
 
-begins_is : (a : ℕ) (rest : List ℕ) → begins a rest ≡ true → (more : List ℕ) × (rest ≡ a ∷ more)
+pub begins_is : (a : ℕ) (rest : List ℕ) → begins a rest ≡ true → (more : List ℕ) × (rest ≡ a ∷ more)
 begins_is a [] h = absurd (cc h)
 begins_is a (b ∷ rest) h = (rest, ap (λ (x : ℕ). x ∷ rest) ((Decides-eqb b a).0 h))
 

@@ -4,14 +4,9 @@ use Rattle.std.specs.Prelude.{if◌then◌else◌}
 use Rattle.std.proofs.lemmas.List.{drop-drop, length-take-le}
 use Rattle.pb_text.specs.Lexeme.{Position, cut, is_white, lexemes_from, lexeme_at}
 use Rattle.pb_text.specs.Cutting.{begins_white, begins_word, behind}
+pub use Rattle.pb_text.specs.Cutting.{IsWordFront}
 use Rattle.pb_text.proofs.Cutting.{word_grows, word_ends, word_first}
 use Rattle.pb_text.proofs.Positions.{AreDense}
-
--- so many bytes of a word stand at the front of `rest`, and no more
-pub record IsWordFront (n : ℕ) (rest : List ℕ) : Type 0 where
-  pub within : n ≤ length rest
-  pub bytes : (k : ℕ) → k < n → begins_word (drop k rest) ≡ true
-  pub ends : begins_word (drop n rest) ≡ false
 
 -- what the cut of a word's front comes to
 word_cut : (n : ℕ) (p : Position) (rest : List ℕ) → p.comment ≡ false → ((k : ℕ) → k < n → begins_word (drop k rest) ≡ true) →
@@ -42,7 +37,7 @@ unfolding word_size
 word_some b rest e = rw e (omega arith)
 
 -- one byte of a word more
-word_longer : (n b : ℕ) (rest : List ℕ) → begins_word (b ∷ rest) ≡ true → IsWordFront n rest → IsWordFront (suc n) (b ∷ rest)
+pub word_longer : (n b : ℕ) (rest : List ℕ) → begins_word (b ∷ rest) ≡ true → IsWordFront n rest → IsWordFront (suc n) (b ∷ rest)
 word_longer n b rest e w = record { within = omega (arith, w.within); bytes = at; ends = w.ends }
   where
     at : (k : ℕ) → k < suc n → begins_word (drop k (b ∷ rest)) ≡ true

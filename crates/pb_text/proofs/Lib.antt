@@ -4,6 +4,9 @@ pub mod KindTests
 pub mod Digits
 pub mod Positions
 pub mod FirstToken
+pub mod BytesRead
+pub mod ShortNameRead
+pub mod ScannedWords
 pub mod TokensExist
 pub mod TokensUnique
 pub mod Spans

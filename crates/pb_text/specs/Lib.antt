@@ -5,6 +5,9 @@ pub mod Lexeme
 pub mod Kinds
 pub mod Token
 pub mod Cutting
+pub mod ShortName
+pub mod Said
+pub mod Scan
 pub mod Cursor
 pub mod Span
 pub mod TokensOf

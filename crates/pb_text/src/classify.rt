@@ -11,7 +11,8 @@ ghost use Rattle.pb_text.specs.Word as words;
 
 use super::kind::{Kind, Symbol};
 
-fn begins_name(b: u8) -> bool
+#[inline(always)]
+pub(crate) fn begins_name(b: u8) -> bool
     ensures { result ≡ names.begins_name b }
 {
     matches!(b, b'A'..=b'Z' | b'a'..=b'z' | b'_')

@@ -58,6 +58,10 @@ fn past_gap(c: Cursor<'_>) -> Option<Cursor<'_>>
     let [b, tail @ ..] = c.rest else {
         return None;
     };
+    // Most bytes that stand here begin a word, which one look shows.
+    if *b > b'*' {
+        return None;
+    }
     match *b {
         b'\n' => Some(Cursor {
             rest: tail,
@@ -118,7 +122,7 @@ fn symbol_length(text: &[u8]) -> usize
 
 /// What follows the byte of a word at the front; `None` where white space, a symbol or the end stands there.
 #[inline(always)]
-fn past_word_byte(text: &[u8]) -> Option<&[u8]>
+pub(crate) fn past_word_byte(text: &[u8]) -> Option<&[u8]>
     ensures { MatchOption
         result
         (begins_word text.now ≡ false)

@@ -42,7 +42,14 @@ impl<'a> Lookahead<'a> {
     pub fn new(text: &'a [u8]) -> Self
         ensures { result ≡ lexemes text.now }
     {
-        let mut rest = Tokens::new(text);
+        Lookahead::over(&Tokens::new(text))
+    }
+
+    /// The tokens that a reader has before it.
+    pub fn over(tokens: &Tokens<'a>) -> Self
+        ensures { result ≡ tokens.now }
+    {
+        let mut rest = tokens.again();
         let next = rest.next();
         let after = rest.next();
         Lookahead { next, after, rest }

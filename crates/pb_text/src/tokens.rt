@@ -4,8 +4,9 @@
 ghost use Rattle.std.specs.Prelude.{◌≡◌, length};
 ghost use Rattle.pb_text.specs.Span.{line_of};
 
-use super::classify::kind_of;
-use super::cursor::{past_gaps, token_length};
+use super::cursor::past_gaps;
+use super::said::Said;
+use super::scan::first_token;
 use super::spot::{Cursor, Spot};
 use super::token::Token;
 use std::marker::Model;
@@ -27,8 +28,9 @@ impl<'a> Model for Tokens<'a> {
 }
 
 impl<'a> Tokens<'a> {
-    ghost use Rattle.std.specs.Prelude.{◌≡◌, [], ◌∷◌, MatchOption};
+    ghost use Rattle.std.specs.Prelude.{◌≡◌, [], ◌∷◌, drop, IfSome, MatchOption};
     ghost use Rattle.pb_text.specs.Lexeme.{lexemes, kind_of};
+    ghost use Rattle.pb_text.specs.Said.{Says};
     ghost use Rattle.pb_text.specs.Token.{lexeme_of};
 
     /// All tokens of a text.
@@ -51,34 +53,76 @@ impl<'a> Tokens<'a> {
         }
     }
 
+    /// The next token, what was read of it on the way, and the tokens behind it; `None` at the end of the text.
+    #[tactic(auto, using(crate::proofs::Cutting::end_empty))]
+    #[inline(always)]
+    pub fn peek(&self) -> Option<Found<'a>>
+        ensures tokens { MatchOption result (self.now ≡ []) (λ f. self.now ≡ lexeme_of f.token ∷ drop 1 self.now) }
+        ensures behind { IfSome result (λ f. f.behind ≡ drop 1 self.now) }
+        ensures says { IfSome result (λ f. Says f.said f.token.text.now) }
+    {
+        let here = past_gaps(self.at);
+        let found = first_token(here.rest)?;
+        let (text, rest) = here.rest.split_at(found.size);
+        let token = Token {
+            kind: found.kind,
+            line: here.breaks + 1,
+            start: here.start,
+            text,
+        };
+        let at = Cursor {
+            rest,
+            start: here.start + found.size,
+            breaks: here.breaks,
+            spot: Spot::Within,
+        };
+        Some(Found {
+            token,
+            said: found.said,
+            behind: Tokens { at },
+        })
+    }
+
     /// The next token, and `None` at the end of the text, then as often as it is asked for.
     ///
     /// Its kind is the kind of its bytes.
-    #[tactic(auto, using(crate::proofs::Cutting::end_empty))]
     #[inline(always)]
     pub fn next(&mut self) -> Option<Token<'a>>
         ensures tokens { MatchOption result ((self.old ≡ []) × (self.new ≡ [])) (λ t. self.old ≡ lexeme_of t ∷ self.new) }
         ensures kind { MatchOption result (Unit {0}) (λ t. t.kind ≡ kind_of t.text.now) }
     {
-        let here = past_gaps(self.at);
-        let size = token_length(here.rest);
-        self.at = Cursor {
-            rest: &here.rest[size..],
-            start: here.start + size,
-            breaks: here.breaks,
-            spot: Spot::Within,
-        };
-        if size == 0 {
-            return None;
-        }
-        let text = &here.rest[..size];
-        Some(Token {
-            kind: kind_of(text),
-            line: here.breaks + 1,
-            start: here.start,
-            text,
-        })
+        let Found {
+            token,
+            said: _,
+            behind,
+        } = self.peek()?;
+        *self = behind;
+        Some(token)
     }
+
+    /// Passes the next token, if there is one.
+    pub fn pass(&mut self)
+        ensures { self.new ≡ drop 1 self.old }
+    {
+        let _ = self.next();
+    }
+
+    /// The same tokens once more.
+    pub fn again(&self) -> Tokens<'a>
+        ensures { result ≡ self.now }
+    {
+        Tokens { at: self.at }
+    }
+}
+
+/// The next token of a text.
+#[derive(Drop)]
+pub struct Found<'a> {
+    pub token: Token<'a>,
+    /// What was read of it while it was cut.
+    pub said: Said,
+    /// The tokens behind it.
+    pub behind: Tokens<'a>,
 }
 
 /// The line of a text's end: 1 and the number of LF bytes in the text.

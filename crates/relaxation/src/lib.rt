@@ -7,6 +7,7 @@
 //!
 //! A step goes through the files in this order: `pricing` (what is violated most), `tableau` (its row), `ratio` (what enters), `pivot` (the
 //! exchange, of `basis`, `inverse`, `point` and `duals`); `simplex` has the rounds of a call, `ends` how it ends, `multipliers` what is handed out.
+//! Of `fractional` cuts are made, and `row_exchange` lets them go again.
 #![tactic(auto)]
 
 mod basis;
@@ -15,6 +16,7 @@ mod domain;
 mod duals;
 mod ends;
 mod fixed;
+mod fractional;
 mod inverse;
 mod multipliers;
 mod pivot;
@@ -22,6 +24,7 @@ mod point;
 mod pricing;
 mod ratio;
 mod relaxation;
+mod row_exchange;
 mod rows;
 mod simplex;
 mod sums;
@@ -30,5 +33,6 @@ mod touched;
 mod work;
 
 pub use fixed::Fixed;
+pub use fractional::FractionalMultiplier;
 pub use multipliers::{Multiplier, Row, Source, WholeMultiplier, whole_multipliers};
 pub use relaxation::{End, Limits, Relaxation};

@@ -105,7 +105,7 @@ impl Relaxation {
     }
 
     /// Makes room for so many variables, where there are fewer.
-    fn widen(&mut self, variables: usize) -> Result<(), AllocError> {
+    pub(crate) fn widen(&mut self, variables: usize) -> Result<(), AllocError> {
         if variables > self.rows.variables() {
             self.rows.widen(variables)?;
             self.costs.widen(variables)?;
@@ -198,6 +198,16 @@ impl Relaxation {
     /// The bound of the last call on the objective's value, rounded down. It may be wrong: for progress lines alone.
     pub fn bound(&self) -> Integer {
         self.costs.value(self.bound)
+    }
+
+    /// The bound of the last call on the scaled costs, of which the largest is between a half and one, in units of `2^-32`.
+    pub fn scaled_bound(&self) -> i128 {
+        self.bound
+    }
+
+    /// Counts what was done with the point outside, as if it were part of the calls.
+    pub fn count_work(&mut self, more: usize) {
+        self.work.count(more);
     }
 
     /// How much was done in all calls: multiplications, about.

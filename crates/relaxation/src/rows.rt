@@ -100,6 +100,15 @@ fn scaled_row(alloc: Global, constraint: &Normal) -> Result<ScaledRow, AllocErro
     })
 }
 
+/// Takes the coefficients of a row out of their columns.
+fn leave(columns: &mut Vec<Vec<Entry>>, row: usize, entries: &[Entry]) {
+    for entry in entries {
+        if let Some(column) = columns.get_mut(entry.place) {
+            column.retain(|other| other.place != row);
+        }
+    }
+}
+
 impl Rows {
     /// No rows, over so many variables.
     pub(crate) fn new(alloc: Global, variables: usize) -> Result<Self, AllocError> {
@@ -137,6 +146,29 @@ impl Rows {
         let place = self.rows.len();
         self.enter(place, row.entries.as_slice())?;
         self.rows.push(row)?;
+        Ok(())
+    }
+
+    /// Takes the coefficients of a row out: it holds everywhere then.
+    pub(crate) fn clear(&mut self, row: usize) {
+        if let Some(scaled) = self.rows.get_mut(row) {
+            leave(&mut self.columns, row, scaled.entries.as_slice());
+            scaled.entries.clear();
+            scaled.right = Fixed::ZERO;
+        }
+    }
+
+    /// Puts the row of a constraint in the place of another one, if there is one.
+    pub(crate) fn put(&mut self, row: usize, constraint: &Normal) -> Result<(), AllocError> {
+        if row >= self.rows.len() {
+            return Ok(());
+        }
+        let scaled = scaled_row(self.alloc, constraint)?;
+        self.clear(row);
+        self.enter(row, scaled.entries.as_slice())?;
+        if row < self.rows.len() {
+            self.rows[row] = scaled;
+        }
         Ok(())
     }
 

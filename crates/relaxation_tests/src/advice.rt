@@ -175,22 +175,27 @@ fn prices_force_literals(rt: HostRuntime) {
 fn corners_lean(rt: HostRuntime) {
     let alloc = rt.alloc();
     let problem = read(alloc, TRIANGLE.as_bytes()).expect(&rt, "a problem");
-    let (_, mut adviser) = adviser_of(&rt, alloc, &problem).expect(&rt, "memory");
-    let node = root();
+    let (mut kernel, mut adviser) = adviser_of(&rt, alloc, &problem).expect(&rt, "memory");
     let quiet = Node {
         standing: &[],
         decisions: 1,
         conflicts: 0,
         searched: 0,
     };
-    let kernel: Kernel<'_, ScanPropagator> = Kernel::new(alloc, &problem).expect(&rt, "memory");
-    assert!(&rt; matches!(adviser.ask(&kernel, node), Ok(Advice::Values)));
+    let advice = adviser.ask(&kernel, root()).expect(&rt, "memory");
+    let Advice::Cut(items) = advice else {
+        panic!(&rt; "no cut");
+    };
     assert_eq!(&rt; adviser.bound(), Some(4));
+    apply(&mut kernel, items, &[]).expect(&rt, "a legal line");
+    adviser.take_cut(&kernel).expect(&rt, "memory");
+    assert!(&rt; matches!(adviser.ask(&kernel, root()), Ok(Advice::Values)));
     assert_eq!(&rt; adviser.leanings().len(), 3);
     assert!(&rt; matches!(adviser.ask(&kernel, quiet), Ok(Advice::Nothing)));
     let first = [literal(0, false)];
     let asked = adviser.ask(&kernel, below_root(&first));
     assert!(&rt; matches!(asked, Ok(Advice::Values)));
     assert_eq!(&rt; adviser.leanings().len(), 2);
-    assert_eq!(&rt; adviser.figures().calls, 2);
+    assert_eq!(&rt; adviser.figures().calls, 3);
+    assert_eq!(&rt; adviser.figures().cuts, 1);
 }

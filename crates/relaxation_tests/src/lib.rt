@@ -8,6 +8,8 @@ mod advice;
 #[cfg(test)]
 mod answers;
 #[cfg(test)]
+mod cuts;
+#[cfg(test)]
 mod made;
 #[cfg(test)]
 mod plain;

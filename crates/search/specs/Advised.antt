@@ -9,10 +9,11 @@ use Rattle.search.specs.declared.advisers.Effect.{Effect}
 use Rattle.search.specs.declared.advisers.Effect.TheVariants as effects
 use Rattle.search.specs.declared.advisers.Line.{Line}
 
--- under the literals that stand the constraint has negative slack, or it forces a literal
+-- under the literals that stand the constraint has negative slack, or it forces a literal; nothing is said of a cut
 abbrev pub HasEffect : Effect → List Lit → NormalConstraint → Type 0
 HasEffect effects.Conflict standing n = IsFalsified standing n
 HasEffect effects.Forcing standing n = (l : Lit) × IsForced standing l n
+HasEffect effects.Cut standing n = Unit {0}
 
 -- the items derive a constraint from the live ones, and it has the effect that is told
 abbrev pub IsAdvised : State → List Lit → Line → Type 0

@@ -3,7 +3,8 @@
 //! The line is logged, so its constraint is live, and what it forces is forced from the next turn on. Where it has negative slack under
 //! what stands, the search goes back to where it says something first, as behind an analysis. If it forces a literal there it
 //! has taught what a conflict teaches. If it has negative slack there, an analysis begins with it, and what that comes to says more: then
-//! it goes, for sums of many constraints make each later propagation dearer.
+//! it goes, for sums of many constraints make each later propagation dearer. A cut is kept for the relaxation alone, as long as it is tight
+//! there.
 
 ghost use Rattle.std.specs.Prelude.{◌≡◌};
 
@@ -65,7 +66,21 @@ impl<'a, P: Propagator> Run<'a, P> {
         match effect {
             Effect::Forcing => self.keep(&advised, LEVELS_OF_FORCING),
             Effect::Conflict => self.take_conflict(&advised),
+            Effect::Cut => self.take_cut(),
         }
+    }
+
+    /// A cut becomes a row of the relaxation, as long as it is tight; it is not among what was learned. Those that are no rows any more are
+    /// deleted.
+    fn take_cut(&mut self) -> Result<(), SearchFault>
+        ensures problem { self.new.log.problem ≡ self.old.log.problem }
+        ensures next { OnOk result (self.new.log.state.next ≡ self.old.log.state.next) }
+        ensures biting { OnOk result (self.new.log.biting ≡ self.old.log.biting) }
+        ensures decisions { self.new.decisions.items ≡ self.old.decisions.items }
+    {
+        let dropped = self.advisers.take_cut(self.alloc, &self.log)?;
+        self.outdone.push_all(dropped.as_slice())?;
+        self.forget_outdone()
     }
 
     /// Keeps an advised constraint among what was learned, until it is forgotten.

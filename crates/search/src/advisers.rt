@@ -12,7 +12,7 @@ use bounding::{Advice, Adviser, Node};
 use branching::Brancher;
 use linear::{Integer, Lit, Seq};
 use proof_steps::Item;
-use propagate::Propagator;
+use propagate::{Id, Propagator};
 use std::alloc::{AllocError, Global};
 
 /// A line that the relaxation comes to where a search stands.
@@ -30,6 +30,8 @@ pub(crate) enum Effect {
     Conflict,
     /// Its constraint forces a literal.
     Forcing,
+    /// The best point of the relaxation violates its constraint. Under what stands it says nothing.
+    Cut,
 }
 
 /// The advisers of one search.
@@ -93,6 +95,10 @@ impl Advisers {
                     effect: Effect::Forcing,
                 }))
             }
+            Advice::Cut(items) => Ok(Some(Line {
+                items,
+                effect: Effect::Cut,
+            })),
             Advice::Values => {
                 self.brancher.lean(adviser.leanings());
                 Ok(None)
@@ -106,6 +112,19 @@ impl Advisers {
         if let Some(adviser) = &mut self.relaxation {
             adviser.improve(log.kernel());
         }
+    }
+
+    /// A cut was logged last. The ids of those that the relaxation has no use for any more.
+    pub(crate) fn take_cut<'a, P: Propagator>(
+        &mut self,
+        alloc: Global,
+        log: &Log<'a, P>,
+    ) -> Result<Vec<Id>, AllocError> {
+        let Some(adviser) = &mut self.relaxation else {
+            return Ok(Vec::new(alloc));
+        };
+        adviser.take_cut(log.kernel())?;
+        Ok(adviser.take_slack_cuts())
     }
 
     /// From how many conflicts the search has learned.

@@ -1,7 +1,8 @@
-//! The constraints that asked for a better solution, once one is there.
+//! The constraints that are of no use any more: those that asked for a better solution, once one is there, and cuts that the relaxation
+//! has dropped.
 //!
-//! The constraint of the last improving solution asks for more than all before it, so these only make propagation dearer. Each goes as
-//! soon as no literal of the trail is forced in it.
+//! The constraint of the last improving solution asks for more than all before it, and a cut is there for the relaxation alone, so these only
+//! make propagation dearer. Each goes as soon as no literal of the trail is forced in it.
 
 use super::learned::reasons_of;
 use analysis::Entry;
@@ -28,6 +29,14 @@ impl Outdone {
     /// One more.
     pub(crate) fn push(&mut self, id: Id) -> Result<(), AllocError> {
         self.ids.push(id)?;
+        Ok(())
+    }
+
+    /// Some more.
+    pub(crate) fn push_all(&mut self, ids: &[Id]) -> Result<(), AllocError> {
+        for id in ids {
+            self.push(*id)?;
+        }
         Ok(())
     }
 

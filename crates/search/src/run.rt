@@ -33,7 +33,7 @@ pub(crate) struct Run<'a, P: Propagator> {
     pub(crate) trail: Trail,
     restarts: Restarts,
     pub(crate) learned: LearnedConstraints,
-    outdone: Outdone,
+    pub(crate) outdone: Outdone,
     analyser: Analyser,
     pub(crate) advisers: Advisers,
     /// An advised constraint that has negative slack where it came, and forces nothing sooner: one analysis begins with it, and then it
@@ -180,8 +180,8 @@ impl<'a, P: Propagator> Run<'a, P> {
         Ok(())
     }
 
-    /// Deletes the constraints that asked for solutions which are there by now, but for those in which a literal of the trail is forced.
-    fn forget_outdone(&mut self) -> Result<(), SearchFault>
+    /// Deletes the constraints that are outdone by now, but for those in which a literal of the trail is forced.
+    pub(crate) fn forget_outdone(&mut self) -> Result<(), SearchFault>
         ensures problem { self.new.log.problem ≡ self.old.log.problem }
         ensures next { OnOk result (self.new.log.state.next ≡ self.old.log.state.next) }
         ensures biting { OnOk result (self.new.log.biting ≡ self.old.log.biting) }

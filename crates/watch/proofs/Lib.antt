@@ -2,6 +2,7 @@ pub mod AddedIds
 pub mod Ascents
 pub mod Deciding
 pub mod Forcing
+pub mod GivenCubes
 pub mod GivenOnes
 pub mod GivenReasons
 pub mod KeptLevels

@@ -12,6 +12,7 @@ mod ascent;
 mod chain;
 mod closure;
 mod continuing;
+mod cubes;
 mod database;
 mod extension;
 mod extras;

@@ -1,7 +1,7 @@
 use Rattle.std.proofs.Common.{ℕ, List, ◌∷◌, ◌++◌, [], ◌+◌, ◌*◌, ◌<◌, take, get_or, sym, subst, arith}
 use Rattle.std.proofs.lemmas.List.{take_more, take_all}
 use Rattle.linear.specs.ShortNames.{IsShort}
-use Rattle.linear.proofs.ShortPlaces.{nothing_read, digit_read}
+use Rattle.pb_text.proofs.ShortNameRead.{nothing_read, digit_read}
 use Rattle.linear.proofs.short_names.number_of_digits.Goals as goal
 
 pub loop-digit-init : goal.loop-digit-init

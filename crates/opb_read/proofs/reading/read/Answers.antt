@@ -1,5 +1,6 @@
 use Rattle.std.proofs.Common.{◌≡◌, ℕ, Option, Some, None, List, [], length, refl, sym, ap, subst, ◌∙◌, arith, if◌then◌else◌}
 use Rattle.std.proofs.lemmas.List.Elements.{All-nil}
+use Rattle.pb_text.specs.Ahead.{line_of_next}
 use Rattle.pb_text.specs.Lexeme.{Lexeme, lexemes}
 use Rattle.linear.specs.Limits.{IsTermWithin, IsConstraintWithin, IsWithin}
 use Rattle.linear.specs.Opb.{Opb}
@@ -65,7 +66,7 @@ returns-in-Err-clause-line c =
     let tokens = lexemes c.args.text.now in
     let left = c.read.new.self.left in
     let h = subst (λ l. StopsAt code (start_of tokens) l left) c.new-reader.ensures.left (subst (λ x. StopsAt code x c.new-reader.result.left left) c.new-reader.ensures.start c.in-Err.ensures.stops) in
-    fault_at c.args.text.now code c.line-line.result left h c.line-line.ensures
+    fault_at c.args.text.now code c.line-line.result left h (c.line-line.ensures ∙ ap (line_of_next c.args.text.now) c.over.ensures)
 
 pub returns-in-Err-clause-denies : goal.returns-in-Err-clause-denies
 returns-in-Err-clause-denies c = fault_denies c.in-Err.code c.args.text.now c.line-line.result (returns-in-Err-clause-line c)

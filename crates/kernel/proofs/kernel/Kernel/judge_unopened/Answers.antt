@@ -16,8 +16,8 @@ use Rattle.proof_rules.proofs.PolFaults.{or_memory}
 use Rattle.kernel.specs.Database.{Constraints}
 use Rattle.kernel.specs.Held.{Held}
 use Rattle.kernel.specs.Place.{AreUnopenedShown}
-use Rattle.kernel.specs.Redundance.{AreAskedShown, IsOpenLive}
-use Rattle.kernel.proofs.OpenBlocks.{own_unshown, own_shown, objective_unshown, objective_shown, unopened_live}
+use Rattle.kernel.specs.Redundance.{IsOpenLive}
+use Rattle.kernel.proofs.OpenBlocks.{each_shown, own_unshown, own_shown, objective_unshown, objective_shown, unopened_live}
 use Rattle.kernel.proofs.kernel.Kernel.judge_unopened.Goals as goal
 
 pub returns-in_err-judge_live-clause-fault : goal.returns-in_err-judge_live-clause-fault
@@ -50,13 +50,7 @@ returns-then-not-branch-clause-fault g c j here =
     let items : List NormalConstraint = c.new-beside.result.items in
     let live : d.live ≡ k.state.live = ap (λ (x : Held). x.state.live) c.self.view_is in
     let some : k.state.block ≡ Some b = sym (ap (λ (x : Held). x.state.block) c.self.view_is) ∙ c.in-Some.is in
-    let from : map.values d.live ++ items ≡ constraints k.state =
-    ap (λ l. map.values l ++ items) live ∙ ap (λ xs. constraints k.state ++ xs) c.new-beside.ensures.items ∙ append-nil (constraints k.state) in
-    let each : AreLiveShown k.state b =
-    subst (λ xs. AreAskedShown k.state.live b.first b.opened xs b.images) from
-    (subst (λ l. AreAskedShown l b.first b.opened (map.values d.live ++ items) b.images) live
-    (subst (λ (x : Block). AreAskedShown d.live x.first x.opened (map.values d.live ++ items) x.images) c.block.view_is
-    (subst (λ first. AreAskedShown d.live first c.block.inside.opened (map.values d.live ++ items) c.block.inside.witness) c.from.ensures c.in_ok-judge_live.ensures.shown))) in
+    let each : AreLiveShown k.state b = each_shown k.state b _ d.live c.from.result items live c.new-beside.ensures.items c.block.view_is c.from.ensures c.in_ok-judge_live.ensures.shown in
     let then : map.values c.judge_live.new.database.live ≡ constraints k.state = ap (λ (x : Constraints). map.values x.live) c.in_ok-judge_live.ensures.same ∙ ap (map.values) live in
     let own = own_unshown (constraints k.state) b c.in_ok-own.own c.in_ok-own.ensures
     (λ h. false≢true (sym c.if-not-branch.true ∙ c.in_ok-shows_asked.ensures.shown.1 (subst (λ xs. IfSome c.in_ok-own.own (IsShown xs)) (sym then) h))) in
@@ -70,13 +64,7 @@ returns-then-not-branch-2-clause-fault g c j here =
     let items : List NormalConstraint = c.new-beside.result.items in
     let live : d.live ≡ k.state.live = ap (λ (x : Held). x.state.live) c.self.view_is in
     let some : k.state.block ≡ Some b = sym (ap (λ (x : Held). x.state.block) c.self.view_is) ∙ c.in-Some.is in
-    let from : map.values d.live ++ items ≡ constraints k.state =
-    ap (λ l. map.values l ++ items) live ∙ ap (λ xs. constraints k.state ++ xs) c.new-beside.ensures.items ∙ append-nil (constraints k.state) in
-    let each : AreLiveShown k.state b =
-    subst (λ xs. AreAskedShown k.state.live b.first b.opened xs b.images) from
-    (subst (λ l. AreAskedShown l b.first b.opened (map.values d.live ++ items) b.images) live
-    (subst (λ (x : Block). AreAskedShown d.live x.first x.opened (map.values d.live ++ items) x.images) c.block.view_is
-    (subst (λ first. AreAskedShown d.live first c.block.inside.opened (map.values d.live ++ items) c.block.inside.witness) c.from.ensures c.in_ok-judge_live.ensures.shown))) in
+    let each : AreLiveShown k.state b = each_shown k.state b _ d.live c.from.result items live c.new-beside.ensures.items c.block.view_is c.from.ensures c.in_ok-judge_live.ensures.shown in
     let then : map.values c.judge_live.new.database.live ≡ constraints k.state = ap (λ (x : Constraints). map.values x.live) c.in_ok-judge_live.ensures.same ∙ ap (map.values) live in
     let own = own_shown (constraints k.state) b c.in_ok-own.own c.in_ok-own.ensures
     (subst (λ xs. IfSome c.in_ok-own.own (IsShown xs)) then (c.in_ok-shows_asked.ensures.shown.0 c.if-not-branch.false)) in
@@ -95,13 +83,7 @@ returns-clause-shown g c j here =
     let items : List NormalConstraint = c.new-beside.result.items in
     let live : d.live ≡ k.state.live = ap (λ (x : Held). x.state.live) c.self.view_is in
     let some : k.state.block ≡ Some b = sym (ap (λ (x : Held). x.state.block) c.self.view_is) ∙ c.in-Some.is in
-    let from : map.values d.live ++ items ≡ constraints k.state =
-    ap (λ l. map.values l ++ items) live ∙ ap (λ xs. constraints k.state ++ xs) c.new-beside.ensures.items ∙ append-nil (constraints k.state) in
-    let each : AreLiveShown k.state b =
-    subst (λ xs. AreAskedShown k.state.live b.first b.opened xs b.images) from
-    (subst (λ l. AreAskedShown l b.first b.opened (map.values d.live ++ items) b.images) live
-    (subst (λ (x : Block). AreAskedShown d.live x.first x.opened (map.values d.live ++ items) x.images) c.block.view_is
-    (subst (λ first. AreAskedShown d.live first c.block.inside.opened (map.values d.live ++ items) c.block.inside.witness) c.from.ensures c.in_ok-judge_live.ensures.shown))) in
+    let each : AreLiveShown k.state b = each_shown k.state b _ d.live c.from.result items live c.new-beside.ensures.items c.block.view_is c.from.ensures c.in_ok-judge_live.ensures.shown in
     let then : map.values c.judge_live.new.database.live ≡ constraints k.state = ap (λ (x : Constraints). map.values x.live) c.in_ok-judge_live.ensures.same ∙ ap (map.values) live in
     let own = own_shown (constraints k.state) b c.in_ok-own.own c.in_ok-own.ensures
     (subst (λ xs. IfSome c.in_ok-own.own (IsShown xs)) then (c.in_ok-shows_asked.ensures.shown.0 c.if-not-branch.false)) in

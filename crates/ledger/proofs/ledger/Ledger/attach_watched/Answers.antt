@@ -1,6 +1,9 @@
 -- One clause more at the end of all lists.
 use Rattle.std.proofs.Common.{◌≡◌, ◌+◌, ◌<◌, ◌≤◌, ℕ, List, Option, Some, [], ◌∷◌, ◌++◌, length, take, refl, ap, sym, subst, ◌∙◌, arith}
-use Rattle.normal_form.specs.Normal.{NormalConstraint, variable_bound}
+use Rattle.linear.specs.declared.term.Lit.{Lit}
+use Rattle.normal_form.specs.Normal.{NormalConstraint, only, total, variable_bound}
+use Rattle.normal_form.proofs.Sums.{sum_over_below}
+use Rattle.propagate.specs.Literals.{coefficient_of}
 use Rattle.ledger.specs.declared.pair.Pair.{Pair}
 use Rattle.ledger.specs.Trails.{on_trail}
 use Rattle.ledger.specs.Ledgers.{State}
@@ -13,6 +16,9 @@ use Rattle.ledger.proofs.ledger.Ledger.attach_watched.Goals as goal
 pub enter_watched-requires-clause-table : goal.enter_watched-requires-clause-table
 enter_watched-requires-clause-table c =
     omega (arith, c.requires.variables, ap (λ (s : State). s.variables) c.self.view_is, c.self.invariant.0.watched_index.size)
+
+coefficient_below : (n : NormalConstraint) (l : Lit) → coefficient_of n l ≤ total n.terms
+coefficient_below n l = sum_over_below (only (l.var.0) l.negated) n.terms
 
 -- the literals of the pair are of the variables
 first_below : (n : NormalConstraint) (p : Pair) (variables : ℕ) → IsPairOf n p → variable_bound n.terms ≤ variables → p.first.var.0 < variables
@@ -52,7 +58,7 @@ invariant_of-self-2 c =
     let e = c.self.inside in
     let n : NormalConstraint = c.args.constraint in
     let p : Pair = c.args.pair in
-    let limit : ℕ = c.degree.result + c.largest.result in
+    let limit : ℕ = c.degree.result + c.sum.result in
     let room = c.in_ok-make_room.ensures in
     let slots : c.push_reserved-3.new.self.items ≡ e.slots.items ++ Some n ∷ [] = c.push_reserved-3.ensures.items ∙ ap (λ (os : List (Option NormalConstraint)). os ++ Some n ∷ []) room.slots in
     let counters : c.push_reserved.new.self.items ≡ e.counters.items ++ 0 ∷ [] = c.push_reserved.ensures.items ∙ ap (λ (os : List ℕ). os ++ 0 ∷ []) room.counters in
@@ -63,7 +69,7 @@ invariant_of-self-2 c =
     let new = c.enter_watched.new.watchers in
     let said = c.in_ok-enter_watched.ensures in
     let it = attached_watched e.slots.items e.trail.0 e.trail.1 e.table e.clauses c.enter_watched.new.table e.counters.items e.limits.items e.watchers.pairs n p (length e.watchers.pairs) 0 limit i refl c.degree.ensures.normal within said.ok said.length refl
-    (λ l. omega (arith, c.degree.ensures.value, c.largest.ensures.each l)) in
+    (λ l. omega (arith, c.degree.ensures.value, c.sum.ensures.value, coefficient_below n l)) in
     rw (slots, counters, limits) (
       with_pairs (e.slots.items ++ Some n ∷ []) e.trail.0 e.trail.1 e.table c.enter_watched.new.table (e.counters.items ++ 0 ∷ []) (e.limits.items ++ limit ∷ []) (e.watchers.pairs ++ Some p ∷ []) new.pairs it said.pairs,
       reasons_beside e.slots.items n (on_trail e.trail) e.reasons.items c.self.invariant.1,

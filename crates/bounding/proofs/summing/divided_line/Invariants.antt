@@ -1,6 +1,6 @@
 use Rattle.proof_rules.specs.Running.{LeavesStack}
 use Rattle.proof_rules.specs.State.{constraint_of}
-use Rattle.bounding.proofs.summing.line_of.Given as goal
+use Rattle.bounding.proofs.summing.divided_line.Given as goal
 
 -- the line so far writes what stands on its stack
 abbrev pub invariant-loop-multiplier : goal.invariant-loop-multiplier

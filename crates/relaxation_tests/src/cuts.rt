@@ -1,0 +1,234 @@
+//! Cuts of problems that are worked out by hand: the first one that the adviser hands out is the one that everybody knows, and once it is a
+//! row the point of the relaxation satisfies it.
+
+use bounding::{Advice, Adviser, Node};
+use kernel::Kernel;
+use linear::{Integer, Problem, Term, Var};
+use normal_form::{Normal, NormalBuilder, NormalTerm};
+use opb_read::read;
+use proof_rules::StepFault;
+use proof_steps::Step;
+use propagate::{Id, ScanPropagator};
+use relaxation::{End, Limits, Relaxation, Row};
+use std::alloc::Global;
+use std::process::Abort;
+
+/// The corners of a triangle, of which each side wants one: two are wanted.
+const TRIANGLE: &str = "min: 2 x1 3 x2 4 x3 ;
+1 x1 1 x2 >= 1 ;
+1 x2 1 x3 >= 1 ;
+1 x1 1 x3 >= 1 ;
+";
+
+/// Four literals of which at most one is true, told by a constraint of three and by pairs.
+const MIXED: &str = "min: -1 x1 -1 x2 -1 x3 -1 x4 ;
+-2 x1 -2 x2 -2 x3 >= -3 ;
+-1 x1 -1 x4 >= -1 ;
+-3 x2 -3 x4 >= -4 ;
+-1 x3 -1 x4 >= -1 ;
+";
+
+/// The corners of a pentagon, of which each side wants one: three are wanted.
+const PENTAGON: &str = "min: 1 x1 1 x2 1 x3 1 x4 1 x5 ;
+1 x1 1 x2 >= 1 ;
+1 x2 1 x3 >= 1 ;
+1 x3 1 x4 >= 1 ;
+1 x4 1 x5 >= 1 ;
+1 x1 1 x5 >= 1 ;
+";
+
+/// A knapsack that holds one and a half of its items.
+const KNAPSACK: &str = "min: -4 x1 -3 x2 -2 x3 ;
+-2 x1 -2 x2 -2 x3 >= -3 ;
+";
+
+/// What the first cut is to be: how many terms, each with the coefficient 1, and the degree; and how many variables the point makes true once no
+/// cut is left.
+#[derive(Clone, Copy)]
+struct Expected {
+    terms: usize,
+    degree: u128,
+    leaning: usize,
+}
+
+/// The root of a search.
+fn root() -> Node<'static> {
+    Node {
+        standing: &[],
+        decisions: 0,
+        conflicts: 0,
+        searched: 0,
+    }
+}
+
+/// Whether a constraint has so many terms, each with the coefficient 1, and that degree.
+fn is_as_expected(constraint: &Normal, expected: Expected) -> bool {
+    constraint.len() == expected.terms
+        && constraint.sum() == expected.terms as u128
+        && constraint.degree() == expected.degree
+}
+
+/// Applies the line of a cut, and gives it to the adviser; whether its constraint is as expected.
+fn take<'a>(
+    kernel: &mut Kernel<'a, ScanPropagator>,
+    adviser: &mut Adviser,
+    advice: Advice,
+    expected: Expected,
+) -> Result<bool, StepFault> {
+    let Advice::Cut(items) = advice else {
+        return Ok(false);
+    };
+    kernel.apply(&Step::Pol(items))?;
+    adviser.take_cut(kernel)?;
+    let Ok(id) = Id::try_from(kernel.last_id()) else {
+        return Ok(false);
+    };
+    match kernel.constraint(id) {
+        Some(constraint) => Ok(is_as_expected(constraint, expected)),
+        None => Ok(false),
+    }
+}
+
+/// Asks until no cut comes any more, and takes each; whether values came at last.
+fn take_all<'a>(
+    kernel: &mut Kernel<'a, ScanPropagator>,
+    adviser: &mut Adviser,
+    expected: Expected,
+) -> Result<bool, StepFault> {
+    for _ in 0..100 {
+        let advice = adviser.ask(kernel, root())?;
+        if let Advice::Values = advice {
+            return Ok(true);
+        }
+        take(kernel, adviser, advice, expected)?;
+    }
+    Ok(false)
+}
+
+/// How many variables the point makes true.
+fn leaning(adviser: &Adviser) -> usize {
+    adviser
+        .leanings()
+        .iter()
+        .filter(|literal| !literal.negated)
+        .count()
+}
+
+/// Whether the first cut of a problem is as expected, and then values come, which lead to as many variables as expected.
+fn is_cut(alloc: Global, problem: &Problem, expected: Expected) -> Result<bool, StepFault> {
+    let mut kernel: Kernel<'_, ScanPropagator> = Kernel::new(alloc, problem)?;
+    let Some(mut adviser) = Adviser::new(alloc, problem, &kernel)? else {
+        return Ok(false);
+    };
+    let advice = adviser.ask(&kernel, root())?;
+    let is_first = take(&mut kernel, &mut adviser, advice, expected)?;
+    let ends = take_all(&mut kernel, &mut adviser, expected)?;
+    Ok(is_first && ends && leaning(&adviser) == expected.leaning)
+}
+
+/// Reads a problem, and looks at its cut.
+fn check(rt: &impl Abort, alloc: Global, text: &str, expected: Expected) {
+    let problem = read(alloc, text.as_bytes()).expect(rt, "a problem");
+    let is_right = is_cut(alloc, &problem, expected).expect(rt, "legal lines");
+    assert!(rt; is_right);
+}
+
+#[test]
+fn a_triangle_has_a_clique(rt: HostRuntime) {
+    let expected = Expected {
+        terms: 3,
+        degree: 2,
+        leaning: 2,
+    };
+    check(&rt, rt.alloc(), TRIANGLE, expected);
+}
+
+#[test]
+fn a_clique_is_told_by_constraints_of_two_kinds(rt: HostRuntime) {
+    let expected = Expected {
+        terms: 4,
+        degree: 3,
+        leaning: 1,
+    };
+    check(&rt, rt.alloc(), MIXED, expected);
+}
+
+#[test]
+fn a_pentagon_is_an_odd_cycle(rt: HostRuntime) {
+    let expected = Expected {
+        terms: 5,
+        degree: 3,
+        leaning: 3,
+    };
+    check(&rt, rt.alloc(), PENTAGON, expected);
+}
+
+#[test]
+fn a_knapsack_is_rounded(rt: HostRuntime) {
+    let expected = Expected {
+        terms: 3,
+        degree: 2,
+        leaning: 1,
+    };
+    check(&rt, rt.alloc(), KNAPSACK, expected);
+}
+
+/// What is asked for where rows leave: ample for two rows.
+const LIMITS: Limits = Limits {
+    steps: 100,
+    work: 1_000_000,
+};
+
+/// A constraint of some literals, of which so many are to be true.
+fn at_least(alloc: Global, literals: &[(u32, bool)], degree: u128) -> Result<Normal, StepFault> {
+    let mut builder = NormalBuilder::new(alloc);
+    for (number, negated) in literals {
+        builder.push(NormalTerm {
+            coef: 1,
+            var: Var(*number),
+            negated: *negated,
+        })?;
+    }
+    Ok(builder.finish(degree)?)
+}
+
+/// The bound once a row with slack has left and another one has taken its place: the tight row does not leave.
+fn bound_after_exchange(alloc: Global) -> Result<Option<Integer>, StepFault> {
+    let mut relaxation = Relaxation::new(alloc, 3)?;
+    let costs = [
+        Term {
+            coef: 1,
+            var: Var(0),
+            negated: false,
+        },
+        Term {
+            coef: 2,
+            var: Var(1),
+            negated: false,
+        },
+        Term {
+            coef: 3,
+            var: Var(2),
+            negated: false,
+        },
+    ];
+    relaxation.set_cost(&costs)?;
+    let tight = relaxation.add_row(&at_least(alloc, &[(0, false), (1, false)], 1)?)?;
+    let slack = relaxation.add_row(&at_least(alloc, &[(0, false), (2, true)], 1)?)?;
+    let _ = relaxation.solve(None, LIMITS)?;
+    if relaxation.is_slack(tight) || !relaxation.is_slack(slack) || relaxation.remove_row(tight) {
+        return Ok(None);
+    }
+    let _ = relaxation.remove_row(slack);
+    relaxation.replace_row(slack, &at_least(alloc, &[(2, false)], 1)?)?;
+    match relaxation.solve(None, LIMITS)? {
+        End::Values if slack == Row(1) => Ok(Some(relaxation.bound())),
+        _ => Ok(None),
+    }
+}
+
+#[test]
+fn a_row_takes_the_place_of_another(rt: HostRuntime) {
+    let bound = bound_after_exchange(rt.alloc()).expect(&rt, "memory");
+    assert_eq!(&rt; bound, Some(4));
+}
