@@ -12,7 +12,7 @@ use command_line::{
 use devices::WriterSink;
 use pb_main::{RunFault, run, status};
 use reporting::Reporting;
-use search::Activity;
+use search::{Activity, Brancher};
 use std::alloc::{AllocError, Global};
 use std::io::{ErrorKind, Write};
 use std::process::ExitCode;
@@ -133,42 +133,46 @@ struct Wanted<'a> {
     shows_progress: bool,
 }
 
-/// Where lines about the progress go, if they are wanted.
-fn lines(rt: &HostRuntime, wanted: &Wanted<'_>) -> Result<Option<HostRuntime>, AllocError> {
-    if wanted.shows_progress {
-        Ok(Some(rt.clone()?))
+/// The branching rules, which tell about the progress where that is wanted.
+fn brancher(rt: &HostRuntime, wanted: &Wanted<'_>) -> Result<Box<dyn Brancher>, AllocError> {
+    let lines = if wanted.shows_progress {
+        Some(rt.clone()?)
     } else {
-        Ok(None)
-    }
+        None
+    };
+    Box::new(rt.alloc(), Reporting::new(Activity::new(rt.alloc()), lines))
 }
 
-/// Reads the problem, makes the proof's file, solves, and writes the proof and then the answer. The result is the exit status.
-fn solve(rt: &HostRuntime, wanted: &Wanted<'_>) -> Result<u8, DeviceFailed> {
-    let opb = given_by(rt, wanted.problem, fs::read(rt, wanted.problem))?;
-    let mut proof_out = proof_file(rt, wanted.proof)?;
+/// Solves a problem, and writes the proof and then the answer. The result is the exit status.
+fn answer<F: Write + Drop>(
+    rt: &HostRuntime,
+    wanted: &Wanted<'_>,
+    opb: &[u8],
+    brancher: Box<dyn Brancher>,
+    proof_out: Option<WriterSink<F>>,
+) -> Result<u8, DeviceFailed>
+    requires { IfSome proof_out (λ sink. sink.failures ≡ 0) }
+{
+    let mut proof_out = proof_out;
     let mut out = WriterSink::new(io::writer(rt));
-    let Ok(lines) = lines(rt, wanted) else {
-        return without_memory(rt);
-    };
-    let rules = Reporting::new(Activity::new(rt.alloc()), lines);
-    let Ok(brancher) = Box::new(rt.alloc(), rules) else {
-        return without_memory(rt);
-    };
     let limit = wanted.limit.max(1);
-    match run(
-        rt.alloc(),
-        opb.as_slice(),
-        limit,
-        brancher,
-        &mut out,
-        &mut proof_out,
-    ) {
+    match run(rt.alloc(), opb, limit, brancher, &mut out, &mut proof_out) {
         Ok(outcome) => Ok(status(&outcome)),
         Err(RunFault::AnswerWrite(_)) => Err(write_failed(rt, STANDARD_OUTPUT, out)),
         Err(RunFault::ProofWrite) => match (wanted.proof, proof_out) {
             (Some(path), Some(sink)) => Err(write_failed(rt, path, sink)),
             _ => Err(DeviceFailed),
         },
+    }
+}
+
+/// Reads the problem, makes the proof's file, and solves. The result is the exit status.
+fn solve(rt: &HostRuntime, wanted: &Wanted<'_>) -> Result<u8, DeviceFailed> {
+    let opb = given_by(rt, wanted.problem, fs::read(rt, wanted.problem))?;
+    let proof_out = proof_file(rt, wanted.proof)?;
+    match brancher(rt, wanted) {
+        Ok(brancher) => answer(rt, wanted, opb.as_slice(), brancher, proof_out),
+        Err(_) => without_memory(rt),
     }
 }
 

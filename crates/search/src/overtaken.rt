@@ -9,7 +9,7 @@ ghost use Rattle.std.specs.Prelude.{◌≡◌, ◌↔◌, ◌+◌, ◌-◌, ◌<
 ghost use Rattle.propagate.specs.Chain.{IsImpossible, LeadsToConflict};
 ghost use Rattle.propagate.specs.Literals.{IsConsistent, lists};
 ghost use Rattle.proof_rules.specs.State.{constraints};
-ghost use Rattle.search.specs.Conflicts.{TakesLast};
+ghost use Rattle.search.specs.Conflicts.{AreEnough, LeavesEnough, TakesLast};
 
 use super::log::Log;
 use linear::Lit;
@@ -61,6 +61,7 @@ fn least_conflict<'a, P: Propagator>(
     requires { IsImpossible (constraints log.old.state) decisions.now }
     ensures same { log.new ≡ log.old }
     ensures within { IfOk result (λ count. count ≤ length decisions.now) }
+    ensures conflict { IfOk result (λ count. IsImpossible (constraints log.old.state) (take count decisions.now)) }
     ensures least { IfOk result (λ count. 0 < count → IsImpossible (constraints log.old.state) (take (count - 1) decisions.now) → ⊥) }
 {
     let mut low = 0;
@@ -84,9 +85,11 @@ fn left_of<'a, P: Propagator>(
     count: usize,
 ) -> Result<usize, AllocError>
     requires within { count ≤ length decisions.now }
+    requires conflict { IsImpossible (constraints log.old.state) (take count decisions.now) }
     requires least { 0 < count → IsImpossible (constraints log.old.state) (take (count - 1) decisions.now) → ⊥ }
     ensures same { log.new ≡ log.old }
     ensures within { IfOk result (λ left. left ≤ count) }
+    ensures enough { IfOk result (AreEnough (constraints log.old.state) decisions.now) }
     ensures takes { IfOk result (λ left. left ≡ length decisions.now → TakesLast (constraints log.old.state) decisions.now) }
 {
     if count == 0 {
@@ -114,6 +117,7 @@ pub(crate) fn undo_overtaken<'a, P: Propagator>(
     ensures same { log.new ≡ log.old }
     ensures consistent { OnOk result (IsConsistent decisions.new.items) }
     ensures fewer { IfOk result (λ undone. IsTrue undone → length decisions.new.items < length decisions.old.items) }
+    ensures enough { IfOk result (λ undone. IsTrue undone → LeavesEnough (constraints log.old.state) decisions.old.items decisions.new.items) }
     ensures kept { IfOk result (λ undone. undone ≡ false → decisions.new.items ≡ decisions.old.items) }
     ensures takes { IfOk result (λ undone. undone ≡ false → TakesLast (constraints log.old.state) decisions.old.items) }
 {

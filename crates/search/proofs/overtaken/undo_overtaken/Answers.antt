@@ -3,7 +3,7 @@ use Rattle.std.proofs.Common.{◌≡◌, List, length, ap, sym, subst, ◌∙◌
 use Rattle.linear.specs.declared.term.Lit.{Lit}
 use Rattle.propagate.specs.Literals.{IsConsistent}
 use Rattle.proof_rules.specs.State.{constraints}
-use Rattle.search.specs.Conflicts.{TakesLast}
+use Rattle.search.specs.Conflicts.{AreEnough, TakesLast}
 use Rattle.search.specs.Log.{Logbook}
 use Rattle.search.proofs.BitingClauses.{take_consistent}
 use Rattle.search.proofs.overtaken.undo_overtaken.Goals as goal
@@ -11,6 +11,18 @@ use Rattle.search.proofs.overtaken.undo_overtaken.Goals as goal
 pub returns-clause-consistent : goal.returns-clause-consistent
 returns-clause-consistent g c =
     subst IsConsistent (sym c.truncate.ensures.items) (take_consistent c.in_ok-left.left c.args.decisions.now.items c.requires.consistent)
+
+pub returns-clause-enough : goal.returns-clause-enough
+returns-clause-enough g c yes =
+    let live = constraints c.args.log.now.state in
+    let left = c.in_ok-left.left in
+    let enough : AreEnough live c.as_slice-2.result.now left =
+    subst (λ (l : Logbook). AreEnough (constraints l.state) c.as_slice-2.result.now left) c.least_conflict.ensures.same c.in_ok-left.ensures.enough in (
+      left,
+      omega (arith, c.if-left-len.false, c.len.ensures, c.in_ok-left.ensures.within, c.in_ok-count.ensures.within, ap length c.as_slice.ensures.value),
+      c.truncate.ensures.items,
+      subst (λ (xs : List Lit). AreEnough live xs left) c.as_slice-2.ensures.value enough,
+    )
 
 pub returns-then-left-len-clause-takes : goal.returns-then-left-len-clause-takes
 returns-then-left-len-clause-takes g c all =
