@@ -134,13 +134,14 @@ struct Wanted<'a> {
 }
 
 /// The branching rules, which tell about the progress where that is wanted.
-fn brancher(rt: &HostRuntime, wanted: &Wanted<'_>) -> Result<Box<dyn Brancher>, AllocError> {
+fn brancher(rt: &HostRuntime, wanted: &Wanted<'_>) -> Result<Box<Reporting>, AllocError> {
     let lines = if wanted.shows_progress {
         Some(rt.clone()?)
     } else {
         None
     };
-    Box::new(rt.alloc(), Reporting::new(Activity::new(rt.alloc()), lines))
+    let rules = Reporting::new(Activity::new(rt.alloc()), lines);
+    Ok(Box::new(rt.alloc(), rules)?)
 }
 
 /// Solves a problem, and writes the proof and then the answer. The result is the exit status.
