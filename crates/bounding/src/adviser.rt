@@ -161,7 +161,7 @@ impl Adviser {
     }
 
     /// Solves the relaxation at a node, where that is due. The line of a conflict derives a constraint that has negative slack under
-    /// what stands, and that of a forcing one a constraint that forces a literal there. At the root cuts may come, one a call: each is to be
+    /// what stands, and that of a forcing one a constraint that forces a literal there. At the root, once there was a conflict, cuts may come, one a call: each is to be
     /// logged and given to `take_cut`, and the call to be made again.
     ///
     /// `AllocError` comes where a growth was refused. The adviser may be asked again then.
@@ -219,14 +219,15 @@ impl Adviser {
         self.cuts.next(kernel, point)
     }
 
-    /// What a call may do at a node, where so much was done so far: it is the next round at the root, or it is due by `effort`.
+    /// What a call may do at a node, where so much was done so far: it is the next round at the root, or it is due by `effort`. A problem
+    /// that is solved without a conflict wants no cuts, so no round begins before there was one.
     fn limits(&mut self, before: u64, node: Node<'_>) -> Option<Limits> {
         if let Some(limits) = self.rounds.next(before) {
             return Some(limits);
         }
         let aim = self.aim();
         let limits = self.effort.limits(before, node, aim)?;
-        if node.decisions == 0 {
+        if node.decisions == 0 && node.conflicts > 0 {
             self.rounds.begin(before, limits);
         }
         Some(limits)

@@ -44,7 +44,7 @@ const FIRST_ROOT_WORK: u64 = 500_000_000;
 /// How much any later one may do at least.
 const ROOT_WORK: u64 = 20_000_000;
 
-/// So many conflicts more come before each further call at the root.
+/// So many conflicts more come before each further call at the root, from the third on.
 const CONFLICTS_BETWEEN_ROOTS: u64 = 200;
 
 /// The share of the work that calls have, and when the next one at the root is due.
@@ -97,12 +97,17 @@ impl Effort {
             ROOT_WORK.saturating_add((node.searched / 10).saturating_mul(3))
         };
         self.root_calls = self.root_calls.saturating_add(1);
-        let pause = CONFLICTS_BETWEEN_ROOTS.saturating_mul(self.root_calls);
-        self.next_root = node.conflicts.saturating_add(pause);
+        self.next_root = node.conflicts.saturating_add(self.pause());
         Some(Limits {
             steps: ROOT_STEPS,
             work,
         })
+    }
+
+    /// How many conflicts come between the last call at the root and the next one: one behind the first call, since cuts come only then.
+    fn pause(self) -> u64 {
+        let further = self.root_calls.saturating_sub(1);
+        CONFLICTS_BETWEEN_ROOTS.saturating_mul(further).max(1)
     }
 
     /// Whether calls that have done so much have done less than their share, where the search has done so much.

@@ -1,14 +1,16 @@
 //! Cuts of problems that are worked out by hand: the first one that the adviser hands out is the one that everybody knows, and once it is a
 //! row the point of the relaxation satisfies it.
 
+use super::made::normal;
+use super::plain::PlainRow;
 use bounding::{Advice, Adviser, Node};
 use kernel::Kernel;
 use linear::{Integer, Problem, Term, Var};
-use normal_form::{Normal, NormalBuilder, NormalTerm};
+use normal_form::Normal;
 use opb_read::read;
 use proof_rules::StepFault;
 use proof_steps::Step;
-use propagate::{Id, ScanPropagator};
+use propagate::{Id, Propagator, ScanPropagator};
 use relaxation::{End, Limits, Relaxation, Row};
 use std::alloc::Global;
 use std::process::Abort;
@@ -51,12 +53,12 @@ struct Expected {
     leaning: usize,
 }
 
-/// The root of a search.
+/// The root of a search that met a conflict, after which cuts come.
 fn root() -> Node<'static> {
     Node {
         standing: &[],
         decisions: 0,
-        conflicts: 0,
+        conflicts: 1,
         searched: 0,
     }
 }
@@ -69,8 +71,8 @@ fn is_as_expected(constraint: &Normal, expected: Expected) -> bool {
 }
 
 /// Applies the line of a cut, and gives it to the adviser; whether its constraint is as expected.
-fn take<'a>(
-    kernel: &mut Kernel<'a, ScanPropagator>,
+fn take<'a, P: Propagator>(
+    kernel: &mut Kernel<'a, P>,
     adviser: &mut Adviser,
     advice: Advice,
     expected: Expected,
@@ -90,8 +92,8 @@ fn take<'a>(
 }
 
 /// Asks until no cut comes any more, and takes each; whether values came at last.
-fn take_all<'a>(
-    kernel: &mut Kernel<'a, ScanPropagator>,
+fn take_all<'a, P: Propagator>(
+    kernel: &mut Kernel<'a, P>,
     adviser: &mut Adviser,
     expected: Expected,
 ) -> Result<bool, StepFault> {
@@ -115,8 +117,12 @@ fn leaning(adviser: &Adviser) -> usize {
 }
 
 /// Whether the first cut of a problem is as expected, and then values come, which lead to as many variables as expected.
-fn is_cut(alloc: Global, problem: &Problem, expected: Expected) -> Result<bool, StepFault> {
-    let mut kernel: Kernel<'_, ScanPropagator> = Kernel::new(alloc, problem)?;
+fn is_cut<'a, P: Propagator>(
+    alloc: Global,
+    problem: &'a Problem,
+    expected: Expected,
+) -> Result<bool, StepFault> {
+    let mut kernel: Kernel<'a, P> = Kernel::new(alloc, problem)?;
     let Some(mut adviser) = Adviser::new(alloc, problem, &kernel)? else {
         return Ok(false);
     };
@@ -129,7 +135,7 @@ fn is_cut(alloc: Global, problem: &Problem, expected: Expected) -> Result<bool, 
 /// Reads a problem, and looks at its cut.
 fn check(rt: &impl Abort, alloc: Global, text: &str, expected: Expected) {
     let problem = read(alloc, text.as_bytes()).expect(rt, "a problem");
-    let is_right = is_cut(alloc, &problem, expected).expect(rt, "legal lines");
+    let is_right = is_cut::<ScanPropagator>(alloc, &problem, expected).expect(rt, "legal lines");
     assert!(rt; is_right);
 }
 
@@ -179,17 +185,13 @@ const LIMITS: Limits = Limits {
     work: 1_000_000,
 };
 
-/// A constraint of some literals, of which so many are to be true.
-fn at_least(alloc: Global, literals: &[(u32, bool)], degree: u128) -> Result<Normal, StepFault> {
-    let mut builder = NormalBuilder::new(alloc);
-    for (number, negated) in literals {
-        builder.push(NormalTerm {
-            coef: 1,
-            var: Var(*number),
-            negated: *negated,
-        })?;
-    }
-    Ok(builder.finish(degree)?)
+/// A row over three variables.
+fn row(alloc: Global, coefficients: &[i128], right: i128) -> Result<Normal, StepFault> {
+    let row = PlainRow {
+        coefficients: Vec::from_slice(alloc, coefficients)?,
+        right,
+    };
+    Ok(normal(alloc, &row)?)
 }
 
 /// The bound once a row with slack has left and another one has taken its place: the tight row does not leave.
@@ -213,14 +215,14 @@ fn bound_after_exchange(alloc: Global) -> Result<Option<Integer>, StepFault> {
         },
     ];
     relaxation.set_cost(&costs)?;
-    let tight = relaxation.add_row(&at_least(alloc, &[(0, false), (1, false)], 1)?)?;
-    let slack = relaxation.add_row(&at_least(alloc, &[(0, false), (2, true)], 1)?)?;
+    let tight = relaxation.add_row(&row(alloc, &[1, 1, 0], 1)?)?;
+    let slack = relaxation.add_row(&row(alloc, &[1, 0, -1], 0)?)?;
     let _ = relaxation.solve(None, LIMITS)?;
     if relaxation.is_slack(tight) || !relaxation.is_slack(slack) || relaxation.remove_row(tight) {
         return Ok(None);
     }
     let _ = relaxation.remove_row(slack);
-    relaxation.replace_row(slack, &at_least(alloc, &[(2, false)], 1)?)?;
+    relaxation.replace_row(slack, &row(alloc, &[0, 0, 1], 1)?)?;
     match relaxation.solve(None, LIMITS)? {
         End::Values if slack == Row(1) => Ok(Some(relaxation.bound())),
         _ => Ok(None),

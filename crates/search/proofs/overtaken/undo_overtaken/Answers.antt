@@ -1,6 +1,7 @@
 -- None is undone only where all are left.
-use Rattle.std.proofs.Common.{◌≡◌, List, length, ap, sym, subst, ◌∙◌, arith}
+use Rattle.std.proofs.Common.{◌≡◌, ◌-◌, List, length, take, ap, sym, subst, ◌∙◌, arith}
 use Rattle.linear.specs.declared.term.Lit.{Lit}
+use Rattle.propagate.specs.Chain.{IsImpossible}
 use Rattle.propagate.specs.Literals.{IsConsistent}
 use Rattle.proof_rules.specs.State.{constraints}
 use Rattle.search.specs.Conflicts.{AreEnough, TakesLast}
@@ -8,12 +9,22 @@ use Rattle.search.specs.Log.{Logbook}
 use Rattle.search.proofs.BitingClauses.{take_consistent}
 use Rattle.search.proofs.overtaken.undo_overtaken.Goals as goal
 
+pub left_of-requires-clause-conflict : goal.left_of-requires-clause-conflict
+left_of-requires-clause-conflict g c =
+    subst (λ (l : Logbook). IsImpossible (constraints l.state) (take c.in_ok-count.count c.as_slice-2.result.now)) (sym c.least_conflict.ensures.same)
+    (subst (λ (xs : List Lit). IsImpossible (constraints c.args.log.now.state) (take c.in_ok-count.count xs)) (c.as_slice.ensures.value ∙ sym c.as_slice-2.ensures.value) c.in_ok-count.ensures.conflict)
+
+pub left_of-requires-clause-least : goal.left_of-requires-clause-least
+left_of-requires-clause-least g c some =
+    subst (λ (l : Logbook). IsImpossible (constraints l.state) (take (c.in_ok-count.count - 1) c.as_slice-2.result.now) → ⊥) (sym c.least_conflict.ensures.same)
+    (subst (λ (xs : List Lit). IsImpossible (constraints c.args.log.now.state) (take (c.in_ok-count.count - 1) xs) → ⊥) (c.as_slice.ensures.value ∙ sym c.as_slice-2.ensures.value) (c.in_ok-count.ensures.least some))
+
 pub returns-clause-consistent : goal.returns-clause-consistent
 returns-clause-consistent g c =
     subst IsConsistent (sym c.truncate.ensures.items) (take_consistent c.in_ok-left.left c.args.decisions.now.items c.requires.consistent)
 
 pub returns-clause-enough : goal.returns-clause-enough
-returns-clause-enough g c yes =
+returns-clause-enough g c undone =
     let live = constraints c.args.log.now.state in
     let left = c.in_ok-left.left in
     let enough : AreEnough live c.as_slice-2.result.now left =
