@@ -1,7 +1,9 @@
 //! A problem that needs more conflicts than come before a search begins anew and before it forgets, so that it does both and goes on.
 //!
-//! Nine pigeons do not fit into eight holes. Where a clause says of each two of them that they are not both in one hole, and the
-//! conflicts choose, that takes some thousands of conflicts; the first restart comes after 100, and half of what was learned is forgotten after 2,000.
+//! On a grid that is closed in both directions each corner asks for the parity of its chosen edges: odd at one corner, even at all others. Every
+//! edge has two ends, so the parities of all corners add up to an even number, and there is no such choice (Tseitin 1968). Clauses say so, eight
+//! for a corner, and neither their sums nor cuts help: that takes some thousands of conflicts. The first restart comes after 100, and half of
+//! what was learned is forgotten after 2,000.
 
 use super::plain::{PlainConstraint, PlainProblem, PlainTerm};
 use super::rules::Rule;
@@ -10,56 +12,106 @@ use super::spelled::text_of;
 use std::alloc::{AllocError, Global};
 use std::test::Fail;
 
-const PIGEONS: usize = 9;
+const ROWS: usize = 4;
 
-const HOLES: usize = 8;
+const COLUMNS: usize = 4;
 
-/// That a pigeon is in a hole, or that it is not.
-fn stays(pigeon: usize, hole: usize, negated: bool) -> PlainTerm {
-    PlainTerm {
-        coef: 1,
-        place: pigeon.wrapping_mul(HOLES).wrapping_add(hole),
-        negated,
+/// A corner of the grid.
+#[derive(Clone, Copy)]
+struct Corner {
+    row: usize,
+    column: usize,
+}
+
+impl Corner {
+    /// The place of its edge to the right.
+    fn right(self) -> usize {
+        self.row.wrapping_mul(COLUMNS).wrapping_add(self.column)
+    }
+
+    /// The place of its edge downwards.
+    fn down(self) -> usize {
+        self.right().wrapping_add(ROWS.wrapping_mul(COLUMNS))
+    }
+
+    /// The one to its left; the last one of the row where it is the first.
+    fn left(self) -> Corner {
+        let column = if self.column == 0 {
+            COLUMNS - 1
+        } else {
+            self.column - 1
+        };
+        Corner { column, ..self }
+    }
+
+    /// The one above; the last one of the column where it is the first.
+    fn above(self) -> Corner {
+        let row = if self.row == 0 {
+            ROWS - 1
+        } else {
+            self.row - 1
+        };
+        Corner { row, ..self }
+    }
+
+    /// Its four edges.
+    fn edges(self) -> [usize; 4] {
+        [
+            self.right(),
+            self.left().right(),
+            self.down(),
+            self.above().down(),
+        ]
+    }
+
+    /// How many of its edges are to be chosen, modulo 2.
+    fn parity(self) -> u32 {
+        if self.right() == 0 { 1 } else { 0 }
     }
 }
 
-fn clause(terms: Vec<PlainTerm>) -> PlainConstraint {
-    PlainConstraint {
+/// That edges are not chosen just as the bits of a number say.
+fn other_than(
+    alloc: Global,
+    edges: [usize; 4],
+    choice: u32,
+) -> Result<PlainConstraint, AllocError> {
+    let mut terms = Vec::new(alloc);
+    let mut rest = choice;
+    for place in edges {
+        terms.push(PlainTerm {
+            coef: 1,
+            place,
+            negated: rest & 1 == 1,
+        })?;
+        rest >>= 1;
+    }
+    Ok(PlainConstraint {
         terms,
         is_equality: false,
         right: 1,
-    }
+    })
 }
 
-/// Each pigeon is in some hole.
-fn has_hole(alloc: Global, pigeon: usize) -> Result<PlainConstraint, AllocError> {
-    let mut terms = Vec::new(alloc);
-    for hole in 0..HOLES {
-        terms.push(stays(pigeon, hole, false))?;
-    }
-    Ok(clause(terms))
-}
-
-/// A pigeon and those before it are not in one hole.
-fn add_others(
+/// That the edges of a corner have its parity: no choice of the other one.
+fn add_parity(
     alloc: Global,
     constraints: &mut Vec<PlainConstraint>,
-    pigeon: usize,
-    hole: usize,
+    corner: Corner,
 ) -> Result<(), AllocError> {
-    for other in 0..pigeon {
-        let terms = [stays(other, hole, true), stays(pigeon, hole, true)];
-        constraints.push(clause(Vec::from_slice(alloc, &terms)?))?;
+    for choice in 0..16_u32 {
+        if choice.count_ones() & 1 != corner.parity() {
+            constraints.push(other_than(alloc, corner.edges(), choice)?)?;
+        }
     }
     Ok(())
 }
 
-fn pigeons(alloc: Global) -> Result<PlainProblem, AllocError> {
+fn parities(alloc: Global) -> Result<PlainProblem, AllocError> {
     let mut constraints = Vec::new(alloc);
-    for pigeon in 0..PIGEONS {
-        constraints.push(has_hole(alloc, pigeon)?)?;
-        for hole in 0..HOLES {
-            add_others(alloc, &mut constraints, pigeon, hole)?;
+    for row in 0..ROWS {
+        for column in 0..COLUMNS {
+            add_parity(alloc, &mut constraints, Corner { row, column })?;
         }
     }
     Ok(PlainProblem {
@@ -78,7 +130,7 @@ enum End {
 }
 
 fn end_of(alloc: Global, limit: u64, rule: Rule) -> Result<End, Fail> {
-    let text = text_of(alloc, &pigeons(alloc)?)?;
+    let text = text_of(alloc, &parities(alloc)?)?;
     let seen = solve(alloc, text.as_bytes(), limit, rule)?;
     if seen.is("c limit\ns UNKNOWN\n", 0, "accepted NONE\n") {
         return Ok(End::Stopped);
