@@ -12,7 +12,7 @@ ghost use Rattle.proof_rules.specs.Fault.{OrMemory, IsMultiplyFault, IsFactorFau
 ghost use Rattle.proof_steps.specs.declared.step.Item.TheVariants as items;
 
 use super::stack::{Operand, Stack};
-use cut_rules::{axiom, divide, multiply, saturate};
+use cut_rules::{axiom, multiply};
 use linear::Lit;
 use normal_form::Normal;
 use proof_rules::StepFault;
@@ -52,7 +52,7 @@ impl<'a> Stack<'a> {
         let Some(top) = self.pop(alloc)? else {
             return Err(StepFault::StackShape);
         };
-        let made = divide(alloc, top.constraint(), divisor)?;
+        let made = top.divided(alloc, divisor)?;
         self.push(Operand::Made(made))?;
         Ok(())
     }
@@ -65,7 +65,7 @@ impl<'a> Stack<'a> {
         let Some(top) = self.pop(alloc)? else {
             return Err(StepFault::StackShape);
         };
-        let made = saturate(alloc, top.constraint())?;
+        let made = top.saturated(alloc)?;
         self.push(Operand::Made(made))?;
         Ok(())
     }
@@ -81,6 +81,8 @@ impl<'a> Stack<'a> {
         if self.pop(alloc)?.is_some() {
             return Err(StepFault::StackShape);
         }
-        Ok(top.into_constraint(alloc)?)
+        let mut value = top.into_constraint(alloc)?;
+        value.trim();
+        Ok(value)
     }
 }

@@ -17,13 +17,11 @@ ghost use Rattle.proof_rules.specs.Fault.{OrMemory, IsAddFault};
 ghost use Rattle.pol_stack.specs.Stack.{operand_value, stack_of, with_sum, stacked, IsSumFault};
 
 use accumulate::Accumulator;
-use cut_rules::{add, weaken};
+use cut_rules::{add, divide, divide_in_place, saturate, saturate_in_place, weaken};
 use linear::Var;
 use normal_form::{CutFault, Normal};
 use proof_rules::StepFault;
-use smallvec::SmallVec;
 use std::alloc::{AllocError, Global};
-use std::default::MadeWith;
 use std::marker::Model;
 
 /// A constraint on the stack.
@@ -37,16 +35,9 @@ pub enum Operand<'a> {
     Sum(Normal),
 }
 
-impl<'a> MadeWith<Global> for Operand<'a> {
-    ghost use Rattle.std.specs.Prelude.{◌≡◌};
-
-    fn made_with(alloc: Global) -> Operand<'a> {
-        Operand::Made(Normal::made_with(alloc))
-    }
-}
-
 impl<'a> Operand<'a> {
-    ghost use Rattle.std.specs.Prelude.{◌≡◌, IfOk};
+    ghost use Rattle.std.specs.Prelude.{◌≡◌, ◌↔◌, pos, ◌<ℤ◌, unsigned_abs, IfOk, OnErr, IsErrOf};
+    ghost use Rattle.cut_rules.specs.Rules.{IsQuotient, IsSaturation};
     ghost use Rattle.pol_stack.specs.Stack.{operand_value};
 
     /// The constraint that the operand stands for.
@@ -68,6 +59,35 @@ impl<'a> Operand<'a> {
             Operand::Live(constraint) => constraint.copy(alloc),
             Operand::Made(constraint) => Ok(constraint),
             Operand::Sum(constraint) => Ok(constraint),
+        }
+    }
+
+    /// What it becomes by division: one that the step made is divided where it stands.
+    pub(crate) fn divided(self, alloc: Global, divisor: i128) -> Result<Normal, CutFault>
+        ensures quotient { IfOk result (IsQuotient (unsigned_abs divisor) (operand_value self.entry)) }
+        ensures fits { IsErrOf result CutFault.TooLarge → ⊥ }
+        ensures factor { divisor <ℤ pos 1 ↔ IsErrOf result CutFault.BadFactor }
+    {
+        match self {
+            Operand::Live(constraint) => divide(alloc, constraint, divisor),
+            Operand::Made(mut made) | Operand::Sum(mut made) => {
+                divide_in_place(&mut made, divisor)?;
+                Ok(made)
+            }
+        }
+    }
+
+    /// What it becomes by saturation: one that the step made is saturated where it stands.
+    pub(crate) fn saturated(self, alloc: Global) -> Result<Normal, CutFault>
+        ensures saturation { IfOk result (IsSaturation (operand_value self.entry)) }
+        ensures others { OnErr result (IsErrOf result CutFault.OutOfMemory) }
+    {
+        match self {
+            Operand::Live(constraint) => saturate(alloc, constraint),
+            Operand::Made(mut made) | Operand::Sum(mut made) => {
+                saturate_in_place(&mut made);
+                Ok(made)
+            }
         }
     }
 
@@ -110,10 +130,10 @@ pub(crate) enum Held {
 /// The operands of a `pol` step. After a fault, out of memory included, nothing is said of what stands on it.
 #[derive(Drop)]
 pub struct Stack<'a> {
-    below: SmallVec<Operand<'a>, 2>,
+    below: Vec<Operand<'a>>,
     held: Held,
     sum: Accumulator,
-    above: SmallVec<Operand<'a>, 8>,
+    above: Vec<Operand<'a>>,
     /// How many terms were added to the running sum, less those of copies made above it since. Only speed depends on it.
     added: usize,
 }
@@ -141,10 +161,10 @@ impl<'a> Stack<'a> {
         ensures { result ≡ [] }
     {
         Stack {
-            below: SmallVec::new(alloc),
+            below: Vec::new(alloc),
             held: Held::Nothing,
             sum,
-            above: SmallVec::new(alloc),
+            above: Vec::new(alloc),
             added: 0,
         }
     }
@@ -347,10 +367,7 @@ fn add_operand(sum: &mut Accumulator, operand: &Operand<'_>) -> Result<usize, St
 }
 
 /// Adds the last operand below a running sum to it. How many terms it has.
-fn add_from_below(
-    sum: &mut Accumulator,
-    below: &mut SmallVec<Operand<'_>, 2>,
-) -> Result<usize, StepFault>
+fn add_from_below(sum: &mut Accumulator, below: &mut Vec<Operand<'_>>) -> Result<usize, StepFault>
     ensures ok { (given : Given) → OnOk result (AppliesItem given items.Add (sum.old ∷ stack_of below.old.items) (sum.new ∷ stack_of below.new.items)) }
     ensures fault { IfErr result (λ f. OrMemory f (IsAddFault (sum.old ∷ stack_of below.old.items) f)) }
 {
@@ -362,9 +379,9 @@ fn add_from_below(
 
 /// Adds to a running sum what stands on it, or else the operand below. How many terms that has.
 fn add_beside<'a>(
-    above: &mut SmallVec<Operand<'a>, 8>,
+    above: &mut Vec<Operand<'a>>,
     sum: &mut Accumulator,
-    below: &mut SmallVec<Operand<'a>, 2>,
+    below: &mut Vec<Operand<'a>>,
 ) -> Result<usize, StepFault>
     requires { length above.old.items < 2 }
     ensures ok { (given : Given) → OnOk result (AppliesItem given items.Add (stacked above.old.items Held.RunningSum sum.old below.old.items) (stacked above.new.items Held.RunningSum sum.new below.new.items)) }
@@ -381,7 +398,7 @@ fn read_off(
     alloc: Global,
     held: Held,
     sum: &mut Accumulator,
-    below: &mut SmallVec<Operand<'_>, 2>,
+    below: &mut Vec<Operand<'_>>,
 ) -> Result<(), CutFault>
     ensures below { OnOk result (stack_of below.new.items ≡ with_sum held sum.old (stack_of below.old.items)) }
     ensures memory { OnErr result (IsErrOf result CutFault.OutOfMemory) }
@@ -401,8 +418,8 @@ fn put_away<'a>(
     alloc: Global,
     held: Held,
     sum: &mut Accumulator,
-    above: &mut SmallVec<Operand<'a>, 8>,
-    below: &mut SmallVec<Operand<'a>, 2>,
+    above: &mut Vec<Operand<'a>>,
+    below: &mut Vec<Operand<'a>>,
 ) -> Result<(), CutFault>
     ensures below { OnOk result (stack_of below.new.items ≡ stacked above.old.items held sum.old below.old.items) }
     ensures above { OnOk result (above.new.items ≡ []) }
