@@ -11,4 +11,4 @@ returns c given is before =
     let item = items.Id (pos c.args.id) in
     let written : c.push.new.self.items ≡ items_before ++ item ∷ [] = search rules in
     subst (λ (w : List Item). LeavesStack given w c.push-2.new.self) (sym written)
-    (LeavesStack-push given items_before item c.args.self.now.stack c.push-2.new.self (c.args.constraint.now, is, c.in_ok-push-2.ensures) before)
+    (LeavesStack-push given items_before item c.args.self.now.stack c.push-2.new.self (c.args.constraint.now, is, c.in_ok-push-2.ensures.ok) before)
