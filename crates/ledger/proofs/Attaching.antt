@@ -1,5 +1,5 @@
 -- A ledger with a constraint more at the end, and with one fewer.
-use Rattle.std.proofs.Common.{◌≡◌, ℕ, ◌+◌, ◌-◌, ◌*◌, ◌<◌, ◌≤◌, ◌⊎◌, inl, inr, Option, None, Some, List, [], ◌∷◌, ◌++◌, length, get_or, set, take, refl, ap, sym, subst, ◌∙◌, append-nil, length-append, arith}
+use Rattle.std.proofs.Common.{◌≡◌, true, ℕ, ◌+◌, ◌-◌, ◌*◌, ◌<◌, ◌≤◌, ◌⊎◌, inl, inr, Option, None, Some, List, [], ◌∷◌, ◌++◌, length, get_or, set, take, refl, ap, sym, subst, ◌∙◌, append-nil, length-append, arith}
 use Rattle.std.proofs.lemmas.Bool.{cases_eq, cases_lt}
 use Rattle.std.proofs.lemmas.List.{get_or_push, get_or_append_left, get_or-set_same, get_or-set_other, length-set, get_or-take, length-take-le, length-map, take_more, map_push, get_or_past}
 use Rattle.std.proofs.lemmas.List.Elements.{All-push, All-take, All-weaker}
@@ -9,7 +9,7 @@ use Rattle.normal_form.specs.Normal.{NormalConstraint, IsNormal, variable_bound}
 use Rattle.propagate.specs.Literals.{coefficient_of}
 use Rattle.ledger.specs.declared.occurrence.Occurrence.{Occurrence}
 use Rattle.ledger.specs.Occurrences.{entries_of, entry_of, occurrences_of, HasMore}
-use Rattle.ledger.specs.Ledgers.{constraint_at, constraint_in, shown, nothing, open_sum, IsIndex, IsLedger, AreCounters, AreKnown, AreParted, AreLimits, AreReasons}
+use Rattle.ledger.specs.Ledgers.{constraint_at, constraint_in, shown, nothing, open_sum, IsIndex, IsLedger, AreCounters, AreKnown, AreParted, AreLimits, AreReasons, Indexing}
 use Rattle.ledger.specs.declared.pair.Pair.{Pair}
 use Rattle.ledger.proofs.EntrySums.{occurrences_push}
 use Rattle.ledger.proofs.Reasons.{reasons_moved}
@@ -101,7 +101,7 @@ parted_more slots ns ws pairs n c w o x part = record {
   ];
 }
 
-entries_more : (ns : List NormalConstraint) (n : NormalConstraint) (table after : List (List Occurrence)) (place : ℕ) → ((l : Lit) → entries_of table l ≡ occurrences_of l 0 ns) → place ≡ length ns → HasMore (entries_of table) after place n.terms → (l : Lit) → entries_of after l ≡ occurrences_of l 0 (ns ++ n ∷ [])
+pub entries_more : (ns : List NormalConstraint) (n : NormalConstraint) (table after : List (List Occurrence)) (place : ℕ) → ((l : Lit) → entries_of table l ≡ occurrences_of l 0 ns) → place ≡ length ns → HasMore (entries_of table) after place n.terms → (l : Lit) → entries_of after l ≡ occurrences_of l 0 (ns ++ n ∷ [])
 entries_more ns n table after place is e more l =
     more l ∙ ap (λ (os : List Occurrence). os ++ entry_of l place n.terms) (is l) ∙ ap (λ (k : ℕ). occurrences_of l 0 ns ++ entry_of l k n.terms) (omega (arith, e)) ∙ sym (occurrences_push l 0 ns n)
 
@@ -112,22 +112,22 @@ index_more ns variables place table after n i e more long = record { size = omeg
 pub none_more : (table : List (List Occurrence)) (place : ℕ) → HasMore (entries_of table) table place []
 none_more table place l = sym (append-nil (entries_of table l))
 
-nothing_normal : IsNormal nothing
+pub nothing_normal : IsNormal nothing
 nothing_normal = record { rises = tt; fits = record { sum = omega arith; degree = omega arith } }
 
 -- one constraint more
-pub attached : (slots : List (Option NormalConstraint)) (assigned : List Lit) (variables : ℕ) (table after clauses behind : List (List Occurrence)) (counters limits : List ℕ) (pairs : List (Option Pair)) (n c w : NormalConstraint) (o : Option Pair) (place opened limit : ℕ)
+pub attached : (slots : List (Option NormalConstraint)) (assigned : List Lit) (variables : ℕ) (table after : List (List Occurrence)) (clauses behind : Indexing) (counters limits : List ℕ) (pairs : List (Option Pair)) (n c w : NormalConstraint) (o : Option Pair) (place opened limit : ℕ)
     → IsLedger slots assigned variables table clauses counters limits pairs → IsPartOf n c w o → place ≡ length pairs → IsNormal c → IsNormal w → variable_bound c.terms ≤ variables → variable_bound w.terms ≤ variables
-    → HasMore (entries_of table) after place c.terms → length after ≡ length table → HasMore (entries_of clauses) behind place w.terms → length behind ≡ length clauses
+    → HasMore (entries_of table) after place c.terms → length after ≡ length table → behind.kept ≡ clauses.kept → (clauses.kept ≡ true → HasMore (entries_of clauses.table) behind.table place w.terms) → length behind.table ≡ length clauses.table
     → opened ≡ open_sum assigned c → ((l : Lit) → n.degree + coefficient_of n l ≤ limit)
     → IsLedger (slots ++ Some n ∷ []) assigned variables after behind (counters ++ opened ∷ []) (limits ++ limit ∷ []) (pairs ++ o ∷ [])
-attached slots assigned variables table after clauses behind counters limits pairs n c w o place opened limit i part e normal_c normal_w within_c within_w more long more_w long_w is enough =
+attached slots assigned variables table after clauses behind counters limits pairs n c w o place opened limit i part e normal_c normal_w within_c within_w more long same more_w long_w is enough =
     let x = i.slots_are in
     record {
       counted = i.counted ++ c ∷ [];
       watched = i.watched ++ w ∷ [];
       index = index_more i.counted variables place table after c i.index (omega (arith, e, x.count, x.pair_count)) more long;
-      watched_index = index_more i.watched variables place clauses behind w i.watched_index (omega (arith, e, x.watched_count, x.pair_count)) more_w long_w;
+      watched_index = λ kept. index_more i.watched variables place clauses.table behind.table w (i.watched_index (sym same ∙ kept)) (omega (arith, e, x.watched_count, x.pair_count)) (more_w (sym same ∙ kept)) long_w;
       counters_are = counters_more i.counted assigned counters c opened i.counters_are is;
       known = record { normal = All-push IsNormal i.counted c i.known.normal normal_c; within = All-push (λ (m : NormalConstraint). variable_bound m.terms ≤ variables) i.counted c i.known.within within_c };
       watched_known = record { normal = All-push IsNormal i.watched w i.watched_known.normal normal_w; within = All-push (λ (m : NormalConstraint). variable_bound m.terms ≤ variables) i.watched w i.watched_known.within within_w };
@@ -135,19 +135,19 @@ attached slots assigned variables table after clauses behind counters limits pai
       limits_are = rw (shown_more slots n) (limits_more (shown slots) limits n limit i.limits_are enough);
     }
 
-pub attached_counted : (slots : List (Option NormalConstraint)) (assigned : List Lit) (variables : ℕ) (table after clauses : List (List Occurrence)) (counters limits : List ℕ) (pairs : List (Option Pair)) (n : NormalConstraint) (place opened limit : ℕ)
+pub attached_counted : (slots : List (Option NormalConstraint)) (assigned : List Lit) (variables : ℕ) (table after : List (List Occurrence)) (clauses : Indexing) (counters limits : List ℕ) (pairs : List (Option Pair)) (n : NormalConstraint) (place opened limit : ℕ)
     → IsLedger slots assigned variables table clauses counters limits pairs → place ≡ length pairs → IsNormal n → variable_bound n.terms ≤ variables
     → HasMore (entries_of table) after place n.terms → length after ≡ length table → opened ≡ open_sum assigned n → ((l : Lit) → n.degree + coefficient_of n l ≤ limit)
     → IsLedger (slots ++ Some n ∷ []) assigned variables after clauses (counters ++ opened ∷ []) (limits ++ limit ∷ []) (pairs ++ None ∷ [])
 attached_counted slots assigned variables table after clauses counters limits pairs n place opened limit i e normal within more long is enough =
-    attached slots assigned variables table after clauses clauses counters limits pairs n n nothing None place opened limit i (part_counted n) e normal nothing_normal within (omega arith) more long (none_more clauses place) refl is enough
+    attached slots assigned variables table after clauses clauses counters limits pairs n n nothing None place opened limit i (part_counted n) e normal nothing_normal within (omega arith) more long refl (λ kept. none_more clauses.table place) refl is enough
 
-pub attached_watched : (slots : List (Option NormalConstraint)) (assigned : List Lit) (variables : ℕ) (table clauses behind : List (List Occurrence)) (counters limits : List ℕ) (pairs : List (Option Pair)) (n : NormalConstraint) (p : Pair) (place opened limit : ℕ)
+pub attached_watched : (slots : List (Option NormalConstraint)) (assigned : List Lit) (variables : ℕ) (table : List (List Occurrence)) (clauses behind : Indexing) (counters limits : List ℕ) (pairs : List (Option Pair)) (n : NormalConstraint) (p : Pair) (place opened limit : ℕ)
     → IsLedger slots assigned variables table clauses counters limits pairs → place ≡ length pairs → IsNormal n → variable_bound n.terms ≤ variables
-    → HasMore (entries_of clauses) behind place n.terms → length behind ≡ length clauses → opened ≡ 0 → ((l : Lit) → n.degree + coefficient_of n l ≤ limit)
+    → behind.kept ≡ clauses.kept → (clauses.kept ≡ true → HasMore (entries_of clauses.table) behind.table place n.terms) → length behind.table ≡ length clauses.table → opened ≡ 0 → ((l : Lit) → n.degree + coefficient_of n l ≤ limit)
     → IsLedger (slots ++ Some n ∷ []) assigned variables table behind (counters ++ opened ∷ []) (limits ++ limit ∷ []) (pairs ++ Some p ∷ [])
-attached_watched slots assigned variables table clauses behind counters limits pairs n p place opened limit i e normal within more long is enough =
-    attached slots assigned variables table table clauses behind counters limits pairs n nothing n (Some p) place opened limit i (part_watched n p) e nothing_normal normal (omega arith) within (none_more table place) refl more long is enough
+attached_watched slots assigned variables table clauses behind counters limits pairs n p place opened limit i e normal within same more long is enough =
+    attached slots assigned variables table table clauses behind counters limits pairs n nothing n (Some p) place opened limit i (part_watched n p) e nothing_normal normal (omega arith) within (none_more table place) refl same more long is enough
 
 -- the reasons stand beside one constraint more
 pub reasons_beside : (slots : List (Option NormalConstraint)) (n : NormalConstraint) (xs : List Lit) (rs : List (Option ℕ)) → AreReasons (shown slots) xs rs → AreReasons (shown (slots ++ Some n ∷ [])) xs rs
@@ -158,14 +158,14 @@ reasons_beside slots n xs rs a = rw (shown_more slots n) (reasons_moved (shown s
 index_same : (ns : List NormalConstraint) (variables place : ℕ) (table after : List (List Occurrence)) → IsIndex ns variables table → HasMore (entries_of table) after place [] → length after ≡ length table → IsIndex ns variables after
 index_same ns variables place table after i none long = record { size = omega (arith, long, i.size); entries = λ l. none l ∙ append-nil (entries_of table l) ∙ i.entries l }
 
-pub unchanged : (slots : List (Option NormalConstraint)) (assigned : List Lit) (variables : ℕ) (table after clauses behind : List (List Occurrence)) (counters limits : List ℕ) (pairs : List (Option Pair)) (place : ℕ) → IsLedger slots assigned variables table clauses counters limits pairs
-    → HasMore (entries_of table) after place [] → length after ≡ length table → HasMore (entries_of clauses) behind place [] → length behind ≡ length clauses
+pub unchanged : (slots : List (Option NormalConstraint)) (assigned : List Lit) (variables : ℕ) (table after : List (List Occurrence)) (clauses behind : Indexing) (counters limits : List ℕ) (pairs : List (Option Pair)) (place : ℕ) → IsLedger slots assigned variables table clauses counters limits pairs
+    → HasMore (entries_of table) after place [] → length after ≡ length table → behind.kept ≡ clauses.kept → HasMore (entries_of clauses.table) behind.table place [] → length behind.table ≡ length clauses.table
     → IsLedger slots assigned variables after behind counters limits pairs
-unchanged slots assigned variables table after clauses behind counters limits pairs place i none long none_w long_w = record {
+unchanged slots assigned variables table after clauses behind counters limits pairs place i none long same none_w long_w = record {
   counted = i.counted;
   watched = i.watched;
   index = index_same i.counted variables place table after i.index none long;
-  watched_index = index_same i.watched variables place clauses behind i.watched_index none_w long_w;
+  watched_index = λ kept. index_same i.watched variables place clauses.table behind.table (i.watched_index (sym same ∙ kept)) none_w long_w;
   counters_are = i.counters_are;
   known = i.known;
   watched_known = i.watched_known;
@@ -180,14 +180,14 @@ index_wider ns variables more table after i long same = record { size = long; en
 known_wider : (ns : List NormalConstraint) (variables more : ℕ) → AreKnown ns variables → variables ≤ more → AreKnown ns more
 known_wider ns variables more a up = record { normal = a.normal; within = All-weaker (λ (m : NormalConstraint). variable_bound m.terms ≤ variables) (λ m. variable_bound m.terms ≤ more) (λ m h. omega (arith, h, up)) ns a.within }
 
-pub widened : (slots : List (Option NormalConstraint)) (assigned : List Lit) (variables more : ℕ) (table after clauses behind : List (List Occurrence)) (counters limits : List ℕ) (pairs : List (Option Pair)) → IsLedger slots assigned variables table clauses counters limits pairs → variables ≤ more
-    → 2 * more ≤ length after → ((k : ℕ) → get_or after k [] ≡ get_or table k []) → 2 * more ≤ length behind → ((k : ℕ) → get_or behind k [] ≡ get_or clauses k [])
+pub widened : (slots : List (Option NormalConstraint)) (assigned : List Lit) (variables more : ℕ) (table after : List (List Occurrence)) (clauses behind : Indexing) (counters limits : List ℕ) (pairs : List (Option Pair)) → IsLedger slots assigned variables table clauses counters limits pairs → variables ≤ more
+    → 2 * more ≤ length after → ((k : ℕ) → get_or after k [] ≡ get_or table k []) → behind.kept ≡ clauses.kept → (clauses.kept ≡ true → 2 * more ≤ length behind.table) → ((k : ℕ) → get_or behind.table k [] ≡ get_or clauses.table k [])
     → IsLedger slots assigned more after behind counters limits pairs
-widened slots assigned variables more table after clauses behind counters limits pairs i up long same long_w same_w = record {
+widened slots assigned variables more table after clauses behind counters limits pairs i up long same kinds long_w same_w = record {
   counted = i.counted;
   watched = i.watched;
   index = index_wider i.counted variables more table after i.index long same;
-  watched_index = index_wider i.watched variables more clauses behind i.watched_index long_w same_w;
+  watched_index = λ kept. index_wider i.watched variables more clauses.table behind.table (i.watched_index (sym kinds ∙ kept)) (long_w (sym kinds ∙ kept)) same_w;
   counters_are = i.counters_are;
   known = known_wider i.counted variables more i.known up;
   watched_known = known_wider i.watched variables more i.watched_known up;
@@ -213,35 +213,29 @@ slot_count : (slots rest : List (Option NormalConstraint)) (n : NormalConstraint
 slot_count slots rest n e = ap (length {A = Option NormalConstraint}) e ∙ length-append rest (Some n ∷ [])
 
 -- what both tables had before the last constraint, which was counted or watched
-pub record WasBefore (rest : List (Option NormalConstraint)) (counted watched : List NormalConstraint) (table clauses : List (List Occurrence)) (n w : NormalConstraint) : Type 0 where
+pub record WasBefore (rest : List (Option NormalConstraint)) (counted watched : List NormalConstraint) (table : List (List Occurrence)) (clauses : Indexing) (n w : NormalConstraint) : Type 0 where
   pub counts : HasMore (λ l. occurrences_of l 0 (take (length rest) counted)) table (length rest) n.terms
-  pub watches : HasMore (λ l. occurrences_of l 0 (take (length rest) watched)) clauses (length rest) w.terms
+  pub watches : clauses.kept ≡ true → HasMore (λ l. occurrences_of l 0 (take (length rest) watched)) clauses.table (length rest) w.terms
 
-pub counted_before : (slots rest : List (Option NormalConstraint)) (assigned : List Lit) (variables : ℕ) (table clauses : List (List Occurrence)) (counters limits : List ℕ) (pairs : List (Option Pair)) (n : NormalConstraint) (i : IsLedger slots assigned variables table clauses counters limits pairs) → slots ≡ rest ++ Some n ∷ []
+pub counted_before : (slots rest : List (Option NormalConstraint)) (assigned : List Lit) (variables : ℕ) (table : List (List Occurrence)) (clauses : Indexing) (counters limits : List ℕ) (pairs : List (Option Pair)) (n : NormalConstraint) (i : IsLedger slots assigned variables table clauses counters limits pairs) → slots ≡ rest ++ Some n ∷ []
     → get_or pairs (length rest) None ≡ None → WasBefore rest i.counted i.watched table clauses n nothing
 counted_before slots rest assigned variables table clauses counters limits pairs n i e o =
     let count = slot_count slots rest n e in
     let is = i.slots_are.counts (length rest) n (slot_last slots rest n e) o in
     record {
       counts = index_before i.counted variables (length rest) table n i.index (omega (arith, count, i.slots_are.count)) is.0;
-      watches = index_before i.watched variables (length rest) clauses nothing i.watched_index (omega (arith, count, i.slots_are.watched_count)) is.1;
+      watches = λ kept. index_before i.watched variables (length rest) clauses.table nothing (i.watched_index kept) (omega (arith, count, i.slots_are.watched_count)) is.1;
     }
 
-pub watched_before : (slots rest : List (Option NormalConstraint)) (assigned : List Lit) (variables : ℕ) (table clauses : List (List Occurrence)) (counters limits : List ℕ) (pairs : List (Option Pair)) (n : NormalConstraint) (p : Pair) (i : IsLedger slots assigned variables table clauses counters limits pairs) → slots ≡ rest ++ Some n ∷ []
+pub watched_before : (slots rest : List (Option NormalConstraint)) (assigned : List Lit) (variables : ℕ) (table : List (List Occurrence)) (clauses : Indexing) (counters limits : List ℕ) (pairs : List (Option Pair)) (n : NormalConstraint) (p : Pair) (i : IsLedger slots assigned variables table clauses counters limits pairs) → slots ≡ rest ++ Some n ∷ []
     → get_or pairs (length rest) None ≡ Some p → WasBefore rest i.counted i.watched table clauses nothing n
 watched_before slots rest assigned variables table clauses counters limits pairs n p i e o =
     let count = slot_count slots rest n e in
     let is = i.slots_are.watches (length rest) n p (slot_last slots rest n e) o in
     record {
       counts = index_before i.counted variables (length rest) table nothing i.index (omega (arith, count, i.slots_are.count)) is.0;
-      watches = index_before i.watched variables (length rest) clauses n i.watched_index (omega (arith, count, i.slots_are.watched_count)) is.1;
+      watches = λ kept. index_before i.watched variables (length rest) clauses.table n (i.watched_index kept) (omega (arith, count, i.slots_are.watched_count)) is.1;
     }
-
-pub last_known : (slots rest : List (Option NormalConstraint)) (assigned : List Lit) (variables : ℕ) (table clauses : List (List Occurrence)) (counters limits : List ℕ) (pairs : List (Option Pair)) (n : NormalConstraint) → IsLedger slots assigned variables table clauses counters limits pairs → slots ≡ rest ++ Some n ∷ []
-    → (2 * variable_bound n.terms ≤ length table) × (2 * variable_bound n.terms ≤ length clauses)
-last_known slots rest assigned variables table clauses counters limits pairs n i e =
-    let below = variables_there slots assigned variables table clauses counters limits pairs (length rest) n i (omega (arith, slot_count slots rest n e)) (slot_last slots rest n e) in
-    (omega (arith, below, i.index.size), omega (arith, below, i.watched_index.size))
 
 fewer_shown : (slots rest : List (Option NormalConstraint)) (n : NormalConstraint) → slots ≡ rest ++ Some n ∷ [] → shown slots ≡ shown rest ++ n ∷ []
 fewer_shown slots rest n e = ap shown e ∙ shown_more rest n
@@ -276,11 +270,11 @@ parted_fewer slots rest ns ws pairs n e x =
       ];
     }
 
-pub detached : (slots rest : List (Option NormalConstraint)) (assigned : List Lit) (variables : ℕ) (table after clauses behind : List (List Occurrence)) (counters limits : List ℕ) (pairs : List (Option Pair)) (n : NormalConstraint) (i : IsLedger slots assigned variables table clauses counters limits pairs) → slots ≡ rest ++ Some n ∷ []
+pub detached : (slots rest : List (Option NormalConstraint)) (assigned : List Lit) (variables : ℕ) (table after : List (List Occurrence)) (clauses behind : Indexing) (counters limits : List ℕ) (pairs : List (Option Pair)) (n : NormalConstraint) (i : IsLedger slots assigned variables table clauses counters limits pairs) → slots ≡ rest ++ Some n ∷ []
     → length after ≡ length table → HasMore (λ l. occurrences_of l 0 (take (length rest) i.counted)) after (length rest) []
-    → length behind ≡ length clauses → HasMore (λ l. occurrences_of l 0 (take (length rest) i.watched)) behind (length rest) []
+    → behind.kept ≡ clauses.kept → length behind.table ≡ length clauses.table → (clauses.kept ≡ true → HasMore (λ l. occurrences_of l 0 (take (length rest) i.watched)) behind.table (length rest) [])
     → IsLedger rest assigned variables after behind (take (length counters - 1) counters) (take (length limits - 1) limits) (take (length pairs - 1) pairs)
-detached slots rest assigned variables table after clauses behind counters limits pairs n i e long none long_w none_w =
+detached slots rest assigned variables table after clauses behind counters limits pairs n i e long none same long_w none_w =
     let m : ℕ = length rest in
     let ns : List NormalConstraint = i.counted in
     let count : length slots ≡ m + 1 = slot_count slots rest n e in
@@ -294,7 +288,7 @@ detached slots rest assigned variables table after clauses behind counters limit
       counted = take m ns;
       watched = take m i.watched;
       index = index_fewer ns variables m table after i.index long none;
-      watched_index = index_fewer i.watched variables m clauses behind i.watched_index long_w none_w;
+      watched_index = λ kept. index_fewer i.watched variables m clauses.table behind.table (i.watched_index (sym same ∙ kept)) long_w (none_w (sym same ∙ kept));
       counters_are = record {
         counted = omega (arith, length-take-le (length counters - 1) counters (omega arith), counted, many);
         open_sums = λ k h.
@@ -344,7 +338,7 @@ parted_without slots place ns ws pairs low x = record {
   ];
 }
 
-pub taken_out : (slots : List (Option NormalConstraint)) (place : ℕ) (assigned : List Lit) (variables : ℕ) (table clauses : List (List Occurrence)) (counters limits : List ℕ) (pairs : List (Option Pair)) → IsLedger slots assigned variables table clauses counters limits pairs → place < length slots
+pub taken_out : (slots : List (Option NormalConstraint)) (place : ℕ) (assigned : List Lit) (variables : ℕ) (table : List (List Occurrence)) (clauses : Indexing) (counters limits : List ℕ) (pairs : List (Option Pair)) → IsLedger slots assigned variables table clauses counters limits pairs → place < length slots
     → IsLedger (set slots place None) assigned variables table clauses counters (set limits place 0) pairs
 taken_out slots place assigned variables table clauses counters limits pairs i low =
     let many : length limits ≡ length slots = i.limits_are.limited ∙ length-map slots constraint_in in
@@ -378,5 +372,5 @@ reasons_apart slots place xs rs a free = reasons_moved (shown slots) (shown (set
 ))
 
 -- the same ledger, with the same pairs
-pub with_pairs : (slots : List (Option NormalConstraint)) (assigned : List Lit) (variables : ℕ) (table clauses : List (List Occurrence)) (counters limits : List ℕ) (pairs new : List (Option Pair)) → IsLedger slots assigned variables table clauses counters limits pairs → new ≡ pairs → IsLedger slots assigned variables table clauses counters limits new
+pub with_pairs : (slots : List (Option NormalConstraint)) (assigned : List Lit) (variables : ℕ) (table : List (List Occurrence)) (clauses : Indexing) (counters limits : List ℕ) (pairs new : List (Option Pair)) → IsLedger slots assigned variables table clauses counters limits pairs → new ≡ pairs → IsLedger slots assigned variables table clauses counters limits new
 with_pairs slots assigned variables table clauses counters limits pairs new i e = subst (λ (ps : List (Option Pair)). IsLedger slots assigned variables table clauses counters limits ps) (sym e) i

@@ -1,12 +1,12 @@
 -- The entries of a literal in the tables of a ledger.
-use Rattle.std.proofs.Common.{◌≡◌, ℕ, ◌<◌, All, Option, List, [], ◌++◌, length, get_or, ap, sym, subst, ◌∙◌, arith}
+use Rattle.std.proofs.Common.{◌≡◌, true, ℕ, ◌<◌, All, Option, List, [], ◌++◌, length, get_or, ap, sym, subst, ◌∙◌, arith}
 use Rattle.std.proofs.lemmas.List.Elements.{All-append}
 use Rattle.linear.specs.declared.term.Lit.{Lit}
 use Rattle.normal_form.specs.Normal.{NormalConstraint}
 use Rattle.ledger.specs.declared.occurrence.Occurrence.{Occurrence}
 use Rattle.ledger.specs.declared.pair.Pair.{Pair}
 use Rattle.ledger.specs.Entered.{AreEntriesOf}
-use Rattle.ledger.specs.Ledgers.{IsIndex, IsLedger}
+use Rattle.ledger.specs.Ledgers.{IsIndex, IsLedger, Indexing}
 use Rattle.linear.specs.Literal.{code}
 use Rattle.ledger.specs.Occurrences.{occurrences_of}
 use Rattle.ledger.proofs.EntrySums.{places_from, shares_from}
@@ -28,12 +28,12 @@ entries_below slots l os x =
     (All-append (λ (o : Occurrence). o.place < length slots) (occurrences_of l 0 x.0) (occurrences_of l 0 x.1) (places_from l 0 (length slots) x.0 (omega (arith, x.3.count))) (places_from l 0 (length slots) x.1 (omega (arith, x.3.watched_count))))
 
 -- a ledger's lists for a literal
-pub entries_are : (slots : Slots) (assigned : List Lit) (variables : ℕ) (table clauses : List (List Occurrence)) (counters limits : List ℕ) (pairs : List (Option Pair)) (l : Lit) (number : ℕ) (os rest : List Occurrence) → IsLedger slots assigned variables table clauses counters limits pairs
-    → number ≡ code l → os ≡ get_or table number [] → rest ≡ get_or clauses number [] → AreEntriesOf slots l (os ++ rest)
-entries_are slots assigned variables table clauses counters limits pairs l number os rest e named is more = (
+pub entries_are : (slots : Slots) (assigned : List Lit) (variables : ℕ) (table : List (List Occurrence)) (clauses : Indexing) (counters limits : List ℕ) (pairs : List (Option Pair)) (l : Lit) (number : ℕ) (os rest : List Occurrence) → IsLedger slots assigned variables table clauses counters limits pairs
+    → clauses.kept ≡ true → number ≡ code l → os ≡ get_or table number [] → rest ≡ get_or clauses.table number [] → AreEntriesOf slots l (os ++ rest)
+entries_are slots assigned variables table clauses counters limits pairs l number os rest e kept named is more = (
   e.counted,
   e.watched,
   pairs,
   e.slots_are,
-  ap (λ (xs : List Occurrence). xs ++ rest) (is ∙ ap (λ (k : ℕ). get_or table k []) named ∙ e.index.entries l) ∙ ap (λ (xs : List Occurrence). occurrences_of l 0 e.counted ++ xs) (more ∙ ap (λ (k : ℕ). get_or clauses k []) named ∙ e.watched_index.entries l),
+  ap (λ (xs : List Occurrence). xs ++ rest) (is ∙ ap (λ (k : ℕ). get_or table k []) named ∙ e.index.entries l) ∙ ap (λ (xs : List Occurrence). occurrences_of l 0 e.counted ++ xs) (more ∙ ap (λ (k : ℕ). get_or clauses.table k []) named ∙ (e.watched_index kept).entries l),
 )

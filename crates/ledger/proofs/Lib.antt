@@ -16,6 +16,7 @@ pub mod Standing
 pub mod EntryPlaces
 pub mod Reasons
 pub mod Attaching
+pub mod KeptIndex
 pub mod FallingRows
 pub mod WatchMoves
 pub mod WatchedPlaces

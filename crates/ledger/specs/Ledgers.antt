@@ -1,5 +1,5 @@
 -- Constraints with the places of their literals and the counters of what an assignment leaves open.
-use Rattle.std.specs.Prelude.{◌≡◌, ◌⊎◌, ◌++◌, ◌∷◌, ℕ, ◌+◌, ◌*◌, ◌<◌, ◌≤◌, false, List, [], Option, Some, None, All, MatchOption, Contains, length, map, take, slice_index_or}
+use Rattle.std.specs.Prelude.{◌≡◌, ◌⊎◌, ◌++◌, ◌∷◌, ℕ, ◌+◌, ◌*◌, ◌<◌, ◌≤◌, Bool, true, false, List, [], Option, Some, None, All, MatchOption, Contains, length, map, take, slice_index_or}
 use Rattle.linear.specs.declared.term.Lit.{Lit}
 use Rattle.normal_form.specs.declared.term.NormalTerm.{NormalTerm}
 use Rattle.normal_form.specs.Normal.{NormalConstraint, IsNormal, sum_over, variable_bound}
@@ -55,6 +55,11 @@ pub record IsIndex (constraints : List NormalConstraint) (variables : ℕ) (tabl
   pub size : 2 * variables ≤ length table
   pub entries : (l : Lit) → entries_of table l ≡ occurrences_of l 0 constraints
 
+-- a table of occurrences in clauses, which is kept or not
+pub record Indexing : Type 0 where
+  pub kept : Bool
+  pub table : List (List Occurrence)
+
 -- each counter is what is open in its constraint
 pub record AreCounters (constraints : List NormalConstraint) (assigned : List Lit) (counters : List ℕ) : Type 0 where
   pub counted : length counters ≡ length constraints
@@ -80,12 +85,13 @@ pub record AreParted (slots : List (Option NormalConstraint)) (counted watched :
   pub watches : (k : ℕ) (n : NormalConstraint) (p : Pair) → slice_index_or slots k None ≡ Some n → slice_index_or pairs k None ≡ Some p
       → (constraint_at counted k ≡ nothing) × (constraint_at watched k ≡ n)
 
--- what a ledger keeps. A constraint that was taken out stays indexed and counted, and its limit asks for nothing
-pub record IsLedger (slots : List (Option NormalConstraint)) (assigned : List Lit) (variables : ℕ) (table clauses : List (List Occurrence)) (counters limits : List ℕ) (pairs : List (Option Pair)) : Type 0 where
+-- what a ledger keeps. A constraint that was taken out stays counted, and indexed where it was, and its limit asks for nothing. Clauses
+-- are indexed once it is kept where their literals stand
+pub record IsLedger (slots : List (Option NormalConstraint)) (assigned : List Lit) (variables : ℕ) (table : List (List Occurrence)) (clauses : Indexing) (counters limits : List ℕ) (pairs : List (Option Pair)) : Type 0 where
   pub counted : List NormalConstraint
   pub watched : List NormalConstraint
   pub index : IsIndex counted variables table
-  pub watched_index : IsIndex watched variables clauses
+  pub watched_index : clauses.kept ≡ true → IsIndex watched variables clauses.table
   pub counters_are : AreCounters counted assigned counters
   pub known : AreKnown counted variables
   pub watched_known : AreKnown watched variables

@@ -1,6 +1,7 @@
 pub mod Entered
 pub mod Falls
 pub mod Hints
+pub mod Indexed
 pub mod Ledgers
 pub mod Occurrences
 pub mod Rows

@@ -29,7 +29,8 @@ ghost use Rattle.ledger.specs.Watched.{IsOpen, IsPairOf, Tell};
 
 use super::assignment::Assignment;
 use super::choosing::latest_pair;
-use super::entry_lists::{enter_counted, enter_watched, leave};
+use super::clause_index::{ClauseIndex, enter_watched};
+use super::entry_lists::{enter_counted, leave};
 use super::entry_table::EntryTable;
 use super::hint::{Hint, hint_of};
 use super::lowering::{lower, queue_below, raise};
@@ -51,8 +52,8 @@ pub struct Ledger {
     table: EntryTable,
     counters: Vec<u128>,
     limits: Vec<u128>,
-    /// Where literals stand in clauses that are watched.
-    clauses: EntryTable,
+    /// Where literals stand in clauses that are watched, once somebody asked.
+    clauses: ClauseIndex,
     watchers: Watchers,
     trail: Assignment,
     reasons: Vec<Option<usize>>,
@@ -89,7 +90,7 @@ impl Ledger {
             table: EntryTable::new(alloc),
             counters: Vec::new(alloc),
             limits: Vec::new(alloc),
-            clauses: EntryTable::new(alloc),
+            clauses: ClauseIndex::new(alloc),
             watchers: Watchers::new(alloc),
             trail: Assignment::new(alloc),
             reasons: Vec::new(alloc),
@@ -337,16 +338,36 @@ impl Ledger {
         self.slots[place].as_ref()
     }
 
-    /// Where a literal stands, places that say nothing among them.
-    pub fn entries(&self, literal: Lit) -> Entries<'_>
-        ensures value { AreEntriesOf self.now.slots literal (all_of result) }
-        ensures places { All (λ e. e.place < length self.now.slots) (all_of result) }
+    /// Enters where literals stand in clauses, unless it is entered: from then on it is kept.
+    pub fn keep_entries(&mut self, alloc: Global) -> Result<(), AllocError>
+        ensures { self.new ≡ self.old }
     {
-        let number = literal.code();
-        Entries {
-            counted: self.table.row(number),
-            watched: self.clauses.row(number),
+        if self.clauses.is_kept() {
+            return Ok(());
         }
+        let clauses = ClauseIndex::of(
+            alloc,
+            self.slots.as_slice(),
+            &self.watchers,
+            self.watchers.row_count(),
+        )?;
+        self.clauses = clauses;
+        Ok(())
+    }
+
+    /// Where a literal stands, places that say nothing among them, if it is kept.
+    pub fn entries(&self, literal: Lit) -> Option<Entries<'_>>
+        ensures value { IfSome result (λ e. AreEntriesOf self.now.slots literal (all_of e)) }
+        ensures places { IfSome result (λ e. All (λ o. o.place < length self.now.slots) (all_of e)) }
+    {
+        if self.clauses.is_kept() {
+            let number = literal.code();
+            return Some(Entries {
+                counted: self.table.row(number),
+                watched: self.clauses.row(number),
+            });
+        }
+        None
     }
 
     /// Takes the constraint of a place out, if there is one, where it is no literal's reason. The place stays.
@@ -378,6 +399,9 @@ impl Ledger {
         ensures more { self.old.variables ≤ self.new.variables }
         ensures ok { OnOk result (variables ≤ self.new.variables) }
     {
+        if variables <= self.variable_count() {
+            return Ok(());
+        }
         self.table.widen(variables * 2)?;
         self.clauses.widen(variables * 2)?;
         self.watchers.widen(alloc, variables * 2)?;
@@ -444,7 +468,7 @@ impl Ledger {
                 let count = constraint.len();
                 match self.watchers.pair(self.slots.len()) {
                     None => leave(&mut self.table, &constraint, count),
-                    Some(_) => leave(&mut self.clauses, &constraint, count),
+                    Some(_) => self.clauses.leave(&constraint),
                 }
                 self.watchers.detach();
                 self.counters.pop();

@@ -76,6 +76,13 @@ impl Watchers {
         self.pairs.len()
     }
 
+    /// How many rows there are.
+    pub(crate) fn row_count(&self) -> usize
+        ensures { result ≡ length self.now.rows }
+    {
+        self.rows.len()
+    }
+
     /// The literals that watch the clause of a place, if it is watched.
     pub(crate) fn pair(&self, place: usize) -> Option<Pair>
         ensures { result ≡ slice_index_or self.now.pairs place None }

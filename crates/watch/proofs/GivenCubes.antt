@@ -132,15 +132,16 @@ given_then ns a b c g h = record {
   reasons = (g.reasons.0 ++ h.reasons.0, h.reasons.1 ∙ ap (λ (rs : List (Option ℕ)). rs ++ h.reasons.0) g.reasons.1 ∙ append_assoc a.reasons g.reasons.0 h.reasons.0);
 }
 
--- the literals of the terms so far, and one more
+-- the literals of the last terms, and one more
 
-pub each_more : (n : NormalConstraint) (i : ℕ) (old new : State) → IsGivenBy (n ∷ []) old new → ((k : ℕ) (d : NormalTerm) → k < i → lists old.assigned (literal_of (get_or n.terms k d)) ≡ true)
-    → IsTermEnd new.assigned n i false → (k : ℕ) (d : NormalTerm) → k < i + 1 → lists new.assigned (literal_of (get_or n.terms k d)) ≡ true
-each_more n i old new g each here k d low = elim (cases_eq k i) [
+pub each_more : (n : NormalConstraint) (i passed : ℕ) (old new : State) → IsGivenBy (n ∷ []) old new → i + passed + 1 ≡ length n.terms
+    → ((k : ℕ) (d : NormalTerm) → length n.terms ≤ k + passed → k < length n.terms → lists old.assigned (literal_of (get_or n.terms k d)) ≡ true)
+    → IsTermEnd new.assigned n i false → (k : ℕ) (d : NormalTerm) → length n.terms ≤ k + (passed + 1) → k < length n.terms → lists new.assigned (literal_of (get_or n.terms k d)) ≡ true
+each_more n i passed old new g count each here k d late low = elim (cases_eq k i) [
   | inl e ↦ ap (λ (j : ℕ). lists new.assigned (literal_of (get_or n.terms j d))) e ∙ here d
   | inr other ↦
       let l : Lit = literal_of (get_or n.terms k d) in
-      ap (λ (xs : List Lit). lists xs l) g.assigned.2 ∙ among_left old.assigned g.assigned.0 (l.var.0) l.negated (each k d (omega (arith, low, other)))
+      ap (λ (xs : List Lit). lists xs l) g.assigned.2 ∙ among_left old.assigned g.assigned.0 (l.var.0) l.negated (each k d (omega (arith, late, other, count)) low)
 ]
 
 -- by one of some cubes: one more of which is given

@@ -17,7 +17,7 @@ use Rattle.watch.specs.Named.{AreNamed, content_at, place_of}
 use Rattle.ledger.specs.Occurrences.{occurrences_of}
 use Rattle.watch.proofs.NamedPlaces.{below, got, got_none}
 
-abbrev Slots : Type 0
+abbrev pub Slots : Type 0
 Slots = List (Option NormalConstraint)
 
 abbrev Places : Type 0
@@ -54,10 +54,10 @@ some_of None h = absurd (cc)
 some_of (Some n) h = (n, refl)
 
 -- the places of a literal's entries, one constraint after another
-abbrev with_place : Bool → Bool → ℕ → List ℕ → List ℕ
+abbrev pub with_place : Bool → Bool → ℕ → List ℕ → List ℕ
 with_place b d p L = cond b L (cond d (p ∷ L) L)
 
-entry_live : (slots : Slots) (p c : ℕ) (rest : List Occurrence) (b : Bool) → live_places slots (cond b [] (record { place = p; coef = c } ∷ []) ++ rest) ≡ with_place b (is_some (get_or slots p None)) p (live_places slots rest)
+pub entry_live : (slots : Slots) (p c : ℕ) (rest : List Occurrence) (b : Bool) → live_places slots (cond b [] (record { place = p; coef = c } ∷ []) ++ rest) ≡ with_place b (is_some (get_or slots p None)) p (live_places slots rest)
 entry_live slots p c rest true = refl
 entry_live slots p c rest false = refl
 

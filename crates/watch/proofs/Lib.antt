@@ -18,6 +18,7 @@ pub mod PlacedRows
 pub mod Propagating
 pub mod Reasoned
 pub mod Settling
+pub mod SoughtPlaces
 pub mod TakenBack
 pub mod ToldTail
 pub mod ToldTrail

@@ -8,7 +8,7 @@
 //! that. Its place stays empty, and its entries in the lists of literals stay and cost a little, until the places are
 //! made anew.
 
-ghost use Rattle.std.specs.Prelude.{◌≡◌, ◌↔◌, ◌<◌, ◌++◌, ◌∷◌, [], All, IfOk};
+ghost use Rattle.std.specs.Prelude.{◌≡◌, ◌↔◌, ◌<◌, ◌++◌, ◌∷◌, [], All, IfOk, IfSome};
 ghost use Rattle.std.specs.Prelude.{IsTrue, None, OnErr, OnOk, Some, length, slice_index_or, slice_set};
 ghost use Rattle.std.specs.Option.{option_copied};
 ghost use Rattle.propagate.specs.Chain.{IsRefuted};
@@ -84,10 +84,24 @@ impl Closure {
         self.ledger.get(place)
     }
 
-    /// Where a literal stands, places that are empty among them.
-    pub(crate) fn entries(&self, literal: Lit) -> Entries<'_>
-        ensures value { AreEntriesOf self.now literal (all_of result) }
-        ensures places { All (λ e. e.place < length self.now) (all_of result) }
+    /// How many places there are.
+    pub(crate) fn count(&self) -> usize
+        ensures { result ≡ length self.now }
+    {
+        self.ledger.count()
+    }
+
+    /// Has it kept from now on where literals stand.
+    pub(crate) fn keep_entries(&mut self) -> Result<(), AllocError>
+        ensures { self.new ≡ self.old }
+    {
+        self.ledger.keep_entries(self.alloc)
+    }
+
+    /// Where a literal stands, places that are empty among them, if it is kept.
+    pub(crate) fn entries(&self, literal: Lit) -> Option<Entries<'_>>
+        ensures value { IfSome result (λ e. AreEntriesOf self.now literal (all_of e)) }
+        ensures places { IfSome result (λ e. All (λ o. o.place < length self.now) (all_of e)) }
     {
         self.ledger.entries(literal)
     }

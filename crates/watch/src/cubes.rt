@@ -3,6 +3,9 @@
 //! The negation of a clause is one. It forces each of its literals, whatever else is assigned, and once all are true it says nothing
 //! more. So beside others it need not stand at a place: its literals are assigned as given ones are, and when they are backtracked,
 //! nothing of it is left. To enter it would cost a copy and an entry for each literal, and as much to take it off again.
+//!
+//! The literals of a cube are given from the last variable on. Names that came late are often shared by many clauses, as selectors are: given
+//! first, such a literal is propagated first, and no clause is moved to be watched by it only to be moved away again.
 
 ghost use Rattle.std.specs.Prelude.{◌≡◌, ◌<◌, ◌≤◌, ◌∷◌, [], All, IfOk, IsTrue, length, slice_index_or};
 ghost use Rattle.normal_form.specs.declared.term.NormalTerm.{NormalTerm};
@@ -44,15 +47,16 @@ fn give_term(ledger: &mut Ledger, cube: &Normal, index: usize) -> bool
     ledger.has(literal.opposite())
 }
 
-/// Assigns the literals of a cube, up to one whose opposite is; whether there is one, and the cube falsified.
+/// Assigns the literals of a cube, the last one first, up to one whose opposite is; whether there is one, and the cube falsified.
 fn give_cube(ledger: &mut Ledger, cube: &Normal) -> bool
     requires cube { IsCube cube.now }
     requires variables { variable_bound cube.now.terms ≤ ledger.old.variables }
     ensures given { IsGivenBy (cube.now ∷ []) ledger.old ledger.new }
     ensures end { IsCubeEnd ledger.new.assigned cube.now result }
 {
-    for index in 0..cube.len() {
-        if give_term(ledger, cube, index) {
+    let count = cube.len();
+    for passed in 0..count {
+        if give_term(ledger, cube, count - 1 - passed) {
             return true;
         }
     }

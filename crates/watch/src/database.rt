@@ -4,19 +4,22 @@
 //! by id; the id of a place names a reason when a chain is told. Where more stands empty than not, an insertion makes
 //! the places anew: it may fail, as a removal may not, and what it copies is paid for by the removals before it.
 
-ghost use Rattle.std.specs.Prelude.{◌≡◌, ◌↔◌, ◌++◌, ◌∷◌, [], ℕ, Contains, IfOk, IsSome, IsTrue, MatchOption, OnErr, OnOk, None};
+ghost use Rattle.std.specs.Prelude.{◌≡◌, ◌↔◌, ◌++◌, ◌∷◌, [], ℕ, List, Contains, IfOk, IsSome, IsTrue, MatchOption, OnErr, OnOk, None};
 ghost use Rattle.std.specs.FinMap as map;
 ghost use Rattle.std.specs.Option.{option_copied};
 ghost use Rattle.propagate.specs.Chain.{IsRefuted};
 ghost use Rattle.propagate.specs.Content.{HasLiteral, IsLeastAbove, IsTrace, IsTraceOfLast};
 ghost use Rattle.propagate.specs.Literals.{IsConsistent};
 ghost use Rattle.propagate.specs.Reach.{IsReach};
-ghost use Rattle.watch.specs.Lent.{IsEachOnce};
+ghost use Rattle.ledger.specs.declared.occurrence.Occurrence.{Occurrence};
+ghost use Rattle.ledger.specs.Entered.{AreEntriesOf};
+ghost use Rattle.watch.specs.Lent.{IsEachOnce, IsSourceWithin, live_places, places_left};
 
 use super::closure::Closure;
 use super::lending::Occurrences;
 use super::naming::trace_of;
 use super::places::Places;
+use super::source::Source;
 use linear::Lit;
 use normal_form::Normal;
 use propagate::{Id, Reach, Trace};
@@ -50,6 +53,17 @@ impl Model for Database {
     ghost view = { λ d. content_at d.closure d.places };
 
     ghost invariant = { λ d. AreNamed d.places d.ids.items d.closure };
+}
+
+/// Where the places of a literal come from: its lists, where they are kept.
+fn source_of(closure: &Closure, literal: Lit) -> Source<'_>
+    ensures within { IsSourceWithin closure.now result 0 }
+    ensures lent { (os : List Occurrence) × AreEntriesOf closure.now literal os × (places_left closure.now result 0 ≡ live_places closure.now os) }
+{
+    match closure.entries(literal) {
+        Some(entries) => Source::Kept(entries),
+        None => Source::Sought(literal),
+    }
 }
 
 impl Database {
@@ -160,13 +174,23 @@ impl Database {
         self.closure.get(place)
     }
 
+    /// Has lists of the constraints that have a literal kept from now on.
+    pub(crate) fn keep_entries(&mut self) -> Result<(), AllocError>
+        ensures { self.new ≡ self.old }
+    {
+        self.closure.keep_entries()
+    }
+
     /// The ids of the constraints that have a literal.
     pub(crate) fn occurrences(&self, literal: Lit) -> Occurrences<'_>
         ensures exactly { (id : ℕ) → Contains result id ↔ HasLiteral self.now literal id }
         ensures once { IsEachOnce result }
     {
-        let ids = self.ids.as_slice();
-        Occurrences::of(self.closure.entries(literal), &self.closure, ids)
+        Occurrences::of(
+            source_of(&self.closure, literal),
+            &self.closure,
+            self.ids.as_slice(),
+        )
     }
 
     /// Whether the constraints are refuted together with some extra ones.

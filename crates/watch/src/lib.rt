@@ -25,6 +25,8 @@ mod places;
 mod refutation;
 mod release;
 mod row;
+mod seeking;
+mod source;
 mod telling;
 mod tracing;
 mod walk;

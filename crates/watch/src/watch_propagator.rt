@@ -32,16 +32,28 @@ impl Model for WatchPropagator {
 }
 
 impl WatchPropagator {
-    ghost use Rattle.std.specs.Prelude.{◌↔◌, ℕ, Contains};
-    ghost use Rattle.propagate.specs.Content.{HasLiteral};
+    ghost use Rattle.std.specs.Prelude.{◌↔◌, ℕ, Contains, OnOk};
+    ghost use Rattle.propagate.specs.Content.{AddsOccurrences, HasLiteral};
     ghost use Rattle.watch.specs.Lent.{IsEachOnce};
 
-    /// The ids of the constraints that have a literal, each once, from a list that is kept.
+    /// The ids of the constraints that have a literal, each once: from a list that is kept, once one was asked for, and before that by a look
+    /// at each constraint.
     pub fn occurrences(&self, literal: Lit) -> Occurrences<'_>
         ensures exactly { (id : ℕ) → Contains result id ↔ HasLiteral self.now literal id }
         ensures once { IsEachOnce result }
     {
         self.database.occurrences(literal)
+    }
+
+    /// Adds the ids of the constraints that have a literal to a set.
+    fn add_lent(&self, literal: Lit, ids: &mut Ids) -> Result<(), AllocError>
+        ensures { OnOk result (AddsOccurrences self.now literal ids.old ids.new) }
+    {
+        let mut rest = self.occurrences(literal);
+        while let Some(id) = rest.next() {
+            ids.insert(id)?;
+        }
+        Ok(())
     }
 }
 
@@ -71,11 +83,8 @@ impl Propagator for WatchPropagator {
     }
 
     fn add_occurrences(&mut self, literal: Lit, ids: &mut Ids) -> Result<(), AllocError> {
-        let mut rest = self.occurrences(literal);
-        while let Some(id) = rest.next() {
-            ids.insert(id)?;
-        }
-        Ok(())
+        self.database.keep_entries()?;
+        self.add_lent(literal, ids)
     }
 
     fn refute(&mut self, extras: &[Normal]) -> Result<bool, AllocError> {

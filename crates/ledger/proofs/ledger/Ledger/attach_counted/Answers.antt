@@ -13,7 +13,7 @@ invariant_of-self-in_err-enter_counted c =
     let i = c.self.invariant.0 in
     let room = c.in_ok-make_room.ensures in
     let new = c.enter_counted.new.watchers in
-    let it = unchanged e.slots.items e.trail.0 e.trail.1 e.table c.enter_counted.new.table e.clauses e.clauses e.counters.items e.limits.items e.watchers.pairs (length e.watchers.pairs) i c.in_err-enter_counted.ensures.err c.in_err-enter_counted.ensures.length (none_more e.clauses (length e.watchers.pairs)) refl in
+    let it = unchanged e.slots.items e.trail.0 e.trail.1 e.table c.enter_counted.new.table e.clauses e.clauses e.counters.items e.limits.items e.watchers.pairs (length e.watchers.pairs) i c.in_err-enter_counted.ensures.err c.in_err-enter_counted.ensures.length refl (none_more e.clauses.table (length e.watchers.pairs)) refl in
     rw (room.slots, room.counters, room.limits) (
       with_pairs e.slots.items e.trail.0 e.trail.1 c.enter_counted.new.table e.clauses e.counters.items e.limits.items e.watchers.pairs new.pairs it c.in_err-enter_counted.ensures.no_pairs,
       c.self.invariant.1,

@@ -14,8 +14,9 @@ use Rattle.ledger.proofs.WatchedPlaces.{watched_kept, watched_more}
 use Rattle.ledger.proofs.ledger.Ledger.attach_watched.Goals as goal
 
 pub enter_watched-requires-clause-table : goal.enter_watched-requires-clause-table
-enter_watched-requires-clause-table c =
-    omega (arith, c.requires.variables, ap (λ (s : State). s.variables) c.self.view_is, c.self.invariant.0.watched_index.size)
+enter_watched-requires-clause-table c kept =
+    let size = (c.self.invariant.0.watched_index kept).size in
+    omega (arith, c.requires.variables, ap (λ (s : State). s.variables) c.self.view_is, size)
 
 coefficient_below : (n : NormalConstraint) (l : Lit) → coefficient_of n l ≤ total n.terms
 coefficient_below n l = sum_over_below (only (l.var.0) l.negated) n.terms
@@ -45,9 +46,9 @@ invariant_of-self-in_err-enter_watched c =
     let i = c.self.invariant.0 in
     let room = c.in_ok-make_room.ensures in
     let new = c.enter_watched.new.watchers in
-    let it = unchanged e.slots.items e.trail.0 e.trail.1 e.table e.table e.clauses c.enter_watched.new.table e.counters.items e.limits.items e.watchers.pairs (length e.watchers.pairs) i (none_more e.table (length e.watchers.pairs)) refl c.in_err-enter_watched.ensures.err c.in_err-enter_watched.ensures.length in
+    let it = unchanged e.slots.items e.trail.0 e.trail.1 e.table e.table e.clauses c.enter_watched.new.index e.counters.items e.limits.items e.watchers.pairs (length e.watchers.pairs) i (none_more e.table (length e.watchers.pairs)) refl c.in_err-enter_watched.ensures.same c.in_err-enter_watched.ensures.err c.in_err-enter_watched.ensures.length in
     rw (room.slots, room.counters, room.limits) (
-      with_pairs e.slots.items e.trail.0 e.trail.1 e.table c.enter_watched.new.table e.counters.items e.limits.items e.watchers.pairs new.pairs it c.in_err-enter_watched.ensures.no_pairs,
+      with_pairs e.slots.items e.trail.0 e.trail.1 e.table c.enter_watched.new.index e.counters.items e.limits.items e.watchers.pairs new.pairs it c.in_err-enter_watched.ensures.no_pairs,
       c.self.invariant.1,
       c.self.invariant.2,
       watched_kept e.slots.items e.trail.0 e.trail.1 e.watchers new c.self.invariant.3 c.in_err-enter_watched.ensures.no_pairs (omega (arith, c.enter_watched.ensures.row_count)) c.enter_watched.ensures.kept,
@@ -68,10 +69,10 @@ invariant_of-self-2 c =
     let i = c.self.invariant.0 in
     let new = c.enter_watched.new.watchers in
     let said = c.in_ok-enter_watched.ensures in
-    let it = attached_watched e.slots.items e.trail.0 e.trail.1 e.table e.clauses c.enter_watched.new.table e.counters.items e.limits.items e.watchers.pairs n p (length e.watchers.pairs) 0 limit i refl c.degree.ensures.normal within said.ok said.length refl
+    let it = attached_watched e.slots.items e.trail.0 e.trail.1 e.table e.clauses c.enter_watched.new.index e.counters.items e.limits.items e.watchers.pairs n p (length e.watchers.pairs) 0 limit i refl c.degree.ensures.normal within said.same said.ok said.length refl
     (λ l. omega (arith, c.degree.ensures.value, c.sum.ensures.value, coefficient_below n l)) in
     rw (slots, counters, limits) (
-      with_pairs (e.slots.items ++ Some n ∷ []) e.trail.0 e.trail.1 e.table c.enter_watched.new.table (e.counters.items ++ 0 ∷ []) (e.limits.items ++ limit ∷ []) (e.watchers.pairs ++ Some p ∷ []) new.pairs it said.pairs,
+      with_pairs (e.slots.items ++ Some n ∷ []) e.trail.0 e.trail.1 e.table c.enter_watched.new.index (e.counters.items ++ 0 ∷ []) (e.limits.items ++ limit ∷ []) (e.watchers.pairs ++ Some p ∷ []) new.pairs it said.pairs,
       reasons_beside e.slots.items n (on_trail e.trail) e.reasons.items c.self.invariant.1,
       c.self.invariant.2,
       watched_more e.slots.items e.trail.0 e.trail.1 e.watchers new n (Some p) c.self.invariant.3 i.slots_are.pair_count said.pairs (omega (arith, said.row_count)) said.kept

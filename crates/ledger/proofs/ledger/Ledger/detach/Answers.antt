@@ -1,5 +1,5 @@
 -- One constraint fewer at the end of all lists.
-use Rattle.std.proofs.Common.{◌≡◌, ◌-◌, ◌+◌, ◌<◌, ◌≤◌, ℕ, List, Option, Some, None, [], ◌∷◌, ◌++◌, length, take, get_or, vec_capacity, vec_len, refl, ap, sym, subst, ◌∙◌, arith}
+use Rattle.std.proofs.Common.{◌≡◌, true, ◌-◌, ◌+◌, ◌<◌, ◌≤◌, ℕ, List, Option, Some, None, [], ◌∷◌, ◌++◌, length, take, get_or, vec_capacity, vec_len, refl, ap, sym, subst, ◌∙◌, arith}
 use Rattle.std.proofs.Math.Seq.{take-length}
 use Rattle.linear.specs.declared.term.Lit.{Lit}
 use Rattle.normal_form.specs.declared.term.NormalTerm.{NormalTerm}
@@ -7,7 +7,7 @@ use Rattle.normal_form.specs.Normal.{NormalConstraint}
 use Rattle.ledger.specs.declared.occurrence.Occurrence.{Occurrence}
 use Rattle.ledger.specs.declared.pair.Pair.{Pair}
 use Rattle.ledger.specs.Trails.{on_trail}
-use Rattle.ledger.specs.Ledgers.{AreReasons, IsLedger, State, shown}
+use Rattle.ledger.specs.Ledgers.{AreReasons, Indexing, IsLedger, State, shown}
 use Rattle.ledger.specs.Watched.{AreWatched, Watching}
 use Rattle.ledger.specs.Occurrences.{HasMore, occurrences_of}
 use Rattle.ledger.proofs.Attaching.{counted_before, detached, reasons_without, watched_before, with_pairs}
@@ -32,17 +32,18 @@ all_terms c base table place m =
     subst (λ (ts : List NormalTerm). HasMore base table place ts) all m
 
 -- what is left, where both tables are without the constraint
-abbrev Left : End → List (List Occurrence) → List (List Occurrence) → Type 0
+abbrev Left : End → List (List Occurrence) → Indexing → Type 0
 Left c after behind =
     IsLedger c.pop.new.self.items c.self.inside.trail.0 c.self.inside.trail.1 after behind c.pop-in-Some-Some.new.self.items c.pop-in-Some-Some-2.new.self.items c.detach.new.self.pairs
     × AreReasons (shown c.pop.new.self.items) (on_trail c.self.inside.trail) c.self.inside.reasons.items × (c.self.inside.trail.1 ≤ vec_capacity c.self.inside.reasons)
     × AreWatched c.pop.new.self.items c.self.inside.trail.0 c.self.inside.trail.1 c.detach.new.self
 
-left : (c : End) (after behind : List (List Occurrence)) → length after ≡ length c.self.inside.table → HasMore (λ l. occurrences_of l 0 (take (length c.pop.new.self.items) c.self.invariant.0.counted)) after (length c.pop.new.self.items) []
-    → length behind ≡ length c.self.inside.clauses → HasMore (λ l. occurrences_of l 0 (take (length c.pop.new.self.items) c.self.invariant.0.watched)) behind (length c.pop.new.self.items) []
+left : (c : End) (after : List (List Occurrence)) (behind : Indexing) → length after ≡ length c.self.inside.table → HasMore (λ l. occurrences_of l 0 (take (length c.pop.new.self.items) c.self.invariant.0.counted)) after (length c.pop.new.self.items) []
+    → behind.kept ≡ c.self.inside.clauses.kept → length behind.table ≡ length c.self.inside.clauses.table
+    → (c.self.inside.clauses.kept ≡ true → HasMore (λ l. occurrences_of l 0 (take (length c.pop.new.self.items) c.self.invariant.0.watched)) behind.table (length c.pop.new.self.items) [])
     → c.match-pair.self-inside.counters ≡ c.self.inside.counters → c.match-pair.self-inside.limits ≡ c.self.inside.limits → c.match-pair.self-inside.watchers ≡ c.self.inside.watchers
     → Left c after behind
-left c after behind long none long_w none_w same_counters same_limits same_watchers =
+left c after behind long none same long_w none_w same_counters same_limits same_watchers =
     let e = c.self.inside in
     let i = c.self.invariant.0 in
     let n : NormalConstraint = c.in-Some-Some.constraint in
@@ -51,7 +52,7 @@ left c after behind long none long_w none_w same_counters same_limits same_watch
     let limits : c.pop-in-Some-Some-2.new.self.items ≡ take (length e.limits.items - 1) e.limits.items = c.pop-in-Some-Some-2.ensures.rest ∙ ap (λ v. take (vec_len v - 1) v.items) same_limits ∙ ap (λ (k : ℕ). take (k - 1) e.limits.items) (omega (arith, e.limits.ok)) in
     let pairs : c.detach.new.self.pairs ≡ take (length e.watchers.pairs - 1) e.watchers.pairs = c.detach.ensures.pairs ∙ ap (λ (w : Watching). take (length w.pairs - 1) w.pairs) same_watchers in
     let rows : c.detach.new.self.rows ≡ e.watchers.rows = c.detach.ensures.rows ∙ ap (λ (w : Watching). w.rows) same_watchers in
-    let it = detached e.slots.items rest e.trail.0 e.trail.1 e.table after e.clauses behind e.counters.items e.limits.items e.watchers.pairs n i (split c) long none long_w none_w in
+    let it = detached e.slots.items rest e.trail.0 e.trail.1 e.table after e.clauses behind e.counters.items e.limits.items e.watchers.pairs n i (split c) long none same long_w none_w in
     let below : (k place : ℕ) → k < length (on_trail e.trail) → get_or e.reasons.items k None ≡ Some place → place + 1 < length e.slots.items = subst (λ (s : State). (k place : ℕ) → k < length s.assigned → get_or s.reasons k None ≡ Some place → place + 1 < length s.slots) (sym c.self.view_is) c.requires.reasons in
     rw (counters, limits) (
       with_pairs rest e.trail.0 e.trail.1 after behind (take (length e.counters.items - 1) e.counters.items) (take (length e.limits.items - 1) e.limits.items) (take (length e.watchers.pairs - 1) e.watchers.pairs) c.detach.new.self.pairs it pairs,
@@ -71,9 +72,9 @@ invariant_of-self c =
       | in-None w ↦
           let before = counted_before e.slots.items rest e.trail.0 e.trail.1 e.table e.clauses e.counters.items e.limits.items e.watchers.pairs n i (split c) (paired c None w.in-None.is) in
           let base : Lit → List Occurrence = λ l. occurrences_of l 0 (take m i.counted) in
-          rw w.self-inside-is (left c w.leave.new.table e.clauses w.leave.ensures.length (w.leave.ensures.fewer base m (all_terms c base e.table m before.counts)) refl before.watches (ap (λ s. s.counters) w.self-inside-is) (ap (λ s. s.limits) w.self-inside-is) (ap (λ s. s.watchers) w.self-inside-is))
+          rw w.self-inside-is (left c w.leave.new.table e.clauses w.leave.ensures.length (w.leave.ensures.fewer base m (all_terms c base e.table m before.counts)) refl refl before.watches (ap (λ s. s.counters) w.self-inside-is) (ap (λ s. s.limits) w.self-inside-is) (ap (λ s. s.watchers) w.self-inside-is))
       | in-Some w ↦
           let before = watched_before e.slots.items rest e.trail.0 e.trail.1 e.table e.clauses e.counters.items e.limits.items e.watchers.pairs n w.in-Some.field-0 i (split c) (paired c (Some w.in-Some.field-0) w.in-Some.is) in
           let base : Lit → List Occurrence = λ l. occurrences_of l 0 (take m i.watched) in
-          rw w.self-inside-is (left c e.table w.leave-in-Some.new.table refl before.counts w.leave-in-Some.ensures.length (w.leave-in-Some.ensures.fewer base m (all_terms c base e.clauses m before.watches)) (ap (λ s. s.counters) w.self-inside-is) (ap (λ s. s.limits) w.self-inside-is) (ap (λ s. s.watchers) w.self-inside-is))
+          rw w.self-inside-is (left c e.table w.leave-in-Some.new.self refl before.counts w.leave-in-Some.ensures.same w.leave-in-Some.ensures.length (λ kept. w.leave-in-Some.ensures.fewer kept base m (before.watches kept)) (ap (λ s. s.counters) w.self-inside-is) (ap (λ s. s.limits) w.self-inside-is) (ap (λ s. s.watchers) w.self-inside-is))
     ]

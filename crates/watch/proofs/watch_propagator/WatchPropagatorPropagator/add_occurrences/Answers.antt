@@ -1,13 +1,8 @@
--- One id after another.
-use Rattle.watch.proofs.AddedIds.{adding_first, adding_more, added}
+-- The lists are kept, and nothing that is seen changes.
+use Rattle.std.proofs.Common.{OnOk, ◌∙◌, subst}
+use Rattle.propagate.specs.Content.{AddsOccurrences, Content}
 use Rattle.watch.proofs.watch_propagator.WatchPropagatorPropagator.add_occurrences.Goals as goal
 
-pub loop-id-init : goal.loop-id-init
-loop-id-init c = adding_first c.args.self.now c.args.literal c.args.ids.now c.occurrences-rest.result c.occurrences-rest.ensures.exactly
-
-pub loop-id-preserved : goal.loop-id-preserved
-loop-id-preserved c =
-    adding_more c.args.self.now c.args.literal c.args.ids.now c.loop-id.ids c.insert.new.self c.in-Some.id c.loop-id.rest c.next.new.self c.loop-id.invariant c.in-Some.ensures c.in_ok-insert.ensures.ok
-
 pub returns-clause-added : goal.returns-clause-added
-returns-clause-added c = added c.args.self.now c.args.literal c.args.ids.now c.loop-id.ids c.loop-id.rest c.loop-id.invariant c.in_default.ensures.0
+returns-clause-added c =
+    subst (λ (m : Content). OnOk c.add_lent.result (AddsOccurrences m c.args.literal c.args.ids.now c.add_lent.new.ids)) (c.keep_entries.ensures ∙ c.self.view_is) c.add_lent.ensures
