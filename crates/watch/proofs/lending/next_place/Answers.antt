@@ -15,7 +15,7 @@ next_sought-requires c = subst (λ (s : Source). IsSourceWithin c.args.closure.n
 
 pub returns-in-Kept-clause-within : goal.returns-in-Kept-clause-within
 returns-in-Kept-clause-within c =
-    subst (λ (s : Source). IsSourceWithin c.args.closure.now s c.next_kept.new.passed) (sym c.in-Kept.is) (c.next_kept.ensures.within, next_kept-requires-clause-places c)
+    subst (λ (s : Source). IsSourceWithin c.args.closure.now s c.next_kept.new.passed) (sym c.in-Kept.is) (c.next_kept.ensures.within, (subst (λ (s : Source). IsSourceWithin c.args.closure.now s c.args.passed.now) c.in-Kept.is c.requires).1)
 
 pub returns-in-Sought-clause-within : goal.returns-in-Sought-clause-within
 returns-in-Sought-clause-within c =
