@@ -213,9 +213,7 @@ impl<'a, P: Propagator> Run<'a, P> {
         let asked = self.log.asking();
         self.log.improve(assigned)?;
         self.advisers.improve(&self.log);
-        if let Some(id) = asked {
-            self.outdone.push(id)?;
-        }
+        self.outdone.push_any(asked)?;
         self.forget_outdone()
     }
 
