@@ -417,16 +417,15 @@ impl Adviser {
             Advice::Cut(_) => figures.cuts = figures.cuts.saturating_add(1),
             Advice::Values | Advice::Nothing => {}
         }
+        let cost = self.relaxation.work_done().saturating_sub(before);
         if node.decisions == 0 {
+            self.effort.note_root(cost);
             self.note_bound(advice);
             return;
         }
         match advice {
             Advice::Conflict(_) | Advice::Forcing(_) => self.effort.reward(),
-            Advice::Cut(_) | Advice::Values | Advice::Nothing => {
-                let cost = self.relaxation.work_done().saturating_sub(before);
-                self.effort.charge(cost);
-            }
+            Advice::Cut(_) | Advice::Values | Advice::Nothing => self.effort.charge(cost),
         }
     }
 

@@ -2,8 +2,9 @@
 //!
 //! One call costs as much as thousands of propagations, and on many problems it says nothing that propagation does not. So it has a
 //! share of the work, which rises where it ends a descent and falls where it does not. At the root, where a bound serves the whole search,
-//! it may do more: once at the start, and then at restarts, ever more seldom. All of this is counted and not timed: multiplications of the
-//! relaxation beside terms that the search has looked at, about.
+//! it may do more: once at the start, and then at restarts, ever more seldom. What it does there, with the rounds of cuts, has a share of its
+//! own, so that a root that took long does not keep the relaxation from the nodes below. All of this is counted and not timed: multiplications of
+//! the relaxation beside terms that the search has looked at, about.
 
 use super::advice::Node;
 use relaxation::Limits;
@@ -51,6 +52,8 @@ const CONFLICTS_BETWEEN_ROOTS: u64 = 200;
 #[derive(Clone, Copy, Debug)]
 pub(crate) struct Effort {
     share: u64,
+    /// How much the calls at the root have done.
+    at_root: u64,
     root_calls: u64,
     next_root: u64,
 }
@@ -60,6 +63,7 @@ impl Effort {
     pub(crate) fn new() -> Self {
         Effort {
             share: FIRST_SHARE,
+            at_root: 0,
             root_calls: 0,
             next_root: 0,
         }
@@ -68,9 +72,9 @@ impl Effort {
     /// What a call may do at a node where so much was done in calls so far; none where no call is due.
     pub(crate) fn limits(&mut self, done: u64, node: Node<'_>, aim: Aim) -> Option<Limits> {
         if node.decisions == 0 {
-            return self.root_limits(done, node);
+            return self.root_limits(node);
         }
-        if !self.is_within_share(done, node.searched) {
+        if !self.is_within_share(done.saturating_sub(self.at_root), node.searched) {
             return None;
         }
         let steps = match aim {
@@ -85,12 +89,12 @@ impl Effort {
     }
 
     /// What a call at the root may do, where one is due.
-    fn root_limits(&mut self, done: u64, node: Node<'_>) -> Option<Limits> {
+    fn root_limits(&mut self, node: Node<'_>) -> Option<Limits> {
         let work = if self.root_calls == 0 {
             FIRST_ROOT_WORK
         } else {
             if node.conflicts < self.next_root
-                || !self.is_within_share(done.saturating_sub(ROOT_WORK), node.searched)
+                || !self.is_within_share(self.at_root.saturating_sub(ROOT_WORK), node.searched)
             {
                 return None;
             }
@@ -116,6 +120,11 @@ impl Effort {
         let ours = u128::from(done).saturating_mul(u128::from(rest));
         let weighed = WEIGHT_OF_SEARCH.saturating_mul(self.share);
         ours < u128::from(searched).saturating_mul(u128::from(weighed))
+    }
+
+    /// A call at the root has done so much.
+    pub(crate) fn note_root(&mut self, cost: u64) {
+        self.at_root = self.at_root.saturating_add(cost);
     }
 
     /// A call has ended a descent.

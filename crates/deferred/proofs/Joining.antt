@@ -151,6 +151,28 @@ settled_apart w s id n apart k some = elim (here_or_not k id) [
       fin.get-insert nat_cmp_total s id n k ∙ ap (λ (b : Bool). cond b (Some n) (fin.get s k)) other ∙ apart k (removed_some w id k some)
 ]
 
+-- one more is settled, which did not wait
+pub more_settled : (w s : Content) (id : ℕ) (n : NormalConstraint) → fin.get w id ≡ None → joined w (fin.insert s id n) ≡ fin.insert (joined w s) id n
+more_settled w s id n free = same (joined w (fin.insert s id n)) (fin.insert (joined w s) id n) (λ q.
+    get_joined w (fin.insert s id n) q ∙ ap (first_of (fin.get w q)) (fin.get-insert nat_cmp_total s id n q)
+    ∙ at_or_not q ∙ ap (cond (eq_by_cmp nat_cmp q id) (Some n)) (sym (get_joined w s q)) ∙ sym (fin.get-insert nat_cmp_total (joined w s) id n q))
+  where
+    at_or_not : (q : ℕ) → first_of (fin.get w q) (cond (eq_by_cmp nat_cmp q id) (Some n) (fin.get s q)) ≡ cond (eq_by_cmp nat_cmp q id) (Some n) (first_of (fin.get w q) (fin.get s q))
+    at_or_not q = elim (here_or_not q id) [
+      | inl e ↦
+          let none : fin.get w q ≡ None = ap (fin.get w) e.0 ∙ free in
+          ap (λ (b : Bool). first_of (fin.get w q) (cond b (Some n) (fin.get s q))) e.1 ∙ ap (λ (o : Found). first_of o (Some n)) none
+          ∙ sym (ap (λ (b : Bool). cond b (Some n) (first_of (fin.get w q) (fin.get s q))) e.1)
+      | inr other ↦
+          ap (λ (b : Bool). first_of (fin.get w q) (cond b (Some n) (fin.get s q))) other ∙ sym (ap (λ (b : Bool). cond b (Some n) (first_of (fin.get w q) (fin.get s q))) other)
+    ]
+
+pub apart_more : (w s : Content) (id : ℕ) (n : NormalConstraint) → fin.get w id ≡ None → AreApart w s → AreApart w (fin.insert s id n)
+apart_more w s id n free apart k some = elim (here_or_not k id) as (λ _. fin.get (fin.insert s id n) k ≡ None) [
+  | inl e ↦ absurd (not_some (fin.get w k) (ap (fin.get w) e.0 ∙ free) some)
+  | inr other ↦ fin.get-insert nat_cmp_total s id n k ∙ ap (λ (b : Bool). cond b (Some n) (fin.get s k)) other ∙ apart k some
+]
+
 -- where none waits, the settled ones are all
 pub all_settled : (w s : Content) → ((k : ℕ) → fin.get w k ≡ None) → joined w s ≡ s
 all_settled w s none = same (joined w s) s (λ q. found_settled w s q (none q))

@@ -3,6 +3,9 @@
 //! To enter a constraint into the lists of its literals costs more than to read it. A proof by cutting planes alone asks nothing
 //! before its conclusion, and many constraints are deleted before anybody asks; so a new one waits, and what is taken out while it
 //! waits was never entered. What is answered is what the other propagator answers, since all meet one contract.
+//!
+//! One constraint after a question does not wait: proofs that ask for each constraint before they add it ask again soon, and to wait costs a
+//! copy. One that fails to come in is gone, as the caller is told; but one that waited was told to be in, so a copy of it is handed on.
 
 ghost use Rattle.std.specs.Prelude.{◌≡◌};
 ghost use Rattle.deferred.specs.Joined.{least_of};
@@ -20,6 +23,8 @@ use std::marker::Model;
 pub struct Deferred<P: Propagator> {
     waiting: Waiting,
     settled: P,
+    /// Whether a question was asked, and no constraint came since then.
+    asked: bool,
     alloc: Global,
 }
 
@@ -56,11 +61,16 @@ impl<P: Propagator> Propagator for Deferred<P> {
         Deferred {
             waiting: Waiting::empty(alloc),
             settled: P::empty(alloc),
+            asked: false,
             alloc,
         }
     }
 
     fn insert(&mut self, id: Id, constraint: Normal) -> Result<(), AllocError> {
+        if self.asked {
+            self.asked = false;
+            return self.settled.insert(id, constraint);
+        }
         self.waiting.insert(id, constraint)
     }
 
@@ -84,26 +94,31 @@ impl<P: Propagator> Propagator for Deferred<P> {
 
     fn add_occurrences(&mut self, literal: Lit, ids: &mut Ids) -> Result<(), AllocError> {
         settle(self.alloc, &mut self.waiting, &mut self.settled)?;
+        self.asked = true;
         self.settled.add_occurrences(literal, ids)
     }
 
     fn refute(&mut self, extras: &[Normal]) -> Result<bool, AllocError> {
         settle(self.alloc, &mut self.waiting, &mut self.settled)?;
+        self.asked = true;
         self.settled.refute(extras)
     }
 
     fn extend(&mut self, given: &[Lit]) -> Result<Reach, AllocError> {
         settle(self.alloc, &mut self.waiting, &mut self.settled)?;
+        self.asked = true;
         self.settled.extend(given)
     }
 
     fn trace(&mut self, given: &[Lit]) -> Result<Trace, AllocError> {
         settle(self.alloc, &mut self.waiting, &mut self.settled)?;
+        self.asked = true;
         self.settled.trace(given)
     }
 
     fn trace_last(&mut self, before: &[Lit], last: Lit) -> Result<Trace, AllocError> {
         settle(self.alloc, &mut self.waiting, &mut self.settled)?;
+        self.asked = true;
         self.settled.trace_last(before, last)
     }
 }

@@ -3,6 +3,8 @@
 //! Ids rise from one constraint to the next, and what waits is handed on in that order. So the first id that waits and a row of
 //! places from there on are enough: neither to come nor to go costs a search. An id below all that wait may come too; it only
 //! makes the row longer at its front.
+//!
+//! What is handed on needs as much memory where it comes to; so the row gives its own back meanwhile, each time when half of it is empty.
 
 ghost use Rattle.std.specs.Prelude.{◌≡◌, ◌<◌, ◌≤◌, ◌+◌, ◌^◌, ◌⊎◌, ℕ, MatchOption, OnOk, length};
 ghost use Rattle.deferred.specs.Standing.{entries_from};
@@ -89,6 +91,18 @@ fn make_room_behind(
     Ok(())
 }
 
+/// So many places keep their memory, however few of them are left: a row that is short costs little, and would soon grow again.
+const SHORT_ROW: usize = 1024;
+
+/// Gives memory back where half of the room is empty.
+fn give_back(constraints: &mut VecDeque<Option<Normal>>)
+    ensures { constraints.new.items ≡ constraints.old.items }
+{
+    if constraints.capacity() > SHORT_ROW.max(constraints.len().saturating_mul(2)) {
+        constraints.shrink_to_fit();
+    }
+}
+
 impl Waiting {
     ghost use Rattle.std.specs.Prelude.{◌≡◌, ℕ, None, OnErr, OnOk, MatchOption, IsSome};
     ghost use Rattle.std.specs.FinMap as map;
@@ -153,6 +167,7 @@ impl Waiting {
             }
             self.constraints.pop_front();
             self.first += 1;
+            give_back(&mut self.constraints);
         }
         None
     }

@@ -13,3 +13,4 @@ pub mod SmallSizes
 pub mod Reorder
 pub mod Floors
 pub mod FormDegrees
+pub mod Coefficients

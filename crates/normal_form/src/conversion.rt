@@ -19,7 +19,7 @@ use super::fault::CutFault;
 use super::merging::{merge, sizes_fit};
 use super::normal::Normal;
 use super::opposites::flip;
-use linear::{Relation, Signed};
+use linear::{Relation, Signed, Term};
 use std::alloc::Global;
 
 /// The form of a constraint read as `>=`, of its merged terms.
@@ -56,9 +56,73 @@ fn at_most(merged: NormalBuilder, constraint: &Signed) -> Result<Normal, CutFaul
     merged.finish(degree)
 }
 
-/// The normal form of a constraint with `>=`. `TooLarge` comes exactly where the sizes of its coefficients
-/// add up to more than `2^120`, or the form's sum or degree is above `2^120`; so it does not come where the
-/// sizes and that of the right side together are at most `2^120`.
+/// Makes normal forms. It keeps the list in which terms are put in order from one constraint to the next, so that whoever makes many
+/// forms takes memory for what they are made of alone.
+#[derive(Drop)]
+pub struct Normalizer {
+    allocator: Global,
+    sorted: Vec<Term>,
+}
+
+impl Normalizer {
+    ghost use Rattle.std.specs.Prelude.{◌≡◌, ◌+◌, ◌≤◌, ◌↔◌, ◌⊎◌, IfOk, IsErrOf, OnOk, unsigned_abs};
+    ghost use Rattle.linear.specs.Valuation.{Valuation};
+    ghost use Rattle.linear.specs.Sum.{Meets};
+    ghost use Rattle.normal_form.specs.Normal.{IsNormal, Holds, largest_sum};
+    ghost use Rattle.normal_form.specs.NormalOf.{IsNormalOf, IsBothOf, IsTooLarge, signs_changed, size_sum};
+
+    /// No list yet.
+    pub fn new(alloc: Global) -> Self {
+        Normalizer {
+            allocator: alloc,
+            sorted: Vec::new(alloc),
+        }
+    }
+
+    /// The normal form of a constraint with `>=`. `TooLarge` comes exactly where the sizes of its coefficients
+    /// add up to more than `2^120`, or the form's sum or degree is above `2^120`; so it does not come where the
+    /// sizes and that of the right side together are at most `2^120`.
+    pub fn normalize(&mut self, constraint: &Signed) -> Result<Normal, CutFault>
+        requires { constraint.now.relation ≡ Relation.AtLeast }
+        ensures form { IfOk result (IsNormalOf constraint.now) }
+        ensures normal { IfOk result IsNormal }
+        ensures same { IfOk result (λ n. (a : Valuation) → Holds a n ↔ Meets a constraint.now) }
+        ensures too_large { IsErrOf result CutFault.TooLarge → IsTooLarge constraint.now }
+        ensures within { OnOk result (IsTooLarge constraint.now → ⊥) }
+        ensures small { size_sum constraint.now.terms + unsigned_abs constraint.now.right ≤ largest_sum → IsErrOf result CutFault.TooLarge → ⊥ }
+        ensures factor { IsErrOf result CutFault.BadFactor → ⊥ }
+    {
+        let terms = constraint.terms.as_slice();
+        if !sizes_fit(terms) {
+            return Err(CutFault::TooLarge);
+        }
+        at_least(merge(self.allocator, &mut self.sorted, terms)?, constraint)
+    }
+
+    /// The two normal forms of an equality: that of the constraint with `>=`, then that of the same with all
+    /// signs changed. `TooLarge` comes exactly where the sizes of its coefficients add up to more than `2^120`,
+    /// or the sum or degree of either form is above `2^120`.
+    pub fn both(&mut self, constraint: &Signed) -> Result<(Normal, Normal), CutFault>
+        requires { constraint.now.relation ≡ Relation.Equal }
+        ensures form { IfOk result (λ p. IsBothOf constraint.now p.0 p.1) }
+        ensures normal { IfOk result (λ p. IsNormal p.0 × IsNormal p.1) }
+        ensures same { IfOk result (λ p. (a : Valuation) → (Holds a p.0 × Holds a p.1) ↔ Meets a constraint.now) }
+        ensures too_large { IsErrOf result CutFault.TooLarge → IsTooLarge constraint.now ⊎ IsTooLarge (signs_changed constraint.now) }
+        ensures within { OnOk result (IsTooLarge constraint.now ⊎ IsTooLarge (signs_changed constraint.now) → ⊥) }
+        ensures small { size_sum constraint.now.terms + unsigned_abs constraint.now.right ≤ largest_sum → IsErrOf result CutFault.TooLarge → ⊥ }
+        ensures factor { IsErrOf result CutFault.BadFactor → ⊥ }
+    {
+        let terms = constraint.terms.as_slice();
+        if !sizes_fit(terms) {
+            return Err(CutFault::TooLarge);
+        }
+        let merged = merge(self.allocator, &mut self.sorted, terms)?;
+        let turned = flip(self.allocator, merged.terms())?;
+        Ok((at_least(merged, constraint)?, at_most(turned, constraint)?))
+    }
+}
+
+/// The normal form of a constraint with `>=`, of whoever makes one alone.
 pub fn normalize(alloc: Global, constraint: &Signed) -> Result<Normal, CutFault>
     requires { constraint.now.relation ≡ Relation.AtLeast }
     ensures form { IfOk result (IsNormalOf constraint.now) }
@@ -69,16 +133,11 @@ pub fn normalize(alloc: Global, constraint: &Signed) -> Result<Normal, CutFault>
     ensures small { size_sum constraint.now.terms + unsigned_abs constraint.now.right ≤ largest_sum → IsErrOf result CutFault.TooLarge → ⊥ }
     ensures factor { IsErrOf result CutFault.BadFactor → ⊥ }
 {
-    let terms = constraint.terms.as_slice();
-    if !sizes_fit(terms) {
-        return Err(CutFault::TooLarge);
-    }
-    at_least(merge(alloc, terms)?, constraint)
+    let mut normalizer = Normalizer::new(alloc);
+    normalizer.normalize(constraint)
 }
 
-/// The two normal forms of an equality: that of the constraint with `>=`, then that of the same with all
-/// signs changed. `TooLarge` comes exactly where the sizes of its coefficients add up to more than `2^120`,
-/// or the sum or degree of either form is above `2^120`.
+/// The two normal forms of an equality, of whoever makes them alone.
 pub fn both(alloc: Global, constraint: &Signed) -> Result<(Normal, Normal), CutFault>
     requires { constraint.now.relation ≡ Relation.Equal }
     ensures form { IfOk result (λ p. IsBothOf constraint.now p.0 p.1) }
@@ -89,11 +148,6 @@ pub fn both(alloc: Global, constraint: &Signed) -> Result<(Normal, Normal), CutF
     ensures small { size_sum constraint.now.terms + unsigned_abs constraint.now.right ≤ largest_sum → IsErrOf result CutFault.TooLarge → ⊥ }
     ensures factor { IsErrOf result CutFault.BadFactor → ⊥ }
 {
-    let terms = constraint.terms.as_slice();
-    if !sizes_fit(terms) {
-        return Err(CutFault::TooLarge);
-    }
-    let merged = merge(alloc, terms)?;
-    let turned = flip(alloc, merged.terms())?;
-    Ok((at_least(merged, constraint)?, at_most(turned, constraint)?))
+    let mut normalizer = Normalizer::new(alloc);
+    normalizer.both(constraint)
 }

@@ -8,6 +8,7 @@ mod conversion;
 mod degrees;
 mod fault;
 pub mod laws;
+mod lowering;
 mod merging;
 mod negation;
 mod normal;
@@ -17,7 +18,7 @@ mod terms;
 mod truth;
 
 pub use builder::NormalBuilder;
-pub use conversion::{both, normalize};
+pub use conversion::{Normalizer, both, normalize};
 pub use fault::CutFault;
 pub use negation::negate;
 pub use normal::{LARGEST_SUM, Normal};

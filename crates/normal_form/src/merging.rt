@@ -79,12 +79,45 @@ fn merge_runs(alloc: Global, sorted: &[Term]) -> Result<NormalBuilder, AllocErro
     Ok(merged)
 }
 
-/// The merged terms, in order of their variables.
-pub(crate) fn merge(alloc: Global, terms: &[Term]) -> Result<NormalBuilder, AllocError>
+/// Whether terms stand in order of their variables.
+fn are_in_order(terms: &[Term]) -> bool
+    ensures { IsTrue result → IsNonDecreasingBy (λ t. t.var.0) terms.now }
+{
+    for place in 1..terms.len() {
+        if terms[place].var.0 < terms[place - 1].var.0 {
+            return false;
+        }
+    }
+    true
+}
+
+/// Merges terms that stand in any order, which are put in order in a list for that.
+fn sort_and_merge(
+    alloc: Global,
+    sorted: &mut Vec<Term>,
+    terms: &[Term],
+) -> Result<NormalBuilder, AllocError>
     requires { size_sum terms.now ≤ largest_sum }
     ensures { IfOk result (Balances terms.now) }
 {
-    let mut sorted = Vec::from_slice(alloc, terms)?;
+    sorted.clear();
+    sorted.extend_from_slice(terms)?;
     sorted.sort_by_key(|term| term.var.0)?;
     merge_runs(alloc, sorted.as_slice())
+}
+
+/// The merged terms, in order of their variables. Those that stand in order, as most do that are short, are merged where they stand,
+/// others in a list for that, whatever it holds.
+pub(crate) fn merge(
+    alloc: Global,
+    sorted: &mut Vec<Term>,
+    terms: &[Term],
+) -> Result<NormalBuilder, AllocError>
+    requires { size_sum terms.now ≤ largest_sum }
+    ensures { IfOk result (Balances terms.now) }
+{
+    if are_in_order(terms) {
+        return merge_runs(alloc, terms);
+    }
+    sort_and_merge(alloc, sorted, terms)
 }

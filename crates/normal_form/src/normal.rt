@@ -22,9 +22,9 @@ pub const LARGEST_SUM: u128 = 1 << 120;
 /// variables. Its coefficient sum and its degree are at most `2^120`.
 #[derive(Debug, Drop)]
 pub struct Normal {
-    terms: Terms,
-    coefficient_sum: u128,
-    bound: u128,
+    pub(crate) terms: Terms,
+    pub(crate) coefficient_sum: u128,
+    pub(crate) bound: u128,
 }
 
 impl Model for Normal {
@@ -113,6 +113,14 @@ impl Normal {
         ensures normal { IsNormal self.now }
     {
         self.coefficient_sum
+    }
+
+    /// Gives back memory that it does not use, unless it is little: for a constraint that is to be kept, of terms of which many have
+    /// cancelled.
+    pub fn trim(&mut self)
+        ensures { self.new ≡ self.old }
+    {
+        self.terms.trim();
     }
 
     /// Another constraint that is the same.

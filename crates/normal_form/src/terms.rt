@@ -6,7 +6,8 @@
 //! is looked at far more often than it is kept, and at each look it would have to be put together again.
 
 ghost use Rattle.std.specs.Prelude.{◌≡◌, ◌≤◌, ◌<◌, ◌^◌, ◌++◌, ◌∷◌, [], IfOk, MatchOption, OnOk, OnErr, length, slice_index_or};
-ghost use Rattle.normal_form.specs.Terms.{widened};
+ghost use Rattle.normal_form.specs.declared.term.NormalTerm.{NormalTerm};
+ghost use Rattle.normal_form.specs.Terms.{widened, with_coefficient};
 
 use super::term::NormalTerm;
 use linear::Var;
@@ -28,6 +29,18 @@ impl SmallTerm {
     {
         NormalTerm {
             coef: u128::from(self.coef),
+            var: self.var,
+            negated: self.negated,
+        }
+    }
+
+    /// The same with a coefficient that is no greater.
+    fn lowered(self, coef: u128) -> SmallTerm
+        requires { coef ≤ self.coef }
+        ensures { result ≡ record { coef = coef; var = self.var; negated = self.negated } }
+    {
+        SmallTerm {
+            coef: coef as u64,
             var: self.var,
             negated: self.negated,
         }
@@ -119,6 +132,43 @@ impl Terms {
         }
         self.rest.push(term)?;
         Ok(())
+    }
+
+    /// Gives the term at a place a coefficient that is no greater than it has, where it stands.
+    pub(crate) fn lower(&mut self, place: usize, coef: u128)
+        requires place { place < length self.old }
+        requires no_greater { (d : NormalTerm) → coef ≤ (slice_index_or self.old place d).coef }
+        ensures { self.new ≡ with_coefficient self.old place coef }
+    {
+        let small = self.small.len();
+        if place < small {
+            self.small[place] = self.small[place].lowered(coef);
+        } else {
+            let term = self.rest[place - small];
+            self.rest[place - small] = NormalTerm {
+                coef,
+                var: term.var,
+                negated: term.negated,
+            };
+        }
+    }
+
+    /// Takes all terms away. The memory stays.
+    pub(crate) fn clear(&mut self)
+        ensures { self.new ≡ [] }
+    {
+        self.small.clear();
+        self.rest.clear();
+    }
+
+    /// Gives back room that the list does not use, unless it is little.
+    pub(crate) fn trim(&mut self)
+        ensures { self.new ≡ self.old }
+    {
+        let unused = self.small.capacity().saturating_sub(self.small.len());
+        if unused > self.small.len() / 4 {
+            self.small.shrink_to_fit();
+        }
     }
 
     /// Another list of the same terms.

@@ -13,3 +13,6 @@ pub mod StaysLive
 pub mod Taking
 pub mod Descending
 pub mod Worth
+pub mod GoingOn
+pub mod Refusals
+pub mod BegunLogs

@@ -8,8 +8,9 @@ use Rattle.proof_rules.specs.Fault.{OrMemory}
 use Rattle.proof_rules.specs.declared.fault.StepFault.{StepFault}
 use Rattle.proof_rules.specs.declared.fault.StepFault.TheVariants as faults
 use Rattle.proof_steps.specs.declared.step.Step.{Step}
-use Rattle.search.specs.Log.{Logbook}
+use Rattle.search.specs.Log.{GoesOn, Logbook}
 use Rattle.search.specs.Presolving.{Tries, TriesAll}
+use Rattle.search.proofs.GoingOn.{goes_on_kept, goes_on_more, goes_on_same}
 
 tries_push : (steps : List Step) (step : Step) (a b c : Logbook) → TriesAll steps a b → Tries step b c → TriesAll (steps ++ step ∷ []) a c
 tries_push [] step a b c same tried = (c, subst (λ x. Tries step x c) same tried, refl)
@@ -45,3 +46,9 @@ pub tries_no_lesson : (steps : List Step) (a b : Logbook) → TriesAll steps a b
 tries_no_lesson [] a b same = ap (λ (l : Logbook). l.biting) same
 tries_no_lesson (s ∷ ss) a b (m, inl enters, rest) = tries_no_lesson ss m b rest ∙ enters.biting
 tries_no_lesson (s ∷ ss) a b (m, inr left, rest) = tries_no_lesson ss m b rest ∙ ap (λ (l : Logbook). l.biting) left.same
+
+-- and the log goes on, whatever enters it
+pub tries_go_on : (steps : List Step) (a b : Logbook) → TriesAll steps a b → GoesOn a b
+tries_go_on [] a b same = goes_on_same a b same
+tries_go_on (s ∷ ss) a b (m, inl enters, rest) = goes_on_more a m b (goes_on_kept a m s enters.problem enters.text) (tries_go_on ss m b rest)
+tries_go_on (s ∷ ss) a b (m, inr left, rest) = goes_on_more a m b (goes_on_same a m left.same) (tries_go_on ss m b rest)

@@ -160,6 +160,12 @@ CanBeWritten l step = IsStepWritable (length l.problem.names) step
 abbrev pub Keeps : Logbook → Step → Logbook → Type 0
 Keeps old step new = new.text ≡ old.text ++ step_line old.problem.names step
 
+-- A log goes on from another one: it is of the same problem, and its text begins with that one's.
+pub record GoesOn (old new : Logbook) : Type 0 where
+  pub problem : new.problem ≡ old.problem
+  pub rest : List ℕ
+  pub text : new.text ≡ old.text ++ rest
+
 -- why a step is not taken: the kernel refuses it, or memory ran out; or it cannot be written by these names
 abbrev pub IsRefusedBy : List (List ℕ) → Opb → State → Step → SearchFault → Type 0
 IsRefusedBy names p s step (faults.Kernel f) = OrMemory f (IsStepFault p s step f)

@@ -1,5 +1,6 @@
 -- What a search puts into its log before it looks for solutions.
-use Rattle.std.specs.Prelude.{◌≡◌, ◌≢◌, ◌⊎◌, false, true, pos, List, [], ◌∷◌, if◌then◌else◌}
+use Rattle.std.specs.Prelude.{◌≡◌, ◌≢◌, ◌⊎◌, false, true, pos, List, [], ◌∷◌, ◌++◌, if◌then◌else◌, map}
+use Rattle.linear.specs.Opb.{Opb}
 use Rattle.linear.specs.declared.constraint.Relation.TheVariants.{AtLeast}
 use Rattle.linear.specs.declared.constraint.Signed.{Signed}
 use Rattle.linear.specs.declared.term.Lit.{Lit}
@@ -8,12 +9,17 @@ use Rattle.substitution.specs.Images.{Images}
 use Rattle.substitution.specs.declared.image.Image.{Image}
 use Rattle.substitution.specs.declared.image.Image.TheVariants as images
 use Rattle.substitution.specs.declared.image.Image.TheVariants.{Zero, One}
+use Rattle.presolve.specs.Fixing.{AreFixed}
+use Rattle.presolve.specs.Swapping.{AreUsed}
 use Rattle.presolve.specs.declared.swapping.Swap.{Swap}
+use Rattle.proof_rules.specs.Forms.{problem_ids}
 use Rattle.proof_rules.specs.Legal.{Legal}
+use Rattle.proof_rules.specs.State.{IsStart}
 use Rattle.proof_rules.specs.declared.fault.StepFault.TheVariants.{OutOfMemory}
 use Rattle.proof_steps.specs.declared.step.Step.{Step}
 use Rattle.proof_steps.specs.declared.step.Step.TheVariants as kinds
-use Rattle.search.specs.Log.{Logbook, IsRefused, Keeps}
+use Rattle.proof_write.specs.Whole.{first_lines}
+use Rattle.search.specs.Log.{GoesOn, Logbook, IsRefused, Keeps}
 use Rattle.search.specs.declared.fault.SearchFault.{SearchFault}
 use Rattle.search.specs.declared.fault.SearchFault.TheVariants as logs
 
@@ -72,3 +78,26 @@ Tries step old new = Enters step old new ⊎ IsLeft step old new
 abbrev pub TriesAll : List Step → Logbook → Logbook → Type 0
 TriesAll [] old new = new ≡ old
 TriesAll (step ∷ later) old new = (between : Logbook) × Tries step old between × TriesAll later between new
+
+-- What presolve comes to: the literals that may be made true at no cost are fixed one after the other, and then the pairs of variables
+-- that may change places are put in order, as far as each is legal.
+pub record IsPresolved (old new : Logbook) : Type 0 where
+  pub literals : List Lit
+  pub pairs : List Swap
+  pub fixed : AreFixed old.problem literals
+  pub used : AreUsed old.problem literals pairs
+  pub tried : TriesAll (map fixing literals ++ map swapping pairs) old new
+
+-- the log of a file, with no step
+pub record IsFirst (p : Opb) (l : Logbook) : Type 0 where
+  pub problem : l.problem ≡ p
+  pub text : l.text ≡ first_lines (problem_ids p.constraints)
+  pub start : IsStart p l.state
+
+-- A log begins with what presolve tries: the log of the file is presolved, and it goes on from there.
+pub record BeginsPresolved (p : Opb) (l : Logbook) : Type 0 where
+  pub first : Logbook
+  pub presolved : Logbook
+  pub of_file : IsFirst p first
+  pub tried : IsPresolved first presolved
+  pub goes_on : GoesOn presolved l

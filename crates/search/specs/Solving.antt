@@ -15,6 +15,7 @@ use Rattle.search.specs.declared.found.Found.TheVariants as founds
 use Rattle.search.specs.declared.found.Unfinished.TheVariants as reasons
 use Rattle.search.specs.Conflicts.{MeetsConflict}
 use Rattle.search.specs.Log.{Logbook}
+use Rattle.search.specs.Presolving.{BeginsPresolved}
 
 -- every normal constraint of the file is live
 abbrev pub FileIsLive : Opb → List NormalConstraint → Type 0
@@ -60,7 +61,7 @@ BearsOut limit l (founds.Unknown reasons.Limit) = IsOpen limit l
 BearsOut limit l (founds.Unknown reasons.Memory) = ⊥
 
 -- what a search answers: without a log only that it ran out of memory, else what its log of the problem bears out, which has learned from
--- fewer conflicts than it may meet
+-- fewer conflicts than it may meet, and begins with what presolve tries
 abbrev pub IsSolved : Opb → ℕ → Found → Option Logbook → Type 0
 IsSolved p limit found None = found ≡ founds.Unknown reasons.Memory
-IsSolved p limit found (Some l) = (l.problem ≡ p) × BearsOut limit l found × (l.biting < limit)
+IsSolved p limit found (Some l) = (l.problem ≡ p) × BearsOut limit l found × (l.biting < limit) × BeginsPresolved p l

@@ -33,6 +33,7 @@ struct Advised {
 impl<'a, P: Propagator> Run<'a, P> {
     ghost use Rattle.std.specs.Prelude.{◌≡◌, OnOk};
     ghost use Rattle.propagate.specs.Literals.{IsConsistent};
+    ghost use Rattle.search.specs.Log.{GoesOn};
     ghost use Rattle.search.specs.Solving.{TakesId};
 
     /// What is to be known of the constraint that was logged last.
@@ -53,7 +54,7 @@ impl<'a, P: Propagator> Run<'a, P> {
     /// Logs a line, and goes on from what it says.
     pub(crate) fn take_advice(&mut self, line: Line) -> Result<(), SearchFault>
         requires { IsConsistent self.old.decisions.items }
-        ensures problem { self.new.log.problem ≡ self.old.log.problem }
+        ensures goes_on { GoesOn self.old.log self.new.log }
         ensures id { OnOk result (TakesId self.old.log.state self.new.log.state) }
         ensures biting { OnOk result (self.new.log.biting ≡ self.old.log.biting) }
         ensures consistent { OnOk result (IsConsistent self.new.decisions.items) }
@@ -73,7 +74,7 @@ impl<'a, P: Propagator> Run<'a, P> {
     /// A cut becomes a row of the relaxation, as long as it is tight; it is not among what was learned. Those that are no rows any more are
     /// deleted.
     fn take_cut(&mut self) -> Result<(), SearchFault>
-        ensures problem { self.new.log.problem ≡ self.old.log.problem }
+        ensures goes_on { GoesOn self.old.log self.new.log }
         ensures next { OnOk result (self.new.log.state.next ≡ self.old.log.state.next) }
         ensures biting { OnOk result (self.new.log.biting ≡ self.old.log.biting) }
         ensures decisions { self.new.decisions.items ≡ self.old.decisions.items }
@@ -95,7 +96,7 @@ impl<'a, P: Propagator> Run<'a, P> {
     /// Goes back to where an advised constraint with negative slack says something first.
     fn take_conflict(&mut self, advised: &Advised) -> Result<(), SearchFault>
         requires { IsConsistent self.old.decisions.items }
-        ensures problem { self.new.log.problem ≡ self.old.log.problem }
+        ensures goes_on { GoesOn self.old.log self.new.log }
         ensures next { OnOk result (self.new.log.state.next ≡ self.old.log.state.next) }
         ensures biting { OnOk result (self.new.log.biting ≡ self.old.log.biting) }
         ensures consistent { OnOk result (IsConsistent self.new.decisions.items) }
@@ -119,7 +120,7 @@ impl<'a, P: Propagator> Run<'a, P> {
 
     /// Deletes the advised constraint that waited for an analysis, if there is one.
     pub(crate) fn drop_passing(&mut self) -> Result<(), SearchFault>
-        ensures problem { self.new.log.problem ≡ self.old.log.problem }
+        ensures goes_on { GoesOn self.old.log self.new.log }
         ensures next { OnOk result (self.new.log.state.next ≡ self.old.log.state.next) }
         ensures biting { OnOk result (self.new.log.biting ≡ self.old.log.biting) }
         ensures decisions { self.new.decisions.items ≡ self.old.decisions.items }

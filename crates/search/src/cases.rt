@@ -1,12 +1,13 @@
 //! Worked cases: the definitions computed on small logs.
 
-ghost use Rattle.std.specs.Prelude.{◌≡◌, ℕ, [], ◌∷◌, List, None, Some, false, neg_ℤ, pos, true};
+ghost use Rattle.std.specs.Prelude.{◌≡◌, ℕ, [], ◌∷◌, ◌++◌, List, None, Some, false, neg_ℤ, pos, true};
 ghost use Rattle.linear.specs.Opb.{Opb};
 ghost use Rattle.linear.specs.declared.term.Lit.{Lit};
 ghost use Rattle.linear.specs.declared.constraint.Relation.TheVariants.{AtLeast};
 ghost use Rattle.normal_form.specs.Cases.{negated, normal, plain, signed, signed_not};
 ghost use Rattle.propagate.specs.Cases.{one_of_two, x, not_x};
 ghost use Rattle.propagate.specs.Literals.{IsConsistent, among};
+ghost use Rattle.proof_rules.specs.Cases.{cover_file};
 ghost use Rattle.proof_rules.specs.Legal.{Legal};
 ghost use Rattle.proof_rules.specs.State.{HasRoom, State, constraints};
 ghost use Rattle.proof_steps.specs.declared.conclusion.Conclusion.TheVariants as conclusions;
@@ -15,9 +16,11 @@ ghost use Rattle.proof_steps.specs.declared.conclusion.Upper.TheVariants as uppe
 ghost use Rattle.proof_steps.specs.declared.step.GoalName.TheVariants as goals;
 ghost use Rattle.proof_steps.specs.declared.step.Step.TheVariants as steps;
 ghost use Rattle.proof_steps.specs.declared.step.Step.TheVariants.{Sol, Soli, Del};
+ghost use Rattle.proof_write.specs.Whole.{first_lines, step_line};
 ghost use Rattle.search.specs.Clause.{negated_clause};
 ghost use Rattle.search.specs.Conflicts.{LeadsAtLast, MeetsConflict, TakesLast};
 ghost use Rattle.search.specs.Log.{ImprovesNothing, IsFalling, LeadsBiting, LeadsImproving, Logbook, StandsAlone, StepBites, improvement, last_of};
+ghost use Rattle.search.specs.Presolving.{BeginsPresolved, fixing};
 ghost use Rattle.search.specs.Solving.{BearsOut, MayStop};
 ghost use Rattle.search.specs.Values.{AreValuesUnder, IsValueUnder};
 ghost use Rattle.branching.specs.declared.brancher.Value.{Value};
@@ -108,4 +111,14 @@ pub fn values_of_an_assignment()
         → IsValueUnder assigned v value → value ≡ values.True }
     ensures one_false { (assigned : List Lit) → (v : ℕ) → (value : Value) → IsConsistent assigned → among assigned v true ≡ true
         → IsValueUnder assigned v value → value ≡ values.False }
+{}
+
+/// In `1 x0 1 x1 >= 1` x0 may be made true at no cost, and that is a legal step. So a log of this file that begins with what presolve tries
+/// has the line of that step behind its first lines; one that has no step does not begin so, and nor does one that begins with another.
+pub fn begun_by_a_fixed_literal()
+    ensures fixed { (l : Logbook) → BeginsPresolved cover_file l
+        → (rest : List ℕ) × (l.text ≡ (first_lines 1 ++ step_line cover_file.names (fixing (x 0))) ++ rest) }
+    ensures no_step { (l : Logbook) → BeginsPresolved cover_file l → l.text ≡ first_lines 1 → ⊥ }
+    ensures other { (l : Logbook) → (rest : List ℕ) → BeginsPresolved cover_file l
+        → l.text ≡ (first_lines 1 ++ step_line cover_file.names (fixing (not_x 0))) ++ rest → ⊥ }
 {}

@@ -11,7 +11,7 @@ ghost use Rattle.proof_rules.specs.State.{HasRoom, constraints};
 ghost use Rattle.proof_text.specs.Writable.{IsLitWritable};
 ghost use Rattle.search.specs.Clause.{negated_clause, opposite_term};
 ghost use Rattle.search.specs.Conflicts.{LeadsAtLast};
-ghost use Rattle.search.specs.Log.{StepBites};
+ghost use Rattle.search.specs.Log.{GoesOn, StepBites};
 ghost use Rattle.search.specs.Solving.{TakesId};
 ghost use Rattle.search.specs.Undoing.{IsUndone};
 
@@ -57,7 +57,7 @@ fn log_clause<'a, P: Propagator>(
     requires few { length literals.now < largest_sum }
     requires room { HasRoom log.old.state }
     requires bites { StepBites log.old.state (Step.Rup (negated_clause literals.now)) }
-    ensures problem { log.new.problem ≡ log.old.problem }
+    ensures goes_on { GoesOn log.old log.new }
     ensures biting { OnOk result (log.new.biting ≡ log.old.biting + 1) }
     ensures id { OnOk result (TakesId log.old.state log.new.state) }
     ensures memory { All (IsLitWritable (length log.old.problem.names)) literals.now → OnErr result (IsErrOf result (SearchFault.Kernel StepFault.OutOfMemory)) }
@@ -81,7 +81,7 @@ pub(crate) fn learn_clause<'a, P: Propagator>(
     requires consistent { IsConsistent decisions.old.items }
     requires conflict { LeadsAtLast (constraints log.old.state) decisions.old.items }
     requires room { HasRoom log.old.state }
-    ensures problem { log.new.problem ≡ log.old.problem }
+    ensures goes_on { GoesOn log.old log.new }
     ensures biting { OnOk result (log.new.biting ≡ log.old.biting + 1) }
     ensures id { OnOk result (TakesId log.old.state log.new.state) }
     ensures consistent { OnOk result (IsConsistent decisions.new.items) }

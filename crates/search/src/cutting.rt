@@ -6,6 +6,7 @@
 
 ghost use Rattle.std.specs.Prelude.{◌≡◌, ◌+◌, IfOk, IsTrue, OnOk, false};
 ghost use Rattle.propagate.specs.Literals.{IsConsistent};
+ghost use Rattle.search.specs.Log.{GoesOn};
 ghost use Rattle.search.specs.Solving.{TakesId};
 ghost use Rattle.search.specs.Undoing.{IsUndone};
 
@@ -40,7 +41,7 @@ pub(crate) fn learn_constraint<'a, P: Propagator>(
     brancher: &mut Box<dyn Brancher>,
 ) -> Result<bool, SearchFault>
     requires { IsConsistent decisions.old.items }
-    ensures problem { log.new.problem ≡ log.old.problem }
+    ensures goes_on { GoesOn log.old log.new }
     ensures learned { IfOk result (λ yes. IsTrue yes → TakesId log.old.state log.new.state) }
     ensures biting { IfOk result (λ yes. IsTrue yes → log.new.biting ≡ log.old.biting + 1) }
     ensures unchanged { IfOk result (λ yes. yes ≡ false → log.new ≡ log.old) }

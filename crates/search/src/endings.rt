@@ -3,6 +3,7 @@
 ghost use Rattle.std.specs.Prelude.{◌≡◌, ℕ, ◌+◌, ◌<◌, false, IfOk, IsTrue, None, OnOk};
 ghost use Rattle.proof_rules.specs.State.{HasRoom, constraints};
 ghost use Rattle.search.specs.Conflicts.{MeetsConflict};
+ghost use Rattle.search.specs.Log.{GoesOn};
 ghost use Rattle.search.specs.Solving.{BearsOut, MayStop};
 
 use super::fault::SearchFault;
@@ -15,7 +16,7 @@ use propagate::Propagator;
 /// Nothing better is left, as a conflict with no decision open shows: the best solution is an optimum, and without one there
 /// is no solution.
 pub(crate) fn end_exhausted<'a, P: Propagator>(log: &mut Log<'a, P>) -> Result<Found, StepFault>
-    ensures problem { log.new.problem ≡ log.old.problem }
+    ensures goes_on { GoesOn log.old log.new }
     ensures biting { OnOk result (log.new.biting ≡ log.old.biting) }
     ensures found { (limit : ℕ) → IfOk result (BearsOut limit log.new) }
 {
@@ -30,7 +31,7 @@ pub(crate) fn end_exhausted<'a, P: Propagator>(log: &mut Log<'a, P>) -> Result<F
 /// A solution was logged, and there is no objective.
 pub(crate) fn end_solved<'a, P: Propagator>(log: &mut Log<'a, P>) -> Result<Found, StepFault>
     requires { log.old.problem.objective ≡ None }
-    ensures problem { log.new.problem ≡ log.old.problem }
+    ensures goes_on { GoesOn log.old log.new }
     ensures biting { OnOk result (log.new.biting ≡ log.old.biting) }
     ensures found { (limit : ℕ) → IfOk result (BearsOut limit log.new) }
 {
@@ -55,7 +56,7 @@ pub(crate) fn end_stopped<'a, P: Propagator>(
     limit: u64,
 ) -> Result<Found, SearchFault>
     requires { MayStop limit log.old }
-    ensures problem { log.new.problem ≡ log.old.problem }
+    ensures goes_on { GoesOn log.old log.new }
     ensures biting { OnOk result (log.new.biting ≡ log.old.biting) }
     ensures found { IfOk result (BearsOut limit log.new) }
 {

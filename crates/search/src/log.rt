@@ -116,7 +116,7 @@ impl<'a, P: Propagator> Log<'a, P> {
     ghost use Rattle.proof_text.specs.Writable.{IsConclusionWritable};
     ghost use Rattle.proof_write.specs.Whole.{first_lines, last_lines};
     ghost use Rattle.search.specs.Kept.{IsSpare, Spares};
-    ghost use Rattle.search.specs.Log.{CanBeWritten, ImprovesIfAsked, ImprovesNothing, IsEntitled, IsFalling, IsProof, IsRefused, IsSpelledBy, IsWorthLeast, Keeps, StandsAlone, StepBites, improvement, last_of, with_conclusion};
+    ghost use Rattle.search.specs.Log.{CanBeWritten, GoesOn, ImprovesIfAsked, ImprovesNothing, IsEntitled, IsFalling, IsProof, IsRefused, IsSpelledBy, IsWorthLeast, Keeps, StandsAlone, StepBites, improvement, last_of, with_conclusion};
 
     /// The log of a problem's file, with no step. Running out of memory is the only fault.
     pub fn new(alloc: Global, problem: &'a Problem) -> Result<Self, StepFault>
@@ -154,7 +154,7 @@ impl<'a, P: Propagator> Log<'a, P> {
         requires other { ImprovesNothing step }
         requires asked { ImprovesIfAsked self.old.problem step }
         requires spares { Spares self.old step }
-        ensures problem { self.new.problem ≡ self.old.problem }
+        ensures goes_on { GoesOn self.old self.new }
         ensures ok { OnOk result (Legal self.old.problem self.old.state step self.new.state) }
         ensures kept { OnOk result (Keeps self.old step self.new) }
         ensures writable { OnOk result (CanBeWritten self.old step) }
@@ -175,7 +175,7 @@ impl<'a, P: Propagator> Log<'a, P> {
     pub fn learn(&mut self, step: Step) -> Result<Applied, SearchFault>
         requires relation { HasAtLeast step }
         requires bites { StepBites self.old.state step }
-        ensures problem { self.new.problem ≡ self.old.problem }
+        ensures goes_on { GoesOn self.old self.new }
         ensures ok { OnOk result (Legal self.old.problem self.old.state step self.new.state) }
         ensures kept { OnOk result (Keeps self.old step self.new) }
         ensures writable { OnOk result (CanBeWritten self.old step) }
@@ -196,7 +196,7 @@ impl<'a, P: Propagator> Log<'a, P> {
     /// Logs a solution that is better than all improving ones before, and keeps its value. From now on the constraint that it adds is the
     /// one that asks for a better solution. It is refused as by `apply`.
     pub fn improve(&mut self, assigned: Seq<Lit>) -> Result<(), SearchFault>
-        ensures problem { self.new.problem ≡ self.old.problem }
+        ensures goes_on { GoesOn self.old self.new }
         ensures ok { OnOk result (Legal self.old.problem self.old.state (Step.Soli assigned) self.new.state) }
         ensures kept { OnOk result (Keeps self.old (Step.Soli assigned) self.new) }
         ensures writable { OnOk result (CanBeWritten self.old (Step.Soli assigned)) }
@@ -243,7 +243,7 @@ impl<'a, P: Propagator> Log<'a, P> {
 
     /// Deletes constraints, but for those of the file and the one that asks for a better solution.
     pub fn forget(&mut self, alloc: Global, ids: &[Id]) -> Result<(), SearchFault>
-        ensures problem { self.new.problem ≡ self.old.problem }
+        ensures goes_on { GoesOn self.old self.new }
         ensures next { OnOk result (self.new.state.next ≡ self.old.state.next) }
         ensures improved { OnOk result (self.new.improved ≡ self.old.improved) }
         ensures biting { OnOk result (self.new.biting ≡ self.old.biting) }
@@ -264,6 +264,7 @@ impl<'a, P: Propagator> Log<'a, P> {
 
     /// Keeps a conclusion that the kernel accepts. A refusal is the kernel's, and leaves the log as before.
     pub fn conclude(&mut self, conclusion: Conclusion) -> Result<(), StepFault>
+        ensures goes_on { GoesOn self.old self.new }
         ensures kept { OnOk result (self.new ≡ with_conclusion conclusion self.old) }
         ensures justified { OnOk result (IsEntitled self.old.problem self.old.state conclusion) }
         ensures fault { IfErr result (λ f. OrMemory f (IsConclusionFault self.old.problem self.old.state conclusion f)) }

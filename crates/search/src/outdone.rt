@@ -32,6 +32,14 @@ impl Outdone {
         Ok(())
     }
 
+    /// One more, if there is one.
+    pub(crate) fn push_any(&mut self, id: Option<Id>) -> Result<(), AllocError> {
+        if let Some(id) = id {
+            self.push(id)?;
+        }
+        Ok(())
+    }
+
     /// Some more.
     pub(crate) fn push_all(&mut self, ids: &[Id]) -> Result<(), AllocError> {
         for id in ids {

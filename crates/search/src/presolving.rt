@@ -5,15 +5,11 @@
 //! be written, is left out, as one is for which no id is left; so nothing but speed rests on which candidates there are. Their constraints are no
 //! lessons: they stand for as long as the search goes on, and are not counted as what a conflict has taught.
 
-ghost use Rattle.std.specs.Prelude.{◌≡◌, ◌≢◌, ◌<◌, ◌++◌, List, All, map, IfOk, OnOk};
+ghost use Rattle.std.specs.Prelude.{◌≡◌, ◌≢◌, ◌<◌, All, map, IfOk, OnOk};
 ghost use Rattle.kernel.specs.Held.{HasAtLeast};
-ghost use Rattle.linear.specs.declared.term.Lit.{Lit};
-ghost use Rattle.presolve.specs.Fixing.{AreFixed};
-ghost use Rattle.presolve.specs.Swapping.{AreUsed};
-ghost use Rattle.presolve.specs.declared.swapping.Swap.{Swap};
 ghost use Rattle.search.specs.Kept.{Spares};
 ghost use Rattle.search.specs.Log.{ImprovesIfAsked, ImprovesNothing, StandsAlone};
-ghost use Rattle.search.specs.Presolving.{Tries, TriesAll, exchange, fixing, in_order, is_true, made_true, swapping, variable};
+ghost use Rattle.search.specs.Presolving.{IsPresolved, Tries, TriesAll, exchange, fixing, in_order, is_true, made_true, swapping, variable};
 
 use super::fault::SearchFault;
 use super::log::Log;
@@ -171,8 +167,7 @@ pub(crate) fn presolve<'a, P: Propagator>(
 ) -> Result<(), SearchFault>
     ensures problem { log.new.problem ≡ log.old.problem }
     ensures biting { OnOk result (log.new.biting ≡ log.old.biting) }
-    ensures tried { OnOk result ((ls : List Lit) × (ss : List Swap) × AreFixed log.old.problem ls × AreUsed log.old.problem ls ss
-        × TriesAll (map fixing ls ++ map swapping ss) log.old log.new) }
+    ensures tried { OnOk result (IsPresolved log.old log.new) }
 {
     let literals = fixable(alloc, log.problem())?;
     fix(alloc, log, literals.as_slice())?;

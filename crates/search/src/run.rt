@@ -46,6 +46,7 @@ impl<'a, P: Propagator> Run<'a, P> {
     ghost use Rattle.propagate.specs.Literals.{IsConsistent};
     ghost use Rattle.proof_rules.specs.State.{HasRoom, constraints};
     ghost use Rattle.search.specs.Conflicts.{LeadsAtLast};
+    ghost use Rattle.search.specs.Log.{GoesOn};
     ghost use Rattle.search.specs.Solving.{BearsOut, TakesId};
     ghost use Rattle.search.specs.Undoing.{IsUndone, NearsEnd};
 
@@ -80,7 +81,7 @@ impl<'a, P: Propagator> Run<'a, P> {
         requires consistent { IsConsistent self.old.decisions.items }
         requires conflict { LeadsAtLast (constraints self.old.log.state) self.old.decisions.items }
         requires room { HasRoom self.old.log.state }
-        ensures problem { self.new.log.problem ≡ self.old.log.problem }
+        ensures goes_on { GoesOn self.old.log self.new.log }
         ensures learned { OnOk result (TakesId self.old.log.state self.new.log.state) }
         ensures biting { OnOk result (self.new.log.biting ≡ self.old.log.biting + 1) }
         ensures consistent { OnOk result (IsConsistent self.new.decisions.items) }
@@ -119,7 +120,7 @@ impl<'a, P: Propagator> Run<'a, P> {
     /// Notes what an analysis came by, and counts its conflict.
     fn count_analysed(&mut self) -> Result<(), SearchFault>
         requires { IsConsistent self.old.decisions.items }
-        ensures problem { self.new.log.problem ≡ self.old.log.problem }
+        ensures goes_on { GoesOn self.old.log self.new.log }
         ensures next { OnOk result (self.new.log.state.next ≡ self.old.log.state.next) }
         ensures biting { OnOk result (self.new.log.biting ≡ self.old.log.biting) }
         ensures consistent { OnOk result (IsConsistent self.new.decisions.items) }
@@ -156,7 +157,7 @@ impl<'a, P: Propagator> Run<'a, P> {
     /// Counts a conflict that taught something; forgets half of what was learned, and begins anew, where that is due.
     pub(crate) fn count_conflict(&mut self) -> Result<(), SearchFault>
         requires { IsConsistent self.old.decisions.items }
-        ensures problem { self.new.log.problem ≡ self.old.log.problem }
+        ensures goes_on { GoesOn self.old.log self.new.log }
         ensures next { OnOk result (self.new.log.state.next ≡ self.old.log.state.next) }
         ensures biting { OnOk result (self.new.log.biting ≡ self.old.log.biting) }
         ensures consistent { IsConsistent self.new.decisions.items }
@@ -167,11 +168,7 @@ impl<'a, P: Propagator> Run<'a, P> {
         if self.advisers.conflicts() % CONFLICTS_BETWEEN_LINES == 0 {
             self.tell_progress();
         }
-        if self.learned.is_due() {
-            let gone = self.learned.take_half(self.alloc, self.trail.entries())?;
-            self.log.forget(self.alloc, gone.as_slice())?;
-            self.forget_outdone()?;
-        }
+        self.forget_if_due()?;
         if self.restarts.is_due() {
             self.decisions.clear();
             self.go_back();
@@ -180,9 +177,24 @@ impl<'a, P: Propagator> Run<'a, P> {
         Ok(())
     }
 
+    /// Forgets half of what was learned, and what is outdone, where that is due.
+    fn forget_if_due(&mut self) -> Result<(), SearchFault>
+        ensures goes_on { GoesOn self.old.log self.new.log }
+        ensures next { OnOk result (self.new.log.state.next ≡ self.old.log.state.next) }
+        ensures biting { OnOk result (self.new.log.biting ≡ self.old.log.biting) }
+        ensures decisions { self.new.decisions.items ≡ self.old.decisions.items }
+    {
+        if !self.learned.is_due() {
+            return Ok(());
+        }
+        let gone = self.learned.take_half(self.alloc, self.trail.entries())?;
+        self.log.forget(self.alloc, gone.as_slice())?;
+        self.forget_outdone()
+    }
+
     /// Deletes the constraints that are outdone by now, but for those in which a literal of the trail is forced.
     pub(crate) fn forget_outdone(&mut self) -> Result<(), SearchFault>
-        ensures problem { self.new.log.problem ≡ self.old.log.problem }
+        ensures goes_on { GoesOn self.old.log self.new.log }
         ensures next { OnOk result (self.new.log.state.next ≡ self.old.log.state.next) }
         ensures biting { OnOk result (self.new.log.biting ≡ self.old.log.biting) }
         ensures decisions { self.new.decisions.items ≡ self.old.decisions.items }
@@ -193,7 +205,7 @@ impl<'a, P: Propagator> Run<'a, P> {
 
     /// Logs a better solution. The constraint that asked for it is of no use then.
     fn improve(&mut self, assigned: Seq<Lit>) -> Result<(), SearchFault>
-        ensures problem { self.new.log.problem ≡ self.old.log.problem }
+        ensures goes_on { GoesOn self.old.log self.new.log }
         ensures id { OnOk result (TakesId self.old.log.state self.new.log.state) }
         ensures biting { OnOk result (self.new.log.biting ≡ self.old.log.biting) }
         ensures decisions { self.new.decisions.items ≡ self.old.decisions.items }
@@ -201,15 +213,13 @@ impl<'a, P: Propagator> Run<'a, P> {
         let asked = self.log.asking();
         self.log.improve(assigned)?;
         self.advisers.improve(&self.log);
-        if let Some(id) = asked {
-            self.outdone.push(id)?;
-        }
+        self.outdone.push_any(asked)?;
         self.forget_outdone()
     }
 
     /// Logs a solution. Where there is an objective the search goes on for a better one.
     fn accept(&mut self, assigned: Seq<Lit>, limit: u64) -> Result<Option<Found>, SearchFault>
-        ensures problem { self.new.log.problem ≡ self.old.log.problem }
+        ensures goes_on { GoesOn self.old.log self.new.log }
         ensures found { IfOk result (λ end. IfSome end (BearsOut limit self.new.log)) }
         ensures improved { IfOk result (λ end. IsNone end → TakesId self.old.log.state self.new.log.state) }
         ensures biting { OnOk result (self.new.log.biting ≡ self.old.log.biting) }
@@ -231,10 +241,10 @@ impl<'a, P: Propagator> Run<'a, P> {
     pub(crate) fn turn(&mut self, limit: u64) -> Result<Option<Found>, SearchFault>
         requires consistent { IsConsistent self.old.decisions.items }
         requires within { self.old.log.biting < limit }
-        ensures problem { self.new.log.problem ≡ self.old.log.problem }
+        ensures goes_on { GoesOn self.old.log self.new.log }
         ensures found { IfOk result (λ end. IfSome end (BearsOut limit self.new.log)) }
         ensures within { OnOk result (self.new.log.biting < limit) }
-        ensures goes_on { IfOk result (λ end. IsNone end
+        ensures nears_end { IfOk result (λ end. IsNone end
             → NearsEnd self.old.log self.old.decisions.items self.new.log self.new.decisions.items) }
         ensures consistent { OnOk result (IsConsistent self.new.decisions.items) }
     {

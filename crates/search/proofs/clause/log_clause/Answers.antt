@@ -4,19 +4,18 @@ use Rattle.std.proofs.lemmas.List.Elements.{All-cons, All-head, All-nil, All-tai
 use Rattle.std.proofs.lemmas.Result.{err_from_is_err_and}
 use Rattle.linear.specs.declared.constraint.Signed.{Signed}
 use Rattle.linear.specs.declared.term.Lit.{Lit}
-use Rattle.proof_rules.specs.Fault.{IsStepFault, OrMemory}
+use Rattle.proof_rules.specs.Fault.{IsStepFault}
 use Rattle.proof_rules.specs.Legal.{LegalRup}
 use Rattle.proof_rules.specs.declared.fault.StepFault.{StepFault}
-use Rattle.proof_rules.specs.declared.fault.StepFault.TheVariants as faults
 use Rattle.proof_rules.proofs.NotLegal.{step_never}
 use Rattle.proof_steps.specs.declared.step.Step.{Step}
 use Rattle.proof_steps.specs.declared.step.Step.TheVariants as kinds
 use Rattle.proof_text.specs.Writable.{IsConstraintWritable, IsLitWritable, IsTermWritable}
 use Rattle.search.specs.Clause.{negated_clause, opposite_term}
-use Rattle.search.specs.Log.{CanBeWritten, IsRefused, Logbook}
+use Rattle.search.specs.Log.{CanBeWritten, Logbook}
 use Rattle.search.specs.declared.fault.SearchFault.{SearchFault}
-use Rattle.search.specs.declared.fault.SearchFault.TheVariants as refusals
 use Rattle.search.proofs.Clauses.{clause_legal}
+use Rattle.search.proofs.Refusals.{refused_by_memory}
 use Rattle.search.proofs.clause.log_clause.Goals as goal
 
 terms_writable : (count : ℕ) (ls : List Lit) → All (IsLitWritable count) ls → All (IsTermWritable count) (map opposite_term ls)
@@ -27,16 +26,6 @@ terms_writable count (l ∷ ls) named =
 
 clause_writable : (count : ℕ) (ls : List Lit) → All (IsLitWritable count) ls → IsConstraintWritable count (negated_clause ls)
 clause_writable count ls named = record { terms = terms_writable count ls named; relation = refl; right = omega arith }
-
-only_memory : (f : StepFault) (P : Type 0) → OrMemory f P → (P → ⊥) → f ≡ faults.OutOfMemory
-only_memory faults.OutOfMemory P h none = refl
-only_memory f P h none = absurd (none h)
-
--- a legal step that can be written is refused only where memory runs out
-refused_by_memory : (l : Logbook) (step : Step) (f : SearchFault) → CanBeWritten l step → ((fault : StepFault) → IsStepFault l.problem l.state step fault → ⊥) → IsRefused l step f
-    → f ≡ refusals.Kernel faults.OutOfMemory
-refused_by_memory l step (refusals.Kernel fault) writable never h = ap (λ x. refusals.Kernel x) (only_memory fault (IsStepFault l.problem l.state step fault) h (never fault))
-refused_by_memory l step refusals.Unwritable writable never h = absurd (h writable)
 
 pub returns-in_err-learn-clause-memory : goal.returns-in_err-learn-clause-memory
 returns-in_err-learn-clause-memory g c named =

@@ -28,7 +28,13 @@ returns-clause-tried g c =
     let used : AreUsed p ls ss = subst (λ q. AreUsed q ls ss) (c.problem-2.ensures ∙ c.in_ok-fix.ensures.problem) (subst (λ us. AreUsed c.problem-2.result.now us ss) c.as_slice-2.ensures.value c.in_ok-swaps.ensures.used) in
     let first : TriesAll (map fixing ls) old mid = subst (λ us. TriesAll (map fixing us) old mid) c.as_slice.ensures.value c.in_ok-fix.ensures.tried in
     on_ok_weaker c.order.result
-    (λ tried. (ls, ss, fixed, used, tries_both (map fixing ls) (map swapping ss) old mid new first (subst (λ us. TriesAll (map swapping us) mid new) c.as_slice-3.ensures.value tried))) c.order.ensures.tried
+    (λ tried. record {
+      literals = ls;
+      pairs = ss;
+      fixed = fixed;
+      used = used;
+      tried = tries_both (map fixing ls) (map swapping ss) old mid new first (subst (λ us. TriesAll (map swapping us) mid new) c.as_slice-3.ensures.value tried);
+    }) c.order.ensures.tried
 
 pub returns-clause-biting : goal.returns-clause-biting
 returns-clause-biting g c =

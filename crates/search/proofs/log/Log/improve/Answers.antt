@@ -8,6 +8,7 @@ use Rattle.proof_steps.specs.declared.step.Step.{Step}
 use Rattle.proof_steps.specs.declared.step.Step.TheVariants as kinds
 use Rattle.proof_rules.specs.Legal.{Legal}
 use Rattle.proof_rules.specs.State.{State}
+use Rattle.proof_write.specs.Whole.{step_line}
 use Rattle.search.specs.Kept.{ImprovementStands}
 use Rattle.search.specs.Log.{Logbook, IsProof, IsRefused, IsRefusedBy, improvement, value_list}
 use Rattle.search.proofs.Growing.{grows, logbook, put_last, written_behind}
@@ -63,3 +64,12 @@ invariant_of-self-2 g c =
 pub returns-clause-improved : goal.returns-clause-improved
 returns-clause-improved g c =
     value_kept g c ∙ ap (λ (l : Logbook). l.improved ++ value_list c.keep.new.kernel.state.least) c.self.view_is
+
+pub returns-clause-goes_on : goal.returns-clause-goes_on
+returns-clause-goes_on g c =
+    let line : List ℕ = step_line c.names.result.now (kinds.Soli c.args.assigned) in
+    record {
+      problem = ap (λ (l : Logbook). l.problem) c.self.view_is;
+      rest = line;
+      text = c.in-Ok.ensures.kept ∙ ap (λ (l : Logbook). l.text ++ line) c.self.view_is;
+    }

@@ -1,8 +1,9 @@
-use Rattle.std.proofs.Common.{ℕ, ◌+◌, List, sym, subst, ◌∙◌, arith}
+use Rattle.std.proofs.Common.{ℕ, ◌+◌, List, ◌++◌, sym, ap, subst, ◌∙◌, arith}
 use Rattle.linear.specs.Opb.{Opb}
 use Rattle.proof_steps.specs.declared.conclusion.Conclusion.TheVariants.{Nothing}
 use Rattle.proof_rules.specs.Legal.{Legal}
 use Rattle.proof_rules.specs.State.{State}
+use Rattle.proof_write.specs.Whole.{step_line}
 use Rattle.search.specs.Log.{Logbook, IsProof, StepBites}
 use Rattle.search.proofs.Growing.{biting_other, biting_within, grows_biting, line_longer, logbook, no_improvement, written_behind}
 use Rattle.search.proofs.StaysLive.{kept_spared, spares_biting}
@@ -36,3 +37,12 @@ invariant_of-self-2 g c =
       subst (λ x. IsProof (logbook p text new log.improved.items (log.biting + 1) x log.asking)) (sym c.replace.ensures.after) proof,
       record { file = live.file; improvement = live.improvement },
     )
+
+pub returns-clause-goes_on : goal.returns-clause-goes_on
+returns-clause-goes_on g c =
+    let line : List ℕ = step_line c.names.result.now c.args.step in
+    record {
+      problem = ap (λ (l : Logbook). l.problem) c.self.view_is;
+      rest = line;
+      text = c.in_ok-applied.ensures.kept ∙ ap (λ (l : Logbook). l.text ++ line) c.self.view_is;
+    }

@@ -6,7 +6,7 @@ use Rattle.normal_form.specs.NormalOf.{sign_changed}
 use Rattle.normal_form.specs.Balance.{Balances, flipped}
 use Rattle.normal_form.proofs.NormalForm.{small_never}
 use Rattle.normal_form.proofs.SignChanges.{both_meaning, flipped_balances, signs_changed_never}
-use Rattle.normal_form.proofs.conversion.both.Goals as goal
+use Rattle.normal_form.proofs.conversion.Normalizer.both.Goals as goal
 
 pub returns-in_err-at_least-clause-small : goal.returns-in_err-at_least-clause-small
 returns-in_err-at_least-clause-small c small e = small_never c.args.constraint.now small c.in_err-at_least.ensures.too_large.0

@@ -1,0 +1,24 @@
+-- Logs that go on from another.
+use Rattle.std.proofs.Common.{◌≡◌, List, [], ◌++◌, append_assoc, refl, sym, ap, ◌∙◌}
+use Rattle.std.proofs.lemmas.List.{append-nil}
+use Rattle.proof_steps.specs.declared.step.Step.{Step}
+use Rattle.proof_write.specs.Whole.{step_line}
+use Rattle.search.specs.Log.{GoesOn, Keeps, Logbook}
+
+pub goes_on_same : (a b : Logbook) → b ≡ a → GoesOn a b
+goes_on_same a b same = record {
+  problem = ap (λ (l : Logbook). l.problem) same;
+  rest = [];
+  text = ap (λ (l : Logbook). l.text) same ∙ sym (append-nil a.text);
+}
+
+-- by the line of a step
+pub goes_on_kept : (a b : Logbook) (step : Step) → b.problem ≡ a.problem → Keeps a step b → GoesOn a b
+goes_on_kept a b step same kept = record { problem = same; rest = step_line a.problem.names step; text = kept }
+
+pub goes_on_more : (a b c : Logbook) → GoesOn a b → GoesOn b c → GoesOn a c
+goes_on_more a b c first later = record {
+  problem = later.problem ∙ first.problem;
+  rest = first.rest ++ later.rest;
+  text = later.text ∙ ap (λ t. t ++ later.rest) first.text ∙ append_assoc a.text first.rest later.rest;
+}
