@@ -32,13 +32,6 @@ impl<T> Seq<T> {
         Seq { items }
     }
 
-    /// The list of a vector's elements, with all the room that the vector has: for a list that is read once and let go.
-    pub fn with_room(items: Vec<T>) -> Self
-        ensures { result ≡ items.items }
-    {
-        Self { items }
-    }
-
     /// The elements as a vector.
     pub fn into_vec(self) -> Vec<T>
         ensures { result.items ≡ self }
