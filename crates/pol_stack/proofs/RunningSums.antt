@@ -1,5 +1,5 @@
 -- Adding the last operand below a running sum to it is adding the two on top.
-use Rattle.std.proofs.Common.{◌≡◌, ℕ, zero, suc, ◌<◌, true, false, min, max, List, [], ◌∷◌, ◌++◌, length, reverse, map, Result, Ok, Err, OnOk, refl, ap, sym, subst, ◌∙◌, arith}
+use Rattle.std.proofs.Common.{◌≡◌, ℕ, zero, suc, Bool, true, false, min, max, List, [], ◌∷◌, ◌++◌, length, reverse, map, Option, Some, None, is_some, refl, ap, subst, ◌∙◌, arith}
 use Rattle.std.proofs.lemmas.List.{map-append, reverse-append, length-append}
 use Rattle.normal_form.specs.Normal.{NormalConstraint, Fits, sum_below, variable_bound}
 use Rattle.cut_rules.specs.Rules.{IsSum, IsTooLarge, both_at, cancelled}
@@ -10,7 +10,9 @@ use Rattle.proof_rules.specs.Expression.{Given}
 use Rattle.proof_rules.specs.Running.{AppliesItem}
 use Rattle.proof_rules.specs.Fault.{IsAddFault}
 use Rattle.pol_stack.specs.declared.operand.Operand.{Operand}
-use Rattle.pol_stack.specs.Stack.{operand_value, stack_of, IsSumFault}
+use Rattle.pol_stack.specs.declared.pile.Held.{Held}
+use Rattle.pol_stack.specs.declared.pile.Held.TheVariants as held
+use Rattle.pol_stack.specs.Stack.{operand_value, stack_of, stacked, with_hands, IsSumFault}
 
 same_below : (n : ℕ) (f g : ℕ → ℕ) → ((v : ℕ) → f v ≡ g v) → sum_below n f ≡ sum_below n g
 same_below zero f g e = refl
@@ -46,7 +48,14 @@ pub fault_below : (below rest : List Operand) (left : Operand) (s : NormalConstr
 fault_below below rest left s faults.TooLarge e g = (operand_value left, s, stack_of rest, g.0, two_on_top below rest left s e, too_large_below s (operand_value left) g.0 g.1)
 fault_below below rest left s _ e g = absurd g
 
--- two facts of a success give a third
-pub both_ok : {T E P Q R : Type 0} (r : Result T E) → (P → Q → R) → OnOk r P → OnOk r Q → OnOk r R
-both_ok (Ok x) f p q = f p q
-both_ok (Err e) f p q = tt
+-- where nothing stands above a running sum, what is added to it is added to the one on top
+pub added_on_top : (old : List NormalConstraint) (above below behind : List Operand) (what : Held) (s n : NormalConstraint) (given : Given) → length above ≡ 0 → what ≡ held.RunningSum → stacked above what s below ≡ old → AppliesItem given items.Add (s ∷ stack_of below) (n ∷ stack_of behind) → AppliesItem given items.Add old (stacked above what n behind)
+added_on_top old [] below behind held.RunningSum s n given bare is view h = subst (λ (ns : List NormalConstraint). AppliesItem given items.Add ns (n ∷ stack_of behind)) view h
+added_on_top old [] below behind held.Nothing s n given bare is view h = cc
+added_on_top old (o ∷ above) below behind what s n given bare is view h = absurd (omega (arith, bare))
+
+-- where both hands are empty, what happens on the pile happens on the stack
+pub added_below_hands : (old pile next : List NormalConstraint) (top under : Option Operand) (given : Given) → is_some top ≡ false → is_some under ≡ false → with_hands top under pile ≡ old → AppliesItem given items.Add pile next → AppliesItem given items.Add old (with_hands top under next)
+added_below_hands old pile next None None given t u view h = subst (λ (ns : List NormalConstraint). AppliesItem given items.Add ns next) view h
+added_below_hands old pile next None (Some o) given t u view h = cc
+added_below_hands old pile next (Some o) under given t u view h = cc
