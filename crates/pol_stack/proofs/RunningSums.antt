@@ -1,6 +1,6 @@
 -- Adding the last operand below a running sum to it is adding the two on top.
-use Rattle.std.proofs.Common.{◌≡◌, ℕ, zero, suc, Bool, true, false, min, max, List, [], ◌∷◌, ◌++◌, length, reverse, map, Option, Some, None, is_some, refl, ap, subst, ◌∙◌, arith}
-use Rattle.std.proofs.lemmas.List.{map-append, reverse-append, length-append}
+use Rattle.std.proofs.Common.{◌≡◌, ℕ, zero, suc, true, false, min, max, List, [], ◌∷◌, ◌++◌, length, reverse, map, Option, Some, None, is_some, refl, ap, subst, ◌∙◌, arith}
+use Rattle.std.proofs.lemmas.List.{map-append, reverse-append}
 use Rattle.normal_form.specs.Normal.{NormalConstraint, Fits, sum_below, variable_bound}
 use Rattle.cut_rules.specs.Rules.{IsSum, IsTooLarge, both_at, cancelled}
 use Rattle.proof_rules.specs.declared.fault.StepFault.{StepFault}

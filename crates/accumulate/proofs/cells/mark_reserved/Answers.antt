@@ -1,11 +1,10 @@
 -- Each step marks the variable of the term at this place.
-use Rattle.std.proofs.Common.{◌≡◌, ℕ, ◌+◌, ◌<◌, ◌≤◌, ◌++◌, ◌∷◌, [], List, length, get_or, take, ap, sym, subst, ◌∙◌, arith, length-append}
+use Rattle.std.proofs.Common.{◌≡◌, ℕ, ◌+◌, ◌<◌, ◌++◌, ◌∷◌, [], List, length, get_or, take, sym, subst, ◌∙◌, arith, length-append}
 use Rattle.std.specs.Prelude.{All, Contains}
 use Rattle.std.proofs.Math.Seq.{get_or-append_seam}
 use Rattle.std.proofs.lemmas.List.{take_all}
 use Rattle.std.proofs.lemmas.List.Elements.{All-push}
 use Rattle.normal_form.specs.declared.term.NormalTerm.{NormalTerm}
-use Rattle.normal_form.specs.Normal.{variable_bound}
 use Rattle.accumulate.specs.Nets.{NamesAll}
 use Rattle.accumulate.proofs.NetTerms.{room_at}
 use Rattle.accumulate.proofs.Marks.{names_more, more_contains}

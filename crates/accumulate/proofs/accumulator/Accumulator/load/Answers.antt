@@ -1,5 +1,5 @@
 -- What is added to an empty array is what it stands for. Before all memory is taken nothing has changed.
-use Rattle.std.proofs.Common.{◌≡◌, ℕ, ◌<◌, List, [], length, ap, sym, subst, arith}
+use Rattle.std.proofs.Common.{ℕ, ◌<◌, List, [], length, ap, sym, subst, arith}
 use Rattle.std.specs.Prelude.{ℤ, All, Contains}
 use Rattle.accumulate.specs.Nets.{IsMarked}
 use Rattle.accumulate.proofs.Totals.{loaded, sizes_same}
