@@ -1,18 +1,17 @@
 -- The image of a constraint and that of a part of it have one degree, and as much is lost in both. So the one shows what it
 -- becomes exactly where the other does.
-use Rattle.std.proofs.Common.{◌≡◌, ◌≢◌, ◌↔◌, ℕ, ◌+◌, ◌-◌, ◌≤◌, Bool, true, false, not, cond, ◌&&◌, List, [], map, All, refl, ap, sym, subst, ◌∙◌, arith, inl, inr}
+use Rattle.std.proofs.Common.{◌≡◌, ◌≢◌, ◌↔◌, ℕ, ◌+◌, ◌-◌, Bool, true, false, not, cond, ◌&&◌, List, [], map, refl, ap, sym, ◌∙◌, arith, inl, inr}
 use Rattle.std.specs.Prelude.{ℤ, pos, neg_ℤ, ◌+ℤ◌, ◌-ℤ◌}
 use Rattle.std.proofs.lemmas.Bool.{false≢true}
 use Rattle.std.proofs.lemmas.Int.{ints}
 use Rattle.std.proofs.lemmas.List.Elements.{All-nil}
-use Rattle.linear.specs.declared.term.Term.{Term}
 use Rattle.normal_form.specs.declared.term.NormalTerm.{NormalTerm}
-use Rattle.normal_form.specs.Normal.{Literals, NormalConstraint, coefficient, only, sum_below, sum_over, Rises, variable_bound}
+use Rattle.normal_form.specs.Normal.{Literals, NormalConstraint, coefficient, sum_over, Rises, variable_bound}
 use Rattle.normal_form.specs.NormalOf.{at_least_zero, negated_sum, negated_total, net}
 use Rattle.normal_form.proofs.NormalForm.{form, form_is}
 use Rattle.normal_form.proofs.SumsByVariable.{absent_above, add_up, all_zero, none_above, pivot, told}
 use Rattle.substitution.specs.Beyond.{Shows, ShowsImage}
-use Rattle.substitution.specs.Covering.{Covers, excess, excess_at}
+use Rattle.substitution.specs.Covering.{excess, excess_at}
 use Rattle.substitution.specs.Images.{Images}
 use Rattle.substitution.specs.Part.{AreAmong, IsPart, is_among}
 use Rattle.substitution.specs.Under.{IsUnder, constant_under, signed_term, substituted}

@@ -15,8 +15,8 @@ use super::substitution::Substitution;
 use normal_form::Normal;
 use std::alloc::{AllocError, Global};
 
-/// A constraint that has more than this many terms for each image of a substitution is not looked at as a whole before its part is:
-/// of a shorter one the part is not made sooner than the whole.
+/// A constraint of at least so many terms for each image of a substitution is not looked at as a whole before its part is: of a
+/// shorter one the part is not made sooner than the whole.
 const TERMS_FOR_EACH_IMAGE: usize = 16;
 
 /// Whether a constraint shows another without more ado: it covers that, or nothing is asked.

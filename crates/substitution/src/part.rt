@@ -87,11 +87,7 @@ fn term_of(constraint: &Normal, variable: u32) -> Option<NormalTerm>
 }
 
 /// Puts the term of a variable, if there is one, at the end of a part.
-fn push_term(
-    part: &mut NormalBuilder,
-    constraint: &Normal,
-    variable: u32,
-) -> Result<(), AllocError>
+fn push_term(part: &mut NormalBuilder, constraint: &Normal, variable: u32) -> Result<(), AllocError>
     requires { variable_bound part.old ≤ variable }
     ensures coefficients { OnOk result ((v : ℕ) (s : Bool)
         → sum_over (only v s) part.new ≡ sum_over (only v s) part.old + (if v == variable then coefficient constraint.now v s else 0)) }

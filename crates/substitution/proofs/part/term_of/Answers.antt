@@ -1,5 +1,5 @@
 -- The term at the place is the only one that may have the variable.
-use Rattle.std.proofs.Common.{Bool, arith}
+use Rattle.std.proofs.Common.{arith}
 use Rattle.substitution.proofs.Lookup.{found_term, other_term}
 use Rattle.substitution.proofs.part.term_of.Goals as goal
 

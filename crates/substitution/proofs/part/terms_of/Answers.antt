@@ -12,6 +12,6 @@ loop-variable-preserved c =
     let above = at.invariant.1 i (omega arith) (omega arith) in (
       gathered_more c.args.constraint.now variables i 0 at.part c.push_term.new.part (omega arith) at.invariant.0 above c.in_ok-push_term.ensures.coefficients,
       λ j later inside.
-      let rises = AllPairs-from_increasing variables c.requires i j 0 (omega (arith, later)) inside in
-      omega (arith, rises, c.in_ok-push_term.ensures.bound),
+          let rises = AllPairs-from_increasing variables c.requires i j 0 (omega (arith, later)) inside in
+          omega (arith, rises, c.in_ok-push_term.ensures.bound),
     )
