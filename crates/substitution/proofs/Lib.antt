@@ -11,3 +11,8 @@ pub mod Opposites
 pub mod Untouched
 pub mod Regrouped
 pub mod NetTables
+pub mod Named
+pub mod Lookup
+pub mod Gathering
+pub mod KeptTerms
+pub mod PartImages
