@@ -1,12 +1,9 @@
 //! The rules of cutting planes, and their limits.
 
 use super::support::{HALF, LIMIT, NOT, Written, X, at_least, is, is_fault, not_x};
-use cut_rules::{
-    add, axiom, divide, divide_in_place, multiply, saturate, saturate_in_place, weaken,
-};
+use cut_rules::{add, axiom, divide, multiply, saturate, weaken};
 use linear::Var;
-use normal_form::{CutFault, Normal};
-use std::alloc::Global;
+use normal_form::CutFault;
 
 /// Two constraints and their sum.
 #[derive(Clone, Copy)]
@@ -136,42 +133,4 @@ fn rules_on_one_constraint(rt: HostRuntime) {
     assert!(&rt; is(&nothing, &[], 0));
     let made = axiom(alloc, not_x(7)).expect(&rt, "an axiom");
     assert!(&rt; is(&made, &[(1, NOT, 7)], 0));
-}
-
-/// What 5 x1 4 ~x2 >= 3 becomes where it stands.
-fn divided_where_it_stands(alloc: Global, divisor: i128) -> Result<Normal, CutFault> {
-    let mut constraint = at_least(alloc, &[(5, X, 1), (4, NOT, 2)], 3)?;
-    divide_in_place(&mut constraint, divisor)?;
-    Ok(constraint)
-}
-
-/// The same, where a divisor is refused.
-fn refused_where_it_stands(alloc: Global, divisor: i128) -> Result<Normal, CutFault> {
-    let mut constraint = at_least(alloc, &[(5, X, 1), (4, NOT, 2)], 3)?;
-    match divide_in_place(&mut constraint, divisor) {
-        Err(CutFault::BadFactor) => Ok(constraint),
-        _ => Err(CutFault::BadFactor),
-    }
-}
-
-/// What 5 x1 2 ~x2 of some degree becomes where it stands.
-fn saturated_where_it_stands(alloc: Global, degree: i128) -> Result<Normal, CutFault> {
-    let mut constraint = at_least(alloc, &[(5, X, 1), (2, NOT, 2)], degree)?;
-    saturate_in_place(&mut constraint);
-    Ok(constraint)
-}
-
-#[test]
-fn rules_where_a_constraint_stands(rt: HostRuntime) {
-    let alloc = rt.alloc();
-    for (divisor, terms, degree) in &QUOTIENTS {
-        let quotient = divided_where_it_stands(alloc, *divisor).expect(&rt, "a quotient");
-        assert!(&rt; is(&quotient, terms, *degree));
-    }
-    let refused = refused_where_it_stands(alloc, 0).expect(&rt, "the constraint");
-    assert!(&rt; is(&refused, &[(5, X, 1), (4, NOT, 2)], 3));
-    let saturated = saturated_where_it_stands(alloc, 3).expect(&rt, "a saturation");
-    assert!(&rt; is(&saturated, &[(3, X, 1), (2, NOT, 2)], 3));
-    let nothing = saturated_where_it_stands(alloc, 0).expect(&rt, "a saturation");
-    assert!(&rt; is(&nothing, &[], 0));
 }
