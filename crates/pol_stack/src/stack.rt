@@ -192,7 +192,7 @@ fn put_down<'a>(hand: &mut Option<Operand<'a>>, pile: &mut Pile<'a>) -> Result<(
 }
 
 impl<'a> Stack<'a> {
-    ghost use Rattle.std.specs.Prelude.{◌≡◌, ◌≢◌, ◌∷◌, [], length, IfOk, IfErr, OnOk, OnErr};
+    ghost use Rattle.std.specs.Prelude.{◌≡◌, ◌≢◌, ◌∷◌, [], length, MatchResult, IfOk, IfErr, OnOk, OnErr};
     ghost use Rattle.pol_stack.specs.Stack.{operand_value};
     ghost use Rattle.proof_rules.specs.Expression.{Given};
     ghost use Rattle.proof_rules.specs.Running.{AppliesItem};
@@ -217,8 +217,7 @@ impl<'a> Stack<'a> {
 
     /// Puts an operand on top. Running out of memory is the only fault, and after it all is as before.
     pub fn push(&mut self, operand: Operand<'a>) -> Result<(), AllocError>
-        ensures ok { OnOk result (self.new ≡ operand_value operand.entry ∷ self.old) }
-        ensures err { OnErr result (self.new ≡ self.old) }
+        ensures { MatchResult result (λ _. self.new ≡ operand_value operand.entry ∷ self.old) (λ _. self.new ≡ self.old) }
     {
         put_down(&mut self.under, &mut self.pile)?;
         self.under = self.top.take();
