@@ -1,9 +1,8 @@
 //! The part of a constraint that a substitution can change: its terms of the variables that the substitution names.
 //!
-//! A step may fix one literal of a constraint of a hundred thousand terms, and thousands of steps may do so one after another. The
-//! other terms stay as they are and stand in the same place before and after, so neither the degree nor what the constraint
-//! has more than its image depends on them. The terms of a few variables are looked up, as the terms stand in order of their
-//! variables, and no others are read.
+//! A step may fix one literal of a constraint of a hundred thousand terms, and thousands of steps may do so one after another. All
+//! other terms stand in the image as they are: neither its degree nor what the constraint has more than it depends on them. So the
+//! terms of those few variables are looked up, and no others are read.
 
 ghost use Rattle.std.specs.Prelude.{◌≡◌, ◌+◌, ◌≤◌, ◌++◌, ◌==◌, ℕ, Bool, IfOk, OnOk, if◌then◌else◌};
 ghost use Rattle.std.specs.List.Sorted.{IsStrictlyIncreasing};
