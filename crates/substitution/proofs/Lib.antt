@@ -12,7 +12,8 @@ pub mod Untouched
 pub mod Regrouped
 pub mod NetTables
 pub mod Named
-pub mod Lookup
+pub mod Sought
 pub mod Gathering
 pub mod KeptTerms
 pub mod PartImages
+pub mod BothExcesses

@@ -2,7 +2,7 @@
 //!
 //! A step of redundance-based strengthening asks this of each constraint that its witness touches. Most of them cover what they
 //! become: a literal is fixed to the value that is good for them, or two variables change places that count alike there. That is
-//! told by the terms of the witness' variables alone, and so is that nothing is asked any more. So a step that names few
+//! told by the terms of the substitution's variables alone, and so is that nothing is asked any more. So a step that names few
 //! variables costs little beside a constraint of many.
 
 ghost use Rattle.std.specs.Prelude.{◌↔◌, IfOk, IsTrue};

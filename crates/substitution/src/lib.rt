@@ -8,6 +8,7 @@ mod composition;
 mod covering;
 mod image;
 pub mod laws;
+mod lookup;
 mod objective;
 mod part;
 mod substitution;

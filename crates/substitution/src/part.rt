@@ -1,19 +1,19 @@
 //! The part of a constraint that a substitution can change: its terms of the variables that the substitution names.
 //!
-//! A step may fix one literal of a constraint of a hundred thousand terms, and thousands of steps may do so one after another. The
-//! other terms stay as they are and stand in the same place before and after, so neither the degree nor what the constraint
-//! has more than its image depends on them. The terms of a few variables are looked up, as the terms stand in order of their
-//! variables, and no others are read.
+//! A step may fix one literal of a constraint of a hundred thousand terms, and thousands of steps may do so one after another. All
+//! other terms stand in the image as they are: neither its degree nor what the constraint has more than it depends on them. So the
+//! terms of those few variables are looked up, and no others are read.
 
-ghost use Rattle.std.specs.Prelude.{◌≡◌, ◌+◌, ◌≤◌, ◌++◌, ◌==◌, ℕ, Bool, IfOk, MatchOption, OnOk, length, drop, if◌then◌else◌};
+ghost use Rattle.std.specs.Prelude.{◌≡◌, ◌+◌, ◌≤◌, ◌++◌, ◌==◌, ℕ, Bool, IfOk, OnOk, if◌then◌else◌};
 ghost use Rattle.std.specs.List.Sorted.{IsStrictlyIncreasing};
-ghost use Rattle.normal_form.specs.Normal.{IsNormal, Rises, coefficient, only, sum_over, variable_bound};
-ghost use Rattle.substitution.specs.Part.{AreAmong, IsPart, IsTermOf, is_among, names, pair_names};
+ghost use Rattle.normal_form.specs.Normal.{IsNormal, coefficient, only, sum_over, variable_bound};
+ghost use Rattle.substitution.specs.Part.{AreAmong, IsPart, is_among, names, pair_names};
 
 use super::image::Image;
+use super::lookup::term_of;
 use super::substitution::Substitution;
 use linear::Var;
-use normal_form::{Normal, NormalBuilder, NormalTerm};
+use normal_form::{Normal, NormalBuilder};
 use std::alloc::{AllocError, Global};
 
 /// Puts a variable that is given an image, and that of the image, at the end of a list.
@@ -50,40 +50,6 @@ pub(crate) fn variables_of(
     variables.sort()?;
     variables.dedup();
     Ok(variables)
-}
-
-/// The first place whose variable is not below this one.
-fn place_of(constraint: &Normal, variable: u32) -> usize
-    ensures within { result ≤ length constraint.now.terms }
-    ensures ahead { Rises variable (drop result constraint.now.terms) }
-    ensures passed { (s : Bool) → coefficient constraint.now variable s ≡ sum_over (only variable s) (drop result constraint.now.terms) }
-{
-    let mut low: usize = 0;
-    let mut high = constraint.len();
-    while low < high {
-        let middle = low + (high - low) / 2;
-        if constraint.term(middle).var.0 < variable {
-            low = middle + 1;
-        } else {
-            high = middle;
-        }
-    }
-    low
-}
-
-/// The term of a variable, if there is one.
-fn term_of(constraint: &Normal, variable: u32) -> Option<NormalTerm>
-    ensures { MatchOption result ((s : Bool) → coefficient constraint.now variable s ≡ 0) (IsTermOf constraint.now variable) }
-{
-    let place = place_of(constraint, variable);
-    if place >= constraint.len() {
-        return None;
-    }
-    let term = constraint.term(place);
-    if term.var.0 != variable {
-        return None;
-    }
-    Some(term)
 }
 
 /// Puts the term of a variable, if there is one, at the end of a part.

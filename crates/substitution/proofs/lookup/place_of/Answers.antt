@@ -1,8 +1,8 @@
 -- The place in the middle takes the place of the lower or of the higher one.
 use Rattle.std.proofs.Common.{◌+◌, ◌-◌, ◌/◌, arith}
-use Rattle.substitution.proofs.Lookup.{passed_low}
+use Rattle.substitution.proofs.Sought.{passed_low}
 use Rattle.substitution.proofs.Pass.{rises_read}
-use Rattle.substitution.proofs.part.place_of.Goals as goal
+use Rattle.substitution.proofs.lookup.place_of.Goals as goal
 
 pub loop-low-preserved-then-term-variable : goal.loop-low-preserved-then-term-variable
 loop-low-preserved-then-term-variable c =

@@ -1,7 +1,7 @@
 -- The term at the place is the only one that may have the variable.
 use Rattle.std.proofs.Common.{arith}
-use Rattle.substitution.proofs.Lookup.{found_term, other_term}
-use Rattle.substitution.proofs.part.term_of.Goals as goal
+use Rattle.substitution.proofs.Sought.{found_term, other_term}
+use Rattle.substitution.proofs.lookup.term_of.Goals as goal
 
 pub returns-then-term-variable : goal.returns-then-term-variable
 returns-then-term-variable c =

@@ -1,7 +1,7 @@
 -- The terms before the lower place have lower variables, and those from the higher one on have not.
 use Rattle.std.proofs.Common.{◌≡◌, ◌-◌, ◌≤◌, Bool, drop, length}
 use Rattle.normal_form.specs.Normal.{Rises, only, sum_over}
-use Rattle.substitution.proofs.part.place_of.Given as goal
+use Rattle.substitution.proofs.lookup.place_of.Given as goal
 
 abbrev pub invariant-loop-low : goal.invariant-loop-low
 invariant-loop-low l =
