@@ -11,9 +11,10 @@ ghost use Rattle.search.specs.Kept.{Spares};
 ghost use Rattle.search.specs.Log.{ImprovesIfAsked, ImprovesNothing, StandsAlone};
 ghost use Rattle.search.specs.Presolving.{IsPresolved, Tries, TriesAll, exchange, fixing, in_order, is_true, made_true, swapping, variable};
 
-use super::fault::SearchFault;
+use super::fault::LogFault;
 use super::log::Log;
 use linear::{Lit, Relation, Seq, Signed, Term, Var};
+use normal_form::CutFault;
 use presolve::{Swap, fixable, swappable};
 use proof_rules::StepFault;
 use proof_steps::Step;
@@ -101,17 +102,17 @@ fn exchange(alloc: Global, swap: Swap) -> Result<Substitution, AllocError>
 }
 
 /// Hands on that memory ran out; any other fault says only that a step is not legal, or cannot be written.
-fn unless_refused(fault: SearchFault) -> Result<(), SearchFault>
-    ensures { OnOk result (fault ≢ SearchFault.Kernel StepFault.OutOfMemory) }
+fn unless_refused(fault: LogFault) -> Result<(), AllocError>
+    ensures { OnOk result (fault ≢ LogFault.Kernel StepFault.OutOfMemory) }
 {
     match fault {
-        SearchFault::Kernel(StepFault::OutOfMemory) => Err(fault),
+        LogFault::Kernel(StepFault::OutOfMemory) => Err(AllocError),
         _ => Ok(()),
     }
 }
 
 /// Puts a step into the log where it is legal and can be written.
-fn attempt<'a, P: Propagator>(log: &mut Log<'a, P>, step: Step) -> Result<(), SearchFault>
+fn attempt<'a, P: Propagator>(log: &mut Log<'a, P>, step: Step) -> Result<(), AllocError>
     requires relation { HasAtLeast step }
     requires alone { StandsAlone step }
     requires other { ImprovesNothing step }
@@ -131,7 +132,7 @@ fn fix<'a, P: Propagator>(
     alloc: Global,
     log: &mut Log<'a, P>,
     literals: &[Lit],
-) -> Result<(), SearchFault>
+) -> Result<(), AllocError>
     ensures problem { log.new.problem ≡ log.old.problem }
     ensures tried { OnOk result (TriesAll (map fixing literals.now) log.old log.new) }
 {
@@ -147,7 +148,7 @@ fn order<'a, P: Propagator>(
     alloc: Global,
     log: &mut Log<'a, P>,
     swaps: &[Swap],
-) -> Result<(), SearchFault>
+) -> Result<(), AllocError>
     requires { All (λ s. s.first.0 < s.second.0) swaps.now }
     ensures problem { log.new.problem ≡ log.old.problem }
     ensures tried { OnOk result (TriesAll (map swapping swaps.now) log.old log.new) }
@@ -159,18 +160,34 @@ fn order<'a, P: Propagator>(
     Ok(())
 }
 
+/// Want of memory, which is the only fault where literals and pairs are looked for.
+fn want_of_memory(fault: &CutFault) -> AllocError
+    requires { fault.now ≡ CutFault.OutOfMemory }
+{
+    match fault {
+        CutFault::OutOfMemory => AllocError,
+        _ => unreachable!(),
+    }
+}
+
 /// Fixes the literals of the problem that may be made true before any search, and asks for an order of the variables that may
 /// change places.
 pub(crate) fn presolve<'a, P: Propagator>(
     alloc: Global,
     log: &mut Log<'a, P>,
-) -> Result<(), SearchFault>
+) -> Result<(), AllocError>
     ensures problem { log.new.problem ≡ log.old.problem }
     ensures biting { OnOk result (log.new.biting ≡ log.old.biting) }
     ensures tried { OnOk result (IsPresolved log.old log.new) }
 {
-    let literals = fixable(alloc, log.problem())?;
+    let literals = match fixable(alloc, log.problem()) {
+        Ok(literals) => literals,
+        Err(fault) => return Err(want_of_memory(&fault)),
+    };
     fix(alloc, log, literals.as_slice())?;
-    let swaps = swappable(alloc, log.problem(), literals.as_slice())?;
+    let swaps = match swappable(alloc, log.problem(), literals.as_slice()) {
+        Ok(swaps) => swaps,
+        Err(fault) => return Err(want_of_memory(&fault)),
+    };
     order(alloc, log, swaps.as_slice())
 }
