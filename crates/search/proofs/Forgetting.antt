@@ -9,8 +9,8 @@ use Rattle.std.specs.Prelude.{AllPairs, IsSome}
 use Rattle.pb_text.specs.Number.{largest_number}
 use Rattle.propagate.specs.Ids.{HasId, IdSet}
 use Rattle.propagate.proofs.Gathered.{inserted_here, inserted_keeps}
-use Rattle.proof_rules.specs.Deletion.{AreDeletableAtOnce}
 use Rattle.proof_text.specs.Writable.{IsWritable}
+use Rattle.search.specs.Deleting.{AreNoted}
 use Rattle.search.specs.Kept.{IsSpare}
 use Rattle.search.specs.Log.{Logbook}
 use Rattle.linear.specs.Opb.{Opb}
@@ -21,14 +21,6 @@ pub next_stays : (p : Opb) (s t : State) (ids : List ℤ) → LegalDel s ids t �
 next_stays p s t [] same = ap (λ (u : State). u.next) same
 next_stays p s t (id ∷ ids) (deletable, rest) = next_stays p (without (id_of s.next id) s) t ids rest
 
--- numbers of constraints that may be deleted, each noted in a set
-pub record AreNoted (l : Logbook) (numbers : List ℤ) (seen : IdSet) : Type 0 where
-  pub spare : All (λ number. IsSpare l.problem l.asking (id_of l.state.next number)) numbers
-  pub each : All (λ number. IsSome (constraint_of l.state number)) numbers
-  pub apart : AllPairs (λ number other. id_of l.state.next number ≢ id_of l.state.next other) numbers
-  pub noted : All (λ number. HasId seen (id_of l.state.next number)) numbers
-  pub writable : All IsWritable numbers
-
 one_more : (P : ℤ → Type 0) (numbers : List ℤ) (id : ℕ) → All P numbers → P (pos id) → All P (numbers ++ pos id ∷ [])
 one_more P numbers id all here = All-append P numbers (pos id ∷ []) all (All-cons P (pos id) [] here (All-nil P))
 
@@ -37,24 +29,26 @@ pub noted_more : (l : Logbook) (numbers : List ℤ) (seen new : IdSet) (id : ℕ
     → id ≤ largest_number → new ≡ set.insert seen id → AreNoted l (numbers ++ pos id ∷ []) new
 noted_more l numbers seen new id before spare live unseen small put = record {
   spare = one_more (λ number. IsSpare l.problem l.asking (id_of l.state.next number)) numbers id before.spare spare;
-  each = one_more (λ number. IsSome (constraint_of l.state number)) numbers id before.each live;
-  apart = all_pairs_push (λ number other. id_of l.state.next number ≢ id_of l.state.next other) numbers (pos id) before.apart
-      (λ k d low same. false≢true (sym unseen ∙ subst (HasId seen) same (before.noted k d low)));
-  noted = one_more (λ number. HasId new (id_of l.state.next number)) numbers id
-      (All-weaker (λ number. HasId seen (id_of l.state.next number)) (λ number. HasId new (id_of l.state.next number)) (λ number h. subst (λ s. HasId s (id_of l.state.next number)) (sym put) (inserted_keeps seen id (id_of l.state.next number) h)) numbers before.noted)
-      (subst (λ s. HasId s id) (sym put) (inserted_here seen id));
+  at_once = record {
+    each = one_more (λ number. IsSome (constraint_of l.state number)) numbers id before.at_once.each live;
+    apart = all_pairs_push (λ number other. id_of l.state.next number ≢ id_of l.state.next other) numbers (pos id) before.at_once.apart
+        (λ k d low same. false≢true (sym unseen ∙ subst (HasId seen) same (before.seen_all k d low)));
+  };
   writable = one_more IsWritable numbers id before.writable small;
+  seen_all = one_more (λ number. HasId new (id_of l.state.next number)) numbers id
+      (All-weaker (λ number. HasId seen (id_of l.state.next number)) (λ number. HasId new (id_of l.state.next number))
+      (λ number h. subst (λ s. HasId s (id_of l.state.next number)) (sym put) (inserted_keeps seen id (id_of l.state.next number) h)) numbers before.seen_all)
+      (subst (λ s. HasId s id) (sym put) (inserted_here seen id));
 }
 
 -- none yet
 pub none_noted : (l : Logbook) (seen : IdSet) → AreNoted l [] seen
 none_noted l seen = record {
   spare = All-nil (λ number. IsSpare l.problem l.asking (id_of l.state.next number));
-  each = All-nil (λ number. IsSome (constraint_of l.state number));
-  apart = λ i j d less within. absurd (omega (arith, within));
-  noted = All-nil (λ number. HasId seen (id_of l.state.next number));
+  at_once = record {
+    each = All-nil (λ number. IsSome (constraint_of l.state number));
+    apart = λ i j d less within. absurd (omega (arith, within));
+  };
   writable = All-nil IsWritable;
+  seen_all = All-nil (λ number. HasId seen (id_of l.state.next number));
 }
-
-pub at_once : (l : Logbook) (numbers : List ℤ) (seen : IdSet) → AreNoted l numbers seen → AreDeletableAtOnce l.state numbers
-at_once l numbers seen noted = record { each = noted.each; apart = noted.apart }

@@ -105,7 +105,8 @@ fn keep<'a, P: Propagator>(
 /// Why a legal step was not kept: the kernel does not refuse it.
 fn shortage(fault: LogFault) -> SearchFault
     requires { IsShortage fault }
-    ensures { result ≡ SearchFault.Unwritable → fault ≡ LogFault.Unwritable }
+    ensures memory { result ≡ SearchFault.OutOfMemory → fault ≡ LogFault.Kernel StepFault.OutOfMemory }
+    ensures unwritable { result ≡ SearchFault.Unwritable → fault ≡ LogFault.Unwritable }
 {
     match fault {
         LogFault::Kernel(fault) => SearchFault::from(want_of_memory(fault)),
@@ -155,6 +156,7 @@ impl<'a, P: Propagator> Log<'a, P> {
     ghost use Rattle.proof_rules.specs.State.{HasRoom, IsStart, constraints};
     ghost use Rattle.proof_text.specs.Writable.{IsConclusionWritable};
     ghost use Rattle.proof_write.specs.Whole.{first_lines, last_lines};
+    ghost use Rattle.search.specs.Deleting.{AreNoted};
     ghost use Rattle.search.specs.Kept.{IsSpare, KeepsLive, Spares};
     ghost use Rattle.search.specs.Log.{CanBeWritten, GoesOn, ImprovesIfAsked, ImprovesNothing, IsEntitled, IsFalling, IsLegal, IsProof, IsRefused, IsShort, IsSpelledBy, IsWorthLeast, Keeps, StandsAlone, StepBites, improvement, last_of, with_conclusion};
 
@@ -318,6 +320,34 @@ impl<'a, P: Propagator> Log<'a, P> {
         self.kernel.constraint(id).is_some()
     }
 
+    /// Whether a constraint may be deleted, and is live.
+    fn is_deletable(&self, id: Id) -> bool
+        ensures spare { IsTrue result → IsSpare self.now.problem self.now.asking id }
+        ensures live { IsTrue result → IsSome (map.get self.now.state.live id) }
+    {
+        self.is_spare(id) && self.is_live(id)
+    }
+
+    /// Notes the number of a constraint, where it may be deleted and was not noted before.
+    fn note(
+        &self,
+        id: Id,
+        seen: &mut Ids,
+        numbers: &mut Vec<Integer>,
+    ) -> Result<(), AllocError>
+        ensures { AreNoted self.now numbers.old.items seen.old → OnOk result (AreNoted self.now numbers.new.items seen.new) }
+    {
+        if !self.is_deletable(id) {
+            return Ok(());
+        }
+        if seen.contains(id) {
+            return Ok(());
+        }
+        seen.insert(id)?;
+        numbers.push(i128::from(id))?;
+        Ok(())
+    }
+
     /// The numbers of those among some constraints that may be deleted: each is live, and they differ.
     fn deletable(&self, alloc: Global, ids: &[Id]) -> Result<Vec<Integer>, AllocError>
         ensures spare { IfOk result (λ numbers. Spares self.now (Step.Del numbers.items)) }
@@ -327,10 +357,7 @@ impl<'a, P: Propagator> Log<'a, P> {
         let mut numbers = Vec::new(alloc);
         let mut seen = Ids::empty(alloc);
         for id in ids {
-            if self.is_spare(*id) && self.is_live(*id) && !seen.contains(*id) {
-                seen.insert(*id)?;
-                numbers.push(i128::from(*id))?;
-            }
+            self.note(*id, &mut seen, &mut numbers)?;
         }
         Ok(numbers)
     }

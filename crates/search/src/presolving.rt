@@ -5,7 +5,7 @@
 //! be written, is left out, as one is for which no id is left; so nothing but speed rests on which candidates there are. Their constraints are no
 //! lessons: they stand for as long as the search goes on, and are not counted as what a conflict has taught.
 
-ghost use Rattle.std.specs.Prelude.{◌≡◌, ◌≢◌, ◌<◌, All, map, IfOk, OnOk};
+ghost use Rattle.std.specs.Prelude.{◌≡◌, ◌≢◌, ◌<◌, All, map, IfOk, OnErr, OnOk};
 ghost use Rattle.kernel.specs.Held.{HasAtLeast};
 ghost use Rattle.search.specs.Kept.{Spares};
 ghost use Rattle.search.specs.Log.{ImprovesIfAsked, ImprovesNothing, StandsAlone};
@@ -103,7 +103,8 @@ fn exchange(alloc: Global, swap: Swap) -> Result<Substitution, AllocError>
 
 /// Hands on that memory ran out; any other fault says only that a step is not legal, or cannot be written.
 fn unless_refused(fault: LogFault) -> Result<(), AllocError>
-    ensures { OnOk result (fault ≢ LogFault.Kernel StepFault.OutOfMemory) }
+    ensures ok { OnOk result (fault ≢ LogFault.Kernel StepFault.OutOfMemory) }
+    ensures err { OnErr result (fault ≡ LogFault.Kernel StepFault.OutOfMemory) }
 {
     match fault {
         LogFault::Kernel(StepFault::OutOfMemory) => Err(AllocError),

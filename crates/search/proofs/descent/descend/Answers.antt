@@ -6,8 +6,10 @@ use Rattle.propagate.specs.Content.{IsEnd}
 use Rattle.propagate.specs.Literals.{IsConsistent}
 use Rattle.proof_rules.specs.State.{constraints}
 use Rattle.search.specs.Conflicts.{LeadsAtLast, TakesLast}
+use Rattle.search.specs.Descents.{IsSettled}
 use Rattle.search.specs.Log.{Logbook}
-use Rattle.search.specs.Values.{unlisted_below}
+use Rattle.search.specs.Values.{NoneIsFree, unlisted_below}
+use Rattle.search.proofs.Settling.{settled}
 use Rattle.search.proofs.Taking.{IsChosen, chosen}
 use Rattle.search.proofs.descent.descend.Given.{Over}
 use Rattle.search.proofs.descent.descend.Goals as goal
@@ -68,3 +70,14 @@ loop-standing-preserved g c =
       c.decide.ensures.count ∙ c.loop-standing.invariant.2,
       subst (λ (x : Logbook). IsEnd x.state.live new c.decide.new.standing.0) (sym c.decide.ensures.same) end,
     )
+
+pub returns-in_default-clause-settled : goal.returns-in_default-clause-settled
+returns-in_default-clause-settled g c =
+    let l : Logbook = c.args.log.now in
+    let decisions : List Lit = c.loop-standing.decisions.items in
+    let standing : List Lit = c.loop-standing.standing.0 in
+    let end : IsEnd l.state.live decisions standing =
+    subst (λ (x : Logbook). IsEnd x.state.live decisions standing) (c.loop-standing.invariant.0 ∙ c.stand.ensures.same) c.loop-standing.invariant.3 in
+    let none : NoneIsFree c.loop-standing.standing.1 c.args.count = ? in
+    subst (IsSettled l) (sym c.into_assigned.ensures)
+    (settled l decisions standing c.loop-standing.standing.1 c.args.count c.loop-standing.invariant.1 end c.values-in-loop-standing.ensures.exact c.loop-standing.invariant.2 c.requires.count none)

@@ -8,4 +8,4 @@ shortage-requires g c =
 
 pub returns-in-Err-clause-fault : goal.returns-in-Err-clause-fault
 returns-in-Err-clause-fault g c =
-    short_by c.args.names.now c.args.kernel.now.problem c.args.kernel.now.state c.args.step.now c.in-Err.fault c.shortage.result c.shortage.ensures c.in-Err.ensures.fault
+    short_by c.args.names.now c.args.kernel.now.problem c.args.kernel.now.state c.args.step.now c.in-Err.fault c.shortage.result c.shortage.ensures.unwritable c.in-Err.ensures.fault

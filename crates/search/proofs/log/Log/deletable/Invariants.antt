@@ -1,4 +1,4 @@
-use Rattle.search.proofs.Forgetting.{AreNoted}
+use Rattle.search.specs.Deleting.{AreNoted}
 use Rattle.search.proofs.log.Log.deletable.Given as goal
 
 -- what is noted so far may be deleted

@@ -9,4 +9,4 @@ shortage-requires g c = shortage_of c.args.self.now c.args.step c.in-Err.fault c
 pub returns-in-Err-clause-fault : goal.returns-in-Err-clause-fault
 returns-in-Err-clause-fault g c =
     let l : Logbook = c.args.self.now in
-    short_by l.problem.names l.problem l.state c.args.step c.in-Err.fault c.shortage.result c.shortage.ensures c.in-Err.ensures.fault
+    short_by l.problem.names l.problem l.state c.args.step c.in-Err.fault c.shortage.result c.shortage.ensures.unwritable c.in-Err.ensures.fault
