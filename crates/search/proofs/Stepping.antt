@@ -1,5 +1,8 @@
 -- The steps that a search takes are legal where it takes them.
-use Rattle.std.proofs.Common.{◌≡◌, List, Option, None, Some, refl, sym, subst}
+use Rattle.std.proofs.Common.{◌≡◌, Bool, false, List, Option, None, Some, is_some, not, refl, sym, ap, subst, ◌∙◌}
+use Rattle.std.proofs.lemmas.Bool.{false≢true}
+use Rattle.std.specs.Borrow.{Bor}
+use Rattle.std.specs.Option.{option_copied}
 use Rattle.linear.specs.Limits.{IsWithin}
 use Rattle.linear.specs.declared.term.Lit.{Lit}
 use Rattle.linear.specs.declared.term.Term.{Term}
@@ -8,6 +11,7 @@ use Rattle.proof_steps.specs.declared.step.Item.{Item}
 use Rattle.proof_steps.specs.declared.step.Step.TheVariants as kinds
 use Rattle.proof_rules.specs.Expression.{IsPostfixOf}
 use Rattle.proof_rules.specs.State.{HasRoom, IsOutside, constraint_of, with_constraint}
+use Rattle.proof_rules.proofs.NotLegal.{none_some}
 use Rattle.search.specs.Descents.{IsSettled}
 use Rattle.search.specs.Kept.{KeepsLive}
 use Rattle.search.specs.Log.{IsLegal, IsProof, Logbook}
@@ -38,3 +42,8 @@ soli_legal l assigned outside within live settled some room = by l.problem.objec
     by : (o : Option (List Term)) → l.problem.objective ≡ o → IsLegal l (kinds.Soli assigned)
     by None none = absurd (some none)
     by (Some objective) is = soli_of l objective assigned outside within live settled is room
+
+-- what was lent is there
+pub some_lent : {A : Type 0} (lent : Option (Bor A)) (there : Option A) (none : Bool) → option_copied lent ≡ there → is_some lent ≡ not none → none ≡ false → there ≡ None → ⊥
+some_lent None there none copied test is empty = false≢true (test ∙ ap not is)
+some_lent (Some x) there none copied test is empty = none_some there x.now empty (sym copied)

@@ -79,3 +79,13 @@ pub(crate) fn want_of_memory(fault: StepFault) -> AllocError
         _ => unreachable!(),
     }
 }
+
+/// Want of memory, where a step that can be written was not taken.
+pub(crate) fn refused_growth(fault: SearchFault) -> AllocError
+    requires { fault ≡ SearchFault.OutOfMemory }
+{
+    match fault {
+        SearchFault::OutOfMemory => AllocError,
+        SearchFault::Unwritable => unreachable!(),
+    }
+}

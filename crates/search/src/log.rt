@@ -26,7 +26,7 @@ ghost use Rattle.proof_write.specs.Whole.{step_line};
 ghost use Rattle.proof_rules.specs.State.{State};
 ghost use Rattle.search.specs.Log.{IsRefusedBy, IsShortOf, IsShortage};
 
-use super::fault::{LogFault, SearchFault, want_of_memory};
+use super::fault::{LogFault, SearchFault, refused_growth, want_of_memory};
 use kernel::{Applied, Kernel};
 use linear::{Assignment, Integer, Lit, Names, Problem, Seq};
 use proof_rules::StepFault;
@@ -282,7 +282,12 @@ impl<'a, P: Propagator> Log<'a, P> {
         // The room for the value is taken first, as that for the line is.
         self.improved.push(0)?;
         let step = Step::Soli(assigned);
-        let applied = match keep_legal(&mut self.text, self.source.names(), &mut self.kernel, &step) {
+        let applied = match keep_legal(
+            &mut self.text,
+            self.source.names(),
+            &mut self.kernel,
+            &step,
+        ) {
             Ok(applied) => applied,
             Err(fault) => {
                 self.improved.pop();
@@ -329,12 +334,7 @@ impl<'a, P: Propagator> Log<'a, P> {
     }
 
     /// Notes the number of a constraint, where it may be deleted and was not noted before.
-    fn note(
-        &self,
-        id: Id,
-        seen: &mut Ids,
-        numbers: &mut Vec<Integer>,
-    ) -> Result<(), AllocError>
+    fn note(&self, id: Id, seen: &mut Ids, numbers: &mut Vec<Integer>) -> Result<(), AllocError>
         ensures { AreNoted self.now numbers.old.items seen.old → OnOk result (AreNoted self.now numbers.new.items seen.new) }
     {
         if !self.is_deletable(id) {
@@ -380,8 +380,7 @@ impl<'a, P: Propagator> Log<'a, P> {
         }
         match self.take(Step::Del(Seq::from_vec(numbers))) {
             Ok(_) => Ok(()),
-            Err(SearchFault::OutOfMemory) => Err(AllocError),
-            Err(SearchFault::Unwritable) => unreachable!(),
+            Err(fault) => Err(refused_growth(fault)),
         }
     }
 

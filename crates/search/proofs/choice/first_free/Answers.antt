@@ -1,7 +1,10 @@
-use Rattle.std.proofs.Common.{sym, ◌∙◌}
+use Rattle.std.proofs.Common.{sym, ◌∙◌, arith}
 use Rattle.std.proofs.lemmas.Bool.{false≢true}
 use Rattle.search.proofs.Settling.{none_more}
 use Rattle.search.proofs.choice.first_free.Goals as goal
+
+pub loop-number-init : goal.loop-number-init
+loop-number-init c v below free = omega (arith, below)
 
 pub loop-number-preserved : goal.loop-number-preserved
 loop-number-preserved c =

@@ -1,7 +1,9 @@
 -- What is settled satisfies the file, and is better than what was improved to before.
+use Rattle.std.proofs.Common.{◌≡◌, None, ap, ◌∙◌}
+use Rattle.linear.specs.Opb.{Opb}
 use Rattle.search.specs.Log.{Logbook}
 use Rattle.search.proofs.Entitling.{sol_logs}
-use Rattle.search.proofs.Stepping.{sol_legal, soli_legal}
+use Rattle.search.proofs.Stepping.{sol_legal, soli_legal, some_lent}
 use Rattle.search.proofs.run.Run.accept.Goals as goal
 
 pub returns-then-is_none-clause-found : goal.returns-then-is_none-clause-found
@@ -19,4 +21,7 @@ end_solved-requires-clause-logged g c =
 pub improve-requires : goal.improve-requires
 improve-requires g c =
     let l : Logbook = c.args.self.now.log in
-    let known = c.reveal.ensures in soli_legal l c.args.assigned known.proof.entitled.1.0 known.within known.live c.requires ? ?
+    let known = c.reveal.ensures in
+    let some : l.problem.objective ≡ None → ⊥ =
+    some_lent c.objective.result l.problem.objective c.is_none.result (c.objective.ensures ∙ ap (λ (p : Opb). p.objective) c.problem.ensures) c.is_none.ensures c.if-is_none.false in
+    soli_legal l c.args.assigned known.proof.entitled.1.0 known.within known.live c.requires some (c.has_room.ensures.0 c.if-not-has_room.false)
