@@ -1,11 +1,11 @@
 -- A deletion gives no id, and it is legal where its constraints are live and differ.
-use Rattle.std.proofs.Common.{◌≡◌, ◌≢◌, ◌<◌, ◌≤◌, ℕ, ℤ, pos, false, List, [], ◌∷◌, ◌++◌, All, get_or, length, sym, ap, subst, ◌∙◌, arith}
+use Rattle.std.proofs.Common.{◌≡◌, ◌≢◌, ◌≤◌, ℕ, ℤ, pos, false, List, [], ◌∷◌, ◌++◌, All, sym, ap, subst, ◌∙◌}
 use Rattle.std.proofs.lemmas.Bool.{false≢true}
 use Rattle.std.proofs.lemmas.List.Elements.{All-append, All-cons, All-nil, All-weaker}
 use Rattle.std.proofs.lemmas.List.Quantifiers.{all_pairs_push}
 use Rattle.std.specs.FinMap as map
 use Rattle.std.specs.FinSet as set
-use Rattle.std.specs.Prelude.{AllPairs, IsSome}
+use Rattle.std.specs.Prelude.{IsSome}
 use Rattle.pb_text.specs.Number.{largest_number}
 use Rattle.propagate.specs.Ids.{HasId, IdSet}
 use Rattle.propagate.proofs.Gathered.{inserted_here, inserted_keeps}
@@ -39,16 +39,4 @@ noted_more l numbers seen new id before spare live unseen small put = record {
       (All-weaker (λ number. HasId seen (id_of l.state.next number)) (λ number. HasId new (id_of l.state.next number))
       (λ number h. subst (λ s. HasId s (id_of l.state.next number)) (sym put) (inserted_keeps seen id (id_of l.state.next number) h)) numbers before.seen_all)
       (subst (λ s. HasId s id) (sym put) (inserted_here seen id));
-}
-
--- none yet
-pub none_noted : (l : Logbook) (seen : IdSet) → AreNoted l [] seen
-none_noted l seen = record {
-  spare = All-nil (λ number. IsSpare l.problem l.asking (id_of l.state.next number));
-  at_once = record {
-    each = All-nil (λ number. IsSome (constraint_of l.state number));
-    apart = λ i j d less within. absurd (omega (arith, within));
-  };
-  writable = All-nil IsWritable;
-  seen_all = All-nil (λ number. HasId seen (id_of l.state.next number));
 }

@@ -1,6 +1,5 @@
 -- What stands where no variable of the file is free: literals without opposites that name all variables, and force no more.
-use Rattle.std.proofs.Common.{◌≡◌, ℕ, ◌+◌, ◌<◌, Bool, true, false, not, List, [], ◌++◌, length, get_or, refl, sym, subst, ◌∙◌, inl, inr, arith}
-use Rattle.std.proofs.lemmas.Bool.{cases_lt}
+use Rattle.std.proofs.Common.{◌≡◌, ℕ, ◌<◌, Bool, true, false, not, List, [], ◌++◌, length, get_or, refl, sym, subst, ◌∙◌, inl, inr}
 use Rattle.std.proofs.lemmas.List.{get_or_default}
 use Rattle.linear.specs.Literal.{opposite}
 use Rattle.linear.specs.declared.term.Lit.{Lit}
@@ -33,13 +32,6 @@ closure_consistent live given closed consistent none closure (l, here, there) =
     let ys = as_chain live given (opposite l) ((closure (opposite l)).0 there) in
     let both = joined live given none ys.0 given xs.0 xs.1 (given_within given xs.0) ys.1 in
     chain_consistent live given both.0 consistent both.1.0 (l, both.1.1 (l.var.0) l.negated xs.2, both.1.2 (l.var.0) (not l.negated) ys.2)
-
--- one variable more is not free
-pub none_more : (values : List Value) (k : ℕ) → NoneIsFree values k → (IsFree values k → ⊥) → NoneIsFree values (k + 1)
-none_more values k none here v below free = elim (cases_lt v k) as (λ _. ⊥) [
-  | inl before ↦ none v before free
-  | inr behind ↦ let last : v ≡ k = omega (arith, below, behind) in here (subst (IsFree values) last free)
-]
 
 -- a variable that is not free is named
 named : (assigned : List Lit) (values : List Value) (count : ℕ) → AreValuesUnder assigned values → NoneIsFree values count → length values ≡ count → NamesAll count assigned
