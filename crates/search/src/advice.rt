@@ -68,12 +68,23 @@ impl<'a, P: Propagator> Run<'a, P> {
         let Some(advised) = self.last_advised()? else {
             return Ok(());
         };
-        match effect {
-            Effect::Forcing => self.keep(&advised, LEVELS_OF_FORCING)?,
-            Effect::Conflict => self.take_conflict(&advised)?,
-            Effect::Cut => self.take_cut()?,
-        }
+        self.follow(&advised, effect)?;
         Ok(())
+    }
+
+    /// Goes on from what an advised constraint says.
+    fn follow(&mut self, advised: &Advised, effect: Effect) -> Result<(), AllocError>
+        requires { IsConsistent self.old.decisions.items }
+        ensures goes_on { GoesOn self.old.log self.new.log }
+        ensures next { OnOk result (self.new.log.state.next ≡ self.old.log.state.next) }
+        ensures biting { OnOk result (self.new.log.biting ≡ self.old.log.biting) }
+        ensures consistent { OnOk result (IsConsistent self.new.decisions.items) }
+    {
+        match effect {
+            Effect::Forcing => self.keep(advised, LEVELS_OF_FORCING),
+            Effect::Conflict => self.take_conflict(advised),
+            Effect::Cut => self.take_cut(),
+        }
     }
 
     /// A cut becomes a row of the relaxation, as long as it is tight; it is not among what was learned. Those that are no rows any more are
