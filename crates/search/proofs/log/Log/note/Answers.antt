@@ -8,7 +8,7 @@ use Rattle.search.proofs.log.Log.note.Goals as goal
 pub returns : goal.returns
 returns g c before =
     let numbers : List ℤ = c.args.numbers.now.items in
-    let written : c.push.new.self.items ≡ numbers ++ pos c.args.id ∷ [] = search rules in
+    let written : c.push.new.self.items ≡ numbers ++ pos c.args.id ∷ [] = first_of (search rules, cc, grind arith) in
     let small : c.args.id ≤ largest_number = omega arith in
     subst (λ (ns : List ℤ). AreNoted c.args.self.now ns c.insert.new.self) (sym written)
     (noted_more c.args.self.now numbers c.args.seen.now c.insert.new.self c.args.id before (c.is_deletable.ensures.spare c.if-not-is_deletable.false) (c.is_deletable.ensures.live c.if-not-is_deletable.false)
