@@ -17,7 +17,7 @@ use super::stop::{Stop, judging, reading};
 use kernel::{Accepted, Kernel};
 use linear::{Names, Problem};
 use proof_steps::{Conclusion, Step};
-use proof_text::{Line, NumberedLine, ProofFault, Section, read_line};
+use proof_text::{Line, NumberedLine, ProofFault, Section, Spare, read_line_reusing};
 use propagate::Propagator;
 use std::alloc::Global;
 
@@ -30,6 +30,16 @@ pub(crate) struct Walk<'a, P: Propagator> {
     names: Names,
     kernel: Kernel<'a, P>,
     concluded: Option<Accepted>,
+    /// The memory of the step before, for the next one.
+    spare: Spare,
+}
+
+/// Gives back the memory of a line that is done with.
+fn give_back(spare: &mut Spare, said: Line) {
+    match said {
+        Line::Step(step) => spare.take_back(step),
+        _ => {}
+    }
 }
 
 impl<'a, P: Propagator> Walk<'a, P> {
@@ -49,6 +59,7 @@ impl<'a, P: Propagator> Walk<'a, P> {
             names: problem.names().copy(alloc)?,
             kernel,
             concluded: None,
+            spare: Spare::new(alloc),
         })
     }
 
@@ -61,6 +72,7 @@ impl<'a, P: Propagator> Walk<'a, P> {
         let said = self.read(line)?;
         self.accept(&said, line.number)?;
         self.section = self.section.behind(&said);
+        give_back(&mut self.spare, said);
         Ok(())
     }
 
@@ -71,7 +83,13 @@ impl<'a, P: Propagator> Walk<'a, P> {
         ensures writable { IfOk result (λ said. IsLineWritable (length self.new.names) said) }
         ensures stop { IfErr result (IsStopOf (numbered_of line.entry) self.old) }
     {
-        match read_line(self.allocator, self.section, line.text, &mut self.names) {
+        match read_line_reusing(
+            self.allocator,
+            &mut self.spare,
+            self.section,
+            line.text,
+            &mut self.names,
+        ) {
             Ok(said) => Ok(said),
             Err(fault) => Err(reading(line.number, fault)),
         }

@@ -13,10 +13,10 @@ ghost use Rattle.proof_text.specs.PartsDenied.{Denies};
 use super::before_semicolon::BeforeSemicolon;
 use super::fault::{ProofFault, Reading};
 use super::line_names::LineNames;
+use super::spare::Spare;
 use super::values::{lit, number};
 use linear::{Relation, Seq, Signed, Term};
 use pb_text::{Kind, Lookahead, Symbol, Token};
-use std::alloc::Global;
 
 /// The term that begins with a coefficient.
 fn term(
@@ -45,7 +45,7 @@ fn term(
 
 /// The terms that stand next.
 fn terms(
-    alloc: Global,
+    spare: &mut Spare,
     words: &mut BeforeSemicolon<'_>,
     table: &mut LineNames,
 ) -> Reading<Seq<Term>>
@@ -55,7 +55,7 @@ fn terms(
     ensures kept { table.new.before ≡ table.old.before }
     ensures denies { IfErr result (λ f. Denies f (is_some (closing_of (behind_terms words.old.front))) words.old.front) }
 {
-    let mut terms = Vec::new(alloc);
+    let mut terms = spare.terms();
     while let Some(coefficient) = words.take_integer() {
         let term = term(coefficient, words, table)?;
         terms.push(term)?;
@@ -92,7 +92,7 @@ fn right_side(words: &mut BeforeSemicolon<'_>) -> Reading<i128>
 
 /// A constraint, and the words behind its `;`.
 pub(crate) fn constraint<'a>(
-    alloc: Global,
+    spare: &mut Spare,
     mut words: BeforeSemicolon<'a>,
     table: &mut LineNames,
 ) -> Reading<(Signed, Lookahead<'a>)>
@@ -101,7 +101,7 @@ pub(crate) fn constraint<'a>(
     ensures kept { table.new.before ≡ table.old.before }
     ensures denies { IfErr result (λ f. Denies f (is_some words.entry.behind && is_some (closing_of (behind_terms words.entry.front))) words.entry.front) }
 {
-    let terms = terms(alloc, &mut words, table)?;
+    let terms = terms(spare, &mut words, table)?;
     let right = right_side(&mut words)?;
     let Some(behind) = words.into_behind() else {
         return Err(ProofFault::BadLine);

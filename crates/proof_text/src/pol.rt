@@ -11,11 +11,11 @@ ghost use Rattle.proof_text.specs.PartsDenied.{Denies};
 use super::fault::{ProofFault, Reading};
 use super::line_names::LineNames;
 use super::line_words::LineWords;
+use super::spare::Spare;
 use super::values::{lit, number};
 use linear::Seq;
 use pb_text::{Kind, Token};
 use proof_steps::Item;
-use std::alloc::Global;
 
 /// An id, or a factor with its operation.
 fn integer_item(token: Token<'_>, words: &mut LineWords<'_>) -> Reading<Item>
@@ -77,7 +77,7 @@ fn item(token: Token<'_>, words: &mut LineWords<'_>, table: &mut LineNames) -> R
 
 /// The items up to the end of a line.
 pub(crate) fn items(
-    alloc: Global,
+    spare: &mut Spare,
     mut words: LineWords<'_>,
     table: &mut LineNames,
 ) -> Reading<Seq<Item>>
@@ -85,7 +85,7 @@ pub(crate) fn items(
     ensures kept { table.new.before ≡ table.old.before }
     ensures denies { IfErr result (λ f. Denies f (are_items words.entry) words.entry) }
 {
-    let mut items = Vec::new(alloc);
+    let mut items = spare.items();
     while let Some(token) = words.take() {
         let item = item(token, &mut words, table)?;
         items.push(item)?;

@@ -24,6 +24,7 @@ use super::line_names::LineNames;
 use super::line_words::LineWords;
 use super::places::may_stand;
 use super::refusal::rule_fault;
+use super::spare::Spare;
 use super::step::step;
 use linear::Names;
 use pb_text::{Kind, Lookahead};
@@ -32,7 +33,12 @@ use std::alloc::Global;
 use std::mem;
 
 /// The step that the words of a line say.
-fn step_line(alloc: Global, mut words: Lookahead<'_>, table: &mut LineNames) -> Reading<Step>
+fn step_line(
+    alloc: Global,
+    spare: &mut Spare,
+    mut words: Lookahead<'_>,
+    table: &mut LineNames,
+) -> Reading<Step>
     requires { table.old.full ≡ false }
     ensures read { IfOk result (λ s. IsStepLineRead table.old (texts_of words.entry) s table.new) }
     ensures kept { table.new.before ≡ table.old.before }
@@ -42,19 +48,24 @@ fn step_line(alloc: Global, mut words: Lookahead<'_>, table: &mut LineNames) -> 
         return Err(ProofFault::BadLine);
     };
     match rule_of(token.text) {
-        Some(rule) => step(alloc, rule, words, table),
+        Some(rule) => step(alloc, spare, rule, words, table),
         None => Err(rule_fault(token)),
     }
 }
 
 /// The step that the words of a line say, its new names added; `read_step` says which fault comes where.
-fn step_of_words(alloc: Global, words: Lookahead<'_>, names: &mut Names) -> Reading<Step>
+fn step_of_words(
+    alloc: Global,
+    spare: &mut Spare,
+    words: Lookahead<'_>,
+    names: &mut Names,
+) -> Reading<Step>
     ensures step { IfOk result (λ s. IsStep names.old (texts_of words.entry) s names.new) }
     ensures err { OnErr result (names.new ≡ names.old) }
     ensures denies { IfErr result (λ f. DeniesStep f names.old (texts_of words.entry)) }
 {
     let mut table = LineNames::new(mem::replace(names, Names::new(alloc)));
-    match step_line(alloc, words, &mut table) {
+    match step_line(alloc, spare, words, &mut table) {
         Ok(step) => {
             if table.is_full() {
                 *names = table.undo();
@@ -84,7 +95,8 @@ pub fn read_step(alloc: Global, line: &[u8], names: &mut Names) -> Result<Step, 
     ensures err { OnErr result (names.new ≡ names.old) }
     ensures denies { IfErr result (λ f. DeniesStep f names.old (words line.now)) }
 {
-    step_of_words(alloc, Lookahead::new(line), names)
+    let mut spare = Spare::new(alloc);
+    step_of_words(alloc, &mut spare, Lookahead::new(line), names)
 }
 
 /// The conclusion that the words of a line say, its new names added.
@@ -140,6 +152,7 @@ fn is_misplaced(section: Section, words: &Lookahead<'_>) -> bool
 /// A step at a section of steps. A step in a wrong place is a bad line, whatever stands behind its first word.
 fn step_at_section(
     alloc: Global,
+    spare: &mut Spare,
     section: Section,
     words: Lookahead<'_>,
     names: &mut Names,
@@ -152,12 +165,13 @@ fn step_at_section(
     if is_misplaced(section, &words) {
         return Err(ProofFault::BadLine);
     }
-    step_of_words(alloc, words, names)
+    step_of_words(alloc, spare, words, names)
 }
 
 /// A step in a block or in a goal of one.
 fn step_inside(
     alloc: Global,
+    spare: &mut Spare,
     section: Section,
     words: Lookahead<'_>,
     names: &mut Names,
@@ -167,12 +181,17 @@ fn step_inside(
     ensures err { OnErr result (names.new ≡ names.old) }
     ensures denies { IfErr result (λ f. DeniesLine f section names.old (texts_of words.entry)) }
 {
-    let step = step_at_section(alloc, section, words, names)?;
+    let step = step_at_section(alloc, spare, section, words, names)?;
     Ok(Line::Step(step))
 }
 
 /// A step, or the output line behind the steps.
-fn step_or_output(alloc: Global, words: Lookahead<'_>, names: &mut Names) -> Reading<Line>
+fn step_or_output(
+    alloc: Global,
+    spare: &mut Spare,
+    words: Lookahead<'_>,
+    names: &mut Names,
+) -> Reading<Line>
     ensures line { IfOk result (λ l. IsLine Section.Step names.old (texts_of words.entry) l names.new) }
     ensures err { OnErr result (names.new ≡ names.old) }
     ensures denies { IfErr result (λ f. DeniesLine f Section.Step names.old (texts_of words.entry)) }
@@ -183,20 +202,21 @@ fn step_or_output(alloc: Global, words: Lookahead<'_>, names: &mut Names) -> Rea
         output(LineWords::new(words))?;
         return Ok(Line::Output);
     }
-    let step = step_at_section(alloc, Section::Step, words, names)?;
+    let step = step_at_section(alloc, spare, Section::Step, words, names)?;
     Ok(Line::Step(step))
 }
 
 #[tactic(auto, unfolding(crate::specs::Faults::DeniesLine, crate::specs::Words::words))]
-/// What a line says at its section. Names that the table does not have are added in order; a refused line adds none.
+/// What a line says at its section, a step read into memory that others gave back. Names that the table does not have are added in order; a refused line adds none.
 /// A step or a conclusion can be written again.
 ///
 /// The fault is `BadHeader` at the header, `BadCount` at the count (also for an integer above 2^120 in size),
 /// `TextAfterEnd` behind the end line, whatever the line is, and `BadLine` at the end. Among the steps and at the
 /// conclusion the faults are those of `read_step`; a step in a wrong place, as `sol` in a block, or `proofgoal` and `end`
 /// outside one, is a `BadLine`. At the conclusion no rule is due, so `UnknownRule` and `RuleLeftOut` do not come.
-pub fn read_line(
+pub fn read_line_reusing(
     alloc: Global,
+    spare: &mut Spare,
     section: Section,
     line: &[u8],
     names: &mut Names,
@@ -221,8 +241,8 @@ pub fn read_line(
             Some(number) => Ok(Line::Count(number)),
             None => Err(ProofFault::BadCount),
         },
-        Section::Step => step_or_output(alloc, words, names),
-        Section::Block | Section::Goal => step_inside(alloc, section, words, names),
+        Section::Step => step_or_output(alloc, spare, words, names),
+        Section::Block | Section::Goal => step_inside(alloc, spare, section, words, names),
         Section::Conclusion => conclusion_line(alloc, words, names),
         Section::End => {
             if is_end(LineWords::new(words)) {
@@ -233,4 +253,21 @@ pub fn read_line(
         }
         Section::After => Err(ProofFault::TextAfterEnd),
     }
+}
+
+#[tactic(auto, unfolding(crate::specs::Faults::DeniesLine, crate::specs::Words::words))]
+/// What a line says at its section, as `read_line_reusing` reads it, with no memory that others gave back.
+pub fn read_line(
+    alloc: Global,
+    section: Section,
+    line: &[u8],
+    names: &mut Names,
+) -> Result<Line, ProofFault>
+    ensures line { IfOk result (λ l. IsLine section names.old (words line.now) l names.new) }
+    ensures writable { IfOk result (λ l. IsLineWritable (length names.new) l) }
+    ensures err { OnErr result (names.new ≡ names.old) }
+    ensures denies { IfErr result (λ f. DeniesLine f section names.old (words line.now)) }
+{
+    let mut spare = Spare::new(alloc);
+    read_line_reusing(alloc, &mut spare, section, line, names)
 }

@@ -17,6 +17,7 @@ use super::keyword::Rule;
 use super::line_names::LineNames;
 use super::line_words::LineWords;
 use super::pol::items;
+use super::spare::Spare;
 use super::values::{lits, numbers};
 use super::witness::{begins_block, images, unless_twice};
 use linear::Signed;
@@ -37,13 +38,18 @@ fn red_step(constraint: Signed, witness: Substitution, block: bool) -> Step
 }
 
 /// `red`: a constraint, `;`, a substitution, and perhaps `;` and `begin`.
-fn red(alloc: Global, words: Lookahead<'_>, table: &mut LineNames) -> Reading<Step>
+fn red(
+    alloc: Global,
+    spare: &mut Spare,
+    words: Lookahead<'_>,
+    table: &mut LineNames,
+) -> Reading<Step>
     requires { table.old.full ≡ false }
     ensures read { IfOk result (λ s. IsStepRead Rule.Red table.old (texts_of words.entry) s table.new) }
     ensures kept { table.new.before ≡ table.old.before }
     ensures denies { IfErr result (λ f. DeniesRule f Rule.Red table.old.names (texts_of words.entry)) }
 {
-    let (constraint, behind) = constraint(alloc, BeforeSemicolon::new(words), table)?;
+    let (constraint, behind) = constraint(spare, BeforeSemicolon::new(words), table)?;
     let mut words = BeforeSemicolon::new(behind);
     let witness = images(alloc, &mut words, table)?;
     let block = begins_block(words)?;
@@ -61,7 +67,7 @@ fn red(alloc: Global, words: Lookahead<'_>, table: &mut LineNames) -> Reading<St
 }
 
 /// `del`: `id`, and ids.
-fn del(alloc: Global, mut words: Lookahead<'_>, table: &mut LineNames) -> Reading<Step>
+fn del(spare: &mut Spare, mut words: Lookahead<'_>, table: &mut LineNames) -> Reading<Step>
     ensures read { IfOk result (λ s. IsStepRead Rule.Del table.old (texts_of words.entry) s table.new) }
     ensures kept { table.new.before ≡ table.old.before }
     ensures denies { IfErr result (λ f. DeniesRule f Rule.Del table.old.names (texts_of words.entry)) }
@@ -70,7 +76,7 @@ fn del(alloc: Global, mut words: Lookahead<'_>, table: &mut LineNames) -> Readin
         return Err(ProofFault::BadLine);
     };
     if token.text == b"id".as_slice() {
-        let ids = numbers(alloc, LineWords::new(words))?;
+        let ids = numbers(spare, LineWords::new(words))?;
         return Ok(Step::Del(ids));
     }
     if token.text == b"range".as_slice() || token.text == b"spec".as_slice() {
@@ -82,6 +88,7 @@ fn del(alloc: Global, mut words: Lookahead<'_>, table: &mut LineNames) -> Readin
 /// The step that words say behind the word of its rule.
 pub(crate) fn step(
     alloc: Global,
+    spare: &mut Spare,
     rule: Rule,
     words: Lookahead<'_>,
     table: &mut LineNames,
@@ -92,15 +99,15 @@ pub(crate) fn step(
     ensures denies { IfErr result (λ f. DeniesRule f rule table.old.names (texts_of words.entry)) }
 {
     match rule {
-        Rule::Pol => Ok(Step::Pol(items(alloc, LineWords::new(words), table)?)),
+        Rule::Pol => Ok(Step::Pol(items(spare, LineWords::new(words), table)?)),
         Rule::Rup => {
-            let (constraint, _hints) = constraint(alloc, BeforeSemicolon::new(words), table)?;
+            let (constraint, _hints) = constraint(spare, BeforeSemicolon::new(words), table)?;
             Ok(Step::Rup(constraint))
         }
-        Rule::Red => red(alloc, words, table),
+        Rule::Red => red(alloc, spare, words, table),
         Rule::Sol => Ok(Step::Sol(lits(alloc, LineWords::new(words), table)?)),
         Rule::Soli => Ok(Step::Soli(lits(alloc, LineWords::new(words), table)?)),
-        Rule::Del => del(alloc, words, table),
+        Rule::Del => del(spare, words, table),
         Rule::Goal => Ok(Step::Goal(goal(LineWords::new(words))?)),
         Rule::End => {
             closing(LineWords::new(words))?;

@@ -19,6 +19,7 @@ ghost use Rattle.proof_text.specs.Faults.{IsPlain};
 use super::fault::{ProofFault, Reading};
 use super::line_names::LineNames;
 use super::line_words::LineWords;
+use super::spare::Spare;
 use linear::{Lit, Seq};
 use pb_text::{NumFault, Token, as_literal, integer};
 use std::alloc::Global;
@@ -75,13 +76,13 @@ pub(crate) fn lits(
 }
 
 /// Integers up to the end of a line.
-pub(crate) fn numbers(alloc: Global, mut words: LineWords<'_>) -> Reading<Seq<i128>>
+pub(crate) fn numbers(spare: &mut Spare, mut words: LineWords<'_>) -> Reading<Seq<i128>>
     ensures integers { OnOk result (are_integers words.entry ≡ true) }
     ensures values { IfOk result (λ v. v ≡ integers_of words.entry) }
     ensures small { OnOk result (AreSmall words.entry) }
     ensures denies { IfErr result (λ f. Denies f (are_integers words.entry) words.entry) }
 {
-    let mut numbers = Vec::new(alloc);
+    let mut numbers = spare.numbers();
     while let Some(token) = words.take() {
         let number = number(token)?;
         numbers.push(number)?;

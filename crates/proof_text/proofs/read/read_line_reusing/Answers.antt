@@ -9,7 +9,7 @@ use Rattle.proof_text.specs.Faults.{DeniesLine}
 use Rattle.proof_text.specs.Writable.{IsLineWritable}
 use Rattle.proof_text.proofs.LinesOfSections.{no_count_line}
 use Rattle.proof_text.proofs.ReadIsWritable.{line_writable}
-use Rattle.proof_text.proofs.read.read_line.Goals as goal
+use Rattle.proof_text.proofs.read.read_line_reusing.Goals as goal
 
 pub returns-in-None-clause-denies : goal.returns-in-None-clause-denies
 unfolding DeniesLine words
