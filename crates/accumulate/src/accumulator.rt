@@ -17,7 +17,7 @@ ghost use Rattle.cut_rules.specs.Rules.{IsSaturation, IsSum, IsTooLarge, IsWeake
 ghost use Rattle.accumulate.specs.Nets.{nothing};
 
 use super::capping::cap;
-use super::cells::{Change, apply, degree_after, fits, prepare};
+use super::cells::{Change, apply, degree_after, fits, make_room, mark_reserved, prepare};
 use super::reading::{clear, collect, finished};
 use linear::Var;
 use normal_form::{CutFault, Normal};
@@ -111,13 +111,15 @@ impl Accumulator {
         Ok(())
     }
 
-    /// Becomes this constraint, whatever it was. After an error it is empty: without terms, of degree 0.
+    /// Becomes this constraint, whatever it was. After an error it is as before.
     pub fn load(&mut self, other: &Normal) -> Result<(), AllocError>
         ensures value { OnOk result (self.new ≡ other.now) }
-        ensures empty { OnErr result (self.new ≡ nothing) }
+        ensures unchanged { OnErr result (self.new ≡ self.old) }
     {
-        self.clear();
-        prepare(&mut self.nets, &mut self.touched, other)?;
+        make_room(&mut self.nets, &mut self.touched, other)?;
+        clear(&mut self.nets, &self.touched);
+        self.touched.clear();
+        mark_reserved(&mut self.touched, other);
         self.sum = apply(&mut self.nets, 0, other, Change::Add);
         self.degree = other.degree();
         Ok(())

@@ -5,7 +5,7 @@
 //! `2^120`, and a constraint adds at most as much, so no sum leaves its type, and whether a result is too large is
 //! asked once, behind.
 
-ghost use Rattle.std.specs.Prelude.{◌≡◌, ℕ, List, Bool, ◌+◌, ◌<◌, ◌≤◌, ◌^◌, ◌-◌, ◌/◌, ◌↔◌, IsTrue, pos, ◌+ℤ◌, unsigned_abs, Contains, OnOk, length, if◌then◌else◌};
+ghost use Rattle.std.specs.Prelude.{◌≡◌, ℕ, List, Bool, ◌+◌, ◌<◌, ◌≤◌, ◌^◌, ◌-◌, ◌/◌, ◌↔◌, IsTrue, pos, ◌+ℤ◌, unsigned_abs, All, Contains, OnOk, length, vec_len, vec_capacity, if◌then◌else◌};
 ghost use Rattle.normal_form.specs.Normal.{total, variable_bound, largest_sum, IsNormal};
 ghost use Rattle.normal_form.specs.Balance.{rise_of, rises_of};
 ghost use Rattle.accumulate.specs.Nets.{terms_from, nets_of, sizes, turned, IsMarked, NamesAll};
@@ -143,6 +143,33 @@ pub(crate) fn prepare(
 {
     lengthen(nets, other.variable_count())?;
     mark(nets, touched, other)
+}
+
+/// Makes room for the variables of a constraint and for their marks. Nothing else changes.
+pub(crate) fn make_room(
+    nets: &mut Vec<i128>,
+    touched: &mut Vec<u32>,
+    other: &Normal,
+) -> Result<(), AllocError>
+    ensures terms { terms_from 0 nets.new.items ≡ terms_from 0 nets.old.items }
+    ensures marks { (marks : List ℕ) → IsMarked marks nets.old.items → IsMarked marks nets.new.items }
+    ensures touched { touched.new.items ≡ touched.old.items }
+    ensures room { OnOk result (variable_bound other.now.terms ≤ length nets.new.items) }
+    ensures reserved { OnOk result (vec_len touched.new + length other.now.terms ≤ vec_capacity touched.new) }
+{
+    lengthen(nets, other.variable_count())?;
+    touched.reserve(other.len())
+}
+
+/// Marks the variables of a constraint, for which there is room among the marks.
+pub(crate) fn mark_reserved(touched: &mut Vec<u32>, other: &Normal)
+    requires { vec_len touched.old + length other.now.terms ≤ vec_capacity touched.old }
+    ensures names { NamesAll touched.new.items other.now.terms }
+    ensures below { (n : ℕ) → variable_bound other.now.terms ≤ n → All (λ v. v < n) touched.old.items → All (λ v. v < n) touched.new.items }
+{
+    for place in 0..other.len() {
+        touched.push_reserved(other.term(place).var.0);
+    }
 }
 
 /// The degree of a sum, of the coefficient sums before and after: what cancels goes from two coefficients at once.

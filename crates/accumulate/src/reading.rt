@@ -72,6 +72,7 @@ pub(crate) fn clear(nets: &mut Vec<i128>, touched: &Vec<u32>)
     ensures marks { IsMarked [] nets.new.items }
     ensures sizes { sizes nets.new.items ≡ 0 }
     ensures terms { terms_from 0 nets.new.items ≡ [] }
+    ensures same_length { length nets.new.items ≡ length nets.old.items }
 {
     for var in touched {
         nets[*var as usize] = 0;

@@ -7,7 +7,7 @@ ghost use Rattle.std.specs.Prelude.{◌≡◌, pos, IfOk};
 ghost use Rattle.proof_rules.specs.Expression.{Given, IsPostfixOf};
 
 use accumulate::Accumulator;
-use cut_rules::{divide, multiply};
+use cut_rules::{divide_in_place, multiply};
 use linear::Var;
 use normal_form::{CutFault, Normal};
 use proof_steps::Item;
@@ -82,7 +82,7 @@ impl Derivation {
     }
 
     /// Its quotient, rounded up; nothing is written for the divisor 1.
-    pub(crate) fn divided(self, alloc: Global, divisor: u128) -> Result<Self, CutFault>
+    pub(crate) fn divided(self, divisor: u128) -> Result<Self, CutFault>
         ensures derived { (given : Given) → IsPostfixOf given self.items.items self.constraint
             → IfOk result (λ d. IsPostfixOf given d.items.items d.constraint) }
         ensures quotient { (v : ℕ) (s : Bool) → IfOk result (λ d. IsCeiling divisor (coefficient self.constraint v s) (coefficient d.constraint v s)) }
@@ -93,10 +93,10 @@ impl Derivation {
         let written = written(divisor)?;
         let Derivation {
             mut items,
-            constraint,
+            mut constraint,
         } = self;
         items.push(Item::Divide(written))?;
-        let constraint = divide(alloc, &constraint, written)?;
+        divide_in_place(&mut constraint, written)?;
         Ok(Derivation { items, constraint })
     }
 

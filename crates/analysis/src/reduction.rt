@@ -93,5 +93,5 @@ pub(crate) fn reduced(
     }
     let variables = uneven(alloc, &reason.constraint, literal, divisor, standing, place)?;
     let even = reason.without(alloc, sum, &variables)?;
-    Ok(even.divided(alloc, divisor)?)
+    Ok(even.divided(divisor)?)
 }

@@ -40,7 +40,7 @@ const CALL_WORK: u64 = 100_000_000;
 const ROOT_STEPS: u32 = 1_000_000;
 
 /// How much the first call at the root may do.
-const FIRST_ROOT_WORK: u64 = 500_000_000;
+const FIRST_ROOT_WORK: u64 = 100_000_000;
 
 /// How much any later one may do at least.
 const ROOT_WORK: u64 = 20_000_000;

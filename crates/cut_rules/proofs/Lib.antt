@@ -3,3 +3,4 @@ pub mod MergeSteps
 pub mod Changed
 pub mod OneOperand
 pub mod Meaning
+pub mod InPlace

@@ -1,5 +1,5 @@
 -- The rules on one constraint, of the terms that the code makes.
-use Rattle.std.proofs.Common.{◌≡◌, ℕ, suc, ◌+◌, ◌-◌, ◌*◌, ◌/◌, ◌%◌, ◌<◌, ◌≤◌, ◌^◌, min, Bool, true, false, cond, not, ◌==◌, ◌&&◌, List, [], ◌∷◌, length, get_or, take, refl, ap, sym, subst, ◌∙◌, arith, inl, inr}
+use Rattle.std.proofs.Common.{◌≡◌, ℕ, zero, suc, ◌+◌, ◌-◌, ◌*◌, ◌/◌, ◌%◌, ◌<◌, ◌≤◌, ◌^◌, min, Bool, true, false, cond, not, ◌==◌, ◌&&◌, List, [], ◌∷◌, length, get_or, take, refl, ap, sym, subst, ◌∙◌, arith, inl, inr}
 use Rattle.std.specs.Int.{div_ceil}
 use Rattle.std.proofs.lemmas.Bool.{cases_lt}
 use Rattle.std.proofs.lemmas.Grind.{div_ceil_times}
@@ -151,6 +151,14 @@ at_least k c h =
 
 pub parts_down : (k : ℕ) → 0 < k → (c : ℕ) → div_ceil c k ≤ c
 parts_down k h c = (ceiling k c h).least c (at_least k c h)
+
+above : (k n q : ℕ) → 0 < n → n ≤ k * q → 0 < q
+above k n zero p h = absurd (omega (arith, p, h, times_zero k))
+above k n (suc q) p h = omega arith
+
+-- no part of a number above 0 is 0
+pub parts_up : (k : ℕ) → 0 < k → (v n : ℕ) → 0 < n → 0 < parts k v n
+parts_up k h v n p = above k n (div_ceil n k) p (ceiling k n h).enough
 
 pub quotient_from : (k : ℕ) (d r : NormalConstraint) (ts : List NormalTerm) (degree : ℕ) → 0 < k → Rises 0 d.terms → ts ≡ changed (parts k) d.terms → degree ≡ div_ceil d.degree k → r.terms ≡ ts → r.degree ≡ degree → IsQuotient k d r
 quotient_from k d r ts degree h up e g t f = record {

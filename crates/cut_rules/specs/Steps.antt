@@ -39,6 +39,12 @@ abbrev pub changed : (ℕ → ℕ → ℕ) → List NormalTerm → List NormalTe
 changed f [] = []
 changed f (t ∷ ts) = kept t (f (t.var.0) t.coef) ++ changed f ts
 
+-- the terms of which so many have coefficients that a function gives
+abbrev pub partly_changed : (ℕ → ℕ → ℕ) → ℕ → List NormalTerm → List NormalTerm
+partly_changed f zero ts = ts
+partly_changed f (suc i) [] = []
+partly_changed f (suc i) (t ∷ ts) = (record t { coef = f (t.var.0) t.coef }) ∷ partly_changed f i ts
+
 -- a coefficient where the variable x goes
 abbrev pub less : ℕ → ℕ → ℕ → ℕ
 less x v c = if v == x then 0 else c

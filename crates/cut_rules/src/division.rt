@@ -2,9 +2,10 @@
 //!
 //! The weighted sum of literals is a whole number at every assignment. With coefficients rounded up it is no less than
 //! a fraction of the degree, and so at least that fraction rounded up. In normal form no coefficient is below 0, so
-//! rounding each one up keeps the constraint true; the proof format writes it `d`.
+//! rounding each one up keeps the constraint true; the proof format writes it `d`. It makes no number greater, so a constraint that
+//! nobody else has is divided where it stands.
 
-ghost use Rattle.std.specs.Prelude.{◌≡◌, ◌↔◌, ◌<◌, pos, ◌<ℤ◌, unsigned_abs, IfOk, OnErr, IsErrOf};
+ghost use Rattle.std.specs.Prelude.{◌≡◌, ◌↔◌, ◌<◌, pos, ◌<ℤ◌, unsigned_abs, IfOk, OnOk, OnErr, IsErrOf};
 ghost use Rattle.std.specs.Int.{div_ceil};
 ghost use Rattle.linear.specs.Valuation.{Valuation};
 ghost use Rattle.normal_form.specs.Normal.{IsNormal, Holds};
@@ -64,4 +65,35 @@ pub fn divide(alloc: Global, constraint: &Normal, divisor: i128) -> Result<Norma
         return Err(CutFault::BadFactor);
     }
     quotient(alloc, constraint, divisor.unsigned_abs())
+}
+
+/// Divides each coefficient by a divisor where it stands, rounding up.
+fn divide_terms(constraint: &mut Normal, divisor: u128)
+    requires { 0 < divisor }
+    ensures terms { constraint.new.terms ≡ changed (parts divisor) constraint.old.terms }
+    ensures degree { constraint.new.degree ≡ constraint.old.degree }
+    ensures normal { IsNormal constraint.old }
+{
+    for place in 0..constraint.len() {
+        let coef = divided_up(constraint.term(place).coef, divisor);
+        constraint.lower_coefficient(place, coef);
+    }
+}
+
+/// The same where the constraint stands, which takes no memory. `BadFactor` is the only fault, and after it all is as before.
+pub fn divide_in_place(constraint: &mut Normal, divisor: i128) -> Result<(), CutFault>
+    ensures quotient { OnOk result (IsQuotient (unsigned_abs divisor) constraint.old constraint.new) }
+    ensures keeps { OnOk result ((a : Valuation) → Holds a constraint.old → Holds a constraint.new) }
+    ensures unchanged { OnErr result (constraint.new ≡ constraint.old) }
+    ensures factor { divisor <ℤ pos 1 ↔ IsErrOf result CutFault.BadFactor }
+    ensures others { OnErr result (IsErrOf result CutFault.BadFactor) }
+{
+    if divisor < 1 {
+        return Err(CutFault::BadFactor);
+    }
+    let divisor = divisor.unsigned_abs();
+    divide_terms(constraint, divisor);
+    let degree = divided_up(constraint.degree(), divisor);
+    constraint.lower_degree(degree);
+    Ok(())
 }

@@ -14,7 +14,7 @@ mod weakening;
 
 pub use addition::add;
 pub use axioms::axiom;
-pub use division::divide;
+pub use division::{divide, divide_in_place};
 pub use multiplication::multiply;
-pub use saturation::saturate;
+pub use saturation::{saturate, saturate_in_place};
 pub use weakening::weaken;

@@ -1,9 +1,10 @@
 //! Saturation: a coefficient above the degree says no more than the degree.
 //!
 //! A true literal with such a coefficient meets the constraint alone, and so it does with the degree as coefficient;
-//! a false one counts for nothing in both. Smaller coefficients make the same constraint force more after additions.
+//! a false one counts for nothing in both. Smaller coefficients make the same constraint force more after additions. No number
+//! becomes greater, so a constraint that nobody else has is saturated where it stands.
 
-ghost use Rattle.std.specs.Prelude.{◌≡◌, min, IfOk, OnErr, IsErrOf};
+ghost use Rattle.std.specs.Prelude.{◌≡◌, ◌<◌, min, IfOk, OnErr, IsErrOf};
 ghost use Rattle.linear.specs.Valuation.{Valuation};
 ghost use Rattle.normal_form.specs.Normal.{IsNormal, Holds};
 ghost use Rattle.cut_rules.specs.Rules.{IsSaturation};
@@ -36,4 +37,29 @@ pub fn saturate(alloc: Global, constraint: &Normal) -> Result<Normal, CutFault>
     let degree = constraint.degree();
     let terms = capped(alloc, constraint, degree)?;
     terms.finish(degree)
+}
+
+/// Caps each coefficient where it stands.
+fn cap_terms(constraint: &mut Normal, cap: u128)
+    requires { 0 < cap }
+    ensures terms { constraint.new.terms ≡ changed (λ _ c. min c cap) constraint.old.terms }
+    ensures degree { constraint.new.degree ≡ constraint.old.degree }
+{
+    for place in 0..constraint.len() {
+        let coef = constraint.term(place).coef.min(cap);
+        constraint.lower_coefficient(place, coef);
+    }
+}
+
+/// The same where the constraint stands, which takes no memory.
+pub fn saturate_in_place(constraint: &mut Normal)
+    ensures saturation { IsSaturation constraint.old constraint.new }
+    ensures keeps { (a : Valuation) → Holds a constraint.old → Holds a constraint.new }
+{
+    let degree = constraint.degree();
+    if degree == 0 {
+        constraint.clear_terms();
+        return;
+    }
+    cap_terms(constraint, degree);
 }

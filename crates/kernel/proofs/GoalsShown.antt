@@ -12,6 +12,7 @@ use Rattle.normal_form.specs.Normal.{NormalConstraint, Rises}
 use Rattle.normal_form.proofs.NormalForm.{form, form_is, one_form}
 use Rattle.normal_form.proofs.Negations.{negation, negation_is}
 use Rattle.propagate.proofs.DegreeZero.{zero_refuted}
+use Rattle.substitution.specs.Beyond.{ShowsImage}
 use Rattle.substitution.specs.Covering.{Covers}
 use Rattle.substitution.specs.Images.{Images}
 use Rattle.substitution.specs.Objective.{not_raised, IsObjectiveGoal}
@@ -24,6 +25,7 @@ use Rattle.proof_rules.specs.declared.fault.StepFault.{StepFault}
 use Rattle.proof_rules.specs.declared.fault.StepFault.TheVariants as faults
 use Rattle.kernel.specs.Database.{Constraints}
 use Rattle.proof_rules.proofs.LiveConstraints.{All-from_get, Any-from_get}
+use Rattle.proof_rules.proofs.ShownHolds.{zero_shown}
 use Rattle.kernel.specs.Redundance.{AreAskedShown, IsAsked, IsOpenLive}
 use Rattle.kernel.proofs.Showing.{any_left}
 
@@ -37,6 +39,11 @@ pub covered_under : (live : Live) (beside : List NormalConstraint) (images : Ima
     → IsShownUnder (map.values live ++ beside) images n
 covered_under live beside images id n r is under covers =
     (r, under, inl (any_left (λ e. Covers e r) (map.values live) beside (Any-from_get (λ e. Covers e r) live id n is covers)))
+
+-- so is one that shows what it becomes
+pub itself_under : (live : Live) (beside : List NormalConstraint) (images : Images) (id : ℕ) (n : NormalConstraint) → map.get live id ≡ Some n → ShowsImage n images → IsShownUnder (map.values live ++ beside) images n
+itself_under live beside images id n is (r, under, inl zero) = (r, under, zero_shown (map.values live ++ beside) r under.rises zero)
+itself_under live beside images id n is (r, under, inr covers) = covered_under live beside images id n r is under covers
 
 -- beside the negation of a constraint of degree 0 everything is shown
 all_shown : (live : List NormalConstraint) (n r : NormalConstraint) → Rises 0 n.terms → Rises 0 r.terms → n.degree ≡ 0 → IsShown (live ++ negation n ∷ []) r

@@ -1,5 +1,5 @@
 -- The goals of a `red` step that are open.
-use Rattle.std.specs.Prelude.{◌≡◌, ◌↔◌, ◌⊎◌, Bool, false, ℕ, ◌<◌, List, [], ◌∷◌, ◌++◌, MatchOption, Option, Some}
+use Rattle.std.specs.Prelude.{◌≡◌, ◌↔◌, ◌⊎◌, Bool, false, ℕ, ◌<◌, List, [], ◌∷◌, ◌++◌, Some}
 use Rattle.std.specs.FinMap as map
 use Rattle.std.specs.FinSet as set
 use Rattle.linear.specs.declared.term.Var.{Var}
@@ -7,19 +7,13 @@ use Rattle.normal_form.specs.Negation.{IsNegation}
 use Rattle.normal_form.specs.Normal.{NormalConstraint}
 use Rattle.propagate.specs.Content.{HasLiteral}
 use Rattle.propagate.specs.Ids.{IdSet, HasId}
-use Rattle.substitution.specs.Covering.{Covers}
 use Rattle.substitution.specs.Images.{Images}
-use Rattle.substitution.specs.Under.{IsUnder}
 use Rattle.proof_rules.specs.Fault.{IsGoalFault}
 use Rattle.proof_rules.specs.Redundant.{IsShownUnder, Redundant}
 use Rattle.proof_rules.specs.State.{Live, constraints}
 use Rattle.proof_rules.specs.declared.fault.StepFault.{StepFault}
 use Rattle.proof_rules.specs.declared.fault.StepFault.TheVariants as faults
 use Rattle.kernel.specs.Held.{Held}
-
--- what a constraint becomes under the images, if it does not cover that itself
-abbrev pub BecomesBeyond : NormalConstraint → Images → Option NormalConstraint → Type 0
-BecomesBeyond n images goal = MatchOption goal ((r : NormalConstraint) × IsUnder n images r × Covers n r) (IsUnder n images)
 
 -- the live constraint of an id has a literal of the variable
 abbrev pub HasVariable : Live → Var → ℕ → Type 0

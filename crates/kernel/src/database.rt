@@ -9,7 +9,7 @@ use normal_form::Normal;
 use propagate::{Id, Ids, Propagator, Reach, Trace};
 use std::alloc::{AllocError, Global};
 use std::marker::Model;
-use substitution::{Substitution, apply, covers};
+use substitution::{Substitution, apply, becomes_beyond, covers};
 
 /// Ids are below this number.
 const ID_LIMIT: u64 = 1 << 32;
@@ -36,7 +36,7 @@ impl<P: Propagator> Model for Database<P> {
 }
 
 impl<P: Propagator> Database<P> {
-    ghost use Rattle.kernel.specs.Redundance.{AddsVariable, BecomesBeyond, IsTouched};
+    ghost use Rattle.kernel.specs.Redundance.{AddsVariable, IsTouched};
     ghost use Rattle.std.specs.Prelude.{◌≡◌, ◌↔◌, ◌<◌, ◌≤◌, [], ◌∷◌, ◌++◌, ℕ, IfOk, IsSome, IsSomeAnd, MatchOption, None, IsTrue, OnErr, OnOk};
     ghost use Rattle.normal_form.specs.Normal.{NormalConstraint};
     ghost use Rattle.propagate.specs.Chain.{IsRefuted};
@@ -44,6 +44,7 @@ impl<P: Propagator> Database<P> {
     ghost use Rattle.propagate.specs.Ids.{HasId};
     ghost use Rattle.propagate.specs.Literals.{IsConsistent};
     ghost use Rattle.propagate.specs.Reach.{IsReach};
+    ghost use Rattle.substitution.specs.Beyond.{BecomesBeyond};
     ghost use Rattle.substitution.specs.Covering.{Covers};
     ghost use Rattle.substitution.specs.Under.{IsUnder};
     ghost use Rattle.std.specs.FinMap as map;
@@ -192,8 +193,8 @@ impl<P: Propagator> Database<P> {
         }
     }
 
-    /// What the live constraint of an id becomes under a witness; none where it covers that itself, as one does that has no
-    /// variable of the witness.
+    /// What the live constraint of an id becomes under a witness; none where it shows that itself, as one does of which a literal is
+    /// fixed to the value that is good for it. Of a long constraint its terms of the witness' variables alone are looked at for that.
     pub(crate) fn becoming(
         &self,
         alloc: Global,
@@ -205,11 +206,7 @@ impl<P: Propagator> Database<P> {
         let Some(live) = self.constraints.get(id) else {
             return Ok(None);
         };
-        let goal = apply(alloc, live, witness)?;
-        if covers(live, &goal) {
-            return Ok(None);
-        }
-        Ok(Some(goal))
+        becomes_beyond(alloc, live, witness)
     }
 
     /// Whether the live constraints are refuted with some beside them.

@@ -1,9 +1,9 @@
 //! `del`: live constraints are taken out by their ids, the file's own and improving ones too, since solutions are judged by
 //! the file and never by what is live. All ids of a step are judged before the first constraint goes: taking out needs no
 //! memory, and putting back might, so a step that is refused has changed nothing. An id that stands twice is dead the
-//! second time, which a set of the ids before tells.
+//! second time, which a set of the ids before tells; one id alone needs no set.
 
-ghost use Rattle.std.specs.Prelude.{◌≡◌, None, IfErr, IfOk, IsSome, OnErr, OnOk};
+ghost use Rattle.std.specs.Prelude.{◌≡◌, [], ◌∷◌, None, IfErr, IfOk, IsSome, OnErr, OnOk};
 ghost use Rattle.proof_rules.specs.Fault.{OrMemory, IsDelFault};
 ghost use Rattle.proof_rules.specs.Legal.{LegalDel, without};
 ghost use Rattle.proof_rules.specs.State.{State, IsOutside, constraint_of, id_of};
@@ -31,8 +31,29 @@ impl<'a, P: Propagator> Kernel<'a, P> {
         Ok(Applied { id: None })
     }
 
-    /// Judges the ids of a deletion from left to right, each as if those before it were gone.
+    /// Judges the ids of a deletion.
     fn judge_deletion(&self, numbers: &[Integer]) -> Result<(), StepFault>
+        ensures ok { OnOk result (AreDeletable self.now.state numbers.now) }
+        ensures fault { IfErr result (λ f. OrMemory f (IsDelFault self.now.state numbers.now f)) }
+    {
+        match numbers {
+            [number] => self.judge_alone(*number),
+            _ => self.judge_in_turn(numbers),
+        }
+    }
+
+    /// Judges the one id of a deletion, as most have it: nothing is gone before it.
+    fn judge_alone(&self, number: Integer) -> Result<(), StepFault>
+        ensures ok { OnOk result (AreDeletable self.now.state (number ∷ [])) }
+        ensures fault { IfErr result (λ f. OrMemory f (IsDelFault self.now.state (number ∷ []) f)) }
+    {
+        let none = Ids::empty(self.allocator);
+        self.live_after(&none, number)?;
+        Ok(())
+    }
+
+    /// Judges the ids of a deletion from left to right, each as if those before it were gone.
+    fn judge_in_turn(&self, numbers: &[Integer]) -> Result<(), StepFault>
         ensures ok { OnOk result (AreDeletable self.now.state numbers.now) }
         ensures fault { IfErr result (λ f. OrMemory f (IsDelFault self.now.state numbers.now f)) }
     {

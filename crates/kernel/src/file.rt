@@ -10,7 +10,7 @@ ghost use Rattle.kernel.specs.File.{AreOfFile, AddsForms};
 
 use super::database::Database;
 use linear::{Problem, Relation, Signed};
-use normal_form::{both, normalize};
+use normal_form::Normalizer;
 use proof_rules::StepFault;
 use propagate::Propagator;
 use std::alloc::Global;
@@ -25,15 +25,16 @@ pub(crate) fn constraints_of_file<P: Propagator>(
     ensures others { OnErr result (IsErrOf result StepFault.OutOfMemory) }
 {
     let mut database = Database::empty(alloc);
+    let mut normalizer = Normalizer::new(alloc);
     for constraint in problem.constraints() {
-        push_forms(alloc, &mut database, constraint)?;
+        push_forms(&mut normalizer, &mut database, constraint)?;
     }
     Ok(database)
 }
 
 /// Adds the normal constraints of one constraint.
 fn push_forms<P: Propagator>(
-    alloc: Global,
+    normalizer: &mut Normalizer,
     database: &mut Database<P>,
     constraint: &Signed,
 ) -> Result<(), StepFault>
@@ -44,10 +45,10 @@ fn push_forms<P: Propagator>(
 {
     match constraint.relation {
         Relation::AtLeast => {
-            database.push(normalize(alloc, constraint)?)?;
+            database.push(normalizer.normalize(constraint)?)?;
         }
         Relation::Equal => {
-            let (at_least, at_most) = both(alloc, constraint)?;
+            let (at_least, at_most) = normalizer.both(constraint)?;
             database.push(at_least)?;
             database.push(at_most)?;
         }

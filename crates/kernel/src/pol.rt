@@ -1,13 +1,16 @@
 //! `pol`: cutting planes in postfix (Cook, Coullard and Turán's rules on the normal form; the VeriPB proof format). The
 //! items are run from left to right over a stack; what a whole line adds is copied only where it is one cited
-//! constraint. The kernel lends its accumulator to the stack for the time of a step.
+//! constraint. The kernel lends its accumulator to the stack for the time of a step. Who has derived a constraint already hands it over,
+//! and nothing is run a second time.
 
 ghost use Rattle.std.specs.Prelude.{◌≡◌, [], IfOk, IfErr, OnOk, OnErr, Some};
 ghost use Rattle.proof_rules.specs.Expression.{IsPostfixOf};
 ghost use Rattle.proof_rules.specs.Running.{AppliesItem};
 ghost use Rattle.proof_rules.specs.Fault.{OrMemory, IsItemFault, IsIdFault, IsWritingFault, IsPolFault};
-ghost use Rattle.proof_rules.specs.Legal.{LegalPol};
+ghost use Rattle.proof_rules.specs.Legal.{Adds, LegalPol};
+ghost use Rattle.proof_rules.specs.State.{HasRoom};
 ghost use Rattle.kernel.specs.Database.{found};
+ghost use Rattle.kernel.specs.Derived.{IsDerived};
 
 use super::database::Database;
 use super::kernel::{Applied, Kernel};
@@ -30,6 +33,20 @@ impl<'a, P: Propagator> Kernel<'a, P> {
         ensures err { OnErr result (self.new ≡ self.old) }
     {
         let value = evaluate(self.allocator, &self.database, &mut self.sum, items)?;
+        self.add_derived(value)
+    }
+
+    /// Adds a constraint that is known to be the value of an expression over the live ones, as an analysis that wrote the expression
+    /// knows it: what the `pol` step of its items does, but for running them. `TooManyIds` comes where no id is left, and every refusal
+    /// leaves the kernel as before.
+    pub fn add_derived(&mut self, value: Normal) -> Result<Applied, StepFault>
+        requires derived { IsDerived self.old.state value }
+        ensures problem { self.new.problem ≡ self.old.problem }
+        ensures ok { OnOk result (Adds value self.old.state self.new.state) }
+        ensures id { IfOk result (λ applied. applied.id ≡ Some self.old.state.next) }
+        ensures fault { IfErr result (λ f. OrMemory f ((f ≡ StepFault.TooManyIds) × (HasRoom self.old.state → ⊥))) }
+        ensures err { OnErr result (self.new ≡ self.old) }
+    {
         if !self.database.has_room() {
             return Err(StepFault::TooManyIds);
         }

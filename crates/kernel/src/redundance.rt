@@ -2,7 +2,8 @@
 //! no worse (redundance-based strengthening, after the VeriPB format). The goals are judged in order: the live constraints by
 //! rising id, the new one, the objective; each is shown from the live ones beside the negation of the new one. Most live
 //! constraints have no variable of the witness, and become themselves. They are not looked at: the propagator says which ones
-//! have a variable, so that a step costs what its witness touches, however large the database is.
+//! have a variable, so that a step costs what its witness touches, however large the database is; and of a long constraint that shows
+//! what it becomes, its terms of the witness' variables alone are looked at.
 
 ghost use Rattle.std.specs.Prelude.{◌≡◌, ◌↔◌, ◌++◌, false, Some, All, IfOk, IfErr, IsErrOf, IsTrue, OnErr, OnOk};
 ghost use Rattle.std.specs.FinMap as map;

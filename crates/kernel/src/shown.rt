@@ -44,7 +44,21 @@ pub(crate) fn is_shown<P: Propagator>(
     is_covered(alloc, database, constraint)
 }
 
-/// Whether the live constraints are refuted beside some others and one more.
+/// Whether the live constraints are refuted with one more beside them.
+fn is_refuted_with<P: Propagator>(
+    database: &mut Database<P>,
+    last: Normal,
+) -> Result<bool, StepFault>
+    ensures same { database.new ≡ database.old }
+    ensures refuted { IfOk result (λ yes. IsTrue yes ↔ IsRefuted (map.values database.old.live ++ last ∷ [])) }
+    ensures memory { OnErr result (IsErrOf result StepFault.OutOfMemory) }
+{
+    let alone = [last];
+    Ok(database.refute(&alone)?)
+}
+
+/// Whether the live constraints are refuted beside some others and one more. Outside blocks there are no others, and then no list
+/// is made.
 fn is_refuted_beside<P: Propagator>(
     database: &mut Database<P>,
     beside: &mut Vec<Normal>,
@@ -55,6 +69,9 @@ fn is_refuted_beside<P: Propagator>(
     ensures refuted { IfOk result (λ yes. IsTrue yes ↔ IsRefuted ((map.values database.old.live ++ beside.old.items) ++ last ∷ [])) }
     ensures memory { OnErr result (IsErrOf result StepFault.OutOfMemory) }
 {
+    if beside.is_empty() {
+        return is_refuted_with(database, last);
+    }
     beside.push(last)?;
     let refuted = database.refute(beside.as_slice());
     beside.pop();

@@ -1,6 +1,6 @@
--- Adding to a running sum what stands beside it is adding the two on top.
-use Rattle.std.proofs.Common.{◌≡◌, ℕ, zero, suc, ◌<◌, true, false, min, max, List, [], ◌∷◌, ◌++◌, length, reverse, map, Result, Ok, Err, OnOk, refl, ap, sym, subst, ◌∙◌, arith}
-use Rattle.std.proofs.lemmas.List.{map-append, reverse-append, length-append}
+-- Adding the last operand below a running sum to it is adding the two on top.
+use Rattle.std.proofs.Common.{◌≡◌, ℕ, zero, suc, true, false, min, max, List, [], ◌∷◌, ◌++◌, length, reverse, map, Option, Some, None, is_some, refl, ap, subst, ◌∙◌, arith}
+use Rattle.std.proofs.lemmas.List.{map-append, reverse-append}
 use Rattle.normal_form.specs.Normal.{NormalConstraint, Fits, sum_below, variable_bound}
 use Rattle.cut_rules.specs.Rules.{IsSum, IsTooLarge, both_at, cancelled}
 use Rattle.proof_rules.specs.declared.fault.StepFault.{StepFault}
@@ -9,10 +9,10 @@ use Rattle.proof_steps.specs.declared.step.Item.TheVariants as items
 use Rattle.proof_rules.specs.Expression.{Given}
 use Rattle.proof_rules.specs.Running.{AppliesItem}
 use Rattle.proof_rules.specs.Fault.{IsAddFault}
-use Rattle.pol_stack.specs.declared.stack.Operand.{Operand}
-use Rattle.pol_stack.specs.declared.stack.Held.{Held}
-use Rattle.pol_stack.specs.declared.stack.Held.TheVariants as held
-use Rattle.pol_stack.specs.Stack.{operand_value, stack_of, stacked, IsSumFault}
+use Rattle.pol_stack.specs.declared.operand.Operand.{Operand}
+use Rattle.pol_stack.specs.declared.pile.Held.{Held}
+use Rattle.pol_stack.specs.declared.pile.Held.TheVariants as held
+use Rattle.pol_stack.specs.Stack.{operand_value, stack_of, stacked, with_hands, IsSumFault}
 
 same_below : (n : ℕ) (f g : ℕ → ℕ) → ((v : ℕ) → f v ≡ g v) → sum_below n f ≡ sum_below n g
 same_below zero f g e = refl
@@ -31,23 +31,13 @@ swapped_sum d e r g = record {
   rises = g.rises;
 }
 
--- what stands above a running sum is added to it
-pub added_above : (above rest below : List Operand) (right : Operand) (s n : NormalConstraint) (given : Given) → above ≡ rest ++ right ∷ [] → length above < 2 → IsSum s (operand_value right) n → Fits n → AppliesItem given items.Add (stacked above held.RunningSum s below) (stacked rest held.RunningSum n below)
-added_above above [] below right s n given e h g f = (s, operand_value right, n, stack_of below, ap (λ (ops : List Operand). stacked ops held.RunningSum s below) e, g, f, refl)
-added_above above (x ∷ rest) below right s n given e h g f = absurd (omega (arith, h, ap length e, length-append rest (right ∷ [])))
-
-pub fault_above : (above rest below : List Operand) (right : Operand) (s : NormalConstraint) (f : StepFault) → above ≡ rest ++ right ∷ [] → length above < 2 → IsSumFault s (operand_value right) f → IsAddFault (stacked above held.RunningSum s below) f
-fault_above above [] below right s faults.TooLarge e h g = (s, operand_value right, stack_of below, g.0, ap (λ (ops : List Operand). stacked ops held.RunningSum s below) e, g.1)
-fault_above above (x ∷ rest) below right s f e h g = absurd (omega (arith, h, ap length e, length-append rest (right ∷ [])))
-fault_above above [] below right s _ e h g = absurd g
-
 last_first : (rest : List Operand) (o : Operand) → stack_of (rest ++ o ∷ []) ≡ operand_value o ∷ stack_of rest
 last_first rest o = ap reverse (map-append operand_value rest (o ∷ [])) ∙ reverse-append (map operand_value rest) (operand_value o ∷ [])
 
 two_on_top : (below rest : List Operand) (left : Operand) (s : NormalConstraint) → below ≡ rest ++ left ∷ [] → s ∷ stack_of below ≡ s ∷ operand_value left ∷ stack_of rest
 two_on_top below rest left s e = ap (λ (ops : List Operand). s ∷ stack_of ops) e ∙ ap (λ (ns : List NormalConstraint). s ∷ ns) (last_first rest left)
 
--- and so is what stands below it
+-- what stands below a running sum is added to it
 pub added_below : (below rest : List Operand) (left : Operand) (s n : NormalConstraint) (given : Given) → below ≡ rest ++ left ∷ [] → IsSum s (operand_value left) n → Fits n → AppliesItem given items.Add (s ∷ stack_of below) (n ∷ stack_of rest)
 added_below below rest left s n given e g f = (operand_value left, s, n, stack_of rest, two_on_top below rest left s e, swapped_sum s (operand_value left) n g, f, refl)
 
@@ -58,22 +48,14 @@ pub fault_below : (below rest : List Operand) (left : Operand) (s : NormalConstr
 fault_below below rest left s faults.TooLarge e g = (operand_value left, s, stack_of rest, g.0, two_on_top below rest left s e, too_large_below s (operand_value left) g.0 g.1)
 fault_below below rest left s _ e g = absurd g
 
--- where nothing stands above a running sum, it is on top
-pub nothing_above : (above rest : List Operand) → above ≡ rest ++ [] → (0 < length above → ⊥) → (above ≡ []) × (rest ≡ [])
-nothing_above [] [] e h = (refl, refl)
-nothing_above [] (x ∷ rest) e h = absurd (omega (arith, ap length e))
-nothing_above (x ∷ above) rest e h = absurd (h (omega arith))
+-- where nothing stands above a running sum, what is added to it is added to the one on top
+pub added_on_top : (old : List NormalConstraint) (above below behind : List Operand) (what : Held) (s n : NormalConstraint) (given : Given) → length above ≡ 0 → what ≡ held.RunningSum → stacked above what s below ≡ old → AppliesItem given items.Add (s ∷ stack_of below) (n ∷ stack_of behind) → AppliesItem given items.Add old (stacked above what n behind)
+added_on_top old [] below behind held.RunningSum s n given bare is view h = subst (λ (ns : List NormalConstraint). AppliesItem given items.Add ns (n ∷ stack_of behind)) view h
+added_on_top old [] below behind held.Nothing s n given bare is view h = cc
+added_on_top old (o ∷ above) below behind what s n given bare is view h = absurd (omega (arith, bare))
 
-pub below_on_top : (above rest below behind : List Operand) (s n : NormalConstraint) (given : Given) → above ≡ [] → rest ≡ [] → AppliesItem given items.Add (s ∷ stack_of below) (n ∷ stack_of behind) → AppliesItem given items.Add (stacked above held.RunningSum s below) (stacked rest held.RunningSum n behind)
-below_on_top [] [] below behind s n given e f h = h
-below_on_top [] (x ∷ rest) below behind s n given e f h = absurd (omega (arith, ap length f))
-below_on_top (x ∷ above) rest below behind s n given e f h = absurd (omega (arith, ap length e))
-
--- what the accumulator holds is the running sum
-pub running_top : (old : List NormalConstraint) (above next below behind : List Operand) (what : Held) (s n : NormalConstraint) (given : Given) → what ≡ held.RunningSum → stacked above what s below ≡ old → AppliesItem given items.Add (stacked above held.RunningSum s below) (stacked next held.RunningSum n behind) → AppliesItem given items.Add old (stacked next what n behind)
-running_top old above next below behind what s n given is view h = subst (λ (x : Held). stacked above x s below ≡ old → AppliesItem given items.Add old (stacked next x n behind)) (sym is) (λ (v : stacked above held.RunningSum s below ≡ old). subst (λ (ns : List NormalConstraint). AppliesItem given items.Add ns (stacked next held.RunningSum n behind)) v h) view
-
--- two facts of a success give a third
-pub both_ok : {T E P Q R : Type 0} (r : Result T E) → (P → Q → R) → OnOk r P → OnOk r Q → OnOk r R
-both_ok (Ok x) f p q = f p q
-both_ok (Err e) f p q = tt
+-- where both hands are empty, what happens on the pile happens on the stack
+pub added_below_hands : (old pile next : List NormalConstraint) (top under : Option Operand) (given : Given) → is_some top ≡ false → is_some under ≡ false → with_hands top under pile ≡ old → AppliesItem given items.Add pile next → AppliesItem given items.Add old (with_hands top under next)
+added_below_hands old pile next None None given t u view h = subst (λ (ns : List NormalConstraint). AppliesItem given items.Add ns next) view h
+added_below_hands old pile next None (Some o) given t u view h = cc
+added_below_hands old pile next (Some o) under given t u view h = cc

@@ -1,414 +1,367 @@
-//! The stack of a `pol` step. An operand is a live constraint that is lent, or a result that the step made: citing a
-//! constraint copies nothing, and a result is handed over as it is.
+//! The stack of a `pol` step: what each item but an id does to it.
 //!
-//! A sum to which more is added stands in an accumulator: so an addition costs what is added, and not what was summed
-//! up before. There is one accumulator, and it holds the sum that is nearest to the top; the other operands stand above
-//! and below it. Where two operands above it are to become such a sum themselves, it is read off first. A constraint that is
-//! weakened again and again stands in it too, so that each time costs one look and not the whole constraint. Which of its
-//! ways an addition or a weakening takes says nothing of what it gives, and is chosen by what it costs.
+//! The two operands on top are held in hands, and the others stand on a pile. So most lines, which have no more than two at a time, need no
+//! memory for their stack, and an operand that a rule refuses goes back into the hand that it came from: a refusal changes nothing.
 
-ghost use Rattle.std.specs.Prelude.{◌≡◌, ◌<◌, ◌∷◌, [], length, IfErr, OnOk, OnErr, IsErrOf};
-ghost use Rattle.normal_form.specs.Normal.{Fits};
-ghost use Rattle.cut_rules.specs.Rules.{IsSum, IsWeakening};
-ghost use Rattle.proof_rules.specs.Expression.{Given};
-ghost use Rattle.proof_rules.specs.Running.{AppliesItem};
-ghost use Rattle.proof_steps.specs.declared.step.Item.TheVariants as items;
+ghost use Rattle.std.specs.Prelude.{◌≡◌, ◌↔◌, None, ◌∷◌, ◌++◌, [], IsTrue, MatchOption, IfOk, IfErr, OnOk, OnErr, IsErrOf};
+ghost use Rattle.pol_stack.specs.Stack.{operand_value, in_hand, with_hands, IsAddedOnTop, IsSumOnTop, IsSumFault, IsWeakeningOnTop};
 ghost use Rattle.proof_rules.specs.Fault.{OrMemory, IsAddFault};
-ghost use Rattle.pol_stack.specs.Stack.{operand_value, stack_of, with_sum, stacked, IsSumFault};
 
+use super::operand::Operand;
+use super::pile::Pile;
 use accumulate::Accumulator;
-use cut_rules::{add, weaken};
-use linear::Var;
+use cut_rules::{add, axiom, multiply, weaken};
+use linear::{Lit, Var};
 use normal_form::{CutFault, Normal};
 use proof_rules::StepFault;
-use smallvec::SmallVec;
 use std::alloc::{AllocError, Global};
-use std::default::MadeWith;
 use std::marker::Model;
 
-/// A constraint on the stack.
-#[derive(Debug, Drop)]
-pub enum Operand<'a> {
-    /// A live constraint.
-    Live(&'a Normal),
-    /// A result of an earlier item.
-    Made(Normal),
-    /// A sum that an earlier item made, to which more may be added.
-    Sum(Normal),
-}
-
-impl<'a> MadeWith<Global> for Operand<'a> {
-    ghost use Rattle.std.specs.Prelude.{◌≡◌};
-
-    fn made_with(alloc: Global) -> Operand<'a> {
-        Operand::Made(Normal::made_with(alloc))
-    }
-}
-
-impl<'a> Operand<'a> {
-    ghost use Rattle.std.specs.Prelude.{◌≡◌, IfOk};
-    ghost use Rattle.pol_stack.specs.Stack.{operand_value};
-
-    /// The constraint that the operand stands for.
-    pub(crate) fn constraint(&self) -> &Normal
-        ensures { result.now ≡ operand_value self.now }
-    {
-        match self {
-            Operand::Live(constraint) => constraint,
-            Operand::Made(constraint) => constraint,
-            Operand::Sum(constraint) => constraint,
-        }
-    }
-
-    /// The constraint that the operand stands for, to keep: a live one is copied.
-    pub(crate) fn into_constraint(self, alloc: Global) -> Result<Normal, AllocError>
-        ensures { IfOk result (λ n. n ≡ operand_value self.entry) }
-    {
-        match self {
-            Operand::Live(constraint) => constraint.copy(alloc),
-            Operand::Made(constraint) => Ok(constraint),
-            Operand::Sum(constraint) => Ok(constraint),
-        }
-    }
-
-    /// Whether more may be added to it.
-    fn is_sum(&self) -> bool {
-        match self {
-            Operand::Sum(_) => true,
-            _ => false,
-        }
-    }
-
-    /// Whether it is lent.
-    fn is_live(&self) -> bool {
-        match self {
-            Operand::Live(_) => true,
-            _ => false,
-        }
-    }
-
-    /// What it becomes by weakening: a sum stays one.
-    fn weakened(&self, made: Normal) -> Operand<'a>
-        ensures { operand_value result ≡ made }
-    {
-        match self {
-            Operand::Sum(_) => Operand::Sum(made),
-            _ => Operand::Made(made),
-        }
-    }
-}
-
-/// What the accumulator of a stack holds.
-#[derive(Clone, Copy, Debug)]
-pub(crate) enum Held {
-    /// Nothing that stands on the stack.
-    Nothing,
-    /// The sum that stands between the operands above and those below.
-    RunningSum,
-}
-
-/// The operands of a `pol` step. After a fault, out of memory included, nothing is said of what stands on it.
+/// The operands of a `pol` step.
 #[derive(Drop)]
 pub struct Stack<'a> {
-    below: SmallVec<Operand<'a>, 2>,
-    held: Held,
-    sum: Accumulator,
-    above: SmallVec<Operand<'a>, 8>,
-    /// How many terms were added to the running sum, less those of copies made above it since. Only speed depends on it.
-    added: usize,
+    pile: Pile<'a>,
+    under: Option<Operand<'a>>,
+    top: Option<Operand<'a>>,
 }
 
 impl<'a> Model for Stack<'a> {
     ghost use Rattle.std.specs.Prelude.{List};
     ghost use Rattle.normal_form.specs.Normal.{NormalConstraint};
-    ghost use Rattle.pol_stack.specs.Stack.{stacked};
+    ghost use Rattle.pol_stack.specs.Stack.{with_hands};
 
     ghost Value = { List NormalConstraint };
 
-    ghost view = { λ s. stacked s.above.items s.held s.sum s.below.items };
+    ghost view = { λ s. with_hands s.top s.under s.pile };
+}
+
+/// Takes the operand on top: out of a hand, or else from the pile. A running sum there is read off; running out of memory for that is the
+/// only fault.
+fn take_top<'a>(
+    alloc: Global,
+    top: &mut Option<Operand<'a>>,
+    under: &mut Option<Operand<'a>>,
+    pile: &mut Pile<'a>,
+) -> Result<Option<Operand<'a>>, CutFault>
+    ensures taken { IfOk result (λ taken. MatchOption
+        taken
+        ((with_hands top.old under.old pile.old ≡ []) × (with_hands top.new under.new pile.new ≡ []))
+        (λ o. with_hands top.old under.old pile.old ≡ operand_value o ∷ (in_hand under.new ++ pile.new))) }
+    ensures top { top.new ≡ None }
+    ensures under { top.old ≡ None → under.new ≡ None }
+    ensures err { OnErr result (with_hands top.new under.new pile.new ≡ with_hands top.old under.old pile.old) }
+    ensures memory { OnErr result (IsErrOf result CutFault.OutOfMemory) }
+{
+    if let Some(operand) = top.take() {
+        return Ok(Some(operand));
+    }
+    if let Some(operand) = under.take() {
+        return Ok(Some(operand));
+    }
+    pile.pop(alloc)
+}
+
+/// The sum of two operands, to be held; none where it stands on the pile, as the running one.
+fn add_apart<'a>(
+    alloc: Global,
+    pile: &mut Pile<'a>,
+    left: &Operand<'a>,
+    right: &Operand<'a>,
+) -> Result<Option<Operand<'a>>, StepFault>
+    ensures ok { IfOk result (λ held. IsSumOnTop (operand_value left.now) (operand_value right.now) pile.old (in_hand held ++ pile.new)) }
+    ensures err { OnErr result (pile.new ≡ pile.old) }
+    ensures fault { IfErr result (λ f. OrMemory f (IsSumFault (operand_value left.now) (operand_value right.now) f)) }
+{
+    if pile.is_cheap_to_copy(left, right) {
+        let made = add(alloc, left.constraint(), right.constraint())?;
+        return Ok(Some(Operand::Sum(made)));
+    }
+    pile.start_sum(alloc, left.constraint(), right.constraint())?;
+    Ok(None)
+}
+
+/// The sum of an operand and the one under it, to be held; none where it stands on the pile, as the running one.
+fn add_right<'a>(
+    alloc: Global,
+    under: &mut Option<Operand<'a>>,
+    pile: &mut Pile<'a>,
+    right: &Operand<'a>,
+) -> Result<Option<Operand<'a>>, StepFault>
+    ensures ok { IfOk result (λ held. IsAddedOnTop
+        (operand_value right.now)
+        (in_hand under.old ++ pile.old)
+        (in_hand held ++ (in_hand under.new ++ pile.new))) }
+    ensures err { OnErr result (in_hand under.new ++ pile.new ≡ in_hand under.old ++ pile.old) }
+    ensures fault { IfErr result (λ f. OrMemory f (IsAddFault (operand_value right.now ∷ (in_hand under.old ++ pile.old)) f)) }
+{
+    if under.is_none() && pile.add_to_sum(right)? {
+        return Ok(None);
+    }
+    let Some(left) = take_under(alloc, under, pile)? else {
+        return Err(StepFault::StackShape);
+    };
+    match add_apart(alloc, pile, &left, right) {
+        Ok(held) => Ok(held),
+        Err(fault) => {
+            *under = Some(left);
+            Err(fault)
+        }
+    }
+}
+
+/// Takes the operand under the one on top: out of a hand, or else from the pile.
+fn take_under<'a>(
+    alloc: Global,
+    under: &mut Option<Operand<'a>>,
+    pile: &mut Pile<'a>,
+) -> Result<Option<Operand<'a>>, CutFault>
+    ensures taken { IfOk result (λ taken. MatchOption
+        taken
+        ((in_hand under.old ++ pile.old ≡ []) × (in_hand under.new ++ pile.new ≡ []))
+        (λ o. in_hand under.old ++ pile.old ≡ operand_value o ∷ pile.new)) }
+    ensures under { under.new ≡ None }
+    ensures err { OnErr result (in_hand under.new ++ pile.new ≡ in_hand under.old ++ pile.old) }
+    ensures memory { OnErr result (IsErrOf result CutFault.OutOfMemory) }
+{
+    if let Some(operand) = under.take() {
+        return Ok(Some(operand));
+    }
+    pile.pop(alloc)
+}
+
+/// Whether nothing stands under the operand on top.
+fn is_empty<'a>(
+    alloc: Global,
+    under: &mut Option<Operand<'a>>,
+    pile: &mut Pile<'a>,
+) -> Result<bool, CutFault>
+    ensures same { in_hand under.new ++ pile.new ≡ in_hand under.old ++ pile.old }
+    ensures empty { IfOk result (λ yes. IsTrue yes ↔ (in_hand under.old ++ pile.old ≡ [])) }
+    ensures memory { OnErr result (IsErrOf result CutFault.OutOfMemory) }
+{
+    match take_under(alloc, under, pile)? {
+        None => Ok(true),
+        Some(operand) => {
+            *under = Some(operand);
+            Ok(false)
+        }
+    }
+}
+
+/// What an operand becomes by weakening, to be held; none where it stands on the pile, as the running sum.
+fn weaken_apart<'a>(
+    alloc: Global,
+    under: &mut Option<Operand<'a>>,
+    pile: &mut Pile<'a>,
+    operand: &Operand<'a>,
+    var: Var,
+) -> Result<Option<Operand<'a>>, CutFault>
+    ensures ok { IfOk result (λ held. IsWeakeningOnTop
+        (var.0)
+        (operand_value operand.now)
+        (in_hand under.old ++ pile.old)
+        (in_hand held ++ (in_hand under.new ++ pile.new))) }
+    ensures err { OnErr result (in_hand under.new ++ pile.new ≡ in_hand under.old ++ pile.old) }
+    ensures memory { OnErr result (IsErrOf result CutFault.OutOfMemory) }
+{
+    if !pile.is_cheap_to_weaken(operand) {
+        put_down(under, pile)?;
+        pile.start_weakened(alloc, operand.constraint(), var)?;
+        return Ok(None);
+    }
+    let made = weaken(alloc, operand.constraint(), var)?;
+    pile.count_copy(made.len());
+    Ok(Some(operand.weakened(made)))
+}
+
+/// Puts what a hand holds on the pile.
+fn put_down<'a>(hand: &mut Option<Operand<'a>>, pile: &mut Pile<'a>) -> Result<(), AllocError>
+    ensures same { in_hand hand.new ++ pile.new ≡ in_hand hand.old ++ pile.old }
+    ensures empty { OnOk result (hand.new ≡ None) }
+{
+    let Some(operand) = hand.take() else {
+        return Ok(());
+    };
+    match pile.push(operand) {
+        Ok(()) => Ok(()),
+        Err(operand) => {
+            *hand = Some(operand);
+            Err(AllocError)
+        }
+    }
 }
 
 impl<'a> Stack<'a> {
-    ghost use Rattle.std.specs.Prelude.{◌≡◌, [], ◌∷◌, MatchOption, IfOk, IfErr, OnOk, OnErr, IsErrOf};
-    ghost use Rattle.pol_stack.specs.Stack.{operand_value, IsSumOnTop, IsSumFault, IsWeakeningOnTop};
+    ghost use Rattle.std.specs.Prelude.{◌≡◌, ◌≢◌, ◌∷◌, [], length, MatchResult, IfOk, IfErr, OnOk, OnErr};
+    ghost use Rattle.pol_stack.specs.Stack.{operand_value};
     ghost use Rattle.proof_rules.specs.Expression.{Given};
     ghost use Rattle.proof_rules.specs.Running.{AppliesItem};
     ghost use Rattle.proof_steps.specs.declared.step.Item.TheVariants as items;
-    ghost use Rattle.proof_rules.specs.Fault.{OrMemory, IsAddFault, IsShapeFault};
+    ghost use Rattle.proof_rules.specs.Fault.{OrMemory, IsAddFault, IsMultiplyFault, IsFactorFault, IsShapeFault};
 
     /// An empty stack, with an accumulator to add up in, whatever that holds.
     pub fn new(alloc: Global, sum: Accumulator) -> Self
         ensures { result ≡ [] }
     {
         Stack {
-            below: SmallVec::new(alloc),
-            held: Held::Nothing,
-            sum,
-            above: SmallVec::new(alloc),
-            added: 0,
+            pile: Pile::new(alloc, sum),
+            under: None,
+            top: None,
         }
     }
 
     /// Gives the accumulator back. What it holds is of no account, and nothing is said of it.
     pub fn into_accumulator(self) -> Accumulator {
-        self.sum
+        self.pile.into_accumulator()
     }
 
-    /// Puts an operand on top. Running out of memory is the only fault.
+    /// Puts an operand on top. Running out of memory is the only fault, and after it all is as before.
     pub fn push(&mut self, operand: Operand<'a>) -> Result<(), AllocError>
-        ensures { OnOk result (self.new ≡ operand_value operand.entry ∷ self.old) }
+        ensures { MatchResult result (λ _. self.new ≡ operand_value operand.entry ∷ self.old) (λ _. self.new ≡ self.old) }
     {
-        self.above.push(operand)?;
+        put_down(&mut self.under, &mut self.pile)?;
+        self.under = self.top.take();
+        self.top = Some(operand);
         Ok(())
     }
 
-    /// Takes the operand on top. A running sum there is read off; running out of memory for that is the only fault.
-    pub(crate) fn pop(&mut self, alloc: Global) -> Result<Option<Operand<'a>>, CutFault>
-        ensures top { IfOk result (λ top. MatchOption top (self.old ≡ []) (λ o. self.old ≡ operand_value o ∷ self.new)) }
-        ensures memory { OnErr result (IsErrOf result CutFault.OutOfMemory) }
+    /// Puts the axiom of a literal on top. Running out of memory is the only fault, and after it all is as before.
+    pub fn push_axiom(&mut self, alloc: Global, literal: Lit) -> Result<(), StepFault>
+        ensures ok { (given : Given) → OnOk result (AppliesItem given (items.Axiom literal) self.old self.new) }
+        ensures err { OnErr result (self.new ≡ self.old) }
+        ensures fault { IfErr result (λ f. OrMemory f ⊥) }
     {
-        if let Some(operand) = self.above.pop() {
-            return Ok(Some(operand));
-        }
-        match self.held {
-            Held::Nothing => Ok(self.below.pop()),
-            Held::RunningSum => {
-                let taken = self.sum.take(alloc)?;
-                self.held = Held::Nothing;
-                Ok(Some(Operand::Sum(taken)))
-            }
-        }
+        let made = axiom(alloc, literal)?;
+        self.push(Operand::Made(made))?;
+        Ok(())
     }
 
     /// Adds the two on top: to the running sum, where it is one of them. `StackShape` where there are fewer than two;
-    /// else `TooLarge` where the sum is not within the limits.
+    /// else `TooLarge` where the sum is not within the limits. After a fault all is as before.
     pub fn add_top_two(&mut self, alloc: Global) -> Result<(), StepFault>
         ensures ok { (given : Given) → OnOk result (AppliesItem given items.Add self.old self.new) }
+        ensures err { OnErr result (self.new ≡ self.old) }
         ensures fault { IfErr result (λ f. OrMemory f (IsAddFault self.old f)) }
     {
-        match self.held {
-            Held::Nothing => self.add_apart(alloc),
-            Held::RunningSum => {
-                if self.above.len() > 1 {
-                    return self.add_apart(alloc);
-                }
-                let count = add_beside(&mut self.above, &mut self.sum, &mut self.below)?;
-                self.added = self.added.saturating_add(count);
-                Ok(())
-            }
-        }
-    }
-
-    /// Adds the two on top, neither of which is the running sum.
-    fn add_apart(&mut self, alloc: Global) -> Result<(), StepFault>
-        ensures ok { (given : Given) → OnOk result (AppliesItem given items.Add self.old self.new) }
-        ensures fault { IfErr result (λ f. OrMemory f (IsAddFault self.old f)) }
-    {
-        let Some(right) = self.pop(alloc)? else {
-            return Err(StepFault::StackShape);
-        };
-        let Some(left) = self.pop(alloc)? else {
-            return Err(StepFault::StackShape);
-        };
-        if self.is_cheap_to_copy(&left, &right) {
-            let made = add(alloc, left.constraint(), right.constraint())?;
-            self.push(Operand::Sum(made))?;
+        if self.top.is_none() && self.under.is_none() && self.pile.add_from_below()? {
             return Ok(());
         }
-        self.push_running_sum(alloc, left.constraint(), right.constraint())
-    }
-
-    /// Whether the sum of two operands is made as a constraint of its own. Two that are no sums themselves may be all
-    /// that the line adds, and one copy is cheaper than the accumulator. Above a running sum a copy is cheaper than to
-    /// read that off, as long as it has no more terms than were added there.
-    fn is_cheap_to_copy(&self, left: &Operand<'a>, right: &Operand<'a>) -> bool {
-        match self.held {
-            Held::Nothing => !left.is_sum() && !right.is_sum(),
-            Held::RunningSum => {
-                left.constraint()
-                    .len()
-                    .saturating_add(right.constraint().len())
-                    <= self.added
+        let Some(right) = take_top(alloc, &mut self.top, &mut self.under, &mut self.pile)? else {
+            return Err(StepFault::StackShape);
+        };
+        match add_right(alloc, &mut self.under, &mut self.pile, &right) {
+            Ok(held) => {
+                self.top = held;
+                Ok(())
+            }
+            Err(fault) => {
+                self.top = Some(right);
+                Err(fault)
             }
         }
     }
 
-    /// Puts a sum on top, as the running one. If there was one, it is read off.
-    fn push_running_sum(
-        &mut self,
-        alloc: Global,
-        left: &Normal,
-        right: &Normal,
-    ) -> Result<(), StepFault>
-        ensures ok { OnOk result (IsSumOnTop left.now right.now self.old self.new) }
-        ensures fault { IfErr result (λ f. OrMemory f (IsSumFault left.now right.now f)) }
+    /// Multiplies the one on top. `StackShape` where there is none; else `BadFactor` where the factor is below 1; else
+    /// `TooLarge` where the product is not within the limits. After a fault all is as before.
+    pub fn multiply_top(&mut self, alloc: Global, factor: i128) -> Result<(), StepFault>
+        ensures ok { (given : Given) → OnOk result (AppliesItem given (items.Multiply factor) self.old self.new) }
+        ensures err { OnErr result (self.new ≡ self.old) }
+        ensures fault { IfErr result (λ f. OrMemory f (IsMultiplyFault factor self.old f)) }
     {
-        put_away(
-            alloc,
-            self.held,
-            &mut self.sum,
-            &mut self.above,
-            &mut self.below,
-        )?;
-        self.sum.load(left)?;
-        self.sum.add(right)?;
-        self.held = Held::RunningSum;
-        self.added = left.len().saturating_add(right.len());
-        Ok(())
+        let Some(top) = take_top(alloc, &mut self.top, &mut self.under, &mut self.pile)? else {
+            return Err(StepFault::StackShape);
+        };
+        match multiply(alloc, top.constraint(), factor) {
+            Ok(made) => {
+                self.top = Some(Operand::Made(made));
+                Ok(())
+            }
+            Err(fault) => {
+                self.top = Some(top);
+                Err(StepFault::from(fault))
+            }
+        }
     }
 
-    /// Weakens the one on top by a variable. `StackShape` where there is none.
+    /// Divides the one on top, rounding up. `StackShape` where there is none; else `BadFactor` where the divisor is
+    /// below 1. After a fault all is as before.
+    pub fn divide_top(&mut self, alloc: Global, divisor: i128) -> Result<(), StepFault>
+        ensures ok { (given : Given) → OnOk result (AppliesItem given (items.Divide divisor) self.old self.new) }
+        ensures err { OnErr result (self.new ≡ self.old) }
+        ensures fault { IfErr result (λ f. OrMemory f (IsFactorFault divisor self.old f)) }
+    {
+        let Some(mut top) = take_top(alloc, &mut self.top, &mut self.under, &mut self.pile)? else {
+            return Err(StepFault::StackShape);
+        };
+        let divided = top.divide(alloc, divisor);
+        self.top = Some(top.settled());
+        Ok(divided?)
+    }
+
+    /// Saturates the one on top. `StackShape` where there is none. After a fault all is as before.
+    pub fn saturate_top(&mut self, alloc: Global) -> Result<(), StepFault>
+        ensures ok { (given : Given) → OnOk result (AppliesItem given items.Saturate self.old self.new) }
+        ensures err { OnErr result (self.new ≡ self.old) }
+        ensures fault { IfErr result (λ f. OrMemory f (IsShapeFault self.old f)) }
+    {
+        let Some(mut top) = take_top(alloc, &mut self.top, &mut self.under, &mut self.pile)? else {
+            return Err(StepFault::StackShape);
+        };
+        let saturated = top.saturate(alloc);
+        self.top = Some(top.settled());
+        Ok(saturated?)
+    }
+
+    /// Weakens the one on top by a variable. `StackShape` where there is none. After a fault all is as before.
     pub fn weaken_top(&mut self, alloc: Global, var: Var) -> Result<(), StepFault>
         ensures ok { (given : Given) → OnOk result (AppliesItem given (items.Weaken var) self.old self.new) }
+        ensures err { OnErr result (self.new ≡ self.old) }
         ensures fault { IfErr result (λ f. OrMemory f (IsShapeFault self.old f)) }
     {
-        match self.held {
-            Held::Nothing => self.weaken_operand(alloc, var),
-            Held::RunningSum => {
-                if !self.above.is_empty() {
-                    return self.weaken_operand(alloc, var);
-                }
-                self.sum.weaken(var);
+        if self.top.is_none() && self.under.is_none() && self.pile.weaken_sum(var) {
+            return Ok(());
+        }
+        let Some(top) = take_top(alloc, &mut self.top, &mut self.under, &mut self.pile)? else {
+            return Err(StepFault::StackShape);
+        };
+        match weaken_apart(alloc, &mut self.under, &mut self.pile, &top, var) {
+            Ok(held) => {
+                self.top = held;
                 Ok(())
+            }
+            Err(fault) => {
+                self.top = Some(top);
+                Err(StepFault::from(fault))
             }
         }
     }
 
-    /// Weakens the operand on top.
-    fn weaken_operand(&mut self, alloc: Global, var: Var) -> Result<(), StepFault>
-        ensures ok { (given : Given) → OnOk result (AppliesItem given (items.Weaken var) self.old self.new) }
-        ensures fault { IfErr result (λ f. OrMemory f (IsShapeFault self.old f)) }
+    /// Takes the one constraint that is left at the end of a line. `StackShape` where there is not exactly one. After a fault all is as
+    /// before.
+    pub fn only(&mut self, alloc: Global) -> Result<Normal, StepFault>
+        ensures one { IfOk result (λ n. self.old ≡ n ∷ []) }
+        ensures err { OnErr result (self.new ≡ self.old) }
+        ensures fault { IfErr result (λ f. OrMemory f ((f ≡ StepFault.StackShape) × (length self.old ≢ 1))) }
     {
-        let Some(top) = self.pop(alloc)? else {
+        let Some(top) = take_top(alloc, &mut self.top, &mut self.under, &mut self.pile)? else {
             return Err(StepFault::StackShape);
         };
-        if !self.is_cheap_to_weaken(&top) {
-            self.push_weakened(alloc, top.constraint(), var)?;
-            return Ok(());
-        }
-        let made = weaken(alloc, top.constraint(), var)?;
-        self.added = self.added.saturating_sub(made.len());
-        self.push(top.weakened(made))?;
-        Ok(())
-    }
-
-    /// Whether an operand is weakened by a copy. A live one is, since it would have to be copied in any case; one that was made is
-    /// likely to be weakened again. Above a running sum copies are cheaper than to read that off, until they have had as many terms as
-    /// were added there.
-    fn is_cheap_to_weaken(&self, operand: &Operand<'a>) -> bool {
-        match self.held {
-            Held::Nothing => operand.is_live(),
-            Held::RunningSum => operand.constraint().len() <= self.added,
-        }
-    }
-
-    /// Puts a constraint on top, weakened by a variable, as the running sum: to weaken that once more is one look. If there was one,
-    /// it is read off.
-    fn push_weakened(
-        &mut self,
-        alloc: Global,
-        constraint: &Normal,
-        var: Var,
-    ) -> Result<(), CutFault>
-        ensures ok { OnOk result (IsWeakeningOnTop (var.0) constraint.now self.old self.new) }
-        ensures memory { OnErr result (IsErrOf result CutFault.OutOfMemory) }
-    {
-        put_away(
-            alloc,
-            self.held,
-            &mut self.sum,
-            &mut self.above,
-            &mut self.below,
-        )?;
-        load_weakened(&mut self.sum, constraint, var)?;
-        self.held = Held::RunningSum;
-        self.added = constraint.len();
-        Ok(())
-    }
-}
-
-/// Makes a running sum of a constraint, weakened by a variable.
-fn load_weakened(sum: &mut Accumulator, constraint: &Normal, var: Var) -> Result<(), AllocError>
-    ensures { OnOk result (IsWeakening (var.0) constraint.now sum.new) }
-{
-    sum.load(constraint)?;
-    sum.weaken(var);
-    Ok(())
-}
-
-/// Adds an operand to a running sum. How many terms it has.
-fn add_operand(sum: &mut Accumulator, operand: &Operand<'_>) -> Result<usize, StepFault>
-    ensures sum { OnOk result (IsSum sum.old (operand_value operand.now) sum.new) }
-    ensures fits { OnOk result (Fits sum.new) }
-    ensures fault { IfErr result (λ f. OrMemory f (IsSumFault sum.old (operand_value operand.now) f)) }
-{
-    sum.add(operand.constraint())?;
-    Ok(operand.constraint().len())
-}
-
-/// Adds the last operand below a running sum to it. How many terms it has.
-fn add_from_below(
-    sum: &mut Accumulator,
-    below: &mut SmallVec<Operand<'_>, 2>,
-) -> Result<usize, StepFault>
-    ensures ok { (given : Given) → OnOk result (AppliesItem given items.Add (sum.old ∷ stack_of below.old.items) (sum.new ∷ stack_of below.new.items)) }
-    ensures fault { IfErr result (λ f. OrMemory f (IsAddFault (sum.old ∷ stack_of below.old.items) f)) }
-{
-    match below.pop() {
-        Some(left) => add_operand(sum, &left),
-        None => Err(StepFault::StackShape),
-    }
-}
-
-/// Adds to a running sum what stands on it, or else the operand below. How many terms that has.
-fn add_beside<'a>(
-    above: &mut SmallVec<Operand<'a>, 8>,
-    sum: &mut Accumulator,
-    below: &mut SmallVec<Operand<'a>, 2>,
-) -> Result<usize, StepFault>
-    requires { length above.old.items < 2 }
-    ensures ok { (given : Given) → OnOk result (AppliesItem given items.Add (stacked above.old.items Held.RunningSum sum.old below.old.items) (stacked above.new.items Held.RunningSum sum.new below.new.items)) }
-    ensures fault { IfErr result (λ f. OrMemory f (IsAddFault (stacked above.old.items Held.RunningSum sum.old below.old.items) f)) }
-{
-    match above.pop() {
-        Some(right) => add_operand(sum, &right),
-        None => add_from_below(sum, below),
-    }
-}
-
-/// Reads a running sum off, and puts it on the operands below.
-fn read_off(
-    alloc: Global,
-    held: Held,
-    sum: &mut Accumulator,
-    below: &mut SmallVec<Operand<'_>, 2>,
-) -> Result<(), CutFault>
-    ensures below { OnOk result (stack_of below.new.items ≡ with_sum held sum.old (stack_of below.old.items)) }
-    ensures memory { OnErr result (IsErrOf result CutFault.OutOfMemory) }
-{
-    match held {
-        Held::Nothing => Ok(()),
-        Held::RunningSum => {
-            let taken = sum.take(alloc)?;
-            below.push(Operand::Sum(taken))?;
-            Ok(())
+        match is_empty(alloc, &mut self.under, &mut self.pile) {
+            Ok(true) => match top.into_constraint(alloc) {
+                Ok(value) => Ok(value),
+                Err(top) => {
+                    self.top = Some(top);
+                    Err(StepFault::OutOfMemory)
+                }
+            },
+            Ok(false) => {
+                self.top = Some(top);
+                Err(StepFault::StackShape)
+            }
+            Err(fault) => {
+                self.top = Some(top);
+                Err(StepFault::from(fault))
+            }
         }
     }
-}
-
-/// Puts a running sum, and what stands above it, on the operands below.
-fn put_away<'a>(
-    alloc: Global,
-    held: Held,
-    sum: &mut Accumulator,
-    above: &mut SmallVec<Operand<'a>, 8>,
-    below: &mut SmallVec<Operand<'a>, 2>,
-) -> Result<(), CutFault>
-    ensures below { OnOk result (stack_of below.new.items ≡ stacked above.old.items held sum.old below.old.items) }
-    ensures above { OnOk result (above.new.items ≡ []) }
-    ensures memory { OnErr result (IsErrOf result CutFault.OutOfMemory) }
-{
-    read_off(alloc, held, sum, below)?;
-    below.append(above)?;
-    Ok(())
 }

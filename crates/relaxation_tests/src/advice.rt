@@ -8,7 +8,7 @@ use normal_form::Normal;
 use opb_read::read;
 use proof_rules::StepFault;
 use proof_steps::{Item, Step};
-use propagate::{Id, ScanPropagator};
+use propagate::{Id, Propagator, ScanPropagator};
 use std::alloc::{AllocError, Global};
 use std::process::Abort;
 
@@ -100,8 +100,8 @@ fn greatest_free(constraint: &Normal, standing: &[Lit]) -> i128 {
 }
 
 /// Applies a line; the slack of its constraint under what stands, and the greatest coefficient of a free literal.
-fn apply<'a>(
-    kernel: &mut Kernel<'a, ScanPropagator>,
+fn apply<'a, P: Propagator>(
+    kernel: &mut Kernel<'a, P>,
     items: Seq<Item>,
     standing: &[Lit],
 ) -> Result<(i128, i128), StepFault> {
@@ -119,9 +119,9 @@ fn apply<'a>(
 }
 
 /// Logs an improving solution, and tells the adviser.
-fn improve<'a>(
+fn improve<'a, P: Propagator>(
     alloc: Global,
-    kernel: &mut Kernel<'a, ScanPropagator>,
+    kernel: &mut Kernel<'a, P>,
     adviser: &mut Adviser,
     solution: &[Lit],
 ) -> Result<(), StepFault> {
@@ -131,61 +131,55 @@ fn improve<'a>(
 }
 
 /// The adviser of a problem.
-fn adviser_of<'a>(
+fn adviser_of<'a, P: Propagator>(
     rt: &impl Abort,
     alloc: Global,
     problem: &'a Problem,
-) -> Result<(Kernel<'a, ScanPropagator>, Adviser), AllocError> {
+) -> Result<(Kernel<'a, P>, Adviser), AllocError> {
     let kernel = Kernel::new(alloc, problem).expect(rt, "memory");
     let adviser = Adviser::new(alloc, problem, &kernel)?.expect(rt, "an adviser");
     Ok((kernel, adviser))
 }
 
-#[test]
-fn pigeons_contradict_each_other(rt: HostRuntime) {
-    let alloc = rt.alloc();
-    let problem = read(alloc, PIGEONS.as_bytes()).expect(&rt, "a problem");
-    let (mut kernel, mut adviser) = adviser_of(&rt, alloc, &problem).expect(&rt, "memory");
-    let advice = adviser.ask(&kernel, root()).expect(&rt, "memory");
+/// The relaxation of the pigeons is infeasible, and the sum of its multipliers says so.
+fn contradict<'a, P: Propagator>(rt: &impl Abort, alloc: Global, problem: &'a Problem) {
+    let (mut kernel, mut adviser) = adviser_of::<P>(rt, alloc, problem).expect(rt, "memory");
+    let advice = adviser.ask(&kernel, root()).expect(rt, "memory");
     let Advice::Conflict(items) = advice else {
-        panic!(&rt; "no conflict");
+        panic!(rt; "no conflict");
     };
-    let (slack, _) = apply(&mut kernel, items, &[]).expect(&rt, "a legal line");
-    assert_eq!(&rt; slack, -1);
-    assert_eq!(&rt; adviser.figures().conflicts, 1);
-    assert_eq!(&rt; adviser.figures().failed, 0);
+    let (slack, _) = apply(&mut kernel, items, &[]).expect(rt, "a legal line");
+    assert_eq!(rt; slack, -1);
+    assert_eq!(rt; adviser.figures().conflicts, 1);
+    assert_eq!(rt; adviser.figures().failed, 0);
 }
 
-#[test]
-fn prices_force_literals(rt: HostRuntime) {
-    let alloc = rt.alloc();
-    let problem = read(alloc, PRICES.as_bytes()).expect(&rt, "a problem");
-    let (mut kernel, mut adviser) = adviser_of(&rt, alloc, &problem).expect(&rt, "memory");
+/// Prices force literals at the root, and below it.
+fn force<'a, P: Propagator>(rt: &impl Abort, alloc: Global, problem: &'a Problem) {
+    let (mut kernel, mut adviser) = adviser_of::<P>(rt, alloc, problem).expect(rt, "memory");
     let solution = [literal(0, true), literal(1, false), literal(2, true)];
-    improve(alloc, &mut kernel, &mut adviser, &solution).expect(&rt, "a solution");
-    let advice = adviser.ask(&kernel, root()).expect(&rt, "memory");
+    improve(alloc, &mut kernel, &mut adviser, &solution).expect(rt, "a solution");
+    let advice = adviser.ask(&kernel, root()).expect(rt, "memory");
     let Advice::Forcing(items) = advice else {
-        panic!(&rt; "nothing is forced");
+        panic!(rt; "nothing is forced");
     };
-    let (slack, greatest) = apply(&mut kernel, items, &[]).expect(&rt, "a legal line");
-    assert!(&rt; slack >= 0 && greatest > slack);
-    assert_eq!(&rt; adviser.bound(), Some(4));
+    let (slack, greatest) = apply(&mut kernel, items, &[]).expect(rt, "a legal line");
+    assert!(rt; slack >= 0 && greatest > slack);
+    assert_eq!(rt; adviser.bound(), Some(4));
     let turned = [literal(0, true)];
     let advice = adviser
         .ask(&kernel, below_root(&turned))
-        .expect(&rt, "memory");
+        .expect(rt, "memory");
     let (Advice::Conflict(items) | Advice::Forcing(items)) = advice else {
-        panic!(&rt; "nothing is said");
+        panic!(rt; "nothing is said");
     };
-    let (slack, greatest) = apply(&mut kernel, items, &turned).expect(&rt, "a legal line");
-    assert!(&rt; greatest > slack);
+    let (slack, greatest) = apply(&mut kernel, items, &turned).expect(rt, "a legal line");
+    assert!(rt; greatest > slack);
 }
 
-#[test]
-fn corners_lean(rt: HostRuntime) {
-    let alloc = rt.alloc();
-    let problem = read(alloc, TRIANGLE.as_bytes()).expect(&rt, "a problem");
-    let (mut kernel, mut adviser) = adviser_of(&rt, alloc, &problem).expect(&rt, "memory");
+/// The corners lean to half, until a cut comes.
+fn lean<'a, P: Propagator>(rt: &impl Abort, alloc: Global, problem: &'a Problem) {
+    let (mut kernel, mut adviser) = adviser_of::<P>(rt, alloc, problem).expect(rt, "memory");
     let quiet = Node {
         standing: &[],
         decisions: 1,
@@ -193,21 +187,39 @@ fn corners_lean(rt: HostRuntime) {
         searched: 0,
     };
     // Before a conflict no cut comes.
-    assert!(&rt; matches!(adviser.ask(&kernel, root()), Ok(Advice::Values)));
+    assert!(rt; matches!(adviser.ask(&kernel, root()), Ok(Advice::Values)));
     let asked = adviser.ask(&kernel, after_conflict());
     let Ok(Advice::Cut(items)) = asked else {
-        panic!(&rt; "no cut");
+        panic!(rt; "no cut");
     };
-    assert_eq!(&rt; adviser.bound(), Some(4));
-    apply(&mut kernel, items, &[]).expect(&rt, "a legal line");
-    adviser.take_cut(&kernel).expect(&rt, "memory");
-    assert!(&rt; matches!(adviser.ask(&kernel, after_conflict()), Ok(Advice::Values)));
-    assert_eq!(&rt; adviser.leanings().len(), 3);
-    assert!(&rt; matches!(adviser.ask(&kernel, quiet), Ok(Advice::Nothing)));
+    assert_eq!(rt; adviser.bound(), Some(4));
+    apply(&mut kernel, items, &[]).expect(rt, "a legal line");
+    adviser.take_cut(&kernel).expect(rt, "memory");
+    assert!(rt; matches!(adviser.ask(&kernel, after_conflict()), Ok(Advice::Values)));
+    assert_eq!(rt; adviser.leanings().len(), 3);
+    assert!(rt; matches!(adviser.ask(&kernel, quiet), Ok(Advice::Nothing)));
     let first = [literal(0, false)];
     let asked = adviser.ask(&kernel, below_root(&first));
-    assert!(&rt; matches!(asked, Ok(Advice::Values)));
-    assert_eq!(&rt; adviser.leanings().len(), 2);
-    assert_eq!(&rt; adviser.figures().calls, 4);
-    assert_eq!(&rt; adviser.figures().cuts, 1);
+    assert!(rt; matches!(asked, Ok(Advice::Values)));
+    assert_eq!(rt; adviser.leanings().len(), 2);
+    assert_eq!(rt; adviser.figures().calls, 4);
+    assert_eq!(rt; adviser.figures().cuts, 1);
+}
+
+#[test]
+fn pigeons_contradict_each_other(rt: HostRuntime) {
+    let problem = read(rt.alloc(), PIGEONS.as_bytes()).expect(&rt, "a problem");
+    contradict::<ScanPropagator>(&rt, rt.alloc(), &problem);
+}
+
+#[test]
+fn prices_force_literals(rt: HostRuntime) {
+    let problem = read(rt.alloc(), PRICES.as_bytes()).expect(&rt, "a problem");
+    force::<ScanPropagator>(&rt, rt.alloc(), &problem);
+}
+
+#[test]
+fn corners_lean(rt: HostRuntime) {
+    let problem = read(rt.alloc(), TRIANGLE.as_bytes()).expect(&rt, "a problem");
+    lean::<ScanPropagator>(&rt, rt.alloc(), &problem);
 }

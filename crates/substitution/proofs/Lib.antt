@@ -11,3 +11,9 @@ pub mod Opposites
 pub mod Untouched
 pub mod Regrouped
 pub mod NetTables
+pub mod Named
+pub mod Sought
+pub mod Gathering
+pub mod KeptTerms
+pub mod PartImages
+pub mod BothExcesses

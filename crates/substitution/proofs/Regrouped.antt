@@ -152,11 +152,11 @@ net_quiet images v w z h =
 constant_quiet : (images : Images) (w : ℕ) (z : ℤ) → All (λ q. w ≢ q.0.0) images → constant_gift images z w ≡ pos 0
 constant_quiet images w z h = ap (λ (i : Image). constant_at z i +ℤ negated_sum (term_at z i)) (own_image images w h) ∙ omega (arith, ints)
 
-net_append : (xs ys : List Term) (v : ℕ) → net (xs ++ ys) v ≡ net xs v +ℤ net ys v
+pub net_append : (xs ys : List Term) (v : ℕ) → net (xs ++ ys) v ≡ net xs v +ℤ net ys v
 net_append [] ys v = omega (arith, ints)
 net_append (x ∷ xs) ys v = omega (arith, ints, net_append xs ys v)
 
-negated_append : (xs ys : List Term) → negated_sum (xs ++ ys) ≡ negated_sum xs +ℤ negated_sum ys
+pub negated_append : (xs ys : List Term) → negated_sum (xs ++ ys) ≡ negated_sum xs +ℤ negated_sum ys
 negated_append [] ys = omega (arith, ints)
 negated_append (x ∷ xs) ys = omega (arith, ints, negated_append xs ys)
 

@@ -24,10 +24,10 @@ stays [] v h = refl
 stays (p ∷ ps) v h =
     passed v (p.0.0) p.1 (image_of ps v) (All-head (λ q. q.0.0 ≢ v) p ps h) ∙ stays ps v (All-tail (λ q. q.0.0 ≢ v) p ps h)
 
-abbrev literal : ℕ → Bool → Image
+abbrev pub literal : ℕ → Bool → Image
 literal v s = Lit (record { var = record { 0 = v }; negated = s })
 
-literal_stays : (images : Images) (v : ℕ) (s : Bool) → All (λ p. p.0.0 ≢ v) images → image_of_literal images v s ≡ literal v s
+pub literal_stays : (images : Images) (v : ℕ) (s : Bool) → All (λ p. p.0.0 ≢ v) images → image_of_literal images v s ≡ literal v s
 literal_stays images v true h = ap opposite_image (stays images v h)
 literal_stays images v false h = stays images v h
 

@@ -34,6 +34,14 @@ one_of_two = normal (plain 1 1 ∷ plain 1 2 ∷ []) 1
 abbrev pub two_of_three : NormalConstraint
 two_of_three = normal (plain 1 1 ∷ plain 1 2 ∷ plain 1 3 ∷ []) 2
 
+-- 1 x2 1 x3 of a degree
+abbrev pub last_two : ℕ → NormalConstraint
+last_two degree = normal (plain 1 2 ∷ plain 1 3 ∷ []) degree
+
+-- 1 x1 2 x2 >= 1
+abbrev pub first_or_twice_second : NormalConstraint
+first_or_twice_second = normal (plain 1 1 ∷ plain 2 2 ∷ []) 1
+
 -- 1 ~x1 1 ~x2 1 ~x3 1 ~x4 >= 3
 abbrev pub three_of_four_false : NormalConstraint
 three_of_four_false = normal (negated 1 1 ∷ negated 1 2 ∷ negated 1 3 ∷ negated 1 4 ∷ []) 3

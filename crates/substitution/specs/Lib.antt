@@ -2,4 +2,6 @@ pub mod Images
 pub mod Under
 pub mod Objective
 pub mod Covering
+pub mod Part
+pub mod Beyond
 pub mod Cases

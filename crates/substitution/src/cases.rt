@@ -4,7 +4,8 @@ ghost use Rattle.std.specs.Prelude.{◌≡◌, true, false, [], ◌∷◌};
 ghost use Rattle.linear.specs.Valuation.{valuation_of};
 ghost use Rattle.normal_form.specs.Normal.{largest_sum};
 ghost use Rattle.normal_form.specs.Cases.{plain, negated, normal};
-ghost use Rattle.substitution.specs.Cases.{swap, single, to_plain, to_negated, first_or_not_second, one_of_two, two_of_three, three_of_four_false, min_first};
+ghost use Rattle.substitution.specs.Cases.{swap, single, to_plain, to_negated, first_or_not_second, one_of_two, two_of_three, last_two, first_or_twice_second, three_of_four_false, min_first};
+ghost use Rattle.substitution.specs.Beyond.{Shows};
 ghost use Rattle.substitution.specs.Covering.{Covers};
 ghost use Rattle.substitution.specs.Images.{after};
 ghost use Rattle.substitution.specs.Objective.{IsObjectiveGoal};
@@ -60,4 +61,16 @@ pub fn covering()
     ensures stronger { Covers one_of_two two_of_three → ⊥ }
     ensures multiple { Covers one_of_two (normal (plain 2 1 ∷ plain 2 2 ∷ []) 2) → ⊥ }
     ensures other_literal { Covers one_of_two (normal (negated largest_sum 1 ∷ []) 0) → ⊥ }
+{}
+
+/// `1 x1 1 x2 1 x3 >= 2` covers what it becomes under `x1 -> 1`, and not what it becomes under `x1 -> 0`. Nothing is asked of what
+/// `1 x1 2 x2 >= 1` becomes under `x2 -> 1`, and it shows that, though it does not cover it.
+pub fn shown_itself()
+    ensures fixed { IsUnder two_of_three (single 1 One) (last_two 1) }
+    ensures covered { Shows two_of_three (last_two 1) }
+    ensures fixed_otherwise { IsUnder two_of_three (single 1 Zero) (last_two 2) }
+    ensures not_shown { Shows two_of_three (last_two 2) → ⊥ }
+    ensures met { IsUnder first_or_twice_second (single 2 One) (normal (plain 1 1 ∷ []) 0) }
+    ensures nothing_asked { Shows first_or_twice_second (normal (plain 1 1 ∷ []) 0) }
+    ensures not_covered { Covers first_or_twice_second (normal (plain 1 1 ∷ []) 0) → ⊥ }
 {}

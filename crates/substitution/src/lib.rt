@@ -2,15 +2,19 @@
 #![tactic(auto)]
 
 mod application;
+mod becoming;
 pub mod cases;
 mod composition;
 mod covering;
 mod image;
 pub mod laws;
+mod lookup;
 mod objective;
+mod part;
 mod substitution;
 
 pub use application::apply;
+pub use becoming::becomes_beyond;
 pub use composition::compose;
 pub use covering::covers;
 pub use image::Image;

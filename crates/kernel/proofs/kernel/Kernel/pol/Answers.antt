@@ -16,11 +16,3 @@ returns-in_err-value-clause-fault g c =
     let p = err_from_is_err_and c.from_residual.result c.from_residual.ensures.1 in
     let whole = or_memory f (IsWritingFault (constraint_of s) c.args.items.now f) (IsPolFault s c.args.items.now f) (writing_pol s c.args.items.now f) c.in_err-value.ensures.fault in
     rw (p.1, p.2) (subst (λ (k : Held). OrMemory f (IsPolFault k.state c.args.items.now f)) c.self.view_is whole)
-
-pub add-requires-clause-kept : goal.add-requires-clause-kept
-add-requires-clause-kept g c =
-    let h = c.self.inside in
-    let s : State = state_with h.database h.log h.block in
-    let n = c.in_ok-value.value in
-    let room : HasRoom s = c.if-not-has_room.ensures.0 refl in
-    kept_step h.source.now s (with_constraint n s) (steps.Pol c.args.items.now) c.self.invariant.kept (n, c.in_ok-value.ensures.value, (room, refl))

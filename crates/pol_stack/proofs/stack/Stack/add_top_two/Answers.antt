@@ -1,6 +1,6 @@
--- The accumulator holds the running sum.
-use Rattle.pol_stack.proofs.RunningSums.{running_top}
+-- Both hands are empty.
+use Rattle.pol_stack.proofs.RunningSums.{added_below_hands}
 use Rattle.pol_stack.proofs.stack.Stack.add_top_two.Goals as goal
 
-pub returns-in_ok-count-in-RunningSum-clause-ok : goal.returns-in_ok-count-in-RunningSum-clause-ok
-returns-in_ok-count-in-RunningSum-clause-ok c given = running_top c.args.self.now c.self.inside.above.items c.add_beside.new.above.items c.self.inside.below.items c.add_beside.new.below.items c.self.inside.held c.self.inside.sum c.add_beside.new.sum given c.in-RunningSum.is c.self.view_is (c.in_ok-count-in-RunningSum.ensures.ok given)
+pub returns-then-branch-clause-ok : goal.returns-then-branch-clause-ok
+returns-then-branch-clause-ok c given = added_below_hands c.args.self.now c.self.inside.pile c.add_from_below.new.self c.self.inside.top c.self.inside.under given c.if-is_none.ensures c.if-is_none-2.ensures c.self.view_is (c.in_ok-add_from_below.ensures.added given c.if-branch.true)

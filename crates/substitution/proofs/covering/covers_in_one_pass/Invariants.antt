@@ -1,7 +1,7 @@
 use Rattle.std.proofs.Common.{◌≡◌, ◌≤◌, take, length}
 use Rattle.substitution.proofs.Excess.{term_excess}
 use Rattle.substitution.proofs.Pass.{IsAhead}
-use Rattle.substitution.proofs.covering.covers.Given as goal
+use Rattle.substitution.proofs.covering.covers_in_one_pass.Given as goal
 
 abbrev pub invariant-loop-index : goal.invariant-loop-index
 invariant-loop-index l =
