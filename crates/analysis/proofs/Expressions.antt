@@ -1,11 +1,12 @@
 -- One more item on the text of an expression, or two texts and `+`.
 use Rattle.std.proofs.Common.{◌≡◌, ℤ, pos, ◌<ℤ◌, List, [], ◌∷◌, ◌++◌, unsigned_abs, Some, ap, sym, ◌∙◌}
+use Rattle.linear.specs.declared.term.Lit.{Lit}
 use Rattle.linear.specs.declared.term.Var.{Var}
 use Rattle.normal_form.specs.Normal.{NormalConstraint, Fits}
-use Rattle.cut_rules.specs.Rules.{IsSum, IsMultiple, IsQuotient, IsSaturation, IsWeakening}
+use Rattle.cut_rules.specs.Rules.{IsSum, IsMultiple, IsQuotient, IsSaturation, IsWeakening, IsAxiom}
 use Rattle.proof_steps.specs.declared.step.Item.{Item}
 use Rattle.proof_steps.specs.declared.step.Item.TheVariants as items
-use Rattle.proof_rules.specs.Expression.{Given, cited, sum, multiple, quotient, saturated, weakened, postfix, IsPostfixOf}
+use Rattle.proof_rules.specs.Expression.{Given, cited, axiom_of, sum, multiple, quotient, saturated, weakened, postfix, IsPostfixOf}
 
 pub cites : (given : Given) (written : List Item) (id : ℤ) (n r : NormalConstraint) → written ≡ items.Id id ∷ [] → r ≡ n → given id ≡ Some n → IsPostfixOf given written r
 cites given written id n r e same is = (cited id, sym e, is ∙ ap Some (sym same))
@@ -32,3 +33,6 @@ adds given left right both more n m r b e rule fits p q =
     let text : postfix (sum p.0 q.0) ≡ both ++ items.Add ∷ [] =
     ap (λ (t : List Item). (t ++ postfix q.0) ++ items.Add ∷ []) p.1 ∙ ap (λ (t : List Item). (left ++ t) ++ items.Add ∷ []) q.1 ∙ ap (λ (t : List Item). t ++ items.Add ∷ []) (sym b) in
     (sum p.0 q.0, text ∙ sym e, (n, m, p.2, q.2, rule, fits))
+
+pub axioms : (given : Given) (written : List Item) (l : Lit) (r : NormalConstraint) → written ≡ items.Axiom l ∷ [] → IsAxiom l r → IsPostfixOf given written r
+axioms given written l r e rule = (axiom_of l, sym e, rule)

@@ -14,6 +14,7 @@ use super::entry::Entry;
 use super::learned::Learned;
 use super::met::Met;
 use super::resolvent::Resolvent;
+use super::seen::Seen;
 use super::standing::Standing;
 use super::stop::Stop;
 use super::walk::walk;
@@ -29,6 +30,7 @@ pub struct Analyser {
     pub(crate) resolvent: Resolvent,
     /// Where a reason is made ready before it is added.
     pub(crate) aside: Accumulator,
+    pub(crate) seen: Seen,
     /// What the last analysis came by.
     pub met: Met,
 }
@@ -39,6 +41,7 @@ impl Analyser {
         Analyser {
             resolvent: Resolvent::new(alloc),
             aside: Accumulator::new(alloc),
+            seen: Seen::new(alloc),
             met: Met::new(alloc),
         }
     }

@@ -7,8 +7,8 @@ ghost use Rattle.std.specs.Prelude.{◌≡◌, pos, IfOk};
 ghost use Rattle.proof_rules.specs.Expression.{Given, IsPostfixOf};
 
 use accumulate::Accumulator;
-use cut_rules::{divide_in_place, multiply};
-use linear::Var;
+use cut_rules::{axiom, divide_in_place, multiply};
+use linear::{Lit, Var};
 use normal_form::{CutFault, Normal};
 use proof_steps::Item;
 use propagate::Id;
@@ -22,7 +22,7 @@ pub(crate) struct Derivation {
 }
 
 /// A coefficient as a number of a line.
-fn written(coef: u128) -> Result<i128, CutFault>
+pub(crate) fn written(coef: u128) -> Result<i128, CutFault>
     ensures { IfOk result (λ number. number ≡ pos coef) }
 {
     match i128::try_from(coef) {
@@ -50,6 +50,16 @@ impl Derivation {
             items,
             constraint: constraint.copy(alloc)?,
         })
+    }
+
+    /// The axiom of a literal.
+    pub(crate) fn axiom(alloc: Global, literal: Lit) -> Result<Self, CutFault>
+        ensures { (given : Given) → IfOk result (λ d. IsPostfixOf given d.items.items d.constraint) }
+    {
+        let mut items = Vec::new(alloc);
+        items.push(Item::Axiom(literal))?;
+        let constraint = axiom(alloc, literal)?;
+        Ok(Derivation { items, constraint })
     }
 
     /// The same without some variables. It is taken apart once and put together once: to make a constraint anew for each

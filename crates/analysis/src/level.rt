@@ -9,6 +9,7 @@ ghost use Rattle.analysis.specs.Biting.{BitesAt, greatest_level};
 
 use super::biting::bites;
 use super::entry::Entry;
+use super::seen::Seen;
 use super::standing::Standing;
 use accumulate::Accumulator;
 use linear::{Integer, Var};
@@ -176,17 +177,26 @@ pub(crate) fn least_level(
     Ok(None)
 }
 
-/// Whether a sum may bite under one decision less than are open: most of what a walk comes by does not, which is seen without its
-/// literals in order. Where a variable is marked twice it may say no, and the walk goes on.
-pub(crate) fn may_bite(sum: &Accumulator, standing: &Standing<'_>, decisions: u32) -> bool {
+/// Whether a sum bites under one decision less than are open: most of what a walk comes by does not, which is seen without its literals in
+/// order.
+pub(crate) fn bites_before_last(
+    sum: &Accumulator,
+    standing: &Standing<'_>,
+    decisions: u32,
+    seen: &mut Seen,
+) -> Result<bool, AllocError> {
     let Some(level) = decisions.checked_sub(1) else {
-        return false;
+        return Ok(false);
     };
     let mut sweep = Sweep { sum: 0, unset: 0 };
+    seen.begin();
     for number in sum.marks() {
-        sweep = sweep.with(Var(*number), sum.net(Var(*number)), standing, level);
+        let variable = Var(*number);
+        if seen.is_first(variable)? {
+            sweep = sweep.with(variable, sum.net(variable), standing, level);
+        }
     }
-    sweep.bites(sum.degree())
+    Ok(sweep.bites(sum.degree()))
 }
 
 /// How many levels the set literals of a constraint are of (the literal block distance: Audemard and Simon, 2009).

@@ -21,6 +21,8 @@ mod level;
 mod met;
 mod reduction;
 mod resolvent;
+mod seen;
+mod shrinking;
 mod slack;
 mod spot;
 mod standing;

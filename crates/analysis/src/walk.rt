@@ -14,7 +14,7 @@ ghost use Rattle.analysis.specs.Lines.{BeginsWith, GoesOnFrom};
 use super::analysis::Analyser;
 use super::derivation::Derivation;
 use super::learned::Learned;
-use super::level::{least_level, level_count, may_bite, open_decisions};
+use super::level::{bites_before_last, least_level, level_count, open_decisions};
 use super::reduction::{coefficient_of, reduced};
 use super::standing::Standing;
 use super::stop::Stop;
@@ -129,6 +129,7 @@ fn resolve<'a, P: Propagator>(
     analyser.met.add(id, reason)?;
     add_reason(alloc, id, reason, standing, at, analyser)?;
     analyser.resolvent.saturate()?;
+    analyser.resolvent.shrink(alloc, standing, at.place)?;
     Ok(())
 }
 
@@ -146,7 +147,8 @@ fn learn(
     ensures biting { IfOk result (λ found. IfSome found (λ l. BitesAt standing.now l.level l.constraint)) }
     ensures lower { IfOk result (λ found. IfSome found (λ l. l.level < decisions)) }
 {
-    if !may_bite(&analyser.resolvent.sum, standing, decisions) {
+    let sum = &analyser.resolvent.sum;
+    if !bites_before_last(sum, standing, decisions, &mut analyser.seen)? {
         return Ok(None);
     }
     let constraint = analyser.resolvent.sum.take(alloc)?;

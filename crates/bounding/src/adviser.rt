@@ -26,10 +26,13 @@ use std::alloc::{AllocError, Global};
 /// How many variables a problem may have. Beyond that one call takes too long.
 const MOST_VARIABLES: usize = 20_000;
 
-/// The greatest whole number is `2^20` first, since small numbers make short constraints.
+/// The greatest whole number is `2^10` first, since small numbers make sums that an analysis can go on with for long.
+const FEW_BITS: u32 = 10;
+
+/// Where the sum of those says nothing it is `2^20`.
 const BITS: u32 = 20;
 
-/// Where the sum of those says nothing it is `2^32`.
+/// Where that says nothing either it is `2^32`.
 const MORE_BITS: u32 = 32;
 
 /// Values that are this near to 0 or 1 are taken for whole ones, in units of `2^-32`.
@@ -228,7 +231,7 @@ impl Adviser {
         let aim = self.aim();
         let limits = self.effort.limits(before, node, aim)?;
         if node.decisions == 0 && node.conflicts > 0 {
-            self.rounds.begin(before, limits);
+            self.rounds.begin(before, self.effort.at_root(), limits);
         }
         Some(limits)
     }
@@ -331,6 +334,9 @@ impl Adviser {
     ) -> Result<Option<Advice>, AllocError>
         ensures { IfOk result (λ found. IfSome found (IsBorneOut kernel.now.state standing.now)) }
     {
+        if let Some(advice) = self.try_scale(kernel, standing, FEW_BITS)? {
+            return Ok(Some(advice));
+        }
         if let Some(advice) = self.try_scale(kernel, standing, BITS)? {
             return Ok(Some(advice));
         }

@@ -122,6 +122,11 @@ impl Effort {
         ours < u128::from(searched).saturating_mul(u128::from(weighed))
     }
 
+    /// How much the calls at the root have done.
+    pub(crate) fn at_root(self) -> u64 {
+        self.at_root
+    }
+
     /// A call at the root has done so much.
     pub(crate) fn note_root(&mut self, cost: u64) {
         self.at_root = self.at_root.saturating_add(cost);

@@ -2,7 +2,8 @@
 //!
 //! A round solves the relaxation, and looks for cuts that its point violates. These come one after another and become rows; then the next round
 //! solves again. A call at the root that is due by `effort` begins the rounds; they end after so many of them, where the work of that call
-//! is done, where the bound has not risen for some of them, or where the search goes below the root.
+//! is done, where the bound has not risen for some of them, or where the search goes below the root. Where the relaxation was solved with
+//! little work the rounds may not do much either, since such a problem may be solved without them in less time.
 
 use relaxation::Limits;
 
@@ -11,6 +12,12 @@ const FIRST_ROUNDS: u32 = 30;
 
 /// How many follow each later one.
 const LATER_ROUNDS: u32 = 5;
+
+/// Rounds may do so many times what was done at the root before them,
+const TIMES_BEFORE: u64 = 20;
+
+/// and so much more.
+const LEAST_WORK: u64 = 1_000_000;
 
 /// After so many rounds without a better bound the rounds end.
 const MOST_STALLED: u32 = 4;
@@ -40,15 +47,18 @@ impl Rounds {
         }
     }
 
-    /// Begins the rounds of a call at the root that may do so much, where so much was done so far.
-    pub(crate) fn begin(&mut self, done: u64, limits: Limits) {
+    /// Begins the rounds of a call at the root that may do so much, where so much was done so far, and so much of that at the root.
+    pub(crate) fn begin(&mut self, done: u64, at_root: u64, limits: Limits) {
         self.left = if self.is_first {
             FIRST_ROUNDS
         } else {
             LATER_ROUNDS
         };
         self.steps = limits.steps;
-        self.work = done.saturating_add(limits.work);
+        let most = at_root
+            .saturating_mul(TIMES_BEFORE)
+            .saturating_add(LEAST_WORK);
+        self.work = done.saturating_add(limits.work.min(most));
         self.is_first = false;
         self.stalled = 0;
         self.bound = None;
