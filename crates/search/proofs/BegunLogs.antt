@@ -1,5 +1,5 @@
 -- What a log of `1 x0 1 x1 >= 1` begins with, where it begins with what presolve tries: x0 is fixed.
-use Rattle.std.proofs.Common.{◌≡◌, ℕ, zero, suc, ◌<◌, true, false, List, [], ◌∷◌, ◌++◌, All, Contains, inl, inr, length, map, pos, refl, sym, ap, subst, ◌∙◌, arith}
+use Rattle.std.proofs.Common.{◌≡◌, ℕ, zero, suc, true, List, [], ◌∷◌, ◌++◌, Contains, inl, inr, length, map, pos, refl, sym, ap, subst, ◌∙◌, arith}
 use Rattle.std.proofs.lemmas.Bool.{false≢true}
 use Rattle.std.proofs.lemmas.List.Elements.{All-nil, All-cons}
 use Rattle.linear.specs.declared.term.Lit.{Lit}
@@ -13,7 +13,7 @@ use Rattle.propagate.specs.Cases.{x, unit, unit_not}
 use Rattle.substitution.specs.Cases.{single}
 use Rattle.substitution.specs.Under.{substituted}
 use Rattle.substitution.specs.declared.image.Image.TheVariants.{One}
-use Rattle.proof_rules.specs.Cases.{cover_file, cover_written, cover, cover_start, first_written}
+use Rattle.proof_rules.specs.Cases.{cover_file, cover_written, cover, cover_start}
 use Rattle.proof_rules.specs.Fault.{IsStepFault}
 use Rattle.proof_rules.specs.Legal.{Legal}
 use Rattle.proof_rules.specs.Redundant.{IsShownUnder, Redundant}
@@ -27,7 +27,7 @@ use Rattle.proof_rules.proofs.SmallConstraints.{cover_admitted, first_admitted, 
 use Rattle.proof_text.specs.Writable.{IsPairWritable, IsStepWritable, IsTermWritable}
 use Rattle.proof_write.specs.Whole.{first_lines, step_line}
 use Rattle.search.specs.Log.{CanBeWritten, GoesOn, Logbook}
-use Rattle.search.specs.Presolving.{BeginsPresolved, IsFirst, Tries, TriesAll, fixing, made_true, swapping}
+use Rattle.search.specs.Presolving.{BeginsPresolved, IsFirst, Tries, TriesAll, fixing, swapping}
 use Rattle.search.proofs.GoingOn.{goes_on_more}
 use Rattle.search.proofs.Refusals.{refused_by_memory}
 use Rattle.search.proofs.Trying.{tries_go_on}

@@ -1,5 +1,5 @@
 -- A conflict with nothing listed ends a search.
-use Rattle.std.proofs.Common.{◌≡◌, ℤ, ◌≤ℤ◌, inr, Bool, List, [], ◌∷◌, ◌++◌, Option, None, Some, Any, IfSome, length, unsigned_abs, refl, sym, ap, subst, arith}
+use Rattle.std.proofs.Common.{◌≡◌, ◌≢◌, ℤ, ◌≤ℤ◌, inr, Bool, List, [], ◌∷◌, ◌++◌, Option, None, Some, Any, IfSome, length, unsigned_abs, refl, sym, ap, subst, arith}
 use Rattle.std.proofs.lemmas.Int.{ints}
 use Rattle.std.proofs.lemmas.List.Elements.{Contains-append_left}
 use Rattle.linear.specs.Limits.{IsWithin}
@@ -17,7 +17,7 @@ use Rattle.proof_rules.specs.Preserved.{IsPreserved}
 use Rattle.proof_rules.specs.Shown.{IsShown, absurdity}
 use Rattle.proof_rules.specs.Solution.{at_least}
 use Rattle.proof_rules.specs.State.{State, IsOutside, constraints}
-use Rattle.proof_steps.specs.declared.conclusion.Conclusion.TheVariants.{Unsat, Bounds}
+use Rattle.proof_steps.specs.declared.conclusion.Conclusion.TheVariants.{Sat, Unsat, Bounds}
 use Rattle.proof_steps.specs.declared.conclusion.Lower.TheVariants as lowers
 use Rattle.proof_steps.specs.declared.conclusion.Upper.TheVariants as uppers
 use Rattle.kernel.proofs.Improving.{worth_small}
@@ -72,3 +72,15 @@ optimum p s objective best outside within kept is least_is refuted =
         (s, refl, (objective, is, (form (at_least objective best), lower p s objective best within is least_is least refuted), upper p s best least), found.1),
       ),
     )
+
+-- a logged solution, where none is asked to be better
+pub solved : (p : Opb) (s : State) → IsOutside s → s.logged ≢ [] → IsEntitled p s (Sat None)
+solved p s outside some =
+    let found = best_there p s outside in (found.0, (outside, (s, refl, some, found.1)))
+
+-- the least improving value, where the search stops before its end
+pub so_far : (p : Opb) (s : State) (objective : List Term) (best : ℤ) → IsOutside s → IsPreserved p s → p.objective ≡ Some objective → s.least ≡ Some best
+    → IsEntitled p s (Bounds lowers.MinusInf (uppers.At best) None)
+so_far p s objective best outside kept is least_is =
+    let found = best_there p s outside in
+    (found.0, (outside, (s, refl, (objective, is, tt, upper p s best (least_logged p s best kept least_is)), found.1)))

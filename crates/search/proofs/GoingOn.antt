@@ -1,5 +1,5 @@
 -- Logs that go on from another.
-use Rattle.std.proofs.Common.{◌≡◌, List, [], ◌++◌, append_assoc, refl, sym, ap, ◌∙◌}
+use Rattle.std.proofs.Common.{◌≡◌, [], ◌++◌, append_assoc, sym, ap, ◌∙◌}
 use Rattle.std.proofs.lemmas.List.{append-nil}
 use Rattle.proof_steps.specs.declared.step.Step.{Step}
 use Rattle.proof_write.specs.Whole.{step_line}

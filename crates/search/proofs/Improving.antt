@@ -5,7 +5,8 @@ use Rattle.std.proofs.lemmas.List.Elements.{All-nil, All-cons, All-weaker}
 use Rattle.linear.specs.Opb.{Opb}
 use Rattle.proof_steps.specs.declared.step.Step.{Step}
 use Rattle.proof_steps.specs.declared.step.Step.TheVariants as kinds
-use Rattle.proof_rules.specs.Legal.{Legal, LegalDel, without, worth_of}
+use Rattle.proof_rules.specs.Legal.{Leads, Legal, LegalDel, without, worth_of}
+use Rattle.proof_rules.proofs.NotLegal.{none_some}
 use Rattle.proof_rules.specs.State.{State, id_of}
 use Rattle.search.specs.Log.{Logbook, LeadsImproving, improvement, value_list, IsFalling, last_of, IsProof}
 use Rattle.search.proofs.Blocks.{begin_logs, end_logs, goal_logs}
@@ -38,6 +39,22 @@ one_step p s t (kinds.Del ids) (outside, legal) = inl (refl, improve_deleted p s
 one_step p s t (kinds.RedBegin c images) (outside, legal) = inl (refl, (begin_logs s t c images legal).0)
 one_step p s t (kinds.Goal name) legal = inl (refl, (goal_logs p s t name legal).0)
 one_step p s t kinds.End legal = inl (refl, (end_logs p s t legal).0)
+
+-- without an objective nothing improves
+least_stays : (p : Opb) (s t : State) (step : Step) → p.objective ≡ None → Legal p s step t → t.least ≡ s.least
+least_stays p s t (kinds.Pol items) none (m, written, adds) = ap (λ (u : State). u.least) adds.1
+least_stays p s t (kinds.Rup c) none (m, admitted, shown, adds) = ap (λ (u : State). u.least) adds.1
+least_stays p s t (kinds.Red c images) none (outside, (m, k, admitted, redundant, adds)) = ap (λ (u : State). u.least) adds.1
+least_stays p s t (kinds.Sol assigned) none (outside, (g, logs, is)) = ap (λ (u : State). u.least) is
+least_stays p s t (kinds.Soli assigned) none (outside, (objective, g, m, improves, is)) = absurd (none_some p.objective objective none improves.minimises)
+least_stays p s t (kinds.Del ids) none (outside, legal) = improve_deleted p s t ids legal
+least_stays p s t (kinds.RedBegin c images) none (outside, legal) = (begin_logs s t c images legal).0
+least_stays p s t (kinds.Goal name) none legal = (goal_logs p s t name legal).0
+least_stays p s t kinds.End none legal = (end_logs p s t legal).0
+
+pub least_kept : (p : Opb) (a b : State) (steps : List Step) → p.objective ≡ None → Leads p a steps b → b.least ≡ a.least
+least_kept p a b [] none same = ap (λ (u : State). u.least) same
+least_kept p a b (x ∷ xs) none (m, first, rest) = least_kept p m b xs none rest ∙ least_stays p a m x none first
 
 further : (start : Option ℤ) (v w : ℤ) → Below start v → w <ℤ v → Below start w
 further None v w b h = tt

@@ -16,3 +16,6 @@ pub mod Worth
 pub mod GoingOn
 pub mod Refusals
 pub mod BegunLogs
+pub mod Entitling
+pub mod Settling
+pub mod Stepping

@@ -15,6 +15,10 @@ HasEffect effects.Conflict standing n = IsFalsified standing n
 HasEffect effects.Forcing standing n = (l : Lit) × IsForced standing l n
 HasEffect effects.Cut standing n = Unit {0}
 
+-- the items derive a constraint from the live ones
+abbrev pub IsDerived : State → Line → Type 0
+IsDerived s line = (n : NormalConstraint) × IsPostfixOf (constraint_of s) line.items n
+
 -- the items derive a constraint from the live ones, and it has the effect that is told
 abbrev pub IsAdvised : State → List Lit → Line → Type 0
 IsAdvised s standing line = (n : NormalConstraint) × IsPostfixOf (constraint_of s) line.items n × HasEffect line.effect standing n

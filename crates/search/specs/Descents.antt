@@ -1,9 +1,13 @@
 -- Where decisions end.
-use Rattle.std.specs.Prelude.{List}
+use Rattle.std.specs.Prelude.{List, length}
 use Rattle.linear.specs.declared.term.Lit.{Lit}
+use Rattle.propagate.specs.Chain.{IsFixpoint}
 use Rattle.propagate.specs.Content.{IsEnd}
-use Rattle.proof_rules.specs.State.{State}
+use Rattle.propagate.specs.Literals.{IsConsistent}
+use Rattle.proof_rules.specs.Solution.{NamesAll}
+use Rattle.proof_rules.specs.State.{State, constraints}
 use Rattle.search.specs.Advised.{IsAdvised}
+use Rattle.search.specs.Log.{Logbook}
 use Rattle.search.specs.declared.advisers.Line.{Line}
 use Rattle.search.specs.declared.descent.Descent.{Descent}
 use Rattle.search.specs.declared.descent.Descent.TheVariants as descents
@@ -28,6 +32,19 @@ IfAdvised (descents.Conflict id) P = Unit {0}
 IfAdvised descents.Undone P = Unit {0}
 IfAdvised (descents.Advised line) P = P line
 IfAdvised (descents.Fixpoint assigned) P = Unit {0}
+
+-- what is so of the literals, where they end with a value for every variable
+abbrev pub IfFixpoint : Descent → (List Lit → Type 0) → Type 0
+IfFixpoint (descents.Conflict id) P = Unit {0}
+IfFixpoint descents.Undone P = Unit {0}
+IfFixpoint (descents.Advised line) P = Unit {0}
+IfFixpoint (descents.Fixpoint assigned) P = P assigned
+
+-- literals without opposites that name all variables of the file, and from which no live constraint forces more, or has negative slack
+pub record IsSettled (l : Logbook) (assigned : List Lit) : Type 0 where
+  pub consistent : IsConsistent assigned
+  pub names_all : NamesAll (length l.problem.names) assigned
+  pub fixpoint : IsFixpoint (constraints l.state) assigned
 
 -- the line says something under all that follows from the decisions
 abbrev pub IsAdvisedUnder : State → List Lit → Line → Type 0

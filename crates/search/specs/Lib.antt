@@ -1,6 +1,7 @@
 pub mod Advised
 pub mod Clause
 pub mod Conflicts
+pub mod Deleting
 pub mod Descents
 pub mod Kept
 pub mod Log

@@ -16,8 +16,11 @@ use Rattle.proof_steps.specs.declared.step.Step.TheVariants as kinds
 use Rattle.proof_text.specs.ProofSpells.{SpellsProof}
 use Rattle.proof_text.specs.Writable.{IsStepWritable}
 use Rattle.proof_write.specs.Whole.{AreWritten, step_line}
+use Rattle.proof_rules.specs.declared.fault.StepFault.TheVariants.{OutOfMemory}
+use Rattle.search.specs.declared.fault.LogFault.{LogFault}
+use Rattle.search.specs.declared.fault.LogFault.TheVariants as faults
 use Rattle.search.specs.declared.fault.SearchFault.{SearchFault}
-use Rattle.search.specs.declared.fault.SearchFault.TheVariants as faults
+use Rattle.search.specs.declared.fault.SearchFault.TheVariants as shortages
 
 pub record Logbook : Type 0 where
   pub problem : Opb
@@ -167,13 +170,31 @@ pub record GoesOn (old new : Logbook) : Type 0 where
   pub text : new.text ≡ old.text ++ rest
 
 -- why a step is not taken: the kernel refuses it, or memory ran out; or it cannot be written by these names
-abbrev pub IsRefusedBy : List (List ℕ) → Opb → State → Step → SearchFault → Type 0
+abbrev pub IsRefusedBy : List (List ℕ) → Opb → State → Step → LogFault → Type 0
 IsRefusedBy names p s step (faults.Kernel f) = OrMemory f (IsStepFault p s step f)
 IsRefusedBy names p s step faults.Unwritable = IsStepWritable (length names) step → ⊥
 
 -- why a log does not take a step
-abbrev pub IsRefused : Logbook → Step → SearchFault → Type 0
+abbrev pub IsRefused : Logbook → Step → LogFault → Type 0
 IsRefused l step f = IsRefusedBy l.problem.names l.problem l.state step f
+
+-- a step is legal: it leads from a log's state to some state
+abbrev pub IsLegal : Logbook → Step → Type 0
+IsLegal l step = (t : State) × Legal l.problem l.state step t
+
+-- the kernel refuses nothing: memory ran out, or a step cannot be written
+abbrev pub IsShortage : LogFault → Type 0
+IsShortage (faults.Kernel f) = f ≡ OutOfMemory
+IsShortage faults.Unwritable = Unit {0}
+
+-- why a legal step is not taken: memory ran out, or it cannot be written by these names
+abbrev pub IsShortOf : List (List ℕ) → Step → SearchFault → Type 0
+IsShortOf names step shortages.OutOfMemory = Unit {0}
+IsShortOf names step shortages.Unwritable = IsStepWritable (length names) step → ⊥
+
+-- why a log does not take a legal step
+abbrev pub IsShort : Logbook → Step → SearchFault → Type 0
+IsShort l step f = IsShortOf l.problem.names step f
 
 -- where there is an objective, the assignment is worth the least value that the log improved to
 abbrev pub IsWorthLeast : Logbook → List Bool → Type 0

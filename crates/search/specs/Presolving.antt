@@ -20,8 +20,8 @@ use Rattle.proof_steps.specs.declared.step.Step.{Step}
 use Rattle.proof_steps.specs.declared.step.Step.TheVariants as kinds
 use Rattle.proof_write.specs.Whole.{first_lines}
 use Rattle.search.specs.Log.{GoesOn, Logbook, IsRefused, Keeps}
-use Rattle.search.specs.declared.fault.SearchFault.{SearchFault}
-use Rattle.search.specs.declared.fault.SearchFault.TheVariants as logs
+use Rattle.search.specs.declared.fault.LogFault.{LogFault}
+use Rattle.search.specs.declared.fault.LogFault.TheVariants as logs
 
 -- 1 l >= 1
 abbrev pub is_true : Lit → Signed
@@ -65,7 +65,7 @@ pub record Enters (step : Step) (old new : Logbook) : Type 0 where
 
 -- a step has a fault, or cannot be written, and the log is as it was
 pub record IsLeft (step : Step) (old new : Logbook) : Type 0 where
-  pub fault : SearchFault
+  pub fault : LogFault
   pub refused : IsRefused old step fault
   pub other : fault ≢ logs.Kernel OutOfMemory
   pub same : new ≡ old

@@ -13,6 +13,10 @@ Table = List Value
 abbrev pub IsFree : List Value → ℕ → Type 0
 IsFree values v = slice_index_or values v True ≡ Free
 
+-- none of so many variables is free in the table
+abbrev pub NoneIsFree : List Value → ℕ → Type 0
+NoneIsFree values count = (v : ℕ) → v < count → IsFree values v → ⊥
+
 -- the value that a literal gives its variable
 abbrev pub value_given : Lit → Value
 value_given l = if l.negated then False else True

@@ -33,6 +33,8 @@ struct Advised {
 impl<'a, P: Propagator> Run<'a, P> {
     ghost use Rattle.std.specs.Prelude.{◌≡◌, OnOk};
     ghost use Rattle.propagate.specs.Literals.{IsConsistent};
+    ghost use Rattle.proof_rules.specs.State.{HasRoom};
+    ghost use Rattle.search.specs.Advised.{IsDerived};
     ghost use Rattle.search.specs.Log.{GoesOn};
     ghost use Rattle.search.specs.Solving.{TakesId};
 
@@ -53,27 +55,41 @@ impl<'a, P: Propagator> Run<'a, P> {
 
     /// Logs a line, and goes on from what it says.
     pub(crate) fn take_advice(&mut self, line: Line) -> Result<(), SearchFault>
-        requires { IsConsistent self.old.decisions.items }
+        requires consistent { IsConsistent self.old.decisions.items }
+        requires derived { IsDerived self.old.log.state line }
+        requires room { HasRoom self.old.log.state }
         ensures goes_on { GoesOn self.old.log self.new.log }
         ensures id { OnOk result (TakesId self.old.log.state self.new.log.state) }
         ensures biting { OnOk result (self.new.log.biting ≡ self.old.log.biting) }
         ensures consistent { OnOk result (IsConsistent self.new.decisions.items) }
     {
         let Line { items, effect } = line;
-        self.log.apply(Step::Pol(items))?;
+        self.log.take(Step::Pol(items))?;
         let Some(advised) = self.last_advised()? else {
             return Ok(());
         };
+        self.follow(&advised, effect)?;
+        Ok(())
+    }
+
+    /// Goes on from what an advised constraint says.
+    fn follow(&mut self, advised: &Advised, effect: Effect) -> Result<(), AllocError>
+        requires { IsConsistent self.old.decisions.items }
+        ensures goes_on { GoesOn self.old.log self.new.log }
+        ensures next { OnOk result (self.new.log.state.next ≡ self.old.log.state.next) }
+        ensures biting { OnOk result (self.new.log.biting ≡ self.old.log.biting) }
+        ensures consistent { OnOk result (IsConsistent self.new.decisions.items) }
+    {
         match effect {
-            Effect::Forcing => self.keep(&advised, LEVELS_OF_FORCING),
-            Effect::Conflict => self.take_conflict(&advised),
+            Effect::Forcing => self.keep(advised, LEVELS_OF_FORCING),
+            Effect::Conflict => self.take_conflict(advised),
             Effect::Cut => self.take_cut(),
         }
     }
 
     /// A cut becomes a row of the relaxation, as long as it is tight; it is not among what was learned. Those that are no rows any more are
     /// deleted.
-    fn take_cut(&mut self) -> Result<(), SearchFault>
+    fn take_cut(&mut self) -> Result<(), AllocError>
         ensures goes_on { GoesOn self.old.log self.new.log }
         ensures next { OnOk result (self.new.log.state.next ≡ self.old.log.state.next) }
         ensures biting { OnOk result (self.new.log.biting ≡ self.old.log.biting) }
@@ -85,16 +101,16 @@ impl<'a, P: Propagator> Run<'a, P> {
     }
 
     /// Keeps an advised constraint among what was learned, until it is forgotten.
-    fn keep(&mut self, advised: &Advised, levels: u32) -> Result<(), SearchFault>
+    fn keep(&mut self, advised: &Advised, levels: u32) -> Result<(), AllocError>
         ensures log { self.new.log ≡ self.old.log }
         ensures decisions { self.new.decisions.items ≡ self.old.decisions.items }
     {
         let number = u64::from(advised.id);
-        Ok(self.learned.push(number, advised.variables.len(), levels)?)
+        self.learned.push(number, advised.variables.len(), levels)
     }
 
     /// Goes back to where an advised constraint with negative slack says something first.
-    fn take_conflict(&mut self, advised: &Advised) -> Result<(), SearchFault>
+    fn take_conflict(&mut self, advised: &Advised) -> Result<(), AllocError>
         requires { IsConsistent self.old.decisions.items }
         ensures goes_on { GoesOn self.old.log self.new.log }
         ensures next { OnOk result (self.new.log.state.next ≡ self.old.log.state.next) }
@@ -118,17 +134,13 @@ impl<'a, P: Propagator> Run<'a, P> {
         self.count_conflict()
     }
 
-    /// Deletes the advised constraint that waited for an analysis, if there is one.
-    pub(crate) fn drop_passing(&mut self) -> Result<(), SearchFault>
-        ensures goes_on { GoesOn self.old.log self.new.log }
-        ensures next { OnOk result (self.new.log.state.next ≡ self.old.log.state.next) }
-        ensures biting { OnOk result (self.new.log.biting ≡ self.old.log.biting) }
+    /// The advised constraint that waited for an analysis, if there is one, is of no use any more.
+    pub(crate) fn drop_passing(&mut self) -> Result<(), AllocError>
+        ensures log { self.new.log ≡ self.old.log }
         ensures decisions { self.new.decisions.items ≡ self.old.decisions.items }
     {
-        let Some(id) = self.passing else {
-            return Ok(());
-        };
+        self.outdone.push_any(self.passing)?;
         self.passing = None;
-        self.log.forget(self.alloc, &[id])
+        Ok(())
     }
 }

@@ -19,7 +19,6 @@ use super::fault::SearchFault;
 use super::log::Log;
 use branching::Brancher;
 use linear::{Lit, Relation, Seq, Signed, Term, Var};
-use proof_rules::StepFault;
 use proof_steps::Step;
 use propagate::Propagator;
 use std::alloc::{AllocError, Global};
@@ -60,7 +59,7 @@ fn log_clause<'a, P: Propagator>(
     ensures goes_on { GoesOn log.old log.new }
     ensures biting { OnOk result (log.new.biting ≡ log.old.biting + 1) }
     ensures id { OnOk result (TakesId log.old.state log.new.state) }
-    ensures memory { All (IsLitWritable (length log.old.problem.names)) literals.now → OnErr result (IsErrOf result (SearchFault.Kernel StepFault.OutOfMemory)) }
+    ensures memory { All (IsLitWritable (length log.old.problem.names)) literals.now → OnErr result (IsErrOf result SearchFault.OutOfMemory) }
 {
     let clause = clause_of(alloc, literals)?;
     let variables = variables_of(alloc, literals)?;
@@ -86,7 +85,7 @@ pub(crate) fn learn_clause<'a, P: Propagator>(
     ensures id { OnOk result (TakesId log.old.state log.new.state) }
     ensures consistent { OnOk result (IsConsistent decisions.new.items) }
     ensures undone { OnOk result (IsUndone decisions.old.items decisions.new.items) }
-    ensures memory { All (IsLitWritable (length log.old.problem.names)) decisions.old.items → OnErr result (IsErrOf result (SearchFault.Kernel StepFault.OutOfMemory)) }
+    ensures memory { All (IsLitWritable (length log.old.problem.names)) decisions.old.items → OnErr result (IsErrOf result SearchFault.OutOfMemory) }
 {
     let before = decisions.len() - 1;
     log_clause(alloc, log, decisions.as_slice(), brancher)?;

@@ -6,6 +6,7 @@
 
 ghost use Rattle.std.specs.Prelude.{◌≡◌, ◌+◌, IfOk, IsTrue, OnOk, false};
 ghost use Rattle.propagate.specs.Literals.{IsConsistent};
+ghost use Rattle.proof_rules.specs.State.{HasRoom};
 ghost use Rattle.search.specs.Log.{GoesOn};
 ghost use Rattle.search.specs.Solving.{TakesId};
 ghost use Rattle.search.specs.Undoing.{IsUndone};
@@ -40,7 +41,8 @@ pub(crate) fn learn_constraint<'a, P: Propagator>(
     analyser: &mut Analyser,
     brancher: &mut Box<dyn Brancher>,
 ) -> Result<bool, SearchFault>
-    requires { IsConsistent decisions.old.items }
+    requires consistent { IsConsistent decisions.old.items }
+    requires room { HasRoom log.old.state }
     ensures goes_on { GoesOn log.old log.new }
     ensures learned { IfOk result (λ yes. IsTrue yes → TakesId log.old.state log.new.state) }
     ensures biting { IfOk result (λ yes. IsTrue yes → log.new.biting ≡ log.old.biting + 1) }

@@ -1,41 +1,69 @@
-//! How a search ends: each way with the conclusion that bears it out.
+//! How a search ends: each way with the conclusion that bears it out, to which the log's state entitles.
 
-ghost use Rattle.std.specs.Prelude.{◌≡◌, ℕ, ◌+◌, ◌<◌, false, IfOk, IsTrue, None, OnOk};
+ghost use Rattle.std.specs.Prelude.{◌≡◌, ◌≢◌, ℕ, [], ◌+◌, ◌<◌, false, IfOk, IsTrue, None, OnOk};
+ghost use Rattle.propagate.specs.Chain.{IsRefuted};
 ghost use Rattle.proof_rules.specs.State.{HasRoom, constraints};
 ghost use Rattle.search.specs.Conflicts.{MeetsConflict};
-ghost use Rattle.search.specs.Log.{GoesOn};
+ghost use Rattle.search.specs.Log.{GoesOn, IsEntitled, with_conclusion};
 ghost use Rattle.search.specs.Solving.{BearsOut, MayStop};
 
-use super::fault::SearchFault;
+use super::fault::want_of_memory;
 use super::found::{Found, Unfinished};
 use super::log::Log;
-use proof_rules::StepFault;
 use proof_steps::{Conclusion, Lower, Upper};
 use propagate::Propagator;
+use std::alloc::AllocError;
+
+/// Keeps a conclusion to which the state entitles.
+fn conclude<'a, P: Propagator>(
+    log: &mut Log<'a, P>,
+    conclusion: Conclusion,
+) -> Result<(), AllocError>
+    requires { IsEntitled log.old.problem log.old.state conclusion }
+    ensures goes_on { GoesOn log.old log.new }
+    ensures kept { OnOk result (log.new ≡ with_conclusion conclusion log.old) }
+{
+    match log.conclude(conclusion) {
+        Ok(()) => Ok(()),
+        Err(fault) => Err(want_of_memory(fault)),
+    }
+}
 
 /// Nothing better is left, as a conflict with no decision open shows: the best solution is an optimum, and without one there
 /// is no solution.
-pub(crate) fn end_exhausted<'a, P: Propagator>(log: &mut Log<'a, P>) -> Result<Found, StepFault>
+pub(crate) fn end_exhausted<'a, P: Propagator>(log: &mut Log<'a, P>) -> Result<Found, AllocError>
+    requires { IsRefuted (constraints log.old.state) }
     ensures goes_on { GoesOn log.old log.new }
     ensures biting { OnOk result (log.new.biting ≡ log.old.biting) }
     ensures found { (limit : ℕ) → IfOk result (BearsOut limit log.new) }
 {
-    let Some(best) = log.least_value() else {
-        log.conclude(Conclusion::Unsat)?;
-        return Ok(Found::Unsat);
-    };
-    log.conclude(Conclusion::Bounds(Lower::At(best), Upper::At(best), None))?;
-    Ok(Found::Optimum)
+    // What holds of every log is known by its type; this makes it known here.
+    log.reveal();
+    if let Some(best) = log.least_value() {
+        conclude(
+            log,
+            Conclusion::Bounds(Lower::At(best), Upper::At(best), None),
+        )?;
+        return Ok(Found::Optimum);
+    }
+    if log.best()?.is_some() {
+        return end_solved(log);
+    }
+    conclude(log, Conclusion::Unsat)?;
+    Ok(Found::Unsat)
 }
 
 /// A solution was logged, and there is no objective.
-pub(crate) fn end_solved<'a, P: Propagator>(log: &mut Log<'a, P>) -> Result<Found, StepFault>
-    requires { log.old.problem.objective ≡ None }
+pub(crate) fn end_solved<'a, P: Propagator>(log: &mut Log<'a, P>) -> Result<Found, AllocError>
+    requires none { log.old.problem.objective ≡ None }
+    requires logged { log.old.state.logged ≢ [] }
     ensures goes_on { GoesOn log.old log.new }
     ensures biting { OnOk result (log.new.biting ≡ log.old.biting) }
     ensures found { (limit : ℕ) → IfOk result (BearsOut limit log.new) }
 {
-    log.conclude(Conclusion::Sat(None))?;
+    // What holds of every log is known by its type; this makes it known here.
+    log.reveal();
+    conclude(log, Conclusion::Sat(None))?;
     Ok(Found::Sat)
 }
 
@@ -54,19 +82,24 @@ pub(crate) fn may_stop<'a, P: Propagator>(log: &Log<'a, P>, limit: u64) -> bool
 pub(crate) fn end_stopped<'a, P: Propagator>(
     log: &mut Log<'a, P>,
     limit: u64,
-) -> Result<Found, SearchFault>
+) -> Result<Found, AllocError>
     requires { MayStop limit log.old }
     ensures goes_on { GoesOn log.old log.new }
     ensures biting { OnOk result (log.new.biting ≡ log.old.biting) }
     ensures found { IfOk result (BearsOut limit log.new) }
 {
+    // What holds of every log is known by its type; this makes it known here.
+    log.reveal();
     if log.best()?.is_none() {
-        log.conclude(Conclusion::Nothing)?;
+        conclude(log, Conclusion::Nothing)?;
         return Ok(Found::Unknown(Unfinished::Limit));
     }
     let Some(best) = log.least_value() else {
-        return Ok(end_solved(log)?);
+        return end_solved(log);
     };
-    log.conclude(Conclusion::Bounds(Lower::MinusInf, Upper::At(best), None))?;
+    conclude(
+        log,
+        Conclusion::Bounds(Lower::MinusInf, Upper::At(best), None),
+    )?;
     Ok(Found::Sat)
 }

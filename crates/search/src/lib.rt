@@ -30,7 +30,7 @@ mod standing;
 mod trail;
 
 pub use branching::{Activity, Brancher, First, Progress, Value};
-pub use fault::SearchFault;
+pub use fault::{LogFault, SearchFault};
 pub use found::{Found, Unfinished};
 pub use log::Log;
 pub use solver::{Solved, Solver};

@@ -23,15 +23,16 @@ ghost use Rattle.proof_rules.specs.Legal.{Legal};
 ghost use Rattle.proof_text.specs.Steps.{IsProper};
 ghost use Rattle.proof_text.specs.Writable.{IsStepWritable};
 ghost use Rattle.proof_write.specs.Whole.{step_line};
-ghost use Rattle.search.specs.Log.{IsRefusedBy};
+ghost use Rattle.proof_rules.specs.State.{State};
+ghost use Rattle.search.specs.Log.{IsRefusedBy, IsShortOf, IsShortage};
 
-use super::fault::SearchFault;
+use super::fault::{LogFault, SearchFault, refused_growth, want_of_memory};
 use kernel::{Applied, Kernel};
-use linear::{Assignment, Lit, Names, Problem, Seq};
+use linear::{Assignment, Integer, Lit, Names, Problem, Seq};
 use proof_rules::StepFault;
 use proof_steps::{Conclusion, Step};
 use proof_write::{is_step_writable, write_end, write_start, write_step};
-use propagate::{Id, Propagator, Reach, Trace};
+use propagate::{Id, Ids, Propagator, Reach, Trace};
 use std::alloc::{AllocError, Global};
 use std::marker::Model;
 use std::mem;
@@ -74,7 +75,7 @@ fn keep<'a, P: Propagator>(
     names: &Names,
     kernel: &mut Kernel<'a, P>,
     step: &Step,
-) -> Result<Applied, SearchFault>
+) -> Result<Applied, LogFault>
     requires relation { HasAtLeast step.now }
     ensures problem { kernel.new.problem ≡ kernel.old.problem }
     ensures ok { OnOk result (Legal kernel.old.problem kernel.old.state step.now kernel.new.state) }
@@ -87,7 +88,7 @@ fn keep<'a, P: Propagator>(
     ensures err { OnErr result (kernel.new ≡ kernel.old) }
 {
     if !is_step_writable(names.len(), step) {
-        return Err(SearchFault::Unwritable);
+        return Err(LogFault::Unwritable);
     }
     // The line is written before the kernel is asked, so that no step is applied and not kept.
     let before = text.len();
@@ -96,18 +97,58 @@ fn keep<'a, P: Propagator>(
         Ok(applied) => Ok(applied),
         Err(fault) => {
             text.truncate(before);
-            Err(SearchFault::Kernel(fault))
+            Err(LogFault::Kernel(fault))
         }
     }
 }
 
+/// Why a legal step was not kept: the kernel does not refuse it.
+fn shortage(fault: LogFault) -> SearchFault
+    requires { IsShortage fault }
+    ensures memory { result ≡ SearchFault.OutOfMemory → fault ≡ LogFault.Kernel StepFault.OutOfMemory }
+    ensures unwritable { result ≡ SearchFault.Unwritable → fault ≡ LogFault.Unwritable }
+{
+    match fault {
+        LogFault::Kernel(fault) => SearchFault::from(want_of_memory(fault)),
+        LogFault::Unwritable => SearchFault::Unwritable,
+    }
+}
+
+/// The same for a legal step: only memory may run out, or the step cannot be written.
+fn keep_legal<'a, P: Propagator>(
+    text: &mut Vec<u8>,
+    names: &Names,
+    kernel: &mut Kernel<'a, P>,
+    step: &Step,
+) -> Result<Applied, SearchFault>
+    requires relation { HasAtLeast step.now }
+    requires legal { (t : State) × Legal kernel.old.problem kernel.old.state step.now t }
+    ensures problem { kernel.new.problem ≡ kernel.old.problem }
+    ensures ok { OnOk result (Legal kernel.old.problem kernel.old.state step.now kernel.new.state) }
+    ensures kept { OnOk result (text.new.items ≡ text.old.items ++ step_line names.now step.now) }
+    ensures writable { OnOk result (IsStepWritable (length names.now) step.now) }
+    ensures proper { OnOk result (IsProper step.now) }
+    ensures id { IfOk result (λ applied. applied.id ≡ given_id step.now kernel.old.state) }
+    ensures fault { IfErr result (IsShortOf names.now step.now) }
+    ensures dropped { OnErr result (text.new.items ≡ text.old.items) }
+    ensures err { OnErr result (kernel.new ≡ kernel.old) }
+{
+    match keep(text, names, kernel, step) {
+        Ok(applied) => Ok(applied),
+        Err(fault) => Err(shortage(fault)),
+    }
+}
+
 impl<'a, P: Propagator> Log<'a, P> {
-    ghost use Rattle.std.specs.Prelude.{◌≡◌, ◌↔◌, ◌+◌, [], ◌∷◌, ◌++◌, IfOk, IfErr, IfSome, IsTrue, None, OnOk, OnErr, IsErrOf, Some, length};
+    ghost use Rattle.std.specs.Prelude.{◌≡◌, ◌↔◌, ◌+◌, [], ◌∷◌, ◌++◌, IfOk, IfErr, IfSome, IsSome, IsTrue, None, OnOk, OnErr, Some, length};
+    ghost use Rattle.std.specs.FinMap as map;
     ghost use Rattle.kernel.specs.Held.{HasAtLeast, given_id};
+    ghost use Rattle.linear.specs.Limits.{IsWithin};
     ghost use Rattle.propagate.specs.Content.{IsTrace, IsTraceOfLast};
     ghost use Rattle.propagate.specs.Literals.{IsConsistent};
     ghost use Rattle.propagate.specs.Reach.{IsReach};
     ghost use Rattle.proof_rules.specs.Claim.{IsSolution};
+    ghost use Rattle.proof_rules.specs.Deletion.{AreDeletableAtOnce};
     ghost use Rattle.proof_rules.specs.Fault.{OrMemory, IsConclusionFault};
     ghost use Rattle.proof_rules.specs.Forms.{problem_ids};
     ghost use Rattle.proof_rules.specs.Justified.{IsBest};
@@ -115,20 +156,23 @@ impl<'a, P: Propagator> Log<'a, P> {
     ghost use Rattle.proof_rules.specs.State.{HasRoom, IsStart, constraints};
     ghost use Rattle.proof_text.specs.Writable.{IsConclusionWritable};
     ghost use Rattle.proof_write.specs.Whole.{first_lines, last_lines};
-    ghost use Rattle.search.specs.Kept.{IsSpare, Spares};
-    ghost use Rattle.search.specs.Log.{CanBeWritten, GoesOn, ImprovesIfAsked, ImprovesNothing, IsEntitled, IsFalling, IsProof, IsRefused, IsSpelledBy, IsWorthLeast, Keeps, StandsAlone, StepBites, improvement, last_of, with_conclusion};
+    ghost use Rattle.search.specs.Deleting.{AreNoted};
+    ghost use Rattle.search.specs.Kept.{IsSpare, KeepsLive, Spares};
+    ghost use Rattle.search.specs.Log.{CanBeWritten, GoesOn, ImprovesIfAsked, ImprovesNothing, IsEntitled, IsFalling, IsLegal, IsProof, IsRefused, IsShort, IsSpelledBy, IsWorthLeast, Keeps, StandsAlone, StepBites, improvement, last_of, with_conclusion};
 
-    /// The log of a problem's file, with no step. Running out of memory is the only fault.
-    pub fn new(alloc: Global, problem: &'a Problem) -> Result<Self, StepFault>
+    /// The log of a problem's file, with no step.
+    pub fn new(alloc: Global, problem: &'a Problem) -> Result<Self, AllocError>
         ensures problem { IfOk result (λ l. l.problem ≡ problem.now) }
         ensures text { IfOk result (λ l. l.text ≡ first_lines (problem_ids problem.now.constraints)) }
         ensures start { IfOk result (λ l. IsStart problem.now l.state) }
         ensures biting { IfOk result (λ l. l.biting ≡ 0) }
         ensures conclusion { IfOk result (λ l. l.conclusion ≡ Conclusion.Nothing) }
         ensures asking { IfOk result (λ l. l.asking ≡ None) }
-        ensures memory { OnErr result (IsErrOf result StepFault.OutOfMemory) }
     {
-        let kernel = Kernel::new(alloc, problem)?;
+        let kernel = match Kernel::new(alloc, problem) {
+            Ok(kernel) => kernel,
+            Err(fault) => return Err(want_of_memory(fault)),
+        };
         // That the problem is within the limits is known by its type; this makes it known here.
         problem.reveal();
         let mut text = Vec::new(alloc);
@@ -148,7 +192,7 @@ impl<'a, P: Propagator> Log<'a, P> {
     /// only where there is no objective, and deletes neither a constraint of the file nor the one that asks for a better solution. Nothing
     /// is concluded from the new state yet. A refusal is the kernel's, or that memory ran out, or that the step cannot be written, and
     /// leaves the log as before.
-    pub fn apply(&mut self, step: Step) -> Result<Applied, SearchFault>
+    pub fn apply(&mut self, step: Step) -> Result<Applied, LogFault>
         requires relation { HasAtLeast step }
         requires alone { StandsAlone step }
         requires other { ImprovesNothing step }
@@ -171,9 +215,36 @@ impl<'a, P: Propagator> Log<'a, P> {
         Ok(applied)
     }
 
-    /// Applies a step whose constraint bites on the live ones, and counts it. It is refused as by `apply`.
+    /// Applies a legal step, under the terms of `apply`. It is refused only where memory runs out, or where it cannot be written, and leaves
+    /// the log as before then.
+    pub fn take(&mut self, step: Step) -> Result<Applied, SearchFault>
+        requires relation { HasAtLeast step }
+        requires alone { StandsAlone step }
+        requires other { ImprovesNothing step }
+        requires asked { ImprovesIfAsked self.old.problem step }
+        requires spares { Spares self.old step }
+        requires legal { IsLegal self.old step }
+        ensures goes_on { GoesOn self.old self.new }
+        ensures ok { OnOk result (Legal self.old.problem self.old.state step self.new.state) }
+        ensures kept { OnOk result (Keeps self.old step self.new) }
+        ensures improved { OnOk result (self.new.improved ≡ self.old.improved) }
+        ensures biting { OnOk result (self.new.biting ≡ self.old.biting) }
+        ensures asking { OnOk result (self.new.asking ≡ self.old.asking) }
+        ensures conclusion { OnOk result (self.new.conclusion ≡ Conclusion.Nothing) }
+        ensures id { IfOk result (λ applied. applied.id ≡ given_id step self.old.state) }
+        ensures fault { IfErr result (IsShort self.old step) }
+        ensures err { OnErr result (self.new ≡ self.old) }
+    {
+        match self.apply(step) {
+            Ok(applied) => Ok(applied),
+            Err(fault) => Err(shortage(fault)),
+        }
+    }
+
+    /// Applies a legal step whose constraint bites on the live ones, and counts it. It is refused as by `take`.
     pub fn learn(&mut self, step: Step) -> Result<Applied, SearchFault>
         requires relation { HasAtLeast step }
+        requires legal { IsLegal self.old step }
         requires bites { StepBites self.old.state step }
         ensures goes_on { GoesOn self.old self.new }
         ensures ok { OnOk result (Legal self.old.problem self.old.state step self.new.state) }
@@ -184,18 +255,19 @@ impl<'a, P: Propagator> Log<'a, P> {
         ensures asking { OnOk result (self.new.asking ≡ self.old.asking) }
         ensures conclusion { OnOk result (self.new.conclusion ≡ Conclusion.Nothing) }
         ensures id { IfOk result (λ applied. applied.id ≡ given_id step self.old.state) }
-        ensures fault { IfErr result (IsRefused self.old step) }
+        ensures fault { IfErr result (IsShort self.old step) }
         ensures err { OnErr result (self.new ≡ self.old) }
     {
-        let applied = keep(&mut self.text, self.source.names(), &mut self.kernel, &step)?;
+        let applied = keep_legal(&mut self.text, self.source.names(), &mut self.kernel, &step)?;
         self.biting += 1;
         drop(mem::replace(&mut self.conclusion, Conclusion::Nothing));
         Ok(applied)
     }
 
     /// Logs a solution that is better than all improving ones before, and keeps its value. From now on the constraint that it adds is the
-    /// one that asks for a better solution. It is refused as by `apply`.
+    /// one that asks for a better solution. The step is legal; it is refused as by `take`.
     pub fn improve(&mut self, assigned: Seq<Lit>) -> Result<(), SearchFault>
+        requires { IsLegal self.old (Step.Soli assigned) }
         ensures goes_on { GoesOn self.old self.new }
         ensures ok { OnOk result (Legal self.old.problem self.old.state (Step.Soli assigned) self.new.state) }
         ensures kept { OnOk result (Keeps self.old (Step.Soli assigned) self.new) }
@@ -204,13 +276,18 @@ impl<'a, P: Propagator> Log<'a, P> {
         ensures biting { OnOk result (self.new.biting ≡ self.old.biting) }
         ensures asking { OnOk result (self.new.asking ≡ Some self.old.state.next) }
         ensures conclusion { OnOk result (self.new.conclusion ≡ Conclusion.Nothing) }
-        ensures fault { IfErr result (IsRefused self.old (Step.Soli assigned)) }
+        ensures fault { IfErr result (IsShort self.old (Step.Soli assigned)) }
         ensures err { OnErr result (self.new ≡ self.old) }
     {
         // The room for the value is taken first, as that for the line is.
         self.improved.push(0)?;
         let step = Step::Soli(assigned);
-        let applied = match keep(&mut self.text, self.source.names(), &mut self.kernel, &step) {
+        let applied = match keep_legal(
+            &mut self.text,
+            self.source.names(),
+            &mut self.kernel,
+            &step,
+        ) {
             Ok(applied) => applied,
             Err(fault) => {
                 self.improved.pop();
@@ -241,8 +318,53 @@ impl<'a, P: Propagator> Log<'a, P> {
         u64::from(id) > self.kernel.problem_ids() && self.asking != Some(id)
     }
 
-    /// Deletes constraints, but for those of the file and the one that asks for a better solution.
-    pub fn forget(&mut self, alloc: Global, ids: &[Id]) -> Result<(), SearchFault>
+    /// Whether the constraint of an id is live.
+    fn is_live(&self, id: Id) -> bool
+        ensures { IsTrue result ↔ IsSome (map.get self.now.state.live id) }
+    {
+        self.kernel.constraint(id).is_some()
+    }
+
+    /// Whether a constraint may be deleted, and is live.
+    fn is_deletable(&self, id: Id) -> bool
+        ensures spare { IsTrue result → IsSpare self.now.problem self.now.asking id }
+        ensures live { IsTrue result → IsSome (map.get self.now.state.live id) }
+    {
+        self.is_spare(id) && self.is_live(id)
+    }
+
+    /// Notes the number of a constraint, where it may be deleted and was not noted before.
+    fn note(&self, id: Id, seen: &mut Ids, numbers: &mut Vec<Integer>) -> Result<(), AllocError>
+        ensures { AreNoted self.now numbers.old.items seen.old → OnOk result (AreNoted self.now numbers.new.items seen.new) }
+    {
+        if !self.is_deletable(id) {
+            return Ok(());
+        }
+        if seen.contains(id) {
+            return Ok(());
+        }
+        seen.insert(id)?;
+        numbers.push(i128::from(id))?;
+        Ok(())
+    }
+
+    /// The numbers of those among some constraints that may be deleted: each is live, and they differ.
+    fn deletable(&self, alloc: Global, ids: &[Id]) -> Result<Vec<Integer>, AllocError>
+        ensures spare { IfOk result (λ numbers. Spares self.now (Step.Del numbers.items)) }
+        ensures live { IfOk result (λ numbers. AreDeletableAtOnce self.now.state numbers.items) }
+        ensures writable { IfOk result (λ numbers. CanBeWritten self.now (Step.Del numbers.items)) }
+    {
+        let mut numbers = Vec::new(alloc);
+        let mut seen = Ids::empty(alloc);
+        for id in ids {
+            self.note(*id, &mut seen, &mut numbers)?;
+        }
+        Ok(numbers)
+    }
+
+    /// Deletes constraints, but for those that are not live, those of the file and the one that asks for a better solution. Running out of
+    /// memory is the only fault.
+    pub fn forget(&mut self, alloc: Global, ids: &[Id]) -> Result<(), AllocError>
         ensures goes_on { GoesOn self.old self.new }
         ensures next { OnOk result (self.new.state.next ≡ self.old.state.next) }
         ensures improved { OnOk result (self.new.improved ≡ self.old.improved) }
@@ -250,16 +372,16 @@ impl<'a, P: Propagator> Log<'a, P> {
         ensures asking { OnOk result (self.new.asking ≡ self.old.asking) }
         ensures err { OnErr result (self.new ≡ self.old) }
     {
-        let mut gone = Vec::new(alloc);
-        for id in ids {
-            if self.is_spare(*id) {
-                gone.push(i128::from(*id))?;
-            }
+        // That no block is open is known by the type; this makes it known here.
+        self.reveal();
+        let numbers = self.deletable(alloc, ids)?;
+        if numbers.is_empty() {
+            return Ok(());
         }
-        if !gone.is_empty() {
-            self.apply(Step::Del(Seq::from_vec(gone)))?;
+        match self.take(Step::Del(Seq::from_vec(numbers))) {
+            Ok(_) => Ok(()),
+            Err(fault) => Err(refused_growth(fault)),
         }
-        Ok(())
     }
 
     /// Keeps a conclusion that the kernel accepts. A refusal is the kernel's, and leaves the log as before.
@@ -284,9 +406,11 @@ impl<'a, P: Propagator> Log<'a, P> {
 
     /// What holds of every log, for a proof that needs it where nothing else of the log is asked.
     pub fn reveal(&self)
-        ensures { IsProof self.now }
+        ensures proof { IsProof self.now }
+        ensures live { KeepsLive self.now }
+        ensures within { IsWithin self.now.problem }
     {
-        let _ = &self.source;
+        self.source.reveal();
     }
 
     /// The text of the proof as far as it has come: the first lines, and a line for each step.

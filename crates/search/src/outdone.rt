@@ -1,13 +1,17 @@
-//! The constraints that are of no use any more: those that asked for a better solution, once one is there, and cuts that the relaxation
-//! has dropped.
+//! The constraints that are of no use any more: those that asked for a better solution, once one is there, cuts that the relaxation
+//! has dropped, and advised constraints that an analysis has begun with.
 //!
-//! The constraint of the last improving solution asks for more than all before it, and a cut is there for the relaxation alone, so these only
-//! make propagation dearer. Each goes as soon as no literal of the trail is forced in it.
+//! The constraint of the last improving solution asks for more than all before it, a cut is there for the relaxation alone, and what the
+//! analysis came to says more than what it began with: so these only make propagation dearer. They go some at a time, each once no literal of
+//! the trail is forced in it.
 
 use super::learned::reasons_of;
 use analysis::Entry;
 use propagate::Id;
 use std::alloc::{AllocError, Global};
+
+/// So many are many.
+const MANY: usize = 60;
 
 /// Those that are live still, by rising id.
 #[derive(Drop)]
@@ -46,6 +50,11 @@ impl Outdone {
             self.push(*id)?;
         }
         Ok(())
+    }
+
+    /// Whether there are many.
+    pub(crate) fn are_many(&self) -> bool {
+        self.ids.len() >= MANY
     }
 
     /// Takes out those in which no literal of a trail is forced.

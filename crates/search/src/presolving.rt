@@ -5,15 +5,18 @@
 //! be written, is left out, as one is for which no id is left; so nothing but speed rests on which candidates there are. Their constraints are no
 //! lessons: they stand for as long as the search goes on, and are not counted as what a conflict has taught.
 
-ghost use Rattle.std.specs.Prelude.{◌≡◌, ◌≢◌, ◌<◌, All, map, IfOk, OnOk};
+ghost use Rattle.std.specs.Prelude.{◌≡◌, ◌≢◌, ◌<◌, All, map, IfOk, OnErr, OnOk};
 ghost use Rattle.kernel.specs.Held.{HasAtLeast};
+ghost use Rattle.presolve.specs.Fixing.{AreFixed};
+ghost use Rattle.presolve.specs.Swapping.{AreUsed};
 ghost use Rattle.search.specs.Kept.{Spares};
 ghost use Rattle.search.specs.Log.{ImprovesIfAsked, ImprovesNothing, StandsAlone};
 ghost use Rattle.search.specs.Presolving.{IsPresolved, Tries, TriesAll, exchange, fixing, in_order, is_true, made_true, swapping, variable};
 
-use super::fault::SearchFault;
+use super::fault::LogFault;
 use super::log::Log;
-use linear::{Lit, Relation, Seq, Signed, Term, Var};
+use linear::{Lit, Problem, Relation, Seq, Signed, Term, Var};
+use normal_form::CutFault;
 use presolve::{Swap, fixable, swappable};
 use proof_rules::StepFault;
 use proof_steps::Step;
@@ -101,17 +104,18 @@ fn exchange(alloc: Global, swap: Swap) -> Result<Substitution, AllocError>
 }
 
 /// Hands on that memory ran out; any other fault says only that a step is not legal, or cannot be written.
-fn unless_refused(fault: SearchFault) -> Result<(), SearchFault>
-    ensures { OnOk result (fault ≢ SearchFault.Kernel StepFault.OutOfMemory) }
+fn unless_refused(fault: LogFault) -> Result<(), AllocError>
+    ensures ok { OnOk result (fault ≢ LogFault.Kernel StepFault.OutOfMemory) }
+    ensures err { OnErr result (fault ≡ LogFault.Kernel StepFault.OutOfMemory) }
 {
     match fault {
-        SearchFault::Kernel(StepFault::OutOfMemory) => Err(fault),
+        LogFault::Kernel(StepFault::OutOfMemory) => Err(AllocError),
         _ => Ok(()),
     }
 }
 
 /// Puts a step into the log where it is legal and can be written.
-fn attempt<'a, P: Propagator>(log: &mut Log<'a, P>, step: Step) -> Result<(), SearchFault>
+fn attempt<'a, P: Propagator>(log: &mut Log<'a, P>, step: Step) -> Result<(), AllocError>
     requires relation { HasAtLeast step }
     requires alone { StandsAlone step }
     requires other { ImprovesNothing step }
@@ -131,7 +135,7 @@ fn fix<'a, P: Propagator>(
     alloc: Global,
     log: &mut Log<'a, P>,
     literals: &[Lit],
-) -> Result<(), SearchFault>
+) -> Result<(), AllocError>
     ensures problem { log.new.problem ≡ log.old.problem }
     ensures tried { OnOk result (TriesAll (map fixing literals.now) log.old log.new) }
 {
@@ -147,7 +151,7 @@ fn order<'a, P: Propagator>(
     alloc: Global,
     log: &mut Log<'a, P>,
     swaps: &[Swap],
-) -> Result<(), SearchFault>
+) -> Result<(), AllocError>
     requires { All (λ s. s.first.0 < s.second.0) swaps.now }
     ensures problem { log.new.problem ≡ log.old.problem }
     ensures tried { OnOk result (TriesAll (map swapping swaps.now) log.old log.new) }
@@ -159,18 +163,48 @@ fn order<'a, P: Propagator>(
     Ok(())
 }
 
+/// Want of memory, which is the only fault where literals and pairs are looked for.
+fn want_of_memory(fault: &CutFault) -> AllocError
+    requires { fault.now ≡ CutFault.OutOfMemory }
+{
+    match fault {
+        CutFault::OutOfMemory => AllocError,
+        _ => unreachable!(),
+    }
+}
+
+/// The literals that are fixed. Running out of memory is the only fault.
+fn fixed_literals(alloc: Global, problem: &Problem) -> Result<Vec<Lit>, AllocError>
+    ensures fixed { IfOk result (λ ls. AreFixed problem.now ls.items) }
+{
+    match fixable(alloc, problem) {
+        Ok(literals) => Ok(literals),
+        Err(fault) => Err(want_of_memory(&fault)),
+    }
+}
+
+/// The pairs that are put in order. Running out of memory is the only fault.
+fn used_pairs(alloc: Global, problem: &Problem, fixed: &[Lit]) -> Result<Vec<Swap>, AllocError>
+    ensures used { IfOk result (λ swaps. AreUsed problem.now fixed.now swaps.items) }
+{
+    match swappable(alloc, problem, fixed) {
+        Ok(swaps) => Ok(swaps),
+        Err(fault) => Err(want_of_memory(&fault)),
+    }
+}
+
 /// Fixes the literals of the problem that may be made true before any search, and asks for an order of the variables that may
 /// change places.
 pub(crate) fn presolve<'a, P: Propagator>(
     alloc: Global,
     log: &mut Log<'a, P>,
-) -> Result<(), SearchFault>
+) -> Result<(), AllocError>
     ensures problem { log.new.problem ≡ log.old.problem }
     ensures biting { OnOk result (log.new.biting ≡ log.old.biting) }
     ensures tried { OnOk result (IsPresolved log.old log.new) }
 {
-    let literals = fixable(alloc, log.problem())?;
+    let literals = fixed_literals(alloc, log.problem())?;
     fix(alloc, log, literals.as_slice())?;
-    let swaps = swappable(alloc, log.problem(), literals.as_slice())?;
+    let swaps = used_pairs(alloc, log.problem(), literals.as_slice())?;
     order(alloc, log, swaps.as_slice())
 }

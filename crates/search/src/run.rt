@@ -27,8 +27,6 @@ const CONFLICTS_BETWEEN_LINES: u64 = 1000;
 pub(crate) struct Run<'a, P: Propagator> {
     pub(crate) alloc: Global,
     pub(crate) log: Log<'a, P>,
-    /// The number of the file's variables.
-    count: u32,
     pub(crate) decisions: Vec<Lit>,
     pub(crate) trail: Trail,
     restarts: Restarts,
@@ -42,11 +40,12 @@ pub(crate) struct Run<'a, P: Propagator> {
 }
 
 impl<'a, P: Propagator> Run<'a, P> {
-    ghost use Rattle.std.specs.Prelude.{◌≡◌, ◌≢◌, ◌<◌, ◌+◌, [], IfOk, IfSome, IsNone, OnOk};
+    ghost use Rattle.std.specs.Prelude.{◌≡◌, ◌≢◌, ◌<◌, ◌+◌, [], IfOk, IfSome, IsNone, OnOk, length};
     ghost use Rattle.propagate.specs.Literals.{IsConsistent};
     ghost use Rattle.proof_rules.specs.State.{HasRoom, constraints};
     ghost use Rattle.search.specs.Conflicts.{LeadsAtLast};
-    ghost use Rattle.search.specs.Log.{GoesOn};
+    ghost use Rattle.search.specs.Descents.{IsSettled};
+    ghost use Rattle.search.specs.Log.{GoesOn, IsLegal};
     ghost use Rattle.search.specs.Solving.{BearsOut, TakesId};
     ghost use Rattle.search.specs.Undoing.{IsUndone, NearsEnd};
 
@@ -63,7 +62,6 @@ impl<'a, P: Propagator> Run<'a, P> {
         Ok(Run {
             alloc,
             log,
-            count,
             decisions: Vec::new(alloc),
             trail: Trail::new(alloc, count)?,
             restarts: Restarts::new(),
@@ -118,7 +116,7 @@ impl<'a, P: Propagator> Run<'a, P> {
     }
 
     /// Notes what an analysis came by, and counts its conflict.
-    fn count_analysed(&mut self) -> Result<(), SearchFault>
+    fn count_analysed(&mut self) -> Result<(), AllocError>
         requires { IsConsistent self.old.decisions.items }
         ensures goes_on { GoesOn self.old.log self.new.log }
         ensures next { OnOk result (self.new.log.state.next ≡ self.old.log.state.next) }
@@ -154,8 +152,31 @@ impl<'a, P: Propagator> Run<'a, P> {
         self.advisers.brancher.progress(progress);
     }
 
+    /// Tells how far the search has come, where that is due.
+    fn tell_progress_if_due(&mut self)
+        ensures log { self.new.log ≡ self.old.log }
+        ensures decisions { self.new.decisions.items ≡ self.old.decisions.items }
+    {
+        if self.advisers.conflicts() % CONFLICTS_BETWEEN_LINES == 0 {
+            self.tell_progress();
+        }
+    }
+
+    /// Undoes all decisions, where that is due.
+    fn begin_anew_if_due(&mut self)
+        requires { IsConsistent self.old.decisions.items }
+        ensures log { self.new.log ≡ self.old.log }
+        ensures consistent { IsConsistent self.new.decisions.items }
+    {
+        if self.restarts.is_due() {
+            self.decisions.clear();
+            self.go_back();
+            self.advisers.brancher.restarted();
+        }
+    }
+
     /// Counts a conflict that taught something; forgets half of what was learned, and begins anew, where that is due.
-    pub(crate) fn count_conflict(&mut self) -> Result<(), SearchFault>
+    pub(crate) fn count_conflict(&mut self) -> Result<(), AllocError>
         requires { IsConsistent self.old.decisions.items }
         ensures goes_on { GoesOn self.old.log self.new.log }
         ensures next { OnOk result (self.new.log.state.next ≡ self.old.log.state.next) }
@@ -165,20 +186,28 @@ impl<'a, P: Propagator> Run<'a, P> {
         let met = self.analyser.met.variables.len();
         self.advisers.count_conflict(met, self.learned.terms());
         self.learned.count_conflict();
-        if self.advisers.conflicts() % CONFLICTS_BETWEEN_LINES == 0 {
-            self.tell_progress();
-        }
+        self.tell_progress_if_due();
         self.forget_if_due()?;
-        if self.restarts.is_due() {
-            self.decisions.clear();
-            self.go_back();
-            self.advisers.brancher.restarted();
+        self.begin_anew_if_due();
+        self.forget_outdone_if_due()
+    }
+
+    /// Deletes the constraints that are outdone by now where that is cheap, since nothing is decided, or where there are many: to take one out
+    /// takes back what was given, with all that it forced.
+    fn forget_outdone_if_due(&mut self) -> Result<(), AllocError>
+        ensures goes_on { GoesOn self.old.log self.new.log }
+        ensures next { OnOk result (self.new.log.state.next ≡ self.old.log.state.next) }
+        ensures biting { OnOk result (self.new.log.biting ≡ self.old.log.biting) }
+        ensures decisions { self.new.decisions.items ≡ self.old.decisions.items }
+    {
+        if !self.decisions.is_empty() && !self.outdone.are_many() {
+            return Ok(());
         }
-        Ok(())
+        self.forget_outdone()
     }
 
     /// Forgets half of what was learned, and what is outdone, where that is due.
-    fn forget_if_due(&mut self) -> Result<(), SearchFault>
+    fn forget_if_due(&mut self) -> Result<(), AllocError>
         ensures goes_on { GoesOn self.old.log self.new.log }
         ensures next { OnOk result (self.new.log.state.next ≡ self.old.log.state.next) }
         ensures biting { OnOk result (self.new.log.biting ≡ self.old.log.biting) }
@@ -193,7 +222,7 @@ impl<'a, P: Propagator> Run<'a, P> {
     }
 
     /// Deletes the constraints that are outdone by now, but for those in which a literal of the trail is forced.
-    pub(crate) fn forget_outdone(&mut self) -> Result<(), SearchFault>
+    pub(crate) fn forget_outdone(&mut self) -> Result<(), AllocError>
         ensures goes_on { GoesOn self.old.log self.new.log }
         ensures next { OnOk result (self.new.log.state.next ≡ self.old.log.state.next) }
         ensures biting { OnOk result (self.new.log.biting ≡ self.old.log.biting) }
@@ -205,6 +234,7 @@ impl<'a, P: Propagator> Run<'a, P> {
 
     /// Logs a better solution. The constraint that asked for it is of no use then.
     fn improve(&mut self, assigned: Seq<Lit>) -> Result<(), SearchFault>
+        requires { IsLegal self.old.log (Step.Soli assigned) }
         ensures goes_on { GoesOn self.old.log self.new.log }
         ensures id { OnOk result (TakesId self.old.log.state self.new.log.state) }
         ensures biting { OnOk result (self.new.log.biting ≡ self.old.log.biting) }
@@ -214,19 +244,23 @@ impl<'a, P: Propagator> Run<'a, P> {
         self.log.improve(assigned)?;
         self.advisers.improve(&self.log);
         self.outdone.push_any(asked)?;
-        self.forget_outdone()
+        self.forget_outdone()?;
+        Ok(())
     }
 
     /// Logs a solution. Where there is an objective the search goes on for a better one.
     fn accept(&mut self, assigned: Seq<Lit>, limit: u64) -> Result<Option<Found>, SearchFault>
+        requires { IsSettled self.old.log assigned }
         ensures goes_on { GoesOn self.old.log self.new.log }
         ensures found { IfOk result (λ end. IfSome end (BearsOut limit self.new.log)) }
         ensures improved { IfOk result (λ end. IsNone end → TakesId self.old.log.state self.new.log.state) }
         ensures biting { OnOk result (self.new.log.biting ≡ self.old.log.biting) }
         ensures decisions { self.new.decisions.items ≡ self.old.decisions.items }
     {
+        // What holds of every log is known by its type; this makes it known here.
+        self.log.reveal();
         if self.log.problem().objective().is_none() {
-            self.log.apply(Step::Sol(assigned))?;
+            self.log.take(Step::Sol(assigned))?;
             return Ok(Some(end_solved(&mut self.log)?));
         }
         if !self.log.has_room() {
@@ -234,6 +268,15 @@ impl<'a, P: Propagator> Run<'a, P> {
         }
         self.improve(assigned)?;
         Ok(None)
+    }
+
+    /// How many variables the file has.
+    fn variables(&self) -> u32
+        ensures { result ≡ length self.now.log.problem.names }
+    {
+        // That they are few is known by the log's type; this makes it known here.
+        self.log.reveal();
+        self.log.names().len() as u32
     }
 
     /// Decides until there is a conflict, a line of an adviser or a solution, and learns from that; or undoes decisions that a conflict does
@@ -248,12 +291,13 @@ impl<'a, P: Propagator> Run<'a, P> {
             → NearsEnd self.old.log self.old.decisions.items self.new.log self.new.decisions.items) }
         ensures consistent { OnOk result (IsConsistent self.new.decisions.items) }
     {
+        let count = self.variables();
         let end = descend(
             self.alloc,
             &mut self.log,
             &mut self.decisions,
             &mut self.trail,
-            self.count,
+            count,
             &mut self.advisers,
         )?;
         match end {

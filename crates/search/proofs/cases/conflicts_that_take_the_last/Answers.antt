@@ -1,12 +1,10 @@
 -- By the slow search.
-use Rattle.std.proofs.Common.{◌≡◌, ℕ, ◌+◌, zero, suc, List, [], ◌∷◌, take, length, refl, inl, inr, arith}
-use Rattle.linear.specs.declared.term.Lit.{Lit}
+use Rattle.std.proofs.Common.{zero, suc, List, [], ◌∷◌, refl, inl, inr, arith}
 use Rattle.normal_form.specs.Cases.{negated, normal, plain}
 use Rattle.normal_form.specs.Normal.{NormalConstraint}
 use Rattle.propagate.specs.Cases.{one_of_two, x, not_x}
-use Rattle.propagate.specs.Chain.{IsImpossible}
 use Rattle.propagate.proofs.SearchIsRight.{conflict_met, closure_met, no_conflict_met}
-use Rattle.search.specs.Conflicts.{IsOvertaken, TakesLast}
+use Rattle.search.specs.Conflicts.{TakesLast}
 use Rattle.search.proofs.cases.conflicts_that_take_the_last.Goals as goal
 
 both : List NormalConstraint

@@ -6,8 +6,9 @@ use Rattle.propagate.specs.declared.reach.Reach.TheVariants as reaches
 use Rattle.proof_rules.specs.Expression.{IsPostfixOf}
 use Rattle.proof_rules.specs.State.{State, constraints, constraint_of}
 use Rattle.proof_steps.specs.declared.step.Step.TheVariants as kinds
-use Rattle.search.specs.Log.{Logbook, StepBites}
+use Rattle.search.specs.Log.{IsLegal, Logbook, StepBites}
 use Rattle.search.proofs.BitingClauses.{fixpoint_bites}
+use Rattle.search.proofs.Stepping.{pol_legal}
 use Rattle.search.proofs.cutting.learn_constraint.Goals as goal
 
 pub learn-requires-clause-bites : goal.learn-requires-clause-bites
@@ -27,3 +28,12 @@ learn-requires-clause-bites g c =
     subst (λ xs. IsFalsified xs learned.constraint ⊎ ((l : Lit) × IsForced xs l learned.constraint)) c.as_slice-3.ensures (c.in_ok-bites_under.ensures.0 c.if-not-branch.false).0 in
     subst (λ (l : Logbook). StepBites l.state (kinds.Pol learned.items)) (sym c.extend.ensures.same)
     (learned.constraint, derived, fixpoint_bites live given closed learned.constraint reach bites)
+
+pub learn-requires-clause-legal : goal.learn-requires-clause-legal
+learn-requires-clause-legal g c =
+    let learned = c.in-Some.learned in
+    let lent : IsPostfixOf (constraint_of c.kernel.result.now.state) learned.items learned.constraint =
+    subst (λ o. IfSome o (λ l. IsPostfixOf (constraint_of c.kernel.result.now.state) l.items l.constraint)) c.in-Some.is c.in_ok-found.ensures.derived in
+    let derived : IsPostfixOf (constraint_of c.args.log.now.state) learned.items learned.constraint =
+    subst (λ (s : State). IsPostfixOf (constraint_of s) learned.items learned.constraint) c.kernel.ensures.state lent in
+    subst (λ (l : Logbook). IsLegal l (kinds.Pol learned.items)) (sym c.extend.ensures.same) (pol_legal c.args.log.now learned.items learned.constraint derived c.requires.room)

@@ -1,13 +1,16 @@
 -- What is chosen is free in the table of what stands, so it is one more, and a conflict takes it.
-use Rattle.std.proofs.Common.{◌<◌, List, MatchOption, length, sym, subst, ◌∙◌}
+use Rattle.std.proofs.Common.{◌<◌, List, MatchOption, refl, sym, subst, ◌∙◌}
 use Rattle.linear.specs.declared.term.Lit.{Lit}
 use Rattle.propagate.specs.Chain.{LeadsToConflict}
 use Rattle.propagate.specs.Content.{IsEnd}
 use Rattle.propagate.specs.Literals.{IsConsistent}
 use Rattle.proof_rules.specs.State.{constraints}
+use Rattle.branching.specs.declared.brancher.Value.{Value}
 use Rattle.search.specs.Conflicts.{LeadsAtLast, TakesLast}
+use Rattle.search.specs.Descents.{IsSettled}
 use Rattle.search.specs.Log.{Logbook}
-use Rattle.search.specs.Values.{unlisted_below}
+use Rattle.search.specs.Values.{NoneIsFree, unlisted_below}
+use Rattle.search.proofs.Settling.{settled}
 use Rattle.search.proofs.Taking.{IsChosen, chosen}
 use Rattle.search.proofs.descent.descend.Given.{Over}
 use Rattle.search.proofs.descent.descend.Goals as goal
@@ -68,3 +71,16 @@ loop-standing-preserved g c =
       c.decide.ensures.count ∙ c.loop-standing.invariant.2,
       subst (λ (x : Logbook). IsEnd x.state.live new c.decide.new.standing.0) (sym c.decide.ensures.same) end,
     )
+
+-- where none is free, all variables have a value
+pub returns-in_default-choose-clause-settled : goal.returns-in_default-choose-clause-settled
+returns-in_default-choose-clause-settled g c =
+    let l : Logbook = c.args.log.now in
+    let decisions : List Lit = c.loop-standing.decisions.items in
+    let standing : List Lit = c.loop-standing.standing.0 in
+    let end : IsEnd l.state.live decisions standing =
+    subst (λ (x : Logbook). IsEnd x.state.live decisions standing) (c.loop-standing.invariant.0 ∙ c.stand.ensures.same) c.loop-standing.invariant.3 in
+    let none : NoneIsFree c.loop-standing.standing.1 c.args.count =
+    subst (λ (vs : List Value). NoneIsFree vs c.args.count) c.values-in-loop-standing.ensures.values (c.in_default-choose.ensures.none refl) in
+    subst (IsSettled l) (sym c.into_assigned.ensures)
+    (settled l decisions standing c.loop-standing.standing.1 c.args.count c.loop-standing.invariant.1 end c.values-in-loop-standing.ensures.exact c.loop-standing.invariant.2 c.requires.count none)

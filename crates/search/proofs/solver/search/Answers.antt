@@ -1,5 +1,5 @@
 -- The log of the file is presolved, and each turn goes on from there.
-use Rattle.std.proofs.Common.{◌≡◌, [], IfSome, refl, sym, ap, subst, ◌∙◌, arith}
+use Rattle.std.proofs.Common.{[], IfSome, refl, sym, ap, subst, ◌∙◌, arith}
 use Rattle.std.proofs.lemmas.Bool.{false≢true}
 use Rattle.propagate.specs.Literals.{IsConsistent}
 use Rattle.search.specs.Log.{GoesOn, Logbook}

@@ -10,7 +10,7 @@ use Rattle.proof_rules.specs.Legal.{Legal}
 use Rattle.proof_rules.specs.State.{State}
 use Rattle.proof_write.specs.Whole.{step_line}
 use Rattle.search.specs.Kept.{ImprovementStands}
-use Rattle.search.specs.Log.{Logbook, IsProof, IsRefused, IsRefusedBy, improvement, value_list}
+use Rattle.search.specs.Log.{Logbook, IsLegal, IsProof, IsShort, IsShortOf, improvement, value_list}
 use Rattle.search.proofs.Growing.{grows, logbook, put_last, written_behind}
 use Rattle.search.proofs.StaysLive.{kept_improved}
 use Rattle.search.proofs.log.Log.improve.Given.{Over}
@@ -19,19 +19,23 @@ use Rattle.search.proofs.log.Log.improve.Goals.{Joined-step-2}
 
 pub returns-in-Err-clause-fault : goal.returns-in-Err-clause-fault
 returns-in-Err-clause-fault g c =
-    let log = c.self.inside in
     let f = c.in-Err.fault in
     let step : Step = kinds.Soli c.args.assigned in
-    let by_names = subst (λ names. IsRefusedBy names log.kernel.problem log.kernel.state step f) c.names.ensures.names c.in-Err.ensures.fault in
-    subst (λ (l : Logbook). IsRefused l step f) c.self.view_is (subst (λ p. IsRefusedBy log.source.now.names p log.kernel.state step f) c.self.invariant.0 by_names)
+    subst (λ (l : Logbook). IsShort l step f) c.self.view_is (subst (λ names. IsShortOf names step f) c.names.ensures.names c.in-Err.ensures.fault)
+
+pub keep_legal-requires-clause-legal : goal.keep_legal-requires-clause-legal
+keep_legal-requires-clause-legal g c =
+    let log = c.self.inside in
+    let step : Step = kinds.Soli c.args.assigned in
+    subst (λ q. (t : State) × Legal q log.kernel.state step t) (sym c.self.invariant.0) (subst (λ (l : Logbook). IsLegal l step) (sym c.self.view_is) c.requires)
 
 -- the value that was kept is the least one now
 value_kept : (g : Over) (c : Joined-step-2 g)
     → set c.push.new.self.items (c.len-place.result - 1) (to_z w128 (of_z w128 c.in-Some.value))
-    ≡ c.self.inside.improved.items ++ improvement (kinds.Soli c.args.assigned) c.keep.new.kernel.state
+    ≡ c.self.inside.improved.items ++ improvement (kinds.Soli c.args.assigned) c.keep_legal.new.kernel.state
 value_kept g c =
     let log = c.self.inside in
-    let new : State = c.keep.new.kernel.state in
+    let new : State = c.keep_legal.new.kernel.state in
     let fits : FitsSigned w128 c.in-Some.value = search rules in
     let least : new.least ≡ Some c.in-Some.value = sym c.least_value.ensures ∙ c.in-Some.is in
     let long : vec_len c.push.new.self ≡ length c.push.new.self.items = search rules in
@@ -43,8 +47,8 @@ pub invariant_of-self-2 : goal.invariant_of-self-2
 invariant_of-self-2 g c =
     let log = c.self.inside in
     let p : Opb = log.source.now in
-    let new : State = c.keep.new.kernel.state in
-    let text : List ℕ = c.keep.new.text.items in
+    let new : State = c.keep_legal.new.kernel.state in
+    let text : List ℕ = c.keep_legal.new.text.items in
     let step : Step = kinds.Soli c.args.assigned in
     let values : List ℤ = set c.push.new.self.items (c.len-place.result - 1) (to_z w128 (of_z w128 c.in-Some.value)) in
     let kept = c.in-Ok.ensures in
@@ -55,7 +59,7 @@ invariant_of-self-2 g c =
     subst (λ vs. IsProof (logbook p text new vs log.biting Nothing (Some log.kernel.state.next))) (sym (value_kept g c)) grown in
     let book : Logbook = logbook p log.text.items log.kernel.state log.improved.items log.biting log.conclusion log.asking in
     let live = kept_improved book c.args.assigned new c.self.invariant.2 legal.1 in (
-      c.keep.ensures.problem ∙ c.self.invariant.0,
+      c.keep_legal.ensures.problem ∙ c.self.invariant.0,
       subst (λ o. IsProof (logbook p text new values log.biting c.replace.new.dest o)) (sym kept.id)
           (subst (λ x. IsProof (logbook p text new values log.biting x (Some log.kernel.state.next))) (sym c.replace.ensures.after) proof),
       record { file = live.file; improvement = subst (λ o. ImprovementStands p o new) (sym kept.id) live.improvement },
@@ -63,7 +67,7 @@ invariant_of-self-2 g c =
 
 pub returns-clause-improved : goal.returns-clause-improved
 returns-clause-improved g c =
-    value_kept g c ∙ ap (λ (l : Logbook). l.improved ++ value_list c.keep.new.kernel.state.least) c.self.view_is
+    value_kept g c ∙ ap (λ (l : Logbook). l.improved ++ value_list c.keep_legal.new.kernel.state.least) c.self.view_is
 
 pub returns-clause-goes_on : goal.returns-clause-goes_on
 returns-clause-goes_on g c =

@@ -4,7 +4,7 @@ use Rattle.proof_steps.specs.declared.conclusion.Conclusion.TheVariants.{Nothing
 use Rattle.proof_rules.specs.Legal.{Legal}
 use Rattle.proof_rules.specs.State.{State}
 use Rattle.proof_write.specs.Whole.{step_line}
-use Rattle.search.specs.Log.{Logbook, IsProof, StepBites}
+use Rattle.search.specs.Log.{Logbook, IsLegal, IsProof, StepBites}
 use Rattle.search.proofs.Growing.{biting_other, biting_within, grows_biting, line_longer, logbook, no_improvement, written_behind}
 use Rattle.search.proofs.StaysLive.{kept_spared, spares_biting}
 use Rattle.search.proofs.log.Log.learn.Goals as goal
@@ -13,15 +13,15 @@ pub overflow_add-self : goal.overflow_add-self
 overflow_add-self g c =
     let log = c.self.inside in
     let few = biting_within (logbook log.source.now log.text.items log.kernel.state log.improved.items log.biting log.conclusion log.asking) c.self.invariant.1 in
-    let long = line_longer c.names.result.now log.text.items c.keep.new.text.items c.args.step c.in_ok-applied.ensures.kept in
+    let long = line_longer c.names.result.now log.text.items c.keep_legal.new.text.items c.args.step c.in_ok-applied.ensures.kept in
     omega (arith, few, long)
 
 pub invariant_of-self-2 : goal.invariant_of-self-2
 invariant_of-self-2 g c =
     let log = c.self.inside in
     let p : Opb = log.source.now in
-    let new : State = c.keep.new.kernel.state in
-    let text : List ℕ = c.keep.new.text.items in
+    let new : State = c.keep_legal.new.kernel.state in
+    let text : List ℕ = c.keep_legal.new.text.items in
     let kept = c.in_ok-applied.ensures in
     let legal : Legal p log.kernel.state c.args.step new = subst (λ q. Legal q log.kernel.state c.args.step new) c.self.invariant.0 kept.ok in
     let bites : StepBites log.kernel.state c.args.step = subst (λ (l : Logbook). StepBites l.state c.args.step) (sym c.self.view_is) c.requires.bites in
@@ -33,7 +33,7 @@ invariant_of-self-2 g c =
     let book : Logbook = logbook p log.text.items log.kernel.state log.improved.items log.biting log.conclusion log.asking in
     let other = biting_other log.kernel.state c.args.step bites in
     let live = kept_spared book c.args.step new c.self.invariant.2 (spares_biting book c.args.step bites) other legal in (
-      c.keep.ensures.problem ∙ c.self.invariant.0,
+      c.keep_legal.ensures.problem ∙ c.self.invariant.0,
       subst (λ x. IsProof (logbook p text new log.improved.items (log.biting + 1) x log.asking)) (sym c.replace.ensures.after) proof,
       record { file = live.file; improvement = live.improvement },
     )
@@ -46,3 +46,8 @@ returns-clause-goes_on g c =
       rest = line;
       text = c.in_ok-applied.ensures.kept ∙ ap (λ (l : Logbook). l.text ++ line) c.self.view_is;
     }
+
+pub keep_legal-requires-clause-legal : goal.keep_legal-requires-clause-legal
+keep_legal-requires-clause-legal g c =
+    let log = c.self.inside in
+    subst (λ q. (t : State) × Legal q log.kernel.state c.args.step t) (sym c.self.invariant.0) (subst (λ (l : Logbook). IsLegal l c.args.step) (sym c.self.view_is) c.requires.legal)
