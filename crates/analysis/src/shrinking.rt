@@ -41,6 +41,29 @@ fn greatest_coefficient(sum: &Accumulator) -> u128 {
     greatest
 }
 
+/// The greatest number that divides two others; the one where the other is 0.
+fn common_divisor(left: u128, right: u128) -> u128 {
+    let mut greater = left;
+    let mut smaller = right;
+    while smaller > 0 {
+        let rest = greater % smaller;
+        greater = smaller;
+        smaller = rest;
+    }
+    greater
+}
+
+/// The greatest number that divides all coefficients of a sum, at least 1.
+fn unit_of(sum: &Accumulator) -> u128
+    ensures { 0 < result }
+{
+    let mut unit = 0;
+    for number in sum.marks() {
+        unit = common_divisor(unit, sum.net(Var(*number)).unsigned_abs());
+    }
+    unit.max(1)
+}
+
 /// By what a sum is divided.
 fn divisor_of(sum: &Accumulator) -> u128
     ensures { 0 < result }
@@ -130,5 +153,17 @@ impl Resolvent {
         let open = open_variables(alloc, &self.sum, standing, place)?;
         self.give_up_all(alloc, open.as_slice(), divisor)?;
         self.divide(alloc, divisor)
+    }
+
+    /// Divides by what all coefficients have in common: the sum says as much in smaller numbers, or more.
+    pub(crate) fn reduce(&mut self, alloc: Global) -> Result<(), Stop>
+        ensures more { OnOk result (GoesOnFrom self.old.items.items self.new.items.items) }
+        ensures derived { (given : Given) → IsPostfixOf given self.old.items.items self.old.sum → OnOk result (IsPostfixOf given self.new.items.items self.new.sum) }
+    {
+        let unit = unit_of(&self.sum);
+        if unit == 1 {
+            return Ok(());
+        }
+        self.divide(alloc, unit)
     }
 }

@@ -151,6 +151,7 @@ fn learn(
     if !bites_before_last(sum, standing, decisions, &mut analyser.seen)? {
         return Ok(None);
     }
+    analyser.resolvent.reduce(alloc)?;
     let constraint = analyser.resolvent.sum.take(alloc)?;
     let Some(level) = least_level(alloc, &constraint, standing, decisions)? else {
         analyser.resolvent.sum.load(&constraint)?;

@@ -14,7 +14,7 @@ use super::judgement::{Judgement, judge};
 use super::rounds::Rounds;
 use super::sources::Sources;
 use super::standing::Standing;
-use super::summing::line_of;
+use super::summing::{in_lowest_terms, line_of};
 use kernel::Kernel;
 use linear::{Integer, Lit, Problem, Seq, Var};
 use proof_rules::StepFault;
@@ -377,6 +377,7 @@ impl Adviser {
         let whole = whole_multipliers(self.alloc, self.relaxation.multipliers(), bits)?;
         let line = line_of(self.alloc, kernel, &self.sources, whole.as_slice())?;
         let (items, constraint) = line.finish(self.alloc)?;
+        let (items, constraint) = in_lowest_terms(self.alloc, items, constraint)?;
         match judge(&constraint, standing) {
             Judgement::False => Ok(Some(Advice::Conflict(items))),
             Judgement::Forces => Ok(Some(Advice::Forcing(items))),

@@ -53,7 +53,7 @@ pub(crate) fn common_divisor(left: u128, right: u128) -> u128 {
 }
 
 /// The greatest number that divides all coefficients of a constraint, at least 1.
-fn unit_of(constraint: &Normal) -> u128 {
+pub(crate) fn unit_of(constraint: &Normal) -> u128 {
     let mut unit = 0;
     for place in 0..constraint.len() {
         unit = common_divisor(unit, constraint.term(place).coef);

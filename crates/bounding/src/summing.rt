@@ -1,16 +1,20 @@
 //! The line of some multipliers: each constraint, saturated or divided as its row was, times its whole number, summed up.
 //!
 //! Whole numbers with a divisor in common are divided by it first: the sum says the same in smaller numbers, and a line of sums without
-//! factors is the shortest.
+//! factors is the shortest. So is what a line comes to, once it is saturated: it says as much as before, or more.
 
 ghost use Rattle.std.specs.Prelude.{◌<◌, IfOk, OnOk};
+ghost use Rattle.proof_rules.specs.Expression.{Given, IsPostfixOf};
 ghost use Rattle.proof_rules.specs.Running.{LeavesStack};
 ghost use Rattle.proof_rules.specs.State.{constraint_of};
 
 use super::line::Line;
-use super::sources::{Sources, common_divisor, exceeds_degree};
+use super::sources::{Sources, common_divisor, exceeds_degree, unit_of};
 use kernel::Kernel;
+use linear::Seq;
+use normal_form::Normal;
 use proof_rules::StepFault;
+use proof_steps::Item;
 use propagate::Propagator;
 use relaxation::{Source, WholeMultiplier};
 use std::alloc::Global;
@@ -102,4 +106,38 @@ pub(crate) fn divided_line<'k, 'a, P: Propagator>(
         add(alloc, kernel, sources, &mut line, multiplier.source, factor)?;
     }
     Ok(line)
+}
+
+/// A line goes on to what it comes to once that is saturated.
+fn saturated(
+    alloc: Global,
+    items: Seq<Item>,
+    constraint: Normal,
+) -> Result<(Seq<Item>, Normal), StepFault>
+    ensures { (given : Given) → IsPostfixOf given items constraint → IfOk result (λ p. IsPostfixOf given p.0 p.1) }
+{
+    if !exceeds_degree(&constraint) {
+        return Ok((items, constraint));
+    }
+    let mut line = Line::resume(alloc, items, constraint)?;
+    line.saturate(alloc)?;
+    line.finish(alloc)
+}
+
+/// A line goes on to what it comes to once that is saturated, and divided by what the coefficients have in common.
+pub(crate) fn in_lowest_terms(
+    alloc: Global,
+    items: Seq<Item>,
+    constraint: Normal,
+) -> Result<(Seq<Item>, Normal), StepFault>
+    ensures { (given : Given) → IsPostfixOf given items constraint → IfOk result (λ p. IsPostfixOf given p.0 p.1) }
+{
+    let (items, constraint) = saturated(alloc, items, constraint)?;
+    let unit = unit_of(&constraint);
+    if unit == 1 {
+        return Ok((items, constraint));
+    }
+    let mut line = Line::resume(alloc, items, constraint)?;
+    line.divide(alloc, unit)?;
+    line.finish(alloc)
 }
