@@ -24,3 +24,6 @@ pub mod LastLiteral
 pub mod Latest
 pub mod TrailLiterals
 pub mod FalsifiedClauses
+pub mod PlacedOrders
+pub mod DecreasingTerms
+pub mod ForcedLiterals

@@ -1,8 +1,10 @@
 pub mod Entered
 pub mod Falls
+pub mod Forcing
 pub mod Hints
 pub mod Ledgers
 pub mod Occurrences
+pub mod Orders
 pub mod Rows
 pub mod Trails
 pub mod Waiting
