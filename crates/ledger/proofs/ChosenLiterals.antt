@@ -40,14 +40,6 @@ others_false assigned p n all l some =
     let d : NormalTerm = record { coef = 0; var = l.var; negated = l.negated } in
     subst (IsFalseBeside assigned p) (at.2 d) (all at.0 d at.1)
 
--- one literal more that is made false, or is one of two
-pub next_false : (assigned : List Lit) (p : Pair) (ts : List NormalTerm) (index : ℕ) → ((k : ℕ) (d : NormalTerm) → k < index → IsFalseBeside assigned p (literal_of (get_or ts k d))) → ((d : NormalTerm) → IsFalseBeside assigned p (literal_of (get_or ts index d)))
-    → (k : ℕ) (d : NormalTerm) → k < index + 1 → IsFalseBeside assigned p (literal_of (get_or ts k d))
-next_false assigned p ts index before now k d h = elim (cases_eq k index) [
-  | inl e ↦ subst (λ (j : ℕ). IsFalseBeside assigned p (literal_of (get_or ts j d))) (sym e) (now d)
-  | inr other ↦ before k d (omega (arith, h, other))
-]
-
 pub false_longer : (xs ys : List Lit) (p : Pair) (l : Lit) → IsFalseBeside xs p l → IsFalseBeside (xs ++ ys) p l
 false_longer xs ys p l h a b = among_left xs ys (l.var.0) (opposite l).negated (h a b)
 

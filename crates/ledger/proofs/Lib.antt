@@ -11,6 +11,7 @@ pub mod JoinedRows
 pub mod EntrySums
 pub mod Entering
 pub mod ChosenLiterals
+pub mod RoundAbout
 pub mod Coefficients
 pub mod Standing
 pub mod EntryPlaces

@@ -40,6 +40,7 @@ use super::occurrence::Entries;
 use super::orders::Orders;
 use super::pair::Pair;
 use super::queue::Queue;
+use super::starts::Starts;
 use super::watchers::Watchers;
 use linear::Lit;
 use normal_form::{Normal, NormalTerm};
@@ -59,6 +60,8 @@ pub struct Ledger {
     /// Where literals stand in clauses that are watched.
     clauses: EntryTable,
     watchers: Watchers,
+    /// Where the search for another literal that watches a clause goes on.
+    starts: Starts,
     trail: Assignment,
     reasons: Vec<Option<usize>>,
 }
@@ -100,6 +103,7 @@ impl Ledger {
             trail: Assignment::new(alloc),
             reasons: Vec::new(alloc),
             orders: Orders::new(alloc),
+            starts: Starts::new(alloc),
         }
     }
 
@@ -168,9 +172,13 @@ impl Ledger {
         ensures end { IfOk result (IsPropagation self.old self.new queue.new.0) }
     {
         let fallen = self.trail.next().opposite();
-        let falsified = self
-            .watchers
-            .fall(self.slots.as_slice(), &self.trail, fallen, queue)?;
+        let falsified = self.watchers.fall(
+            self.slots.as_slice(),
+            &self.trail,
+            &mut self.starts,
+            fallen,
+            queue,
+        )?;
         if falsified.is_some() {
             return Ok(falsified);
         }
@@ -442,7 +450,9 @@ impl Ledger {
         ensures err { OnErr result (self.new ≡ self.old) }
     {
         make_room(&mut self.slots, &mut self.counters, &mut self.limits)?;
-        self.orders.give(self.slots.len(), &constraint)?;
+        let place = self.slots.len();
+        self.orders.give(place, &constraint)?;
+        self.starts.widen(place + 1)?;
         // No counter is held against the limit of a clause that is watched, so the sum does in place of the largest coefficient.
         let limit = constraint.degree() + constraint.sum();
         enter_watched(&mut self.clauses, &mut self.watchers, &constraint, pair)?;

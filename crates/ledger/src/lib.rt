@@ -24,6 +24,7 @@ mod order;
 mod orders;
 mod pair;
 mod queue;
+mod starts;
 mod table;
 mod trail;
 mod watchers;
