@@ -53,6 +53,8 @@ pub struct Adviser {
     cut_rows: CutRows,
     /// How many variables the file has.
     count: u32,
+    /// Whether a bound says anything: without an objective no cuts are looked for.
+    has_objective: bool,
     /// The literals that are fixed in the relaxation.
     fixed: Vec<Lit>,
     leanings: Vec<Lit>,
@@ -114,6 +116,7 @@ impl Adviser {
             cuts: Cuts::new(alloc, kernel, names)?,
             cut_rows: CutRows::new(alloc),
             count: names as u32,
+            has_objective: problem.objective().is_some(),
             fixed: Vec::new(alloc),
             leanings: Vec::new(alloc),
             bound: None,
@@ -223,14 +226,14 @@ impl Adviser {
     }
 
     /// What a call may do at a node, where so much was done so far: it is the next round at the root, or it is due by `effort`. A problem
-    /// that is solved without a conflict wants no cuts, so no round begins before there was one.
+    /// that is solved without a conflict wants no cuts, so no round begins before there was one; nor where there is no bound to be raised.
     fn limits(&mut self, before: u64, node: Node<'_>) -> Option<Limits> {
         if let Some(limits) = self.rounds.next(before) {
             return Some(limits);
         }
         let aim = self.aim();
         let limits = self.effort.limits(before, node, aim)?;
-        if node.decisions == 0 && node.conflicts > 0 {
+        if node.decisions == 0 && node.conflicts > 0 && self.has_objective {
             self.rounds.begin(before, self.effort.at_root(), limits);
         }
         Some(limits)

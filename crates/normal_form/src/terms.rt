@@ -115,7 +115,13 @@ impl Terms {
         if place < small {
             self.small[place].widened()
         } else {
-            self.rest[place - small]
+            // Field by field: a copy of the whole took with it what lies between fields, and cost more than all else here.
+            let term = self.rest[place - small];
+            NormalTerm {
+                coef: term.coef,
+                var: term.var,
+                negated: term.negated,
+            }
         }
     }
 
