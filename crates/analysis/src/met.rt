@@ -8,7 +8,8 @@ use std::alloc::{AllocError, Global};
 /// The constraints that were added up in the analysis of a conflict. It is kept from one analysis to the next for its memory.
 #[derive(Drop)]
 pub struct Met {
-    /// The variables of the constraints, each as often as it stands in one.
+    /// The variables of the constraints as they were added, each as often as it stands in one. What is weakened out of a reason first is not
+    /// among them: it had no part in the conflict, and of a wide reason it is nearly all.
     pub variables: Vec<Var>,
     /// The ids of the constraints, the conflict's first.
     pub ids: Vec<Id>,
@@ -37,7 +38,7 @@ impl Met {
         self.levels = u32::MAX;
     }
 
-    /// One constraint more.
+    /// One constraint more, as it is added: that of an id, or what is left of it.
     pub(crate) fn add(&mut self, id: Id, constraint: &Normal) -> Result<(), AllocError> {
         self.ids.push(id)?;
         for place in 0..constraint.len() {

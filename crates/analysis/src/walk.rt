@@ -92,6 +92,7 @@ fn add_reason(
 {
     let literal = standing.entries()[at.place].literal;
     if at.coef == 1 && coefficient_of(reason, literal) == 1 {
+        analyser.met.add(id, reason)?;
         return Ok(analyser.resolvent.add_cited(id, reason)?);
     }
     let cited = Derivation::cited(alloc, id, reason)?;
@@ -103,6 +104,7 @@ fn add_reason(
         at.place,
         &mut analyser.aside,
     )?;
+    analyser.met.add(id, &even.constraint)?;
     let cancelling = even.multiplied(alloc, at.coef)?;
     Ok(analyser.resolvent.add(cancelling)?)
 }
@@ -126,7 +128,6 @@ fn resolve<'a, P: Propagator>(
     let Some(reason) = kernel.constraint(id) else {
         return Err(Stop::NothingLearned);
     };
-    analyser.met.add(id, reason)?;
     add_reason(alloc, id, reason, standing, at, analyser)?;
     analyser.resolvent.saturate()?;
     analyser.resolvent.shrink(alloc, standing, at.place)?;

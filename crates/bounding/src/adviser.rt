@@ -23,8 +23,17 @@ use propagate::{Id, Propagator};
 use relaxation::{End, Fixed, Limits, Relaxation, whole_multipliers};
 use std::alloc::{AllocError, Global};
 
-/// How many variables a problem may have. Beyond that one call takes too long.
+/// How many variables a problem with an objective may have.
+const MOST_PRICED: usize = 500_000;
+
+/// How many terms the rows of such a problem may have together.
+const MOST_PRICED_TERMS: usize = 1_000_000;
+
+/// How many variables a problem without an objective may have. Of one that is larger the relaxation says too little for what a call takes.
 const MOST_VARIABLES: usize = 20_000;
+
+/// How many terms the rows of such a problem may have together.
+const MOST_TERMS: usize = 60_000;
 
 /// The greatest whole number is `2^10` first, since small numbers make sums that an analysis can go on with for long.
 const FEW_BITS: u32 = 10;
@@ -78,6 +87,29 @@ fn is_whole(value: Fixed) -> bool {
     from_end.saturating_abs() <= WHOLE
 }
 
+/// How large a problem may be.
+#[derive(Clone, Copy)]
+struct Size {
+    variables: usize,
+    /// How many terms its rows may have together.
+    terms: usize,
+}
+
+/// How large a problem like this may be.
+fn largest_size(problem: &Problem) -> Size {
+    if problem.objective().is_some() {
+        Size {
+            variables: MOST_PRICED,
+            terms: MOST_PRICED_TERMS,
+        }
+    } else {
+        Size {
+            variables: MOST_VARIABLES,
+            terms: MOST_TERMS,
+        }
+    }
+}
+
 /// The relaxation of a problem without its constraints.
 fn relaxation_of(alloc: Global, problem: &Problem, count: usize) -> Result<Relaxation, AllocError> {
     let mut relaxation = Relaxation::new(alloc, count)?;
@@ -91,20 +123,21 @@ impl Adviser {
     ghost use Rattle.std.specs.Prelude.{◌≤◌, IfOk, IfSome};
     ghost use Rattle.bounding.specs.Advice.{IsBorneOut, IsDerivable};
 
-    /// The adviser of a problem whose file's constraints a kernel has. None where the problem is too large for one: above 20,000 variables or
-    /// 60,000 terms.
+    /// The adviser of a problem whose file's constraints a kernel has. None where the problem is too large for one: with an objective, above
+    /// 500,000 variables or 1,000,000 terms; without one, above 20,000 variables or 60,000 terms.
     pub fn new<'a, P: Propagator>(
         alloc: Global,
         problem: &Problem,
         kernel: &Kernel<'a, P>,
     ) -> Result<Option<Self>, AllocError> {
         let names = problem.names().len();
-        if names > MOST_VARIABLES {
+        let size = largest_size(problem);
+        if names > size.variables {
             return Ok(None);
         }
         let mut relaxation = relaxation_of(alloc, problem, names)?;
         let mut sources = Sources::new(alloc);
-        if !sources.add_file(alloc, kernel, &mut relaxation)? {
+        if !sources.add_file(alloc, kernel, &mut relaxation, size.terms)? {
             return Ok(None);
         }
         Ok(Some(Adviser {
@@ -167,8 +200,8 @@ impl Adviser {
     }
 
     /// Solves the relaxation at a node, where that is due. The line of a conflict derives a constraint that has negative slack under
-    /// what stands, and that of a forcing one a constraint that forces a literal there. At the root, once there was a conflict, cuts may come, one a call: each is to be
-    /// logged and given to `take_cut`, and the call to be made again.
+    /// what stands, and that of a forcing one a constraint that forces a literal there. At the root, once there was a conflict, cuts may
+    /// come, one a call: each is to be logged and given to `take_cut`, and the call to be made again.
     ///
     /// `AllocError` comes where a growth was refused. The adviser may be asked again then.
     pub fn ask<'a, P: Propagator>(

@@ -13,9 +13,6 @@ use propagate::{Id, Propagator};
 use relaxation::{Relaxation, Row, Source};
 use std::alloc::{AllocError, Global};
 
-/// How many terms the rows may have together. Beyond that one call takes too long.
-const MOST_TERMS: usize = 60_000;
-
 /// The constraint that asks for a better solution.
 #[derive(Clone, Copy, Debug)]
 struct Improving {
@@ -95,14 +92,15 @@ impl Sources {
         }
     }
 
-    /// Adds the rows of the file's constraints; whether these have not too many terms for it.
+    /// Adds the rows of the file's constraints; whether these have at most so many terms together.
     pub(crate) fn add_file<'a, P: Propagator>(
         &mut self,
         alloc: Global,
         kernel: &Kernel<'a, P>,
         relaxation: &mut Relaxation,
+        most_terms: usize,
     ) -> Result<bool, AllocError> {
-        let mut left = MOST_TERMS;
+        let mut left = most_terms;
         for number in 0..kernel.problem_ids() {
             let Ok(id) = Id::try_from(number.saturating_add(1)) else {
                 return Ok(false);

@@ -7,8 +7,9 @@
 //!
 //! A variable takes the sign that it had last, since that is where the search was before it went back (Pipatsrisawat and
 //! Darwiche, 2007); at first the one that the objective likes, or, where it has no price, the one that serves more constraints;
-//! and after a restart that of the best solution, so that the search goes on near it. Where the linear relaxation has a best
-//! point, its variables take the signs that are nearest to that.
+//! and all of them those of a solution when it is found, so that the search goes on near it. They are not put back to it at each restart: a
+//! search that was led there again and again found few others. Where the linear relaxation has a best point, its variables take the
+//! signs that are nearest to that.
 
 use super::brancher::{Brancher, Value};
 use super::heap::Heap;
@@ -22,8 +23,8 @@ const FIRST_INCREMENT: u64 = 1 << 16;
 /// Past this number all scores fall.
 const LARGEST_SCORE: u64 = 1 << 62;
 
-/// By so many bits.
-const FALL: u32 = 44;
+/// By so many bits: few, so that scores of long ago still tell which is the higher one.
+const FALL: u32 = 8;
 
 /// Picks a free variable of the highest score, the first among equals, with the sign that it had last.
 #[derive(Drop)]
@@ -34,8 +35,6 @@ pub struct Activity {
     increment: u64,
     /// The value that each variable had last.
     phases: Vec<bool>,
-    /// The values in the best solution; empty before there is one.
-    best: Vec<bool>,
 }
 
 impl Activity {
@@ -47,7 +46,6 @@ impl Activity {
             scores: Vec::new(alloc),
             increment: FIRST_INCREMENT,
             phases: Vec::new(alloc),
-            best: Vec::new(alloc),
         }
     }
 
@@ -184,23 +182,10 @@ impl Brancher for Activity {
     }
 
     fn solution(&mut self, literals: &[Lit]) {
-        self.best.clear();
-        if self.best.extend_from_slice(&self.phases).is_err() {
-            return;
-        }
-        for literal in literals {
-            let place = literal.var.0 as usize;
-            if place < self.best.len() {
-                self.best[place] = !literal.negated;
-            }
-        }
+        self.lean(literals);
     }
 
-    fn restarted(&mut self) {
-        for (phase, best) in self.phases.iter_mut().zip(&self.best) {
-            *phase = *best;
-        }
-    }
+    fn restarted(&mut self) {}
 
     fn lean(&mut self, literals: &[Lit]) {
         for literal in literals {

@@ -28,8 +28,8 @@ pub trait Brancher: Drop {
     /// leaves the choice to the search; so does a literal of a variable that is not free.
     fn pick(&mut self, values: &[Value]) -> Option<Lit>;
 
-    /// The analysis of a conflict came by these variables: those of each constraint that was added up in it, as often as
-    /// one was.
+    /// The analysis of a conflict came by these variables: those of each constraint that was added up in it, of what was added
+    /// of it, as often as one was.
     fn met(&mut self, variables: &[Var]);
 
     /// A conflict was learned from: these variables occur in what was learned.

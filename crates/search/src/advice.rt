@@ -3,7 +3,7 @@
 //! The line is logged, so its constraint is live, and what it forces is forced from the next turn on. Where it has negative slack under
 //! what stands, the search goes back to where it says something first, as behind an analysis. If it forces a literal there it
 //! has taught what a conflict teaches. If it has negative slack there, an analysis begins with it, and what that comes to says more: then
-//! it goes, for sums of many constraints make each later propagation dearer. A cut is kept for the relaxation alone, as long as it is tight
+//! it goes, with others like it, for sums of many constraints make each later propagation dearer. A cut is kept for the relaxation alone, as long as it is tight
 //! there.
 
 ghost use Rattle.std.specs.Prelude.{◌≡◌};

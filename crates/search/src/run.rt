@@ -162,6 +162,27 @@ impl<'a, P: Propagator> Run<'a, P> {
         }
     }
 
+    /// Whether the best solution is worth about as much as the bound: then there is likely none that is better, which the relaxation shows at
+    /// the root.
+    fn is_near_bound(&self) -> bool {
+        match (self.bound(), self.log.least_value()) {
+            (Some(bound), Some(value)) => value <= bound.saturating_add(1),
+            _ => false,
+        }
+    }
+
+    /// Undoes all decisions, where the best solution is worth about as much as the bound.
+    fn begin_anew_if_near_bound(&mut self)
+        requires { IsConsistent self.old.decisions.items }
+        ensures log { self.new.log ≡ self.old.log }
+        ensures consistent { IsConsistent self.new.decisions.items }
+    {
+        if self.is_near_bound() {
+            self.decisions.clear();
+            self.go_back();
+        }
+    }
+
     /// Undoes all decisions, where that is due.
     fn begin_anew_if_due(&mut self)
         requires { IsConsistent self.old.decisions.items }
@@ -324,10 +345,11 @@ impl<'a, P: Propagator> Run<'a, P> {
                 Ok(None)
             }
             Descent::Fixpoint(assigned) => {
-                self.decisions.clear();
+                // The decisions stay: with the constraint that asks for a better solution they lead to a conflict, which teaches more than
+                // to begin anew.
                 self.advisers.brancher.solution(assigned.as_slice());
-                self.go_back();
                 let end = self.accept(assigned, limit)?;
+                self.begin_anew_if_near_bound();
                 self.tell_progress();
                 Ok(end)
             }

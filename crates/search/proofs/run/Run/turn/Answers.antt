@@ -59,4 +59,4 @@ accept-requires g c =
     let old : Logbook = c.args.self.now.log in
     let assigned : List Lit = c.in-Fixpoint.assigned in
     let settled : IsSettled old assigned = subst (λ e. IfFixpoint e (IsSettled old)) c.in-Fixpoint.is c.in_ok-end.ensures.settled in
-    subst (λ (l : Logbook). IsSettled l assigned) (sym (c.go_back-in-Fixpoint.ensures.log ∙ c.descend.ensures.same)) settled
+    subst (λ (l : Logbook). IsSettled l assigned) (sym c.descend.ensures.same) settled
