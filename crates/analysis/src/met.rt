@@ -39,7 +39,7 @@ impl Met {
     }
 
     /// One constraint more, as it is added: that of an id, or what is left of it.
-    pub(crate) fn add(&mut self, id: Id, constraint: &Normal) -> Result<(), AllocError> {
+    pub(crate) fn note(&mut self, id: Id, constraint: &Normal) -> Result<(), AllocError> {
         self.ids.push(id)?;
         for place in 0..constraint.len() {
             self.variables.push(constraint.term(place).var)?;

@@ -71,7 +71,7 @@ fn begin<'a, P: Propagator>(
     let Some(constraint) = kernel.constraint(conflict) else {
         return Err(Stop::NothingLearned);
     };
-    analyser.met.add(conflict, constraint)?;
+    analyser.met.note(conflict, constraint)?;
     analyser.resolvent.begin(conflict, constraint)?;
     Ok(())
 }
@@ -92,7 +92,7 @@ fn add_reason(
 {
     let literal = standing.entries()[at.place].literal;
     if at.coef == 1 && coefficient_of(reason, literal) == 1 {
-        analyser.met.add(id, reason)?;
+        analyser.met.note(id, reason)?;
         return Ok(analyser.resolvent.add_cited(id, reason)?);
     }
     let cited = Derivation::cited(alloc, id, reason)?;
@@ -104,7 +104,7 @@ fn add_reason(
         at.place,
         &mut analyser.aside,
     )?;
-    analyser.met.add(id, &even.constraint)?;
+    analyser.met.note(id, &even.constraint)?;
     let cancelling = even.multiplied(alloc, at.coef)?;
     Ok(analyser.resolvent.add(cancelling)?)
 }

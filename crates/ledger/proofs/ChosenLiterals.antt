@@ -1,7 +1,7 @@
 -- Literals of a constraint, by its terms.
-use Rattle.std.proofs.Common.{◌≡◌, inl, inr, ◌++◌, ℕ, zero, suc, ◌+◌, ◌<◌, ◌≤◌, Bool, true, false, ◌&&◌, eqb, List, [], ◌∷◌, length, get_or, refl, ap, sym, subst, ◌∙◌, arith}
+use Rattle.std.proofs.Common.{◌≡◌, ◌++◌, ℕ, zero, suc, ◌+◌, ◌<◌, ◌≤◌, Bool, true, false, ◌&&◌, eqb, List, [], ◌∷◌, length, get_or, refl, ap, sym, subst, ◌∙◌, arith}
 use mathlib.Core.Bool.{beq}
-use Rattle.std.proofs.lemmas.Bool.{cases_eq, false≢true}
+use Rattle.std.proofs.lemmas.Bool.{false≢true}
 use Rattle.std.proofs.lemmas.Bool.Decides.{nat_tests}
 use Rattle.linear.specs.declared.term.Lit.{Lit}
 use Rattle.normal_form.specs.declared.term.NormalTerm.{NormalTerm}
@@ -39,14 +39,6 @@ others_false assigned p n all l some =
     let at = has_term n l some in
     let d : NormalTerm = record { coef = 0; var = l.var; negated = l.negated } in
     subst (IsFalseBeside assigned p) (at.2 d) (all at.0 d at.1)
-
--- one literal more that is made false, or is one of two
-pub next_false : (assigned : List Lit) (p : Pair) (ts : List NormalTerm) (index : ℕ) → ((k : ℕ) (d : NormalTerm) → k < index → IsFalseBeside assigned p (literal_of (get_or ts k d))) → ((d : NormalTerm) → IsFalseBeside assigned p (literal_of (get_or ts index d)))
-    → (k : ℕ) (d : NormalTerm) → k < index + 1 → IsFalseBeside assigned p (literal_of (get_or ts k d))
-next_false assigned p ts index before now k d h = elim (cases_eq k index) [
-  | inl e ↦ subst (λ (j : ℕ). IsFalseBeside assigned p (literal_of (get_or ts j d))) (sym e) (now d)
-  | inr other ↦ before k d (omega (arith, h, other))
-]
 
 pub false_longer : (xs ys : List Lit) (p : Pair) (l : Lit) → IsFalseBeside xs p l → IsFalseBeside (xs ++ ys) p l
 false_longer xs ys p l h a b = among_left xs ys (l.var.0) (opposite l).negated (h a b)

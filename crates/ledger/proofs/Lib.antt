@@ -11,6 +11,7 @@ pub mod JoinedRows
 pub mod EntrySums
 pub mod Entering
 pub mod ChosenLiterals
+pub mod RoundAbout
 pub mod Coefficients
 pub mod Standing
 pub mod EntryPlaces
@@ -24,3 +25,6 @@ pub mod LastLiteral
 pub mod Latest
 pub mod TrailLiterals
 pub mod FalsifiedClauses
+pub mod PlacedOrders
+pub mod DecreasingTerms
+pub mod ForcedLiterals

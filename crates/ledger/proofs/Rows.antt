@@ -1,6 +1,7 @@
 -- Rows of vectors, seen as lists of lists.
-use Rattle.std.proofs.Common.{◌≡◌, ℕ, zero, suc, ◌<◌, ◌≤◌, List, [], ◌∷◌, ◌++◌, Vec, Global, length, length-append, get_or, set, map, refl, ap, sym, subst, ◌∙◌, arith}
-use Rattle.std.proofs.lemmas.List.{get_or-map, length-map, map_push}
+use Rattle.std.proofs.Common.{◌≡◌, ℕ, zero, suc, ◌<◌, ◌≤◌, ◌⊎◌, inl, inr, List, [], ◌∷◌, ◌++◌, Vec, Global, length, length-append, get_or, set, map, refl, ap, sym, subst, ◌∙◌, arith}
+use Rattle.std.proofs.lemmas.Bool.{cases_lt}
+use Rattle.std.proofs.lemmas.List.{get_or-map, get_or-set_other, get_or-set_same, get_or_append_left, get_or_past, get_or_push, length-map, map_push}
 
 abbrev pub Row : Type 0 → Type 0
 Row E = Vec E Global
@@ -53,3 +54,36 @@ wider_same {E = E} old rows new w e = subst (λ (rs : List (Row E)). IsWider old
 
 pub wide_itself : {E : Type 0} → (old : List (List E)) (rows : List (Row E)) → rows_of rows ≡ old → IsWider old (rows_of rows)
 wide_itself {E = E} old rows e = record { kept = λ k. ap (λ (xs : List (List E)). get_or xs k []) e; longer = omega (arith, ap (length {A = List E}) e) }
+
+-- the lists of all numbers but one are the same
+abbrev pub AreSameBut : {E : Type 0} → ℕ → List (List E) → List (List E) → Type 0
+AreSameBut {E = E} k old new = (j : ℕ) → (j ≡ k → ⊥) → get_or new j [] ≡ get_or old j []
+
+pub others_kept : {E : Type 0} → (old new : List (List E)) (k : ℕ) (row : List E) → new ≡ set old k row → AreSameBut k old new
+others_kept {E = E} old new k row e j other = ap (λ (xs : List (List E)). get_or xs j []) e ∙ get_or-set_other old k j row [] other
+
+pub put_there : {E : Type 0} → (old new : List (List E)) (k : ℕ) (row : List E) → k < length old → new ≡ set old k row → get_or new k [] ≡ row
+put_there {E = E} old new k row low e = ap (λ (xs : List (List E)). get_or xs k []) e ∙ get_or-set_same old k row [] low
+
+-- a list more behind lists that only empty ones came to
+pub record IsWidenedTo {E : Type 0} (old wide : List (List E)) (k : ℕ) : Type 0 where
+  pub short : length old ≤ k
+  pub long : k ≤ length wide
+  pub most : (length wide ≡ length old) ⊎ (length wide ≤ k)
+  pub kept : (j : ℕ) → get_or wide j [] ≡ get_or old j []
+
+length_is : (n m k : ℕ) → n ≤ k → k ≤ m → (m ≡ n) ⊎ (m ≤ k) → m ≡ k
+length_is n m k a b (inl e) = omega (arith, a, b, e)
+length_is n m k a b (inr h) = omega (arith, b, h)
+
+pub others_pushed : {E : Type 0} → (old wide new : List (List E)) (k : ℕ) (row : List E) → IsWidenedTo old wide k → new ≡ wide ++ row ∷ [] → AreSameBut k old new
+others_pushed {E = E} old wide new k row w e j other =
+    let many : length wide ≡ k = length_is (length old) (length wide) k w.short w.long w.most in
+    ap (λ (xs : List (List E)). get_or xs j []) e ∙ elim (cases_lt j k) [
+      | inl low ↦ get_or_append_left wide (row ∷ []) [] j (omega (arith, low, many)) ∙ w.kept j
+      | inr past ↦ get_or_past (wide ++ row ∷ []) j [] (omega (arith, past, other, many, length-append wide (row ∷ []))) ∙ sym (get_or_past old j [] (omega (arith, past, w.short)))
+    ]
+
+pub pushed_there : {E : Type 0} → (old wide new : List (List E)) (k : ℕ) (row : List E) → IsWidenedTo old wide k → new ≡ wide ++ row ∷ [] → get_or new k [] ≡ row
+pushed_there {E = E} old wide new k row w e =
+    ap (λ (xs : List (List E)). get_or xs k []) e ∙ get_or_push wide row [] k (length_is (length old) (length wide) k w.short w.long w.most)

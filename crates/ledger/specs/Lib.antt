@@ -1,8 +1,11 @@
 pub mod Entered
 pub mod Falls
+pub mod Forcing
 pub mod Hints
 pub mod Ledgers
 pub mod Occurrences
+pub mod Orders
+pub mod Rounds
 pub mod Rows
 pub mod Trails
 pub mod Waiting

@@ -9,6 +9,7 @@ ghost use Rattle.ledger.specs.Watched.{AreOthersFalse, IsClause, IsFalseBeside, 
 
 use super::assignment::Assignment;
 use super::pair::Pair;
+use super::starts::{Starts, index_after};
 use linear::Lit;
 use normal_form::Normal;
 
@@ -50,9 +51,15 @@ fn open_at(constraint: &Normal, trail: &Assignment, index: usize, others: Pair) 
     Some(literal)
 }
 
-/// A literal of a constraint that is open and none of two others, if there is one: best one that no literal makes false which is
-/// still to be propagated, since it would soon be sought anew.
-pub(crate) fn open_beside(constraint: &Normal, trail: &Assignment, others: Pair) -> Option<Lit>
+/// A literal of the constraint at a place that is open and none of two others, if there is one: best one that no literal makes false
+/// which is still to be propagated, since it would soon be sought anew. It is sought from where the last search ended.
+pub(crate) fn open_beside(
+    constraint: &Normal,
+    trail: &Assignment,
+    others: Pair,
+    starts: &mut Starts,
+    place: usize,
+) -> Option<Lit>
     requires { variable_bound constraint.now.terms ≤ trail.now.1 }
     ensures rises { Rises 0 constraint.now.terms }
     ensures value { MatchOption result (AreOthersFalse trail.now.0 constraint.now others)
@@ -60,9 +67,13 @@ pub(crate) fn open_beside(constraint: &Normal, trail: &Assignment, others: Pair)
     ensures last { IfSome result (λ l. IsOpen (on_trail trail.now) l
         ⊎ AreOthersFalse (on_trail trail.now) constraint.now others) }
 {
+    let count = constraint.len();
+    let start = starts.get(place).min(count);
     let mut chosen = None;
-    for index in 0..constraint.len() {
+    for step in 0..count {
+        let index = index_after(count, start, step);
         if let Some(literal) = open_at(constraint, trail, index, others) {
+            starts.set(place, index);
             if !trail.assigns(literal.opposite()) {
                 return Some(literal);
             }

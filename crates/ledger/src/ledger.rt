@@ -22,6 +22,7 @@ ghost use Rattle.linear.specs.Literal.{opposite};
 ghost use Rattle.propagate.specs.Literals.{IsConsistent, IsOnce, lists, coefficient_of};
 ghost use Rattle.propagate.specs.Slack.{IsFalsified};
 ghost use Rattle.propagate.specs.Walk.{IsQuiet};
+ghost use Rattle.ledger.specs.Forcing.{IsForcedOn};
 ghost use Rattle.ledger.specs.Hints.{IsHint, IsHintWithin};
 ghost use Rattle.ledger.specs.Entered.{AreEntriesOf, all_of};
 ghost use Rattle.ledger.specs.Ledgers.{AreReasons, HasSlack, IsPropagation, IsReason, constraint_at, open_sum, shown};
@@ -31,12 +32,15 @@ use super::assignment::Assignment;
 use super::choosing::latest_pair;
 use super::entry_lists::{enter_counted, enter_watched, leave};
 use super::entry_table::EntryTable;
+use super::forcing::force_terms;
 use super::hint::{Hint, hint_of};
 use super::lowering::{lower, queue_below, raise};
 use super::measures::{largest, open_sum};
 use super::occurrence::Entries;
+use super::orders::Orders;
 use super::pair::Pair;
 use super::queue::Queue;
+use super::starts::Starts;
 use super::watchers::Watchers;
 use linear::Lit;
 use normal_form::{Normal, NormalTerm};
@@ -47,6 +51,8 @@ use std::marker::Model;
 #[derive(Drop)]
 pub struct Ledger {
     slots: Vec<Option<Normal>>,
+    /// The places of the terms of each constraint by decreasing coefficient.
+    orders: Orders,
     /// Where literals stand in constraints that are counted.
     table: EntryTable,
     counters: Vec<u128>,
@@ -54,6 +60,8 @@ pub struct Ledger {
     /// Where literals stand in clauses that are watched.
     clauses: EntryTable,
     watchers: Watchers,
+    /// Where the search for another literal that watches a clause goes on.
+    starts: Starts,
     trail: Assignment,
     reasons: Vec<Option<usize>>,
 }
@@ -61,6 +69,7 @@ pub struct Ledger {
 impl Model for Ledger {
     ghost use Rattle.std.specs.Prelude.{◌≤◌, vec_capacity};
     ghost use Rattle.ledger.specs.Ledgers.{State, IsLedger, AreReasons, shown};
+    ghost use Rattle.ledger.specs.Orders.{AreOrders};
     ghost use Rattle.ledger.specs.Trails.{on_trail};
     ghost use Rattle.ledger.specs.Watched.{AreWatched};
 
@@ -76,7 +85,7 @@ impl Model for Ledger {
 
     ghost invariant = { λ e. IsLedger e.slots.items e.trail.0 e.trail.1 e.table e.clauses e.counters.items e.limits.items e.watchers.pairs
         × AreReasons (shown e.slots.items) (on_trail e.trail) e.reasons.items × (e.trail.1 ≤ vec_capacity e.reasons)
-        × AreWatched e.slots.items e.trail.0 e.trail.1 e.watchers };
+        × AreWatched e.slots.items e.trail.0 e.trail.1 e.watchers × AreOrders e.slots.items e.orders };
 }
 
 impl Ledger {
@@ -93,6 +102,8 @@ impl Ledger {
             watchers: Watchers::new(alloc),
             trail: Assignment::new(alloc),
             reasons: Vec::new(alloc),
+            orders: Orders::new(alloc),
+            starts: Starts::new(alloc),
         }
     }
 
@@ -120,6 +131,28 @@ impl Ledger {
         self.reasons.push_reserved(reason);
     }
 
+    /// Takes all literals as true that the constraint at a place forces, where its slack is this. They are still to be propagated.
+    pub fn force(&mut self, place: usize, slack: u128)
+        requires place { place < length self.old.slots }
+        requires slack { HasSlack (shown self.old.slots) self.old.assigned place slack }
+        ensures same { self.new ≡ record self.old { assigned = self.new.assigned; reasons = self.new.reasons } }
+        ensures forced { IsForcedOn (constraint_at (shown self.old.slots) place) place self.old.assigned self.old.reasons
+            self.new.assigned self.new.reasons }
+        ensures quiet { IsQuiet self.new.assigned (constraint_at (shown self.old.slots) place) }
+    {
+        let Some(constraint) = &self.slots[place] else {
+            return;
+        };
+        force_terms(
+            constraint,
+            self.orders.order(place),
+            slack,
+            place,
+            &mut self.trail,
+            &mut self.reasons,
+        );
+    }
+
     /// Whether all literals that are taken as true were propagated.
     pub fn is_propagated(&self) -> bool
         ensures { IsTrue result ↔ (self.now.propagated ≡ self.now.assigned) }
@@ -139,9 +172,13 @@ impl Ledger {
         ensures end { IfOk result (IsPropagation self.old self.new queue.new.0) }
     {
         let fallen = self.trail.next().opposite();
-        let falsified = self
-            .watchers
-            .fall(self.slots.as_slice(), &self.trail, fallen, queue)?;
+        let falsified = self.watchers.fall(
+            self.slots.as_slice(),
+            &self.trail,
+            &mut self.starts,
+            fallen,
+            queue,
+        )?;
         if falsified.is_some() {
             return Ok(falsified);
         }
@@ -358,6 +395,7 @@ impl Ledger {
         ensures slots { self.new ≡ record self.old { slots = slice_set self.old.slots place None } }
     {
         self.limits[place] = 0;
+        self.orders.take_out(place);
         self.slots[place].take()
     }
 
@@ -393,6 +431,7 @@ impl Ledger {
         ensures err { OnErr result (self.new ≡ self.old) }
     {
         make_room(&mut self.slots, &mut self.counters, &mut self.limits)?;
+        self.orders.give(self.slots.len(), &constraint)?;
         let open = open_sum(&constraint, &self.trail);
         let limit = constraint.degree() + largest(&constraint);
         enter_counted(&mut self.table, &mut self.watchers, &constraint)?;
@@ -411,6 +450,9 @@ impl Ledger {
         ensures err { OnErr result (self.new ≡ self.old) }
     {
         make_room(&mut self.slots, &mut self.counters, &mut self.limits)?;
+        let place = self.slots.len();
+        self.orders.give(place, &constraint)?;
+        self.starts.widen(place + 1)?;
         // No counter is held against the limit of a clause that is watched, so the sum does in place of the largest coefficient.
         let limit = constraint.degree() + constraint.sum();
         enter_watched(&mut self.clauses, &mut self.watchers, &constraint, pair)?;
@@ -442,11 +484,13 @@ impl Ledger {
         match self.slots.pop() {
             Some(Some(constraint)) => {
                 let count = constraint.len();
-                match self.watchers.pair(self.slots.len()) {
+                let place = self.slots.len();
+                match self.watchers.pair(place) {
                     None => leave(&mut self.table, &constraint, count),
                     Some(_) => leave(&mut self.clauses, &constraint, count),
                 }
                 self.watchers.detach();
+                self.orders.take_out(place);
                 self.counters.pop();
                 self.limits.pop();
             }

@@ -100,4 +100,46 @@ impl<E: Copy> Table<E> {
     {
         self.rows[number].swap_remove(index)
     }
+
+    /// Gives a number another list.
+    fn replace(&mut self, number: usize, row: Vec<E>)
+        requires { number < length self.old }
+        ensures { self.new ≡ slice_set self.old number row.items }
+    {
+        self.rows[number] = row;
+    }
+
+    /// One list more at the end.
+    fn push_row(&mut self, row: Vec<E>) -> Result<(), AllocError>
+        ensures ok { OnOk result (self.new ≡ self.old ++ row.items ∷ []) }
+        ensures err { OnErr result (self.new ≡ self.old) }
+    {
+        match self.rows.push(row) {
+            Err(_) => return Err(AllocError),
+            Ok(()) => return Ok(()),
+        }
+    }
+
+    /// Gives a number a list in place of the one that it has. An empty one needs no memory.
+    pub(crate) fn put(
+        &mut self,
+        alloc: Global,
+        number: usize,
+        row: Vec<E>,
+    ) -> Result<(), AllocError>
+        ensures others { (k : ℕ) → (k ≡ number → ⊥) → slice_index_or self.new k [] ≡ slice_index_or self.old k [] }
+        ensures ok { OnOk result (slice_index_or self.new number [] ≡ row.items) }
+    {
+        let known = self.len();
+        if number < known {
+            self.replace(number, row);
+            return Ok(());
+        }
+        if row.is_empty() {
+            return Ok(());
+        }
+        self.widen(alloc, number)?;
+        self.push_row(row)?;
+        Ok(())
+    }
 }

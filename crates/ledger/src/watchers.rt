@@ -1,9 +1,10 @@
 //! Clauses, each watched by two of its literals.
 //!
 //! A clause is falsified, or forces a literal, only where all its literals but one are false. So it is looked at when one of two open
-//! literals falls, and then another open one is sought to watch it (Moskewicz, Madigan, Zhao, Zhang and Malik: Chaff, 2001): a
-//! literal that stands in many clauses costs those that it watches. Where literals are backtracked nothing is mended. A row may have
-//! places that its literal does not watch any more: they are dropped when it falls.
+//! literals falls, and then another open one is sought to watch it (Moskewicz, Madigan, Zhao, Zhang and Malik: Chaff, 2001), from
+//! where the last search in the clause ended (`starts`): a literal that stands in many clauses costs those that it watches. Where
+//! literals are backtracked nothing is mended. A row may have places that its literal does not watch any more: they are dropped when
+//! it falls.
 //!
 //! A row is gone through only as far as to the first clause that is falsified, since a walk ends there: the literal then counts as one that
 //! was not propagated, and what its row would tell is not asked for before it is propagated anew. For that all literals
@@ -27,6 +28,7 @@ use super::choosing::open_beside;
 use super::finding::{Finding, Progress};
 use super::pair::Pair;
 use super::queue::Queue;
+use super::starts::Starts;
 use super::table::Table;
 use linear::Lit;
 use normal_form::Normal;
@@ -150,6 +152,7 @@ impl Watchers {
         &self,
         slots: &[Option<Normal>],
         trail: &Assignment,
+        starts: &mut Starts,
         fallen: Lit,
         place: usize,
     ) -> Finding
@@ -175,7 +178,7 @@ impl Watchers {
             second: other,
         };
         let fell = trail.assigns(other.opposite());
-        match open_beside(clause, trail, others) {
+        match open_beside(clause, trail, others, starts, place) {
             Some(literal) => {
                 if fell && trail.assigns(literal.opposite()) {
                     return Finding::Falsified;
@@ -207,6 +210,7 @@ impl Watchers {
         &mut self,
         slots: &[Option<Normal>],
         trail: &Assignment,
+        starts: &mut Starts,
         fallen: Lit,
         index: usize,
         queue: &mut Queue,
@@ -229,7 +233,7 @@ impl Watchers {
         ensures kept { (k : ℕ) → Contains queue.old.0 k → Contains queue.new.0 k }
     {
         let place = self.rows.row(fallen.code())[index];
-        match self.look(slots, trail, fallen, place) {
+        match self.look(slots, trail, starts, fallen, place) {
             Finding::Satisfied => Ok(Progress::At(index + 1)),
             Finding::Falsified => Ok(Progress::Falsified(place)),
             Finding::Last => {
@@ -255,6 +259,7 @@ impl Watchers {
         &mut self,
         slots: &[Option<Normal>],
         trail: &Assignment,
+        starts: &mut Starts,
         fallen: Lit,
         queue: &mut Queue,
     ) -> Result<Option<usize>, AllocError>
@@ -274,7 +279,7 @@ impl Watchers {
     {
         let mut index = 0;
         while index < self.rows.row(fallen.code()).len() {
-            match self.pass(slots, trail, fallen, index, queue)? {
+            match self.pass(slots, trail, starts, fallen, index, queue)? {
                 Progress::At(next) => index = next,
                 Progress::Falsified(place) => return Ok(Some(place)),
             }

@@ -1,12 +1,8 @@
 -- Constraints that are still to be looked at, and what a walk adds.
 use Rattle.std.specs.Prelude.{◌≡◌, ℕ, ◌<◌, ◌⊎◌, Bool, true, false, List, Option, ◌++◌, Some, MatchOption, Contains, length, map, take}
 use Rattle.linear.specs.declared.term.Lit.{Lit}
-use Rattle.normal_form.specs.declared.term.NormalTerm.{NormalTerm}
 use Rattle.normal_form.specs.Normal.{NormalConstraint}
 use Rattle.propagate.specs.Chain.{IsChain}
-use Rattle.linear.specs.Literal.{opposite}
-use Rattle.propagate.specs.Literals.{lists}
-use Rattle.propagate.specs.Passes.{literal_of}
 use Rattle.propagate.specs.Slack.{IsFalsified}
 use Rattle.propagate.specs.Walk.{IsFalsifiedAt, IsQuiet}
 use Rattle.ledger.specs.Ledgers.{State, constraint_at, shown}
@@ -26,10 +22,6 @@ pub record GoesOn (old new : State) : Type 0 where
   pub variables : new.variables ≡ old.variables
   pub assigned : IsContinued (shown old.slots) old.assigned new.assigned
   pub reasons : (places : List ℕ) × (new.reasons ≡ old.reasons ++ map Some places)
-
--- a term that can force its literal where the slack is this
-abbrev pub CanForce : List Lit → ℕ → NormalTerm → Type 0
-CanForce assigned slack t = (slack < t.coef) × (lists assigned (literal_of t) ≡ false) × (lists assigned (opposite (literal_of t)) ≡ false)
 
 -- the constraint at a place is falsified, or it forces nothing more
 abbrev pub IsForcedOut : List NormalConstraint → List Lit → ℕ → Bool → Type 0

@@ -9,43 +9,11 @@
 ghost use Rattle.std.specs.Prelude.{◌≡◌, ◌<◌, ◌≤◌, ◌∷◌, ◌⊎◌, [], None, IfOk, MatchOption, OnOk, length, take};
 ghost use Rattle.propagate.specs.Chain.{IsFixpoint};
 ghost use Rattle.propagate.specs.Walk.{IsFalsifiedAt, IsQuiet};
-ghost use Rattle.ledger.specs.Ledgers.{constraint_at, shown, HasSlack, term_at};
-ghost use Rattle.watch.specs.Looking.{AreLookedAt, CanForce, GoesOn, IsForcedOut, IsPropagationEnd, IsVisited, PropagatesOn};
+ghost use Rattle.ledger.specs.Ledgers.{constraint_at, shown};
+ghost use Rattle.watch.specs.Looking.{AreLookedAt, GoesOn, IsForcedOut, IsPropagationEnd, IsVisited, PropagatesOn};
 
 use ledger::{Hint, Ledger, Queue};
 use std::alloc::AllocError;
-
-/// Forces the literal of a term, where its coefficient is above the slack and it is free.
-fn force_term(ledger: &mut Ledger, place: usize, index: usize, slack: u128)
-    requires place { place < length ledger.old.slots }
-    requires index { index < length (constraint_at (shown ledger.old.slots) place).terms }
-    requires slack { HasSlack (shown ledger.old.slots) ledger.old.assigned place slack }
-    ensures goes_on { GoesOn ledger.old ledger.new }
-    ensures propagated { ledger.new.propagated ≡ ledger.old.propagated }
-    ensures slack { HasSlack (shown ledger.old.slots) ledger.new.assigned place slack }
-    ensures done { CanForce ledger.new.assigned slack (term_at (shown ledger.old.slots) place index) → ⊥ }
-{
-    let term = ledger.term(place, index);
-    let literal = term.literal();
-    if term.coef <= slack || !ledger.leaves_free(literal) {
-        return;
-    }
-    ledger.assign(literal, Some(place));
-}
-
-/// Forces all that the constraint at a place forces, term by term, where its slack is this.
-fn force_each(ledger: &mut Ledger, place: usize, slack: u128)
-    requires place { place < length ledger.old.slots }
-    requires slack { HasSlack (shown ledger.old.slots) ledger.old.assigned place slack }
-    ensures goes_on { GoesOn ledger.old ledger.new }
-    ensures propagated { ledger.new.propagated ≡ ledger.old.propagated }
-    ensures quiet { IsQuiet ledger.new.assigned (constraint_at (shown ledger.old.slots) place) }
-{
-    let end = ledger.term_count(place);
-    for index in 0..end {
-        force_term(ledger, place, index, slack);
-    }
-}
 
 /// Looks at the constraint of a place by its terms: whether it is falsified, and else all that it forces is assigned.
 fn look_through(ledger: &mut Ledger, place: usize) -> bool
@@ -58,7 +26,7 @@ fn look_through(ledger: &mut Ledger, place: usize) -> bool
     match ledger.slack(place) {
         None => true,
         Some(slack) => {
-            force_each(ledger, place, slack);
+            ledger.force(place, slack);
             false
         }
     }

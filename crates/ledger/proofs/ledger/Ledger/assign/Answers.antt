@@ -17,4 +17,5 @@ invariant_of-self c =
       subst (λ (xs : List Lit). AreReasons (shown e.slots.items) xs (e.reasons.items ++ c.args.reason ∷ [])) (append_assoc e.trail.0 e.trail.2 (l ∷ [])) reasons,
       omega (arith, c.self.invariant.2, c.push_reserved.ensures.capacity),
       c.self.invariant.3,
+      c.self.invariant.4,
     )

@@ -10,6 +10,7 @@ use Rattle.ledger.specs.Ledgers.{State}
 use Rattle.ledger.specs.Watched.{IsPairOf, Tell}
 use Rattle.ledger.proofs.Attaching.{attached_watched, none_more, reasons_beside, unchanged, with_pairs}
 use Rattle.ledger.proofs.FallingRows.{number_inside, variable_below}
+use Rattle.ledger.proofs.PlacedOrders.{its, orders_beside, orders_more, others}
 use Rattle.ledger.proofs.WatchedPlaces.{watched_kept, watched_more}
 use Rattle.ledger.proofs.ledger.Ledger.attach_watched.Goals as goal
 
@@ -39,6 +40,30 @@ enter_watched-requires-clause-second c =
     let within : variable_bound c.args.constraint.terms ≤ e.trail.1 = omega (arith, c.requires.variables, ap (λ (s : State). s.variables) c.self.view_is) in
     number_inside c.args.pair.second e.trail.1 e.watchers.rows (second_below c.args.constraint c.args.pair e.trail.1 c.requires.pair within) c.self.invariant.3.size
 
+pub invariant_of-self-in_err-give : goal.invariant_of-self-in_err-give
+invariant_of-self-in_err-give c =
+    let e = c.self.inside in
+    let room = c.in_ok-make_room.ensures in
+    rw (room.slots, room.counters, room.limits) (
+      c.self.invariant.0,
+      c.self.invariant.1,
+      c.self.invariant.2,
+      c.self.invariant.3,
+      orders_beside e.slots.items e.orders c.give.new.self c.self.invariant.4 (others e.slots.items c.make_room.new.slots.items e.orders c.give.new.self c.len-place.result room.slots (omega (arith, c.len-place.ensures, c.make_room.new.slots.ok)) c.give.ensures.others),
+    )
+
+pub invariant_of-self-in_err-widen : goal.invariant_of-self-in_err-widen
+invariant_of-self-in_err-widen c =
+    let e = c.self.inside in
+    let room = c.in_ok-make_room.ensures in
+    rw (room.slots, room.counters, room.limits) (
+      c.self.invariant.0,
+      c.self.invariant.1,
+      c.self.invariant.2,
+      c.self.invariant.3,
+      orders_beside e.slots.items e.orders c.give.new.self c.self.invariant.4 (others e.slots.items c.make_room.new.slots.items e.orders c.give.new.self c.len-place.result room.slots (omega (arith, c.len-place.ensures, c.make_room.new.slots.ok)) c.give.ensures.others),
+    )
+
 pub invariant_of-self-in_err-enter_watched : goal.invariant_of-self-in_err-enter_watched
 invariant_of-self-in_err-enter_watched c =
     let e = c.self.inside in
@@ -51,6 +76,7 @@ invariant_of-self-in_err-enter_watched c =
       c.self.invariant.1,
       c.self.invariant.2,
       watched_kept e.slots.items e.trail.0 e.trail.1 e.watchers new c.self.invariant.3 c.in_err-enter_watched.ensures.no_pairs (omega (arith, c.enter_watched.ensures.row_count)) c.enter_watched.ensures.kept,
+      orders_beside e.slots.items e.orders c.give.new.self c.self.invariant.4 (others e.slots.items c.make_room.new.slots.items e.orders c.give.new.self c.len-place.result room.slots (omega (arith, c.len-place.ensures, c.make_room.new.slots.ok)) c.give.ensures.others),
     )
 
 pub invariant_of-self-2 : goal.invariant_of-self-2
@@ -76,4 +102,5 @@ invariant_of-self-2 c =
       c.self.invariant.2,
       watched_more e.slots.items e.trail.0 e.trail.1 e.watchers new n (Some p) c.self.invariant.3 i.slots_are.pair_count said.pairs (omega (arith, said.row_count)) said.kept
           (c.requires.pair, (first_below n p e.trail.1 c.requires.pair within, second_below n p e.trail.1 c.requires.pair within), tell, said.first_there, said.second_there),
+      orders_more e.slots.items e.orders c.give.new.self n c.self.invariant.4 (others e.slots.items c.make_room.new.slots.items e.orders c.give.new.self c.len-place.result room.slots (omega (arith, c.len-place.ensures, c.make_room.new.slots.ok)) c.give.ensures.others) (its e.slots.items c.make_room.new.slots.items n c.give.new.self c.len-place.result room.slots (omega (arith, c.len-place.ensures, c.make_room.new.slots.ok)) c.in_ok-give.ensures.ok),
     )

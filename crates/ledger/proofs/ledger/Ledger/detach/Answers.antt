@@ -8,9 +8,11 @@ use Rattle.ledger.specs.declared.occurrence.Occurrence.{Occurrence}
 use Rattle.ledger.specs.declared.pair.Pair.{Pair}
 use Rattle.ledger.specs.Trails.{on_trail}
 use Rattle.ledger.specs.Ledgers.{AreReasons, IsLedger, State, shown}
+use Rattle.ledger.specs.Orders.{AreOrders}
 use Rattle.ledger.specs.Watched.{AreWatched, Watching}
 use Rattle.ledger.specs.Occurrences.{HasMore, occurrences_of}
 use Rattle.ledger.proofs.Attaching.{counted_before, detached, reasons_without, watched_before, with_pairs}
+use Rattle.ledger.proofs.PlacedOrders.{orders_fewer}
 use Rattle.ledger.proofs.WatchedPlaces.{watched_fewer}
 use Rattle.ledger.proofs.ledger.Ledger.detach.Goals as goal
 use Rattle.ledger.proofs.ledger.Ledger.detach.Goals.{in-None, in-Some}
@@ -23,7 +25,7 @@ split c = rw c.in-Some-Some.field-0-is at c.in-Some-Some.ensures.items
 
 paired : (c : End) (o : Option Pair) → c.pair.result ≡ o → get_or c.self.inside.watchers.pairs (length c.pop.new.self.items) None ≡ o
 paired c o is =
-    ap (λ (k : ℕ). get_or c.self.inside.watchers.pairs k None) (omega (arith, c.len.ensures, c.pop.new.self.ok)) ∙ sym c.pair.ensures ∙ is
+    ap (λ (k : ℕ). get_or c.self.inside.watchers.pairs k None) (omega (arith, c.len-place.ensures, c.pop.new.self.ok)) ∙ sym c.pair.ensures ∙ is
 
 all_terms : (c : End) (base : Lit → List Occurrence) (table : List (List Occurrence)) (place : ℕ) → HasMore base table place c.in-Some-Some.constraint.terms → HasMore base table place (take c.len-count.result c.in-Some-Some.constraint.terms)
 all_terms c base table place m =
@@ -36,13 +38,13 @@ abbrev Left : End → List (List Occurrence) → List (List Occurrence) → Type
 Left c after behind =
     IsLedger c.pop.new.self.items c.self.inside.trail.0 c.self.inside.trail.1 after behind c.pop-in-Some-Some.new.self.items c.pop-in-Some-Some-2.new.self.items c.detach.new.self.pairs
     × AreReasons (shown c.pop.new.self.items) (on_trail c.self.inside.trail) c.self.inside.reasons.items × (c.self.inside.trail.1 ≤ vec_capacity c.self.inside.reasons)
-    × AreWatched c.pop.new.self.items c.self.inside.trail.0 c.self.inside.trail.1 c.detach.new.self
+    × AreWatched c.pop.new.self.items c.self.inside.trail.0 c.self.inside.trail.1 c.detach.new.self × AreOrders c.pop.new.self.items c.take_out.new.self
 
 left : (c : End) (after behind : List (List Occurrence)) → length after ≡ length c.self.inside.table → HasMore (λ l. occurrences_of l 0 (take (length c.pop.new.self.items) c.self.invariant.0.counted)) after (length c.pop.new.self.items) []
     → length behind ≡ length c.self.inside.clauses → HasMore (λ l. occurrences_of l 0 (take (length c.pop.new.self.items) c.self.invariant.0.watched)) behind (length c.pop.new.self.items) []
-    → c.match-pair.self-inside.counters ≡ c.self.inside.counters → c.match-pair.self-inside.limits ≡ c.self.inside.limits → c.match-pair.self-inside.watchers ≡ c.self.inside.watchers
+    → c.match-pair.self-inside.counters ≡ c.self.inside.counters → c.match-pair.self-inside.limits ≡ c.self.inside.limits → c.match-pair.self-inside.watchers ≡ c.self.inside.watchers → c.match-pair.self-inside.orders ≡ c.self.inside.orders
     → Left c after behind
-left c after behind long none long_w none_w same_counters same_limits same_watchers =
+left c after behind long none long_w none_w same_counters same_limits same_watchers same_orders =
     let e = c.self.inside in
     let i = c.self.invariant.0 in
     let n : NormalConstraint = c.in-Some-Some.constraint in
@@ -53,11 +55,13 @@ left c after behind long none long_w none_w same_counters same_limits same_watch
     let rows : c.detach.new.self.rows ≡ e.watchers.rows = c.detach.ensures.rows ∙ ap (λ (w : Watching). w.rows) same_watchers in
     let it = detached e.slots.items rest e.trail.0 e.trail.1 e.table after e.clauses behind e.counters.items e.limits.items e.watchers.pairs n i (split c) long none long_w none_w in
     let below : (k place : ℕ) → k < length (on_trail e.trail) → get_or e.reasons.items k None ≡ Some place → place + 1 < length e.slots.items = subst (λ (s : State). (k place : ℕ) → k < length s.assigned → get_or s.reasons k None ≡ Some place → place + 1 < length s.slots) (sym c.self.view_is) c.requires.reasons in
+    let fewer : (k : ℕ) → k < length rest → get_or c.take_out.new.self k [] ≡ get_or e.orders k [] = λ k low. c.take_out.ensures k (λ here. absurd (omega (arith, here, low, c.len-place.ensures, c.pop.new.self.ok))) ∙ ap (λ (os : List (List ℕ)). get_or os k []) same_orders in
     rw (counters, limits) (
       with_pairs rest e.trail.0 e.trail.1 after behind (take (length e.counters.items - 1) e.counters.items) (take (length e.limits.items - 1) e.limits.items) (take (length e.watchers.pairs - 1) e.watchers.pairs) c.detach.new.self.pairs it pairs,
       reasons_without e.slots.items rest n (on_trail e.trail) e.reasons.items (split c) c.self.invariant.1 below,
       c.self.invariant.2,
       watched_fewer e.slots.items rest e.trail.0 e.trail.1 e.watchers c.detach.new.self n (split c) i.slots_are.pair_count pairs rows c.self.invariant.3,
+      orders_fewer e.slots.items rest e.orders c.take_out.new.self n (split c) c.self.invariant.4 fewer,
     )
 
 pub invariant_of-self : goal.invariant_of-self
@@ -71,9 +75,9 @@ invariant_of-self c =
       | in-None w ↦
           let before = counted_before e.slots.items rest e.trail.0 e.trail.1 e.table e.clauses e.counters.items e.limits.items e.watchers.pairs n i (split c) (paired c None w.in-None.is) in
           let base : Lit → List Occurrence = λ l. occurrences_of l 0 (take m i.counted) in
-          rw w.self-inside-is (left c w.leave.new.table e.clauses w.leave.ensures.length (w.leave.ensures.fewer base m (all_terms c base e.table m before.counts)) refl before.watches (ap (λ s. s.counters) w.self-inside-is) (ap (λ s. s.limits) w.self-inside-is) (ap (λ s. s.watchers) w.self-inside-is))
+          rw w.self-inside-is (left c w.leave.new.table e.clauses w.leave.ensures.length (w.leave.ensures.fewer base m (all_terms c base e.table m before.counts)) refl before.watches (ap (λ s. s.counters) w.self-inside-is) (ap (λ s. s.limits) w.self-inside-is) (ap (λ s. s.watchers) w.self-inside-is) (ap (λ s. s.orders) w.self-inside-is))
       | in-Some w ↦
           let before = watched_before e.slots.items rest e.trail.0 e.trail.1 e.table e.clauses e.counters.items e.limits.items e.watchers.pairs n w.in-Some.field-0 i (split c) (paired c (Some w.in-Some.field-0) w.in-Some.is) in
           let base : Lit → List Occurrence = λ l. occurrences_of l 0 (take m i.watched) in
-          rw w.self-inside-is (left c e.table w.leave-in-Some.new.table refl before.counts w.leave-in-Some.ensures.length (w.leave-in-Some.ensures.fewer base m (all_terms c base e.clauses m before.watches)) (ap (λ s. s.counters) w.self-inside-is) (ap (λ s. s.limits) w.self-inside-is) (ap (λ s. s.watchers) w.self-inside-is))
+          rw w.self-inside-is (left c e.table w.leave-in-Some.new.table refl before.counts w.leave-in-Some.ensures.length (w.leave-in-Some.ensures.fewer base m (all_terms c base e.clauses m before.watches)) (ap (λ s. s.counters) w.self-inside-is) (ap (λ s. s.limits) w.self-inside-is) (ap (λ s. s.watchers) w.self-inside-is) (ap (λ s. s.orders) w.self-inside-is))
     ]

@@ -64,6 +64,7 @@ invariant_of-self-2 c =
       subst (λ (xs : List Lit). AreReasons (shown e.slots.items) xs e.reasons.items) (sym (same_assigned e.trail c.advance.new.self l c.next.ensures.first next)) c.self.invariant.1,
       omega (arith, c.self.invariant.2, ap (λ (w : Whole). w.1) next),
       (rw next (fallen_watched e.slots.items e.trail.0 e.trail.1 c.fall.new.self l c.opposite-fallen.result c.fall.new.queue.0 watched c.opposite-fallen.ensures handled)),
+      c.self.invariant.4,
     )
 
 pub returns-then-is_some-clause-end : goal.returns-then-is_some-clause-end

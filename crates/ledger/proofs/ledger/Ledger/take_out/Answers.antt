@@ -3,6 +3,7 @@ use Rattle.std.proofs.Common.{◌≡◌, ◌<◌, ℕ, Some, None, length, get_o
 use Rattle.ledger.specs.Trails.{on_trail}
 use Rattle.ledger.specs.Ledgers.{State}
 use Rattle.ledger.proofs.Attaching.{taken_out, reasons_apart}
+use Rattle.ledger.proofs.PlacedOrders.{orders_without}
 use Rattle.ledger.proofs.WatchedPlaces.{watched_without}
 use Rattle.ledger.proofs.ledger.Ledger.take_out.Goals as goal
 
@@ -17,4 +18,5 @@ invariant_of-self c =
       reasons_apart e.slots.items c.args.place (on_trail e.trail) e.reasons.items c.self.invariant.1 free,
       c.self.invariant.2,
       watched_without e.slots.items c.args.place e.trail.0 e.trail.1 e.watchers low c.self.invariant.3,
+      orders_without e.slots.items c.args.place e.orders c.take_out.new.self low c.self.invariant.4 c.take_out.ensures,
     )

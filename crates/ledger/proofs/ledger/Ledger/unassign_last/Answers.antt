@@ -46,6 +46,7 @@ invariant_of-self-then-counted c =
       (rw rest reasons),
       omega (arith, c.self.invariant.2, c.pop-2.ensures.capacity, c.pop.ensures.count),
       (rw c.pop.ensures.count (watched_back e.slots.items e.trail.0 c.pop.new.self.0 e.trail.1 e.watchers l last c.self.invariant.3)),
+      c.self.invariant.4,
     )
 
 pub invariant_of-self-else-counted : goal.invariant_of-self-else-counted
@@ -59,6 +60,7 @@ invariant_of-self-else-counted c =
       (rw rest reasons),
       omega (arith, c.self.invariant.2, c.pop-2.ensures.capacity, c.pop.ensures.count),
       (rw (pending, c.pop.ensures.count) c.self.invariant.3),
+      c.self.invariant.4,
     )
   where
     not_both : (b : Bool) → b ≡ false → b ≡ true → ⊥

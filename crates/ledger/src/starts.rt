@@ -1,0 +1,64 @@
+//! Where the search for a literal that is to watch a clause goes on.
+//!
+//! The terms of a clause are gone through round about: from where the last search in it ended to the last one, and then from the
+//! first one on. So where its literals fall one after another each is passed once or twice, and not by each later search anew
+//! (Gent: Watched literals, start from where the last search ended, 2013). Where literals are backtracked nothing is taken back.
+//! That is a matter of time alone, so no clause speaks of it: wherever a search begins, it finds a literal where there is one.
+
+ghost use Rattle.std.specs.Prelude.{◌≡◌, ◌+◌, ◌<◌, ◌≤◌};
+ghost use Rattle.ledger.specs.Rounds.{index_after};
+
+use std::alloc::{AllocError, Global};
+
+/// For the clause of each place the index at which the last search in it ended.
+#[derive(Drop)]
+pub(crate) struct Starts {
+    indices: Vec<u32>,
+}
+
+impl Starts {
+    /// No place.
+    pub(crate) fn new(alloc: Global) -> Self {
+        Starts {
+            indices: Vec::new(alloc),
+        }
+    }
+
+    /// Where a search in the clause of a place begins.
+    pub(crate) fn get(&self, place: usize) -> usize {
+        match self.indices.get(place) {
+            Some(index) => *index as usize,
+            None => 0,
+        }
+    }
+
+    /// A search in the clause of a place ended at an index.
+    pub(crate) fn set(&mut self, place: usize, index: usize) {
+        if place < self.indices.len() {
+            self.indices[place] = u32::try_from(index).unwrap_or(0);
+        }
+    }
+
+    /// Makes room for the places below a number.
+    pub(crate) fn widen(&mut self, count: usize) -> Result<(), AllocError> {
+        for _ in self.indices.len()..count {
+            self.indices.push(0)?;
+        }
+        Ok(())
+    }
+}
+
+/// The index after some steps round about.
+pub(crate) fn index_after(count: usize, start: usize, step: usize) -> usize
+    requires start { start ≤ count }
+    requires step { step < count }
+    ensures value { result ≡ index_after count start step }
+    ensures below { result < count }
+{
+    let left = count - start;
+    if step < left {
+        start + step
+    } else {
+        step - left
+    }
+}
