@@ -103,14 +103,11 @@ impl Fixed {
         }
     }
 
-    /// The sum with a product. A product of two such numbers is at most `2^62` units, so all but the product itself stands in 64 bits.
+    /// The sum with a product.
     pub(crate) fn plus_product(self, left: Fixed, right: Fixed) -> Fixed {
         let product = i128::from(left.units).wrapping_mul(i128::from(right.units));
         let rounded = product.wrapping_add(1 << 31) >> 32;
-        let sum = (rounded as i64).wrapping_add(self.units);
-        Fixed {
-            units: sum.clamp(-LARGEST_UNITS, LARGEST_UNITS),
-        }
+        Fixed::nearest(rounded.wrapping_add(i128::from(self.units)))
     }
 
     pub(crate) fn times(self, other: Fixed) -> Fixed {
