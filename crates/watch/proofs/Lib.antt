@@ -22,3 +22,4 @@ pub mod TakenBack
 pub mod ToldTail
 pub mod ToldTrail
 pub mod Walking
+pub mod WideEnough

@@ -16,7 +16,7 @@ use super::levels::Levels;
 use super::tracing::{chain_over, falsified_place};
 use ledger::{Ledger, Queue};
 use linear::Lit;
-use propagate::{literal_count, with_last};
+use propagate::with_last;
 use std::alloc::{AllocError, Global};
 
 /// Tells the trail behind a literal, where each one has a reason.
@@ -102,8 +102,8 @@ pub(crate) fn chain_of_last(
     ensures kept { IsKept ledger.new levels.new queue.new.0 queue.new.1 }
     ensures value { IfOk result (IsFoundOfLast (shown ledger.old.slots) before.now last) }
 {
-    ledger.widen(alloc, literal_count(before).max(last.var.0 as usize + 1))?;
-    let ascent = follow(ledger, queue, levels, before)?;
+    ledger.widen(alloc, last.var.0 as usize + 1)?;
+    let ascent = follow(alloc, ledger, queue, levels, before)?;
     if !ascent.is_whole() || !ledger.leaves_free(last) {
         return chain_of_all(alloc, ledger, queue, levels, before, last);
     }

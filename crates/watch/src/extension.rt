@@ -12,7 +12,7 @@ use super::following::follow;
 use super::levels::Levels;
 use ledger::{Ledger, Queue};
 use linear::{Lit, Seq};
-use propagate::{Reach, literal_count};
+use propagate::Reach;
 use std::alloc::{AllocError, Global};
 
 /// What given literals extend to, followed from where they part from those before.
@@ -28,8 +28,7 @@ pub(crate) fn reach_over(
     ensures kept { IsKept ledger.new levels.new queue.new.0 queue.new.1 }
     ensures value { IfOk result (IsReach (shown ledger.old.slots) given.now) }
 {
-    ledger.widen(alloc, literal_count(given))?;
-    let ascent = follow(ledger, queue, levels, given)?;
+    let ascent = follow(alloc, ledger, queue, levels, given)?;
     ledger.reveal();
     if !ascent.is_whole() {
         return Ok(Reach::Conflict);

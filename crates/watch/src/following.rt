@@ -22,7 +22,8 @@ use super::levels::Levels;
 use super::walk::{backtrack_quietly, propagate_all};
 use ledger::{Ledger, Queue};
 use linear::Lit;
-use std::alloc::AllocError;
+use propagate::literal_count;
+use std::alloc::{AllocError, Global};
 
 /// Queues the constraints from a place on.
 fn queue_from(ledger: &Ledger, queue: &mut Queue, first: usize)
@@ -183,22 +184,47 @@ fn climb(
     Ok(Ascent::Whole)
 }
 
-/// Gives the literals of an assignment, from where it parts from the one before.
+/// Takes back what stands from where an assignment parts from the one before, and makes room for the variables of the rest of it. The
+/// literals that stay are on the trail, so there is room for theirs, and they are not gone over again.
+fn part(
+    alloc: Global,
+    ledger: &mut Ledger,
+    queue: &mut Queue,
+    levels: &mut Levels,
+    given: &[Lit],
+) -> Result<(), AllocError>
+    requires kept { IsKept ledger.old levels.old queue.old.0 queue.old.1 }
+    ensures slots { ledger.new.slots ≡ ledger.old.slots }
+    ensures more { ledger.old.variables ≤ ledger.new.variables }
+    ensures variables { OnOk result (All (λ l. l.var.0 < ledger.new.variables) given.now) }
+    ensures short { length levels.new.0 ≤ length given.now }
+    ensures first { levels.new.0 ≡ take (length levels.new.0) given.now }
+    ensures given { AreGiven ledger.new.assigned ledger.new.reasons given.now }
+    ensures kept { IsKept ledger.new levels.new queue.new.0 queue.new.1 }
+{
+    let agreed = levels.agreement(given);
+    go_back(ledger, queue, levels, agreed);
+    ledger.reveal();
+    ledger.widen(alloc, literal_count(&given[agreed..]))
+}
+
+/// Gives the literals of an assignment, from where it parts from the one before, and makes room for their variables.
 pub(crate) fn follow(
+    alloc: Global,
     ledger: &mut Ledger,
     queue: &mut Queue,
     levels: &mut Levels,
     given: &[Lit],
 ) -> Result<Ascent, AllocError>
     requires kept { IsKept ledger.old levels.old queue.old.0 queue.old.1 }
-    requires variables { All (λ l. l.var.0 < ledger.old.variables) given.now }
     ensures slots { ledger.new.slots ≡ ledger.old.slots }
-    ensures variables { ledger.new.variables ≡ ledger.old.variables }
+    ensures more { ledger.old.variables ≤ ledger.new.variables }
+    ensures variables { OnOk result (All (λ l. l.var.0 < ledger.new.variables) given.now) }
     ensures kept { IsKept ledger.new levels.new queue.new.0 queue.new.1 }
     ensures given { AreGiven ledger.new.assigned ledger.new.reasons given.now }
     ensures end { IfOk result (IsAscent (shown ledger.old.slots) given.now ledger.new.assigned) }
 {
-    go_back(ledger, queue, levels, levels.agreement(given));
+    part(alloc, ledger, queue, levels, given)?;
     let fixpoint = propagate_kept(ledger, queue);
     ledger.reveal();
     let ascent = fixpoint?;

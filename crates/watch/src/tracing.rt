@@ -13,7 +13,6 @@ use super::levels::Levels;
 use super::telling::{marks_of, tell_all};
 use ledger::{Ledger, Queue};
 use linear::Lit;
-use propagate::literal_count;
 use std::alloc::{AllocError, Global};
 
 /// The chain that is told, and where it is not falsified, what is falsified behind it.
@@ -55,8 +54,7 @@ pub(crate) fn chain_over(
     ensures kept { IsKept ledger.new levels.new queue.new.0 queue.new.1 }
     ensures value { IfOk result (IsFound (shown ledger.old.slots) given.now) }
 {
-    ledger.widen(alloc, literal_count(given))?;
+    let ascent = follow(alloc, ledger, queue, levels, given)?;
     let marks = marks_of(alloc, ledger.variable_count(), given)?;
-    let ascent = follow(ledger, queue, levels, given)?;
     Ok(with_end(tell_all(alloc, ledger, &marks)?, falsified_place(ascent)))
 }

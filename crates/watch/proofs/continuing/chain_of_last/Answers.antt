@@ -15,10 +15,12 @@ returns-in_err-widen-clause-kept c =
     let e = c.widen.ensures in
     kept_wider c.args.ledger.now c.widen.new.self c.args.levels.now c.args.queue.now.0 c.args.queue.now.1 e.slots e.assigned e.propagated e.reasons c.requires.kept
 
-pub follow-requires-clause-kept : goal.follow-requires-clause-kept
-follow-requires-clause-kept c =
+pub follow-requires : goal.follow-requires
+follow-requires c =
     let e = c.widen.ensures in
-    kept_wider c.args.ledger.now c.widen.new.self c.args.levels.now c.args.queue.now.0 c.args.queue.now.1 e.slots e.assigned e.propagated e.reasons c.requires.kept
+    record {
+      kept = kept_wider c.args.ledger.now c.widen.new.self c.args.levels.now c.args.queue.now.0 c.args.queue.now.1 e.slots e.assigned e.propagated e.reasons c.requires.kept;
+    }
 
 pub returns-clause-value : goal.returns-clause-value
 returns-clause-value c =

@@ -6,18 +6,7 @@ use Rattle.watch.specs.Keeping.{IsAscent}
 use Rattle.ledger.specs.Ledgers.{AreReasons, shown}
 use Rattle.watch.proofs.Ascents.{no_way, whole_end}
 use Rattle.watch.proofs.GivenOnes.{reach_of}
-use Rattle.watch.proofs.KeptLevels.{kept_wider}
 use Rattle.watch.proofs.extension.reach_over.Goals as goal
-
-pub returns-in_err-widen-clause-kept : goal.returns-in_err-widen-clause-kept
-returns-in_err-widen-clause-kept c =
-    let e = c.widen.ensures in
-    kept_wider c.args.ledger.now c.widen.new.self c.args.levels.now c.args.queue.now.0 c.args.queue.now.1 e.slots e.assigned e.propagated e.reasons c.requires.kept
-
-pub follow-requires-clause-kept : goal.follow-requires-clause-kept
-follow-requires-clause-kept c =
-    let e = c.widen.ensures in
-    kept_wider c.args.ledger.now c.widen.new.self c.args.levels.now c.args.queue.now.0 c.args.queue.now.1 e.slots e.assigned e.propagated e.reasons c.requires.kept
 
 pub returns-then-not-is_whole-clause-value : goal.returns-then-not-is_whole-clause-value
 returns-then-not-is_whole-clause-value c =
@@ -25,9 +14,8 @@ returns-then-not-is_whole-clause-value c =
     let new = c.follow.new.ledger in
     let f = c.in_ok-ascent.ensures in
     let a = c.in_ok-ascent.ascent in
-    let end = subst (λ (os : List (Option NormalConstraint)). IsAscent (shown os) c.args.given.now new.assigned a) c.widen.ensures.slots f.end in
-    let reasons = subst (λ (os : List (Option NormalConstraint)). AreReasons (shown os) new.assigned new.reasons) (f.slots ∙ c.widen.ensures.slots) c.reveal.ensures.reasons in
-    no_way (shown old.slots) new.assigned new.reasons c.args.given.now a reasons f.given (λ e. false≢true (sym c.if-not-is_whole.true ∙ c.is_whole.ensures.1 e)) end
+    let reasons = subst (λ (os : List (Option NormalConstraint)). AreReasons (shown os) new.assigned new.reasons) f.slots c.reveal.ensures.reasons in
+    no_way (shown old.slots) new.assigned new.reasons c.args.given.now a reasons f.given (λ e. false≢true (sym c.if-not-is_whole.true ∙ c.is_whole.ensures.1 e)) f.end
 
 pub returns-clause-value : goal.returns-clause-value
 returns-clause-value c =
@@ -35,7 +23,6 @@ returns-clause-value c =
     let new = c.follow.new.ledger in
     let f = c.in_ok-ascent.ensures in
     let whole = c.is_whole.ensures.0 c.if-not-is_whole.false in
-    let end = subst (λ (os : List (Option NormalConstraint)). IsAscent (shown os) c.args.given.now new.assigned c.in_ok-ascent.ascent) c.widen.ensures.slots f.end in
-    let reasons = subst (λ (os : List (Option NormalConstraint)). AreReasons (shown os) new.assigned new.reasons) (f.slots ∙ c.widen.ensures.slots) c.reveal.ensures.reasons in
-    let is = whole_end (shown old.slots) new.assigned new.reasons c.args.given.now reasons f.given (subst (IsAscent (shown old.slots) c.args.given.now new.assigned) whole end) in
+    let reasons = subst (λ (os : List (Option NormalConstraint)). AreReasons (shown os) new.assigned new.reasons) f.slots c.reveal.ensures.reasons in
+    let is = whole_end (shown old.slots) new.assigned new.reasons c.args.given.now reasons f.given (subst (IsAscent (shown old.slots) c.args.given.now new.assigned) whole f.end) in
     reach_of (shown old.slots) c.args.given.now new.assigned c.from_vec.result (c.from_vec.ensures ∙ c.in_ok-from_slice.ensures.items ∙ c.literals.ensures.assigned) is c.literals.ensures.once c.literals.ensures.consistent

@@ -1,9 +1,10 @@
--- What is given stands there, and where the way up ended.
-use Rattle.std.proofs.Common.{◌∙◌, ℕ, List, Option, ap, subst, sym, length}
+-- What is given stands there and has room, and where the way up ended.
+use Rattle.std.proofs.Common.{◌∙◌, ℕ, ◌<◌, All, List, Option, subst, sym, length}
 use Rattle.std.proofs.lemmas.Bool.{false≢true}
 use Rattle.std.proofs.lemmas.Result.{IfOk-weaker}
 use Rattle.linear.specs.declared.term.Lit.{Lit}
 use Rattle.normal_form.specs.Normal.{NormalConstraint}
+use Rattle.ledger.proofs.RowPlaces.{on_ok_anyway}
 use Rattle.watch.specs.Keeping.{IsAscent}
 use Rattle.ledger.specs.Ledgers.{shown}
 use Rattle.watch.proofs.Ascents.{other_end}
@@ -13,23 +14,36 @@ use Rattle.watch.proofs.following.follow.Goals as goal
 pub returns-in_err-ascent-clause-given : goal.returns-in_err-ascent-clause-given
 returns-in_err-ascent-clause-given c =
     let s = c.propagate_kept-fixpoint in
-    let first = ap (λ (p : List Lit × List ℕ × List ℕ). p.0) c.go_back.ensures.levels ∙ c.agreement.ensures.same in
-    kept_given s.new.ledger c.go_back.new.levels s.new.queue.0 s.new.queue.1 c.agreement.result c.args.given.now c.reveal.ensures.reasons.as_many first (s.ensures.kept c.go_back.new.levels c.go_back.ensures.kept)
+    let p = c.part in
+    kept_given s.new.ledger p.new.levels s.new.queue.0 s.new.queue.1 (length p.new.levels.0) c.args.given.now c.reveal.ensures.reasons.as_many p.ensures.first (s.ensures.kept p.new.levels p.ensures.kept)
 
 pub returns-then-not-is_whole-clause-given : goal.returns-then-not-is_whole-clause-given
 returns-then-not-is_whole-clause-given c =
     let s = c.propagate_kept-fixpoint in
-    let first = ap (λ (p : List Lit × List ℕ × List ℕ). p.0) c.go_back.ensures.levels ∙ c.agreement.ensures.same in
-    kept_given s.new.ledger c.go_back.new.levels s.new.queue.0 s.new.queue.1 c.agreement.result c.args.given.now c.reveal.ensures.reasons.as_many first (s.ensures.kept c.go_back.new.levels c.go_back.ensures.kept)
+    let p = c.part in
+    kept_given s.new.ledger p.new.levels s.new.queue.0 s.new.queue.1 (length p.new.levels.0) c.args.given.now c.reveal.ensures.reasons.as_many p.ensures.first (s.ensures.kept p.new.levels p.ensures.kept)
+
+pub returns-then-not-is_whole-clause-variables : goal.returns-then-not-is_whole-clause-variables
+returns-then-not-is_whole-clause-variables c =
+    subst (λ (n : ℕ). All (λ (l : Lit). l.var.0 < n) c.args.given.now) (sym c.propagate_kept-fixpoint.ensures.variables) c.in_ok-part.ensures.variables
 
 pub returns-then-not-is_whole-clause-end : goal.returns-then-not-is_whole-clause-end
 returns-then-not-is_whole-clause-end c =
     let s = c.propagate_kept-fixpoint in
+    let p = c.part in
     let a = c.in_ok-ascent.ascent in
     let given = c.args.given.now in
-    let first = ap (λ (p : List Lit × List ℕ × List ℕ). p.0) c.go_back.ensures.levels ∙ c.agreement.ensures.same in
-    let end = subst (λ (os : List (Option NormalConstraint)). IsAscent (shown os) c.go_back.new.levels.0 s.new.ledger.assigned a) c.go_back.ensures.slots (c.in_ok-ascent.ensures.end c.go_back.new.levels c.go_back.ensures.kept) in
-    other_end (shown c.args.ledger.now.slots) c.go_back.new.levels.0 given s.new.ledger.assigned a (λ e. false≢true (sym c.if-not-is_whole.true ∙ c.is_whole.ensures.1 e)) (firsts_within c.go_back.new.levels.0 given c.agreement.result first) end
+    let end = subst (λ (os : List (Option NormalConstraint)). IsAscent (shown os) p.new.levels.0 s.new.ledger.assigned a) p.ensures.slots (c.in_ok-ascent.ensures.end p.new.levels p.ensures.kept) in
+    other_end (shown c.args.ledger.now.slots) p.new.levels.0 given s.new.ledger.assigned a (λ e. false≢true (sym c.if-not-is_whole.true ∙ c.is_whole.ensures.1 e)) (firsts_within p.new.levels.0 given (length p.new.levels.0) p.ensures.first) end
+
+pub climb-answer-requires-clause-variables : goal.climb-answer-requires-clause-variables
+climb-answer-requires-clause-variables c =
+    subst (λ (n : ℕ). All (λ (l : Lit). l.var.0 < n) c.args.given.now) (sym c.propagate_kept-fixpoint.ensures.variables) c.in_ok-part.ensures.variables
+
+pub returns-clause-variables : goal.returns-clause-variables
+returns-clause-variables c =
+    let a = c.climb-answer in
+    on_ok_anyway a.result (subst (λ (n : ℕ). All (λ (l : Lit). l.var.0 < n) c.args.given.now) (sym (a.ensures.variables ∙ c.propagate_kept-fixpoint.ensures.variables)) c.in_ok-part.ensures.variables)
 
 pub returns-clause-given : goal.returns-clause-given
 returns-clause-given c =
@@ -39,6 +53,6 @@ returns-clause-given c =
 pub returns-clause-end : goal.returns-clause-end
 returns-clause-end c =
     let a = c.climb-answer in
-    let slots = c.propagate_kept-fixpoint.ensures.slots ∙ c.go_back.ensures.slots in
+    let slots = c.propagate_kept-fixpoint.ensures.slots ∙ c.part.ensures.slots in
     IfOk-weaker a.result (IsAscent (shown c.propagate_kept-fixpoint.new.ledger.slots) c.args.given.now a.new.ledger.assigned) (IsAscent (shown c.args.ledger.now.slots) c.args.given.now a.new.ledger.assigned)
     (λ r h. subst (λ (os : List (Option NormalConstraint)). IsAscent (shown os) c.args.given.now a.new.ledger.assigned r) slots h) a.ensures.end
