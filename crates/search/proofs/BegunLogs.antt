@@ -1,10 +1,10 @@
 -- What a log of `1 x0 1 x1 >= 1` begins with, where it begins with what presolve tries: x0 is fixed.
-use Rattle.std.proofs.Common.{◌≡◌, ℕ, zero, suc, true, List, [], ◌∷◌, ◌++◌, Contains, inl, inr, length, map, pos, refl, sym, ap, subst, ◌∙◌, arith}
+use Rattle.std.proofs.Common.{◌≡◌, ℕ, zero, suc, true, List, [], ◌∷◌, ◌++◌, Contains, inl, inr, length, map, refl, sym, ap, subst, ◌∙◌, arith}
 use Rattle.std.proofs.lemmas.Bool.{false≢true}
 use Rattle.std.proofs.lemmas.List.Elements.{All-nil, All-cons}
 use Rattle.linear.specs.declared.term.Lit.{Lit}
 use Rattle.linear.specs.Opb.{Opb}
-use Rattle.normal_form.specs.Cases.{normal, signed}
+use Rattle.normal_form.specs.Cases.{normal}
 use Rattle.normal_form.specs.Normal.{NormalConstraint}
 use Rattle.normal_form.proofs.NormalForm.{is_form}
 use Rattle.presolve.specs.Fixing.{AreFixed, IsFixed}
@@ -24,12 +24,10 @@ use Rattle.proof_rules.proofs.OneStart.{one_start}
 use Rattle.proof_rules.proofs.ShownHolds.{zero_shown}
 use Rattle.proof_rules.proofs.SmallStates.{live_of}
 use Rattle.proof_rules.proofs.SmallConstraints.{cover_admitted, first_admitted, first_is_one, first_negated}
-use Rattle.proof_text.specs.Writable.{IsPairWritable, IsStepWritable, IsTermWritable}
 use Rattle.proof_write.specs.Whole.{first_lines, step_line}
-use Rattle.search.specs.Log.{CanBeWritten, GoesOn, Logbook}
+use Rattle.search.specs.Log.{GoesOn, Logbook}
 use Rattle.search.specs.Presolving.{BeginsPresolved, IsFirst, Tries, TriesAll, fixing, swapping}
 use Rattle.search.proofs.GoingOn.{goes_on_more}
-use Rattle.search.proofs.Refusals.{refused_by_memory}
 use Rattle.search.proofs.Trying.{tries_go_on}
 
 is_fixed : IsFixed cover_file (x 0)
@@ -82,16 +80,6 @@ never s f start h =
     step_never cover_file cover_start (fixing (x 0)) f (with_constraint (unit 0) cover_start)
     (subst (λ t. IsStepFault cover_file t (fixing (x 0)) f) (one_start cover_file s cover_start start begun) h) legal
 
-writable : IsStepWritable 2 (fixing (x 0))
-writable = (
-  record {
-    terms = All-cons (IsTermWritable 2) (signed (pos 1) 0) [] (record { coef = omega arith; named = omega arith }) (All-nil (IsTermWritable 2));
-    relation = refl;
-    right = omega arith;
-  },
-  All-cons (IsPairWritable 2) (record { 0 = 0 }, One) [] (omega arith, tt) (All-nil (IsPairWritable 2)),
-)
-
 abbrev fixed_line : List ℕ
 fixed_line = step_line cover_file.names (fixing (x 0))
 
@@ -99,10 +87,7 @@ fixed_line = step_line cover_file.names (fixing (x 0))
 entered : (a b : Logbook) → IsFirst cover_file a → Tries (fixing (x 0)) a b → b.text ≡ first_lines 1 ++ fixed_line
 entered a b first (inl enters) =
     enters.text ∙ ap (λ t. t ++ step_line a.problem.names (fixing (x 0))) first.text ∙ ap (λ (p : Opb). first_lines 1 ++ step_line p.names (fixing (x 0))) first.problem
-entered a b first (inr left) =
-    let can : CanBeWritten a (fixing (x 0)) = subst (λ (p : Opb). IsStepWritable (length p.names) (fixing (x 0))) (sym first.problem) writable in
-    absurd (left.other (refused_by_memory a (fixing (x 0)) left.fault can
-    (λ f h. never a.state f first.start (subst (λ p. IsStepFault p a.state (fixing (x 0)) f) first.problem h)) left.refused))
+entered a b first (inr left) = absurd (never a.state left.fault first.start (subst (λ p. IsStepFault p a.state (fixing (x 0)) left.fault) first.problem left.faulty))
 
 pub begins_fixed : (l : Logbook) → BeginsPresolved cover_file l → (rest : List ℕ) × (l.text ≡ (first_lines 1 ++ fixed_line) ++ rest)
 begins_fixed l b =

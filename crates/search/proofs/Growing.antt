@@ -185,10 +185,9 @@ starts p s text values first nothing table few start = record {
 abbrev pub IsWrittenBehind : Opb → List ℕ → Step → List ℕ → Type 0
 IsWrittenBehind p text step new = (new ≡ text ++ step_line p.names step) × IsStepWritable (length p.names) step × IsProper step
 
-pub written_behind : (p : Opb) (text : List ℕ) (step : Step) (new : List ℕ) (names : List (List ℕ)) → names ≡ p.names → new ≡ text ++ step_line names step → IsStepWritable (length names) step → IsProper step
+pub written_behind : (p : Opb) (text : List ℕ) (step : Step) (new : List ℕ) (names : List (List ℕ)) → names ≡ p.names → new ≡ text ++ step_line names step → IsStepWritable (length p.names) step → IsProper step
     → IsWrittenBehind p text step new
-written_behind p text step new names same is writable proper =
-    (is ∙ ap (λ ns. text ++ step_line ns step) same, subst (λ ns. IsStepWritable (length ns) step) same writable, proper)
+written_behind p text step new names same is writable proper = (is ∙ ap (λ ns. text ++ step_line ns step) same, writable, proper)
 
 one_more : (l : Logbook) (step : Step) (new : List ℕ) → (proof : IsProof l) → IsWrittenBehind l.problem l.text step new → StandsAlone step
     → AreWritten new l.problem.names (problem_ids l.problem.constraints) (proof.steps ++ step ∷ [])

@@ -5,14 +5,17 @@ pub mod BitingClauses
 pub mod Ending
 pub mod Forgetting
 pub mod Growing
+pub mod Naming
 pub mod Reasons
 pub mod Improving
 pub mod Solutions
 pub mod Trying
 pub mod StaysLive
 pub mod Taking
+pub mod Decisions
 pub mod Descending
 pub mod Worth
+pub mod Written
 pub mod GoingOn
 pub mod Refusals
 pub mod BegunLogs

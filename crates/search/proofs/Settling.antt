@@ -18,7 +18,9 @@ use Rattle.branching.specs.declared.brancher.Value.{Value}
 use Rattle.branching.specs.declared.brancher.Value.TheVariants.{True, False, Free}
 use Rattle.search.specs.Descents.{IsSettled}
 use Rattle.search.specs.Log.{Logbook}
+use Rattle.search.specs.Named.{AreDecisions, LiveIsNamed}
 use Rattle.search.specs.Values.{AreValuesUnder, IsValueUnder, NoneIsFree}
+use Rattle.search.proofs.Decisions.{closure_named}
 
 -- what is reached stands behind what is given and a chain
 as_chain : (live : List NormalConstraint) (given : List Lit) (l : Lit) → IsReached live given l → (xs : List Lit) × IsChain live given xs × (lists (given ++ xs) l ≡ true)
@@ -44,10 +46,11 @@ named assigned values count are none same v below =
     by False other h = (false, h)
     by Free other h = absurd (other refl)
 
-pub settled : (l : Logbook) (decisions standing : List Lit) (table : List Value) (count : ℕ) → IsConsistent decisions → IsEnd l.state.live decisions standing → AreValuesUnder standing table
+pub settled : (l : Logbook) (decisions standing : List Lit) (table : List Value) (count : ℕ) → LiveIsNamed l.problem l.state → AreDecisions l decisions → IsEnd l.state.live decisions standing → AreValuesUnder standing table
     → length table ≡ count → count ≡ length l.problem.names → NoneIsFree table count → IsSettled l standing
-settled l decisions standing table count consistent end are same all none = record {
-  consistent = closure_consistent (constraints l.state) decisions standing consistent end.no_conflict end.closure;
+settled l decisions standing table count over decided end are same all none = record {
+  consistent = closure_consistent (constraints l.state) decisions standing decided.consistent end.no_conflict end.closure;
+  named = closure_named (length l.problem.names) (constraints l.state) decisions standing over decided.named end.closure;
   names_all = subst (λ n. NamesAll n standing) all (named standing table count are none same);
   fixpoint = closure_fixpoint (constraints l.state) decisions standing end.closure end.no_conflict;
 }

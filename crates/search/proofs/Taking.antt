@@ -42,6 +42,7 @@ opposite_not_reached content decisions assigned values l end are free reached =
 -- a literal that is free in the table of what stands
 pub record IsChosen (content : Content) (decisions : List Lit) (l : Lit) (count : ℕ) : Type 0 where
   pub consistent : IsConsistent (decisions ++ l ∷ [])
+  pub within : l.var.0 < count
   pub takes : TakesLast (fin.values content) (decisions ++ l ∷ [])
   pub fewer : unlisted_below count (decisions ++ l ∷ []) < unlisted_below count decisions
 
@@ -57,6 +58,7 @@ chosen content decisions assigned table values l count end are same free inside 
     let within : l.var.0 < count = subst (λ n. l.var.0 < n) (ap length same ∙ size) inside in
     record {
       consistent = push_consistent decisions l consistent (leaves (l.var.0) is_free (not l.negated));
+      within = within;
       takes = takes_free (fin.values content) decisions l (possible end.no_conflict) (opposite_not_reached content decisions assigned table l end are is_free);
       fewer = fewer count decisions table l leaves is_free within;
     }

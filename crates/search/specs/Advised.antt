@@ -3,8 +3,7 @@ use Rattle.std.specs.Prelude.{List}
 use Rattle.linear.specs.declared.term.Lit.{Lit}
 use Rattle.normal_form.specs.Normal.{NormalConstraint}
 use Rattle.propagate.specs.Slack.{IsFalsified, IsForced}
-use Rattle.proof_rules.specs.Expression.{IsPostfixOf}
-use Rattle.proof_rules.specs.State.{State, constraint_of}
+use Rattle.search.specs.Log.{CanBeWritten, IsValueOf, Logbook}
 use Rattle.search.specs.declared.advisers.Effect.{Effect}
 use Rattle.search.specs.declared.advisers.Effect.TheVariants as effects
 use Rattle.search.specs.declared.advisers.Line.{Line}
@@ -15,10 +14,14 @@ HasEffect effects.Conflict standing n = IsFalsified standing n
 HasEffect effects.Forcing standing n = (l : Lit) × IsForced standing l n
 HasEffect effects.Cut standing n = Unit {0}
 
--- the items derive a constraint from the live ones
-abbrev pub IsDerived : State → Line → Type 0
-IsDerived s line = (n : NormalConstraint) × IsPostfixOf (constraint_of s) line.items n
+-- the step of a line can be written, and derives a constraint from the live ones
+pub record Derives (l : Logbook) (line : Line) (n : NormalConstraint) : Type 0 where
+  pub writable : CanBeWritten l line.step
+  pub value : IsValueOf l.state line.step n
 
--- the items derive a constraint from the live ones, and it has the effect that is told
-abbrev pub IsAdvised : State → List Lit → Line → Type 0
-IsAdvised s standing line = (n : NormalConstraint) × IsPostfixOf (constraint_of s) line.items n × HasEffect line.effect standing n
+abbrev pub IsDerived : Logbook → Line → Type 0
+IsDerived l line = (n : NormalConstraint) × Derives l line n
+
+-- and the constraint has the effect that is told
+abbrev pub IsAdvised : Logbook → List Lit → Line → Type 0
+IsAdvised l standing line = (n : NormalConstraint) × Derives l line n × HasEffect line.effect standing n

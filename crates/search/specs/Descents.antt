@@ -5,9 +5,10 @@ use Rattle.propagate.specs.Chain.{IsFixpoint}
 use Rattle.propagate.specs.Content.{IsEnd}
 use Rattle.propagate.specs.Literals.{IsConsistent}
 use Rattle.proof_rules.specs.Solution.{NamesAll}
-use Rattle.proof_rules.specs.State.{State, constraints}
+use Rattle.proof_rules.specs.State.{constraints}
 use Rattle.search.specs.Advised.{IsAdvised}
 use Rattle.search.specs.Log.{Logbook}
+use Rattle.search.specs.Named.{AreNamed}
 use Rattle.search.specs.declared.advisers.Line.{Line}
 use Rattle.search.specs.declared.descent.Descent.{Descent}
 use Rattle.search.specs.declared.descent.Descent.TheVariants as descents
@@ -40,12 +41,13 @@ IfFixpoint descents.Undone P = Unit {0}
 IfFixpoint (descents.Advised line) P = Unit {0}
 IfFixpoint (descents.Fixpoint assigned) P = P assigned
 
--- literals without opposites that name all variables of the file, and from which no live constraint forces more, or has negative slack
+-- literals of the file without opposites that name all its variables, and from which no live constraint forces more, or has negative slack
 pub record IsSettled (l : Logbook) (assigned : List Lit) : Type 0 where
   pub consistent : IsConsistent assigned
+  pub named : AreNamed l assigned
   pub names_all : NamesAll (length l.problem.names) assigned
   pub fixpoint : IsFixpoint (constraints l.state) assigned
 
 -- the line says something under all that follows from the decisions
-abbrev pub IsAdvisedUnder : State → List Lit → Line → Type 0
-IsAdvisedUnder s decisions line = (standing : List Lit) × IsEnd s.live decisions standing × IsAdvised s standing line
+abbrev pub IsAdvisedUnder : Logbook → List Lit → Line → Type 0
+IsAdvisedUnder l decisions line = (standing : List Lit) × IsEnd l.state.live decisions standing × IsAdvised l standing line

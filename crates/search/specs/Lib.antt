@@ -5,6 +5,7 @@ pub mod Deleting
 pub mod Descents
 pub mod Kept
 pub mod Log
+pub mod Named
 pub mod Presolving
 pub mod Solving
 pub mod Undoing

@@ -1,6 +1,7 @@
 -- A solver's log: a proof that grows, and how much of it says something new.
 use Rattle.std.specs.Prelude.{◌≡◌, ℕ, ◌+◌, ◌⊎◌, ℤ, pos, ◌<ℤ◌, Bool, List, [], ◌∷◌, ◌++◌, Option, None, Some, All, IfSome, MatchOption, length, map, ⊤}
 use Rattle.linear.specs.Opb.{Opb}
+use Rattle.kernel.specs.Held.{Held}
 use Rattle.normal_form.specs.Normal.{NormalConstraint}
 use Rattle.normal_form.specs.NormalOf.{IsNormalOf}
 use Rattle.propagate.specs.Biting.{Bites}
@@ -11,16 +12,14 @@ use Rattle.proof_rules.specs.Justified.{IsJustified}
 use Rattle.proof_rules.specs.Legal.{Legal, Leads, worth_of}
 use Rattle.proof_rules.specs.State.{State, constraints, constraint_of, IsStart}
 use Rattle.proof_steps.specs.declared.conclusion.Conclusion.{Conclusion}
+use Rattle.proof_steps.specs.declared.step.Item.{Item}
 use Rattle.proof_steps.specs.declared.step.Step.{Step}
 use Rattle.proof_steps.specs.declared.step.Step.TheVariants as kinds
 use Rattle.proof_text.specs.ProofSpells.{SpellsProof}
+use Rattle.proof_text.specs.Steps.{IsProper}
 use Rattle.proof_text.specs.Writable.{IsStepWritable}
 use Rattle.proof_write.specs.Whole.{AreWritten, step_line}
-use Rattle.proof_rules.specs.declared.fault.StepFault.TheVariants.{OutOfMemory}
-use Rattle.search.specs.declared.fault.LogFault.{LogFault}
-use Rattle.search.specs.declared.fault.LogFault.TheVariants as faults
-use Rattle.search.specs.declared.fault.SearchFault.{SearchFault}
-use Rattle.search.specs.declared.fault.SearchFault.TheVariants as shortages
+use Rattle.proof_rules.specs.declared.fault.StepFault.{StepFault}
 
 pub record Logbook : Type 0 where
   pub problem : Opb
@@ -36,6 +35,10 @@ pub record Logbook : Type 0 where
   pub conclusion : Conclusion
   -- the id of the constraint that asks for a better solution than the last improving one, if there is one
   pub asking : Option ℕ
+
+-- a `pol` step, whose items write an expression over the live constraints of this value
+abbrev pub IsValueOf : State → Step → NormalConstraint → Type 0
+IsValueOf s step n = (items : List Item) × (step ≡ kinds.Pol items) × IsPostfixOf (constraint_of s) items n
 
 -- a `pol` or `rup` step, whose constraint bites on the live ones before it
 abbrev pub StepBites : State → Step → Type 0
@@ -169,32 +172,24 @@ pub record GoesOn (old new : Logbook) : Type 0 where
   pub rest : List ℕ
   pub text : new.text ≡ old.text ++ rest
 
--- why a step is not taken: the kernel refuses it, or memory ran out; or it cannot be written by these names
-abbrev pub IsRefusedBy : List (List ℕ) → Opb → State → Step → LogFault → Type 0
-IsRefusedBy names p s step (faults.Kernel f) = OrMemory f (IsStepFault p s step f)
-IsRefusedBy names p s step faults.Unwritable = IsStepWritable (length names) step → ⊥
+-- a kernel has applied a step, and the step's line stands behind a text
+pub record Records (names : List (List ℕ)) (step : Step) (before : List ℕ) (old : Held) (text : List ℕ) (new : Held) : Type 0 where
+  pub problem : new.problem ≡ old.problem
+  pub legal : Legal old.problem old.state step new.state
+  pub line : text ≡ before ++ step_line names step
+  pub proper : IsProper step
 
--- why a log does not take a step
-abbrev pub IsRefused : Logbook → Step → LogFault → Type 0
-IsRefused l step f = IsRefusedBy l.problem.names l.problem l.state step f
+-- both are as they were
+abbrev pub AreAsBefore : List ℕ → Held → List ℕ → Held → Type 0
+AreAsBefore before old text new = (text ≡ before) × (new ≡ old)
+
+-- why a log does not take a step: the kernel refuses it, or memory ran out
+abbrev pub IsRefused : Logbook → Step → StepFault → Type 0
+IsRefused l step f = OrMemory f (IsStepFault l.problem l.state step f)
 
 -- a step is legal: it leads from a log's state to some state
 abbrev pub IsLegal : Logbook → Step → Type 0
 IsLegal l step = (t : State) × Legal l.problem l.state step t
-
--- the kernel refuses nothing: memory ran out, or a step cannot be written
-abbrev pub IsShortage : LogFault → Type 0
-IsShortage (faults.Kernel f) = f ≡ OutOfMemory
-IsShortage faults.Unwritable = Unit {0}
-
--- why a legal step is not taken: memory ran out, or it cannot be written by these names
-abbrev pub IsShortOf : List (List ℕ) → Step → SearchFault → Type 0
-IsShortOf names step shortages.OutOfMemory = Unit {0}
-IsShortOf names step shortages.Unwritable = IsStepWritable (length names) step → ⊥
-
--- why a log does not take a legal step
-abbrev pub IsShort : Logbook → Step → SearchFault → Type 0
-IsShort l step f = IsShortOf l.problem.names step f
 
 -- where there is an objective, the assignment is worth the least value that the log improved to
 abbrev pub IsWorthLeast : Logbook → List Bool → Type 0

@@ -1,5 +1,5 @@
 -- What a search puts into its log before it looks for solutions.
-use Rattle.std.specs.Prelude.{◌≡◌, ◌≢◌, ◌⊎◌, false, true, pos, List, [], ◌∷◌, ◌++◌, if◌then◌else◌, map}
+use Rattle.std.specs.Prelude.{◌≡◌, ◌⊎◌, false, true, pos, List, [], ◌∷◌, ◌++◌, if◌then◌else◌, map}
 use Rattle.linear.specs.Opb.{Opb}
 use Rattle.linear.specs.declared.constraint.Relation.TheVariants.{AtLeast}
 use Rattle.linear.specs.declared.constraint.Signed.{Signed}
@@ -12,16 +12,15 @@ use Rattle.substitution.specs.declared.image.Image.TheVariants.{Zero, One}
 use Rattle.presolve.specs.Fixing.{AreFixed}
 use Rattle.presolve.specs.Swapping.{AreUsed}
 use Rattle.presolve.specs.declared.swapping.Swap.{Swap}
+use Rattle.proof_rules.specs.Fault.{IsStepFault}
 use Rattle.proof_rules.specs.Forms.{problem_ids}
 use Rattle.proof_rules.specs.Legal.{Legal}
 use Rattle.proof_rules.specs.State.{IsStart}
-use Rattle.proof_rules.specs.declared.fault.StepFault.TheVariants.{OutOfMemory}
+use Rattle.proof_rules.specs.declared.fault.StepFault.{StepFault}
 use Rattle.proof_steps.specs.declared.step.Step.{Step}
 use Rattle.proof_steps.specs.declared.step.Step.TheVariants as kinds
 use Rattle.proof_write.specs.Whole.{first_lines}
-use Rattle.search.specs.Log.{GoesOn, Logbook, IsRefused, Keeps}
-use Rattle.search.specs.declared.fault.LogFault.{LogFault}
-use Rattle.search.specs.declared.fault.LogFault.TheVariants as logs
+use Rattle.search.specs.Log.{GoesOn, Logbook, Keeps}
 
 -- 1 l >= 1
 abbrev pub is_true : Lit → Signed
@@ -63,14 +62,13 @@ pub record Enters (step : Step) (old new : Logbook) : Type 0 where
   pub improved : new.improved ≡ old.improved
   pub biting : new.biting ≡ old.biting
 
--- a step has a fault, or cannot be written, and the log is as it was
+-- a step has a fault, and the log is as it was
 pub record IsLeft (step : Step) (old new : Logbook) : Type 0 where
-  pub fault : LogFault
-  pub refused : IsRefused old step fault
-  pub other : fault ≢ logs.Kernel OutOfMemory
+  pub fault : StepFault
+  pub faulty : IsStepFault old.problem old.state step fault
   pub same : new ≡ old
 
--- a step enters a log where it is legal, and is left where it has a fault or cannot be written
+-- a step enters a log where it is legal, and is left where it has a fault
 abbrev pub Tries : Step → Logbook → Logbook → Type 0
 Tries step old new = Enters step old new ⊎ IsLeft step old new
 

@@ -10,11 +10,9 @@ ghost use Rattle.std.specs.Prelude.{◌≡◌};
 
 use super::advisers::{Effect, Line};
 use super::cutting::variables_of;
-use super::fault::SearchFault;
 use super::run::Run;
 use analysis::{Bite, bite_on};
 use linear::Var;
-use proof_steps::Step;
 use propagate::{Id, Propagator};
 use std::alloc::{AllocError, Global};
 
@@ -32,10 +30,10 @@ struct Advised {
 
 impl<'a, P: Propagator> Run<'a, P> {
     ghost use Rattle.std.specs.Prelude.{◌≡◌, OnOk};
-    ghost use Rattle.propagate.specs.Literals.{IsConsistent};
     ghost use Rattle.proof_rules.specs.State.{HasRoom};
     ghost use Rattle.search.specs.Advised.{IsDerived};
     ghost use Rattle.search.specs.Log.{GoesOn};
+    ghost use Rattle.search.specs.Named.{AreDecisions};
     ghost use Rattle.search.specs.Solving.{TakesId};
 
     /// What is to be known of the constraint that was logged last.
@@ -54,17 +52,17 @@ impl<'a, P: Propagator> Run<'a, P> {
     }
 
     /// Logs a line, and goes on from what it says.
-    pub(crate) fn take_advice(&mut self, line: Line) -> Result<(), SearchFault>
-        requires consistent { IsConsistent self.old.decisions.items }
-        requires derived { IsDerived self.old.log.state line }
+    pub(crate) fn take_advice(&mut self, line: Line) -> Result<(), AllocError>
+        requires decisions { AreDecisions self.old.log self.old.decisions.items }
+        requires derived { IsDerived self.old.log line }
         requires room { HasRoom self.old.log.state }
         ensures goes_on { GoesOn self.old.log self.new.log }
         ensures id { OnOk result (TakesId self.old.log.state self.new.log.state) }
         ensures biting { OnOk result (self.new.log.biting ≡ self.old.log.biting) }
-        ensures consistent { OnOk result (IsConsistent self.new.decisions.items) }
+        ensures decisions { OnOk result (AreDecisions self.new.log self.new.decisions.items) }
     {
-        let Line { items, effect } = line;
-        self.log.take(Step::Pol(items))?;
+        let Line { step, effect } = line;
+        self.log.take(step)?;
         let Some(advised) = self.last_advised()? else {
             return Ok(());
         };
@@ -74,11 +72,11 @@ impl<'a, P: Propagator> Run<'a, P> {
 
     /// Goes on from what an advised constraint says.
     fn follow(&mut self, advised: &Advised, effect: Effect) -> Result<(), AllocError>
-        requires { IsConsistent self.old.decisions.items }
+        requires { AreDecisions self.old.log self.old.decisions.items }
         ensures goes_on { GoesOn self.old.log self.new.log }
         ensures next { OnOk result (self.new.log.state.next ≡ self.old.log.state.next) }
         ensures biting { OnOk result (self.new.log.biting ≡ self.old.log.biting) }
-        ensures consistent { OnOk result (IsConsistent self.new.decisions.items) }
+        ensures decisions { OnOk result (AreDecisions self.new.log self.new.decisions.items) }
     {
         match effect {
             Effect::Forcing => self.keep(advised, LEVELS_OF_FORCING),
@@ -111,11 +109,11 @@ impl<'a, P: Propagator> Run<'a, P> {
 
     /// Goes back to where an advised constraint with negative slack says something first.
     fn take_conflict(&mut self, advised: &Advised) -> Result<(), AllocError>
-        requires { IsConsistent self.old.decisions.items }
+        requires { AreDecisions self.old.log self.old.decisions.items }
         ensures goes_on { GoesOn self.old.log self.new.log }
         ensures next { OnOk result (self.new.log.state.next ≡ self.old.log.state.next) }
         ensures biting { OnOk result (self.new.log.biting ≡ self.old.log.biting) }
-        ensures consistent { OnOk result (IsConsistent self.new.decisions.items) }
+        ensures decisions { OnOk result (AreDecisions self.new.log self.new.decisions.items) }
     {
         self.advisers.brancher.met(advised.variables.as_slice());
         let Some(bite) = advised.bite else {

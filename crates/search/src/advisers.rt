@@ -3,23 +3,24 @@
 //! Neither is believed. A literal that is picked is looked up before it is decided, and a line that the relaxation comes to is summed up
 //! exactly before it is handed out, and judged again by the log. So what they say costs time at most.
 
-ghost use Rattle.std.specs.Prelude.{IfOk, IfSome};
+ghost use Rattle.std.specs.Prelude.{◌≡◌, IfOk, IfSome};
 ghost use Rattle.search.specs.Advised.{IsAdvised};
+ghost use Rattle.search.specs.Log.{CanBeWritten};
 
 use super::log::Log;
 use super::searched::Searched;
 use bounding::{Advice, Adviser, Node};
 use branching::Brancher;
 use linear::{Integer, Lit, Seq};
-use proof_steps::Item;
+use proof_steps::{Item, Step};
 use propagate::{Id, Propagator};
 use std::alloc::{AllocError, Global};
 
 /// A line that the relaxation comes to where a search stands.
 #[derive(Debug, Drop)]
 pub(crate) struct Line {
-    /// The items of the `pol` line.
-    pub(crate) items: Seq<Item>,
+    /// The `pol` step.
+    pub(crate) step: Step,
     pub(crate) effect: Effect,
 }
 
@@ -32,6 +33,19 @@ pub(crate) enum Effect {
     Forcing,
     /// The best point of the relaxation violates its constraint. Under what stands it says nothing.
     Cut,
+}
+
+/// The line of these items, where it can be written.
+fn line_of<'a, P: Propagator>(log: &Log<'a, P>, items: Seq<Item>, effect: Effect) -> Option<Line>
+    ensures step { IfSome result (λ line. line.step ≡ Step.Pol items) }
+    ensures effect { IfSome result (λ line. line.effect ≡ effect) }
+    ensures writable { IfSome result (λ line. CanBeWritten log.now line.step) }
+{
+    let step = Step::Pol(items);
+    if !log.can_write(&step) {
+        return None;
+    }
+    Some(Line { step, effect })
 }
 
 /// The advisers of one search.
@@ -62,8 +76,8 @@ impl Advisers {
         })
     }
 
-    /// A line that says something under the literals that stand, where the relaxation is asked and comes to one. They came with so many open
-    /// decisions, and so many came since the search began.
+    /// A line that says something under the literals that stand, where the relaxation is asked and comes to one that can be written. They came
+    /// with so many open decisions, and so many came since the search began.
     pub(crate) fn ask<'a, P: Propagator>(
         &mut self,
         log: &Log<'a, P>,
@@ -71,7 +85,7 @@ impl Advisers {
         decisions: usize,
         literals: u64,
     ) -> Result<Option<Line>, AllocError>
-        ensures { IfOk result (λ found. IfSome found (IsAdvised log.now.state standing.now)) }
+        ensures { IfOk result (λ found. IfSome found (IsAdvised log.now standing.now)) }
     {
         let Some(adviser) = &mut self.relaxation else {
             return Ok(None);
@@ -84,21 +98,12 @@ impl Advisers {
             searched: self.searched.terms(),
         };
         match adviser.ask(log.kernel(), node)? {
-            Advice::Conflict(items) => Ok(Some(Line {
-                items,
-                effect: Effect::Conflict,
-            })),
+            Advice::Conflict(items) => Ok(line_of(log, items, Effect::Conflict)),
             Advice::Forcing(items) => {
                 self.brancher.lean(adviser.leanings());
-                Ok(Some(Line {
-                    items,
-                    effect: Effect::Forcing,
-                }))
+                Ok(line_of(log, items, Effect::Forcing))
             }
-            Advice::Cut(items) => Ok(Some(Line {
-                items,
-                effect: Effect::Cut,
-            })),
+            Advice::Cut(items) => Ok(line_of(log, items, Effect::Cut)),
             Advice::Values => {
                 self.brancher.lean(adviser.leanings());
                 Ok(None)

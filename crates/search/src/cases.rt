@@ -1,6 +1,6 @@
 //! Worked cases: the definitions computed on small logs.
 
-ghost use Rattle.std.specs.Prelude.{◌≡◌, ℕ, [], ◌∷◌, ◌++◌, List, None, Some, false, neg_ℤ, pos, true};
+ghost use Rattle.std.specs.Prelude.{◌≡◌, ℕ, [], ◌∷◌, ◌++◌, List, None, Some, false, length, neg_ℤ, pos, true};
 ghost use Rattle.linear.specs.Opb.{Opb};
 ghost use Rattle.linear.specs.declared.term.Lit.{Lit};
 ghost use Rattle.linear.specs.declared.constraint.Relation.TheVariants.{AtLeast};
@@ -20,6 +20,7 @@ ghost use Rattle.proof_write.specs.Whole.{first_lines, step_line};
 ghost use Rattle.search.specs.Clause.{negated_clause};
 ghost use Rattle.search.specs.Conflicts.{LeadsAtLast, MeetsConflict, TakesLast};
 ghost use Rattle.search.specs.Log.{ImprovesNothing, IsFalling, LeadsBiting, LeadsImproving, Logbook, StandsAlone, StepBites, improvement, last_of};
+ghost use Rattle.search.specs.Named.{AreDecisions, AreNamed, IsOver};
 ghost use Rattle.search.specs.Presolving.{BeginsPresolved, fixing};
 ghost use Rattle.search.specs.Solving.{BearsOut, MayStop};
 ghost use Rattle.search.specs.Values.{AreValuesUnder, IsValueUnder};
@@ -111,6 +112,16 @@ pub fn values_of_an_assignment()
         → IsValueUnder assigned v value → value ≡ values.True }
     ensures one_false { (assigned : List Lit) → (v : ℕ) → (value : Value) → IsConsistent assigned → among assigned v true ≡ true
         → IsValueUnder assigned v value → value ≡ values.False }
+{}
+
+/// `1 x0 1 x2 >= 1` is over three variables and not over two. Of a file with two variables x0 and ~x1 are literals; x2 is none of its decisions,
+/// nor is a literal beside its opposite.
+pub fn variables_of_a_file()
+    ensures within { IsOver 3 (normal (plain 1 0 ∷ plain 1 2 ∷ []) 1) }
+    ensures beyond { IsOver 2 (normal (plain 1 0 ∷ plain 1 2 ∷ []) 1) → ⊥ }
+    ensures named { (l : Logbook) → length l.problem.names ≡ 2 → AreNamed l (x 0 ∷ not_x 1 ∷ []) }
+    ensures other { (l : Logbook) → length l.problem.names ≡ 2 → AreDecisions l (x 2 ∷ []) → ⊥ }
+    ensures opposites { (l : Logbook) → AreDecisions l (x 1 ∷ not_x 1 ∷ []) → ⊥ }
 {}
 
 /// In `1 x0 1 x1 >= 1` x0 may be made true at no cost, and that is a legal step. So a log of this file that begins with what presolve tries

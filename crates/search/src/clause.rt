@@ -3,19 +3,17 @@
 //! It is the least that a conflict teaches, and it is always at hand: it follows by propagation alone, no number in it grows,
 //! and it bites, since a conflict that is looked at takes the last decision (`overtaken`).
 
-ghost use Rattle.std.specs.Prelude.{◌≡◌, ◌≢◌, ◌<◌, ◌+◌, [], All, IfOk, IsErrOf, OnErr, OnOk, length};
+ghost use Rattle.std.specs.Prelude.{◌≡◌, ◌≢◌, ◌<◌, ◌+◌, [], IfOk, OnOk, length};
 ghost use Rattle.normal_form.specs.Normal.{largest_sum};
 ghost use Rattle.propagate.specs.Chain.{LeadsToConflict};
-ghost use Rattle.propagate.specs.Literals.{IsConsistent};
 ghost use Rattle.proof_rules.specs.State.{HasRoom, constraints};
-ghost use Rattle.proof_text.specs.Writable.{IsLitWritable};
 ghost use Rattle.search.specs.Clause.{negated_clause, opposite_term};
 ghost use Rattle.search.specs.Conflicts.{LeadsAtLast};
 ghost use Rattle.search.specs.Log.{GoesOn, StepBites};
+ghost use Rattle.search.specs.Named.{AreDecisions};
 ghost use Rattle.search.specs.Solving.{TakesId};
 ghost use Rattle.search.specs.Undoing.{IsUndone};
 
-use super::fault::SearchFault;
 use super::log::Log;
 use branching::Brancher;
 use linear::{Lit, Relation, Seq, Signed, Term, Var};
@@ -43,15 +41,14 @@ fn variables_of(alloc: Global, literals: &[Lit]) -> Result<Vec<Var>, AllocError>
     literals.iter().map(|literal| literal.var).collect(alloc)
 }
 
-/// Logs that some literals do not all hold, where they lead to a conflict, and tells the brancher. It fails only where memory
-/// runs out, or where a literal's variable is none of the problem's.
+/// Logs that some literals do not all hold, where they lead to a conflict, and tells the brancher. Running out of memory is the only fault.
 fn log_clause<'a, P: Propagator>(
     alloc: Global,
     log: &mut Log<'a, P>,
     literals: &[Lit],
     brancher: &mut Box<dyn Brancher>,
-) -> Result<(), SearchFault>
-    requires consistent { IsConsistent literals.now }
+) -> Result<(), AllocError>
+    requires decisions { AreDecisions log.old literals.now }
     requires conflict { LeadsToConflict (constraints log.old.state) literals.now }
     requires few { length literals.now < largest_sum }
     requires room { HasRoom log.old.state }
@@ -59,7 +56,6 @@ fn log_clause<'a, P: Propagator>(
     ensures goes_on { GoesOn log.old log.new }
     ensures biting { OnOk result (log.new.biting ≡ log.old.biting + 1) }
     ensures id { OnOk result (TakesId log.old.state log.new.state) }
-    ensures memory { All (IsLitWritable (length log.old.problem.names)) literals.now → OnErr result (IsErrOf result SearchFault.OutOfMemory) }
 {
     let clause = clause_of(alloc, literals)?;
     let variables = variables_of(alloc, literals)?;
@@ -68,24 +64,23 @@ fn log_clause<'a, P: Propagator>(
     Ok(())
 }
 
-/// Undoes the last decision, where all of them lead to a conflict that takes it, and learns that they do not all hold. It fails only where
-/// memory runs out, or where the variable of a decision is none of the problem's.
+/// Undoes the last decision, where all of them lead to a conflict that takes it, and learns that they do not all hold. Running out of memory
+/// is the only fault.
 pub(crate) fn learn_clause<'a, P: Propagator>(
     alloc: Global,
     log: &mut Log<'a, P>,
     decisions: &mut Vec<Lit>,
     brancher: &mut Box<dyn Brancher>,
-) -> Result<(), SearchFault>
+) -> Result<(), AllocError>
     requires some { decisions.old.items ≢ [] }
-    requires consistent { IsConsistent decisions.old.items }
+    requires decisions { AreDecisions log.old decisions.old.items }
     requires conflict { LeadsAtLast (constraints log.old.state) decisions.old.items }
     requires room { HasRoom log.old.state }
     ensures goes_on { GoesOn log.old log.new }
     ensures biting { OnOk result (log.new.biting ≡ log.old.biting + 1) }
     ensures id { OnOk result (TakesId log.old.state log.new.state) }
-    ensures consistent { OnOk result (IsConsistent decisions.new.items) }
+    ensures decisions { OnOk result (AreDecisions log.new decisions.new.items) }
     ensures undone { OnOk result (IsUndone decisions.old.items decisions.new.items) }
-    ensures memory { All (IsLitWritable (length log.old.problem.names)) decisions.old.items → OnErr result (IsErrOf result SearchFault.OutOfMemory) }
 {
     let before = decisions.len() - 1;
     log_clause(alloc, log, decisions.as_slice(), brancher)?;

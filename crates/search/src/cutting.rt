@@ -2,16 +2,16 @@
 //!
 //! The derivation comes with the analysis. That it bites is asked of the constraints as they are now: the closure of the decisions
 //! that are left is computed once more, and the constraint is looked at under it. So a trail that is out of date costs a
-//! weaker step, and never a wrong count.
+//! weaker step, and never a wrong count. Whether the line can be written is asked as well, since no contract of an analysis says which
+//! factors its items have.
 
 ghost use Rattle.std.specs.Prelude.{◌≡◌, ◌+◌, IfOk, IsTrue, OnOk, false};
-ghost use Rattle.propagate.specs.Literals.{IsConsistent};
 ghost use Rattle.proof_rules.specs.State.{HasRoom};
 ghost use Rattle.search.specs.Log.{GoesOn};
+ghost use Rattle.search.specs.Named.{AreDecisions};
 ghost use Rattle.search.specs.Solving.{TakesId};
 ghost use Rattle.search.specs.Undoing.{IsUndone};
 
-use super::fault::SearchFault;
 use super::log::Log;
 use analysis::{Analyser, Entry, Learned, bites_under};
 use branching::Brancher;
@@ -31,7 +31,7 @@ pub(crate) fn variables_of(alloc: Global, constraint: &Normal) -> Result<Vec<Var
 }
 
 /// Learns what the analysis of a conflict comes to, and undoes decisions down to the level at which it bites. False where it
-/// comes to nothing that bites.
+/// comes to nothing that bites and can be written.
 pub(crate) fn learn_constraint<'a, P: Propagator>(
     alloc: Global,
     log: &mut Log<'a, P>,
@@ -40,14 +40,14 @@ pub(crate) fn learn_constraint<'a, P: Propagator>(
     conflict: Id,
     analyser: &mut Analyser,
     brancher: &mut Box<dyn Brancher>,
-) -> Result<bool, SearchFault>
-    requires consistent { IsConsistent decisions.old.items }
+) -> Result<bool, AllocError>
+    requires decisions { AreDecisions log.old decisions.old.items }
     requires room { HasRoom log.old.state }
     ensures goes_on { GoesOn log.old log.new }
     ensures learned { IfOk result (λ yes. IsTrue yes → TakesId log.old.state log.new.state) }
     ensures biting { IfOk result (λ yes. IsTrue yes → log.new.biting ≡ log.old.biting + 1) }
     ensures unchanged { IfOk result (λ yes. yes ≡ false → log.new ≡ log.old) }
-    ensures consistent { OnOk result (IsConsistent decisions.new.items) }
+    ensures decisions { OnOk result (AreDecisions log.new decisions.new.items) }
     ensures undone { IfOk result (λ yes. IsTrue yes → IsUndone decisions.old.items decisions.new.items) }
     ensures kept { IfOk result (λ yes. yes ≡ false → decisions.new.items ≡ decisions.old.items) }
 {
@@ -71,8 +71,12 @@ pub(crate) fn learn_constraint<'a, P: Propagator>(
     if !bites_under(alloc, &constraint, closed.as_slice())? {
         return Ok(false);
     }
+    let step = Step::Pol(items);
+    if !log.can_write(&step) {
+        return Ok(false);
+    }
     let variables = variables_of(alloc, &constraint)?;
-    log.learn(Step::Pol(items))?;
+    log.learn(step)?;
     decisions.truncate(kept);
     brancher.conflict(variables.as_slice());
     Ok(true)

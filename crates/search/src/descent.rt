@@ -11,6 +11,7 @@ ghost use Rattle.propagate.specs.Literals.{IsConsistent};
 ghost use Rattle.proof_rules.specs.State.{constraints};
 ghost use Rattle.search.specs.Conflicts.{LeadsAtLast};
 ghost use Rattle.search.specs.Descents.{IfAdvised, IfConflict, IfFixpoint, IfUndone, IsAdvisedUnder, IsSettled};
+ghost use Rattle.search.specs.Named.{AreDecisions};
 
 use super::advisers::{Advisers, Line};
 use super::choice::choose;
@@ -96,15 +97,17 @@ pub(crate) fn descend<'a, P: Propagator>(
     count: u32,
     advisers: &mut Advisers,
 ) -> Result<Descent, AllocError>
-    requires consistent { IsConsistent decisions.old.items }
+    requires decisions { AreDecisions log.old decisions.old.items }
     requires count { count ≡ length log.old.problem.names }
     ensures same { log.new ≡ log.old }
-    ensures consistent { OnOk result (IsConsistent decisions.new.items) }
+    ensures decisions { OnOk result (AreDecisions log.new decisions.new.items) }
     ensures conflict { IfOk result (λ end. IfConflict end (LeadsAtLast (constraints log.old.state) decisions.new.items)) }
     ensures undone { IfOk result (λ end. IfUndone end (length decisions.new.items < length decisions.old.items)) }
-    ensures advised { IfOk result (λ end. IfAdvised end (IsAdvisedUnder log.old.state decisions.new.items)) }
+    ensures advised { IfOk result (λ end. IfAdvised end (IsAdvisedUnder log.old decisions.new.items)) }
     ensures settled { IfOk result (λ end. IfFixpoint end (IsSettled log.old)) }
 {
+    // That what is live is over the file's variables is known by the log's type; this makes it known here.
+    log.reveal();
     let mut standing = Standing::new(alloc, count)?;
     if let Some(conflict) = stand(log, decisions.as_slice(), &mut standing, trail)? {
         if undo_overtaken(log, decisions)? {

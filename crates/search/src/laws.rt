@@ -24,11 +24,12 @@ ghost use Rattle.proof_steps.specs.declared.conclusion.Conclusion.TheVariants.{U
 ghost use Rattle.proof_steps.specs.declared.conclusion.Lower.TheVariants as lowers;
 ghost use Rattle.proof_steps.specs.declared.conclusion.Upper.TheVariants as uppers;
 ghost use Rattle.proof_steps.specs.declared.step.Step.{Step};
-ghost use Rattle.proof_text.specs.Writable.{IsConclusionWritable};
+ghost use Rattle.proof_text.specs.Writable.{IsConclusionWritable, IsStepWritable};
 ghost use Rattle.proof_write.specs.Whole.{begun_text, last_lines};
 ghost use Rattle.search.specs.Clause.{negated_clause};
 ghost use Rattle.search.specs.Kept.{KeepsLive, Spares};
-ghost use Rattle.search.specs.Log.{Logbook, ImprovesNothing, IsEntitled, IsProof, IsSpelledBy, LeadsBiting};
+ghost use Rattle.search.specs.Log.{Logbook, ImprovesNothing, IsEntitled, IsProof, IsSpelledBy, LeadsBiting, StandsAlone};
+ghost use Rattle.search.specs.Named.{LiveIsNamed};
 ghost use Rattle.search.specs.Solving.{FileIsLive, ImprovementIsLive};
 
 /// Where literals lead to a conflict, the clause that one of them is false is shown; so it may be logged by `rup`, as long as
@@ -73,6 +74,15 @@ pub fn kept_stays_live()
         → KeepsLive (record l { state = t }) }
     ensures improved { (l : Logbook) → (assigned : List Lit) → (t : State) → KeepsLive l → LegalSoli l.problem l.state assigned t
         → KeepsLive (record l { state = t; asking = Some l.state.next }) }
+{}
+
+/// Every live constraint is over the variables of the file: so it is where a proof begins; a step that stands by itself and can be written
+/// leaves it so, and so does a better solution, since the objective is over them too.
+pub fn live_stays_named()
+    ensures start { (p : Opb) → (s : State) → IsWithin p → IsStart p s → LiveIsNamed p s }
+    ensures step { (p : Opb) → (s t : State) → (step : Step) → LiveIsNamed p s → StandsAlone step → ImprovesNothing step
+        → IsStepWritable (length p.names) step → Legal p s step t → LiveIsNamed p t }
+    ensures improved { (p : Opb) → (s t : State) → (assigned : List Lit) → IsWithin p → LiveIsNamed p s → LegalSoli p s assigned t → LiveIsNamed p t }
 {}
 
 /// The text of a log is that of steps which are a legal proof of its conclusion, and no block is open behind them; with the lines behind

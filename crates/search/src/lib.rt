@@ -2,7 +2,7 @@
 //! conflicts, and logs each thing that it derives as a step of a proof.
 //!
 //! The solver itself is not believed. What it claims stands in its log, and a log takes a step only where the kernel
-//! does; so that the steps are legal is a fact of the log's type, and no proof speaks of the order of the search. What is
+//! does; so that the steps are legal, and can be written, is a fact of the log's type, and no proof speaks of the order of the search. What is
 //! left to say of the search is that what it needs is never refused: these are the laws of `laws`.
 #![tactic(auto)]
 
@@ -30,7 +30,6 @@ mod standing;
 mod trail;
 
 pub use branching::{Activity, Brancher, First, Progress, Value};
-pub use fault::{LogFault, SearchFault};
 pub use found::{Found, Unfinished};
 pub use log::Log;
 pub use solver::{Solved, Solver};

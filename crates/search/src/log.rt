@@ -13,20 +13,21 @@
 //! Only steps that stand by themselves enter a log, and none of a block: so something may be concluded from each of its states, `NONE` at
 //! least, and its text is a whole proof wherever the search stops.
 //!
+//! Each step of a log can be written, since each is over the names of the problem's file: the calls ask for it. So is whatever the steps have
+//! led to: every live constraint is over these names, by this type too, and with it what is forced, learned or advised over them.
+//!
 //! Any constraint may be deleted by a legal step. That those which a search needs are not, the file's and the one that asks for a better
 //! solution, is a fact of this type too: the call that deletes asks for it.
 
-ghost use Rattle.std.specs.Prelude.{◌≡◌, ◌++◌, length, IfOk, IfErr, OnOk, OnErr};
+ghost use Rattle.std.specs.Prelude.{◌≡◌, length, IfOk, IfErr, OnOk, OnErr};
 ghost use Rattle.kernel.specs.Held.{HasAtLeast, given_id};
 ghost use Rattle.proof_rules.specs.Fault.{OrMemory, IsStepFault};
 ghost use Rattle.proof_rules.specs.Legal.{Legal};
-ghost use Rattle.proof_text.specs.Steps.{IsProper};
-ghost use Rattle.proof_text.specs.Writable.{IsStepWritable};
-ghost use Rattle.proof_write.specs.Whole.{step_line};
 ghost use Rattle.proof_rules.specs.State.{State};
-ghost use Rattle.search.specs.Log.{IsRefusedBy, IsShortOf, IsShortage};
+ghost use Rattle.proof_text.specs.Writable.{IsStepWritable};
+ghost use Rattle.search.specs.Log.{AreAsBefore, Records};
 
-use super::fault::{LogFault, SearchFault, refused_growth, want_of_memory};
+use super::fault::want_of_memory;
 use kernel::{Applied, Kernel};
 use linear::{Assignment, Integer, Lit, Names, Problem, Seq};
 use proof_rules::StepFault;
@@ -57,6 +58,7 @@ impl<'a, P: Propagator> Model for Log<'a, P> {
     ghost use Rattle.proof_rules.specs.Codes.{state_code};
     ghost use Rattle.search.specs.Kept.{KeepsLive};
     ghost use Rattle.search.specs.Log.{Logbook, IsProof};
+    ghost use Rattle.search.specs.Named.{LiveIsNamed};
 
     ghost Value = { Logbook };
 
@@ -66,30 +68,24 @@ impl<'a, P: Propagator> Model for Log<'a, P> {
 
     ghost invariant = { λ l. (l.kernel.problem ≡ l.source.now)
         × IsProof (record { problem = l.source.now; text = l.text.items; state = l.kernel.state; improved = l.improved.items; biting = l.biting; conclusion = l.conclusion; asking = l.asking })
-        × KeepsLive (record { problem = l.source.now; text = l.text.items; state = l.kernel.state; improved = l.improved.items; biting = l.biting; conclusion = l.conclusion; asking = l.asking }) };
+        × KeepsLive (record { problem = l.source.now; text = l.text.items; state = l.kernel.state; improved = l.improved.items; biting = l.biting; conclusion = l.conclusion; asking = l.asking })
+        × LiveIsNamed l.source.now l.kernel.state };
 }
 
-/// Applies a step to a kernel and keeps its line behind the others, or does neither.
+/// Applies a step that can be written to a kernel and keeps its line behind the others, or does neither.
 fn keep<'a, P: Propagator>(
     text: &mut Vec<u8>,
     names: &Names,
     kernel: &mut Kernel<'a, P>,
     step: &Step,
-) -> Result<Applied, LogFault>
+) -> Result<Applied, StepFault>
     requires relation { HasAtLeast step.now }
-    ensures problem { kernel.new.problem ≡ kernel.old.problem }
-    ensures ok { OnOk result (Legal kernel.old.problem kernel.old.state step.now kernel.new.state) }
-    ensures kept { OnOk result (text.new.items ≡ text.old.items ++ step_line names.now step.now) }
-    ensures writable { OnOk result (IsStepWritable (length names.now) step.now) }
-    ensures proper { OnOk result (IsProper step.now) }
+    requires writable { IsStepWritable (length names.now) step.now }
+    ensures ok { OnOk result (Records names.now step.now text.old.items kernel.old text.new.items kernel.new) }
     ensures id { IfOk result (λ applied. applied.id ≡ given_id step.now kernel.old.state) }
-    ensures fault { IfErr result (IsRefusedBy names.now kernel.old.problem kernel.old.state step.now) }
-    ensures dropped { OnErr result (text.new.items ≡ text.old.items) }
-    ensures err { OnErr result (kernel.new ≡ kernel.old) }
+    ensures fault { IfErr result (λ f. OrMemory f (IsStepFault kernel.old.problem kernel.old.state step.now f)) }
+    ensures err { OnErr result (AreAsBefore text.old.items kernel.old text.new.items kernel.new) }
 {
-    if !is_step_writable(names.len(), step) {
-        return Err(LogFault::Unwritable);
-    }
     // The line is written before the kernel is asked, so that no step is applied and not kept.
     let before = text.len();
     write_step(step, names, text)?;
@@ -97,45 +93,28 @@ fn keep<'a, P: Propagator>(
         Ok(applied) => Ok(applied),
         Err(fault) => {
             text.truncate(before);
-            Err(LogFault::Kernel(fault))
+            Err(fault)
         }
     }
 }
 
-/// Why a legal step was not kept: the kernel does not refuse it.
-fn shortage(fault: LogFault) -> SearchFault
-    requires { IsShortage fault }
-    ensures memory { result ≡ SearchFault.OutOfMemory → fault ≡ LogFault.Kernel StepFault.OutOfMemory }
-    ensures unwritable { result ≡ SearchFault.Unwritable → fault ≡ LogFault.Unwritable }
-{
-    match fault {
-        LogFault::Kernel(fault) => SearchFault::from(want_of_memory(fault)),
-        LogFault::Unwritable => SearchFault::Unwritable,
-    }
-}
-
-/// The same for a legal step: only memory may run out, or the step cannot be written.
+/// The same for a legal step: only memory may run out.
 fn keep_legal<'a, P: Propagator>(
     text: &mut Vec<u8>,
     names: &Names,
     kernel: &mut Kernel<'a, P>,
     step: &Step,
-) -> Result<Applied, SearchFault>
+) -> Result<Applied, AllocError>
     requires relation { HasAtLeast step.now }
+    requires writable { IsStepWritable (length names.now) step.now }
     requires legal { (t : State) × Legal kernel.old.problem kernel.old.state step.now t }
-    ensures problem { kernel.new.problem ≡ kernel.old.problem }
-    ensures ok { OnOk result (Legal kernel.old.problem kernel.old.state step.now kernel.new.state) }
-    ensures kept { OnOk result (text.new.items ≡ text.old.items ++ step_line names.now step.now) }
-    ensures writable { OnOk result (IsStepWritable (length names.now) step.now) }
-    ensures proper { OnOk result (IsProper step.now) }
+    ensures ok { OnOk result (Records names.now step.now text.old.items kernel.old text.new.items kernel.new) }
     ensures id { IfOk result (λ applied. applied.id ≡ given_id step.now kernel.old.state) }
-    ensures fault { IfErr result (IsShortOf names.now step.now) }
-    ensures dropped { OnErr result (text.new.items ≡ text.old.items) }
-    ensures err { OnErr result (kernel.new ≡ kernel.old) }
+    ensures err { OnErr result (AreAsBefore text.old.items kernel.old text.new.items kernel.new) }
 {
     match keep(text, names, kernel, step) {
         Ok(applied) => Ok(applied),
-        Err(fault) => Err(shortage(fault)),
+        Err(fault) => Err(want_of_memory(fault)),
     }
 }
 
@@ -158,7 +137,8 @@ impl<'a, P: Propagator> Log<'a, P> {
     ghost use Rattle.proof_write.specs.Whole.{first_lines, last_lines};
     ghost use Rattle.search.specs.Deleting.{AreNoted};
     ghost use Rattle.search.specs.Kept.{IsSpare, KeepsLive, Spares};
-    ghost use Rattle.search.specs.Log.{CanBeWritten, GoesOn, ImprovesIfAsked, ImprovesNothing, IsEntitled, IsFalling, IsLegal, IsProof, IsRefused, IsShort, IsSpelledBy, IsWorthLeast, Keeps, StandsAlone, StepBites, improvement, last_of, with_conclusion};
+    ghost use Rattle.search.specs.Log.{CanBeWritten, GoesOn, ImprovesIfAsked, ImprovesNothing, IsEntitled, IsFalling, IsLegal, IsProof, IsRefused, IsSpelledBy, IsWorthLeast, Keeps, StandsAlone, StepBites, improvement, last_of, with_conclusion};
+    ghost use Rattle.search.specs.Named.{LiveIsNamed};
 
     /// The log of a problem's file, with no step.
     pub fn new(alloc: Global, problem: &'a Problem) -> Result<Self, AllocError>
@@ -188,11 +168,11 @@ impl<'a, P: Propagator> Log<'a, P> {
         })
     }
 
-    /// Applies a step that logs no improving solution and belongs to no block, whole or not at all, and keeps it. It logs another solution
-    /// only where there is no objective, and deletes neither a constraint of the file nor the one that asks for a better solution. Nothing
-    /// is concluded from the new state yet. A refusal is the kernel's, or that memory ran out, or that the step cannot be written, and
-    /// leaves the log as before.
-    pub fn apply(&mut self, step: Step) -> Result<Applied, LogFault>
+    /// Applies a step that can be written, logs no improving solution and belongs to no block, whole or not at all, and keeps it. It logs
+    /// another solution only where there is no objective, and deletes neither a constraint of the file nor the one that asks for a better
+    /// solution. Nothing is concluded from the new state yet. A refusal is the kernel's, or that memory ran out, and leaves the log as before.
+    pub fn apply(&mut self, step: Step) -> Result<Applied, StepFault>
+        requires writable { CanBeWritten self.old step }
         requires relation { HasAtLeast step }
         requires alone { StandsAlone step }
         requires other { ImprovesNothing step }
@@ -201,7 +181,6 @@ impl<'a, P: Propagator> Log<'a, P> {
         ensures goes_on { GoesOn self.old self.new }
         ensures ok { OnOk result (Legal self.old.problem self.old.state step self.new.state) }
         ensures kept { OnOk result (Keeps self.old step self.new) }
-        ensures writable { OnOk result (CanBeWritten self.old step) }
         ensures improved { OnOk result (self.new.improved ≡ self.old.improved) }
         ensures biting { OnOk result (self.new.biting ≡ self.old.biting) }
         ensures asking { OnOk result (self.new.asking ≡ self.old.asking) }
@@ -215,9 +194,9 @@ impl<'a, P: Propagator> Log<'a, P> {
         Ok(applied)
     }
 
-    /// Applies a legal step, under the terms of `apply`. It is refused only where memory runs out, or where it cannot be written, and leaves
-    /// the log as before then.
-    pub fn take(&mut self, step: Step) -> Result<Applied, SearchFault>
+    /// Applies a legal step, under the terms of `apply`. Running out of memory is the only fault, and leaves the log as before.
+    pub fn take(&mut self, step: Step) -> Result<Applied, AllocError>
+        requires writable { CanBeWritten self.old step }
         requires relation { HasAtLeast step }
         requires alone { StandsAlone step }
         requires other { ImprovesNothing step }
@@ -232,30 +211,29 @@ impl<'a, P: Propagator> Log<'a, P> {
         ensures asking { OnOk result (self.new.asking ≡ self.old.asking) }
         ensures conclusion { OnOk result (self.new.conclusion ≡ Conclusion.Nothing) }
         ensures id { IfOk result (λ applied. applied.id ≡ given_id step self.old.state) }
-        ensures fault { IfErr result (IsShort self.old step) }
         ensures err { OnErr result (self.new ≡ self.old) }
     {
         match self.apply(step) {
             Ok(applied) => Ok(applied),
-            Err(fault) => Err(shortage(fault)),
+            Err(fault) => Err(want_of_memory(fault)),
         }
     }
 
-    /// Applies a legal step whose constraint bites on the live ones, and counts it. It is refused as by `take`.
-    pub fn learn(&mut self, step: Step) -> Result<Applied, SearchFault>
+    /// Applies a legal step that can be written, whose constraint bites on the live ones, and counts it. Running out of memory is the only
+    /// fault, and leaves the log as before.
+    pub fn learn(&mut self, step: Step) -> Result<Applied, AllocError>
+        requires writable { CanBeWritten self.old step }
         requires relation { HasAtLeast step }
         requires legal { IsLegal self.old step }
         requires bites { StepBites self.old.state step }
         ensures goes_on { GoesOn self.old self.new }
         ensures ok { OnOk result (Legal self.old.problem self.old.state step self.new.state) }
         ensures kept { OnOk result (Keeps self.old step self.new) }
-        ensures writable { OnOk result (CanBeWritten self.old step) }
         ensures improved { OnOk result (self.new.improved ≡ self.old.improved) }
         ensures biting { OnOk result (self.new.biting ≡ self.old.biting + 1) }
         ensures asking { OnOk result (self.new.asking ≡ self.old.asking) }
         ensures conclusion { OnOk result (self.new.conclusion ≡ Conclusion.Nothing) }
         ensures id { IfOk result (λ applied. applied.id ≡ given_id step self.old.state) }
-        ensures fault { IfErr result (IsShort self.old step) }
         ensures err { OnErr result (self.new ≡ self.old) }
     {
         let applied = keep_legal(&mut self.text, self.source.names(), &mut self.kernel, &step)?;
@@ -265,20 +243,22 @@ impl<'a, P: Propagator> Log<'a, P> {
     }
 
     /// Logs a solution that is better than all improving ones before, and keeps its value. From now on the constraint that it adds is the
-    /// one that asks for a better solution. The step is legal; it is refused as by `take`.
-    pub fn improve(&mut self, assigned: Seq<Lit>) -> Result<(), SearchFault>
-        requires { IsLegal self.old (Step.Soli assigned) }
+    /// one that asks for a better solution. The step is legal and can be written; running out of memory is the only fault, and leaves the log
+    /// as before.
+    pub fn improve(&mut self, assigned: Seq<Lit>) -> Result<(), AllocError>
+        requires writable { CanBeWritten self.old (Step.Soli assigned) }
+        requires legal { IsLegal self.old (Step.Soli assigned) }
         ensures goes_on { GoesOn self.old self.new }
         ensures ok { OnOk result (Legal self.old.problem self.old.state (Step.Soli assigned) self.new.state) }
         ensures kept { OnOk result (Keeps self.old (Step.Soli assigned) self.new) }
-        ensures writable { OnOk result (CanBeWritten self.old (Step.Soli assigned)) }
         ensures improved { OnOk result (self.new.improved ≡ self.old.improved ++ improvement (Step.Soli assigned) self.new.state) }
         ensures biting { OnOk result (self.new.biting ≡ self.old.biting) }
         ensures asking { OnOk result (self.new.asking ≡ Some self.old.state.next) }
         ensures conclusion { OnOk result (self.new.conclusion ≡ Conclusion.Nothing) }
-        ensures fault { IfErr result (IsShort self.old (Step.Soli assigned)) }
         ensures err { OnErr result (self.new ≡ self.old) }
     {
+        // That the objective is over the problem's names is known by its type; this makes it known here.
+        self.source.reveal();
         // The room for the value is taken first, as that for the line is.
         self.improved.push(0)?;
         let step = Step::Soli(assigned);
@@ -378,10 +358,15 @@ impl<'a, P: Propagator> Log<'a, P> {
         if numbers.is_empty() {
             return Ok(());
         }
-        match self.take(Step::Del(Seq::from_vec(numbers))) {
-            Ok(_) => Ok(()),
-            Err(fault) => Err(refused_growth(fault)),
-        }
+        self.take(Step::Del(Seq::from_vec(numbers)))?;
+        Ok(())
+    }
+
+    /// Whether a step can be written: its integers are at most 2^120 in size, its relation is `>=`, and its variables are the problem's.
+    pub fn can_write(&self, step: &Step) -> bool
+        ensures { IsTrue result ↔ CanBeWritten self.now step.now }
+    {
+        is_step_writable(self.source.names().len(), step)
     }
 
     /// Keeps a conclusion that the kernel accepts. A refusal is the kernel's, and leaves the log as before.
@@ -408,6 +393,7 @@ impl<'a, P: Propagator> Log<'a, P> {
     pub fn reveal(&self)
         ensures proof { IsProof self.now }
         ensures live { KeepsLive self.now }
+        ensures named { LiveIsNamed self.now.problem self.now.state }
         ensures within { IsWithin self.now.problem }
     {
         self.source.reveal();

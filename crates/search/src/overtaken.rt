@@ -7,9 +7,10 @@
 
 ghost use Rattle.std.specs.Prelude.{◌≡◌, ◌↔◌, ◌+◌, ◌-◌, ◌<◌, ◌≤◌, IfOk, IsTrue, OnOk, false, length, take};
 ghost use Rattle.propagate.specs.Chain.{IsImpossible, LeadsToConflict};
-ghost use Rattle.propagate.specs.Literals.{IsConsistent, lists};
+ghost use Rattle.propagate.specs.Literals.{lists};
 ghost use Rattle.proof_rules.specs.State.{constraints};
 ghost use Rattle.search.specs.Conflicts.{AreEnough, LeavesEnough, TakesLast};
+ghost use Rattle.search.specs.Named.{AreDecisions};
 
 use super::log::Log;
 use linear::Lit;
@@ -112,10 +113,10 @@ pub(crate) fn undo_overtaken<'a, P: Propagator>(
     log: &mut Log<'a, P>,
     decisions: &mut Vec<Lit>,
 ) -> Result<bool, AllocError>
-    requires consistent { IsConsistent decisions.old.items }
+    requires decisions { AreDecisions log.old decisions.old.items }
     requires conflict { LeadsToConflict (constraints log.old.state) decisions.old.items }
     ensures same { log.new ≡ log.old }
-    ensures consistent { OnOk result (IsConsistent decisions.new.items) }
+    ensures decisions { OnOk result (AreDecisions log.new decisions.new.items) }
     ensures fewer { IfOk result (λ undone. IsTrue undone → length decisions.new.items < length decisions.old.items) }
     ensures enough { IfOk result (λ undone. IsTrue undone → LeavesEnough (constraints log.old.state) decisions.old.items decisions.new.items) }
     ensures kept { IfOk result (λ undone. undone ≡ false → decisions.new.items ≡ decisions.old.items) }

@@ -1,8 +1,8 @@
 //! What is put into the log before any search: that literals are true which may be made true at no cost, and that of two
 //! variables which may change places the first one is true wherever the second is.
 //!
-//! A candidate is not believed. Each is put to the kernel as a step of redundance, and one that the kernel refuses, or that cannot
-//! be written, is left out, as one is for which no id is left; so nothing but speed rests on which candidates there are. Their constraints are no
+//! A candidate is not believed. Each is put to the kernel as a step of redundance, and one that the kernel refuses is left out, as one is for
+//! which no id is left; so nothing but speed rests on which candidates there are. Their constraints are no
 //! lessons: they stand for as long as the search goes on, and are not counted as what a conflict has taught.
 
 ghost use Rattle.std.specs.Prelude.{◌≡◌, ◌≢◌, ◌<◌, All, map, IfOk, OnErr, OnOk};
@@ -10,10 +10,10 @@ ghost use Rattle.kernel.specs.Held.{HasAtLeast};
 ghost use Rattle.presolve.specs.Fixing.{AreFixed};
 ghost use Rattle.presolve.specs.Swapping.{AreUsed};
 ghost use Rattle.search.specs.Kept.{Spares};
-ghost use Rattle.search.specs.Log.{ImprovesIfAsked, ImprovesNothing, StandsAlone};
+ghost use Rattle.search.specs.Log.{CanBeWritten, ImprovesIfAsked, ImprovesNothing, StandsAlone};
+ghost use Rattle.search.specs.Named.{AreNamed, IsNamedPair};
 ghost use Rattle.search.specs.Presolving.{IsPresolved, Tries, TriesAll, exchange, fixing, in_order, is_true, made_true, swapping, variable};
 
-use super::fault::LogFault;
 use super::log::Log;
 use linear::{Lit, Problem, Relation, Seq, Signed, Term, Var};
 use normal_form::CutFault;
@@ -103,19 +103,20 @@ fn exchange(alloc: Global, swap: Swap) -> Result<Substitution, AllocError>
     Ok(witness)
 }
 
-/// Hands on that memory ran out; any other fault says only that a step is not legal, or cannot be written.
-fn unless_refused(fault: LogFault) -> Result<(), AllocError>
-    ensures ok { OnOk result (fault ≢ LogFault.Kernel StepFault.OutOfMemory) }
-    ensures err { OnErr result (fault ≡ LogFault.Kernel StepFault.OutOfMemory) }
+/// Hands on that memory ran out; any other fault says only that a step is not legal.
+fn unless_refused(fault: StepFault) -> Result<(), AllocError>
+    ensures ok { OnOk result (fault ≢ StepFault.OutOfMemory) }
+    ensures err { OnErr result (fault ≡ StepFault.OutOfMemory) }
 {
     match fault {
-        LogFault::Kernel(StepFault::OutOfMemory) => Err(AllocError),
+        StepFault::OutOfMemory => Err(AllocError),
         _ => Ok(()),
     }
 }
 
-/// Puts a step into the log where it is legal and can be written.
+/// Puts a step that can be written into the log where it is legal.
 fn attempt<'a, P: Propagator>(log: &mut Log<'a, P>, step: Step) -> Result<(), AllocError>
+    requires writable { CanBeWritten log.old step }
     requires relation { HasAtLeast step }
     requires alone { StandsAlone step }
     requires other { ImprovesNothing step }
@@ -136,6 +137,7 @@ fn fix<'a, P: Propagator>(
     log: &mut Log<'a, P>,
     literals: &[Lit],
 ) -> Result<(), AllocError>
+    requires { AreNamed log.old literals.now }
     ensures problem { log.new.problem ≡ log.old.problem }
     ensures tried { OnOk result (TriesAll (map fixing literals.now) log.old log.new) }
 {
@@ -152,7 +154,7 @@ fn order<'a, P: Propagator>(
     log: &mut Log<'a, P>,
     swaps: &[Swap],
 ) -> Result<(), AllocError>
-    requires { All (λ s. s.first.0 < s.second.0) swaps.now }
+    requires { All (IsNamedPair log.old) swaps.now }
     ensures problem { log.new.problem ≡ log.old.problem }
     ensures tried { OnOk result (TriesAll (map swapping swaps.now) log.old log.new) }
 {

@@ -5,7 +5,6 @@ use super::clause::learn_clause;
 use super::cutting::learn_constraint;
 use super::descent::{Descent, descend};
 use super::endings::{end_exhausted, end_solved, end_stopped, may_stop};
-use super::fault::SearchFault;
 use super::found::Found;
 use super::learned::LearnedConstraints;
 use super::log::Log;
@@ -41,11 +40,11 @@ pub(crate) struct Run<'a, P: Propagator> {
 
 impl<'a, P: Propagator> Run<'a, P> {
     ghost use Rattle.std.specs.Prelude.{◌≡◌, ◌≢◌, ◌<◌, ◌+◌, [], IfOk, IfSome, IsNone, OnOk, length};
-    ghost use Rattle.propagate.specs.Literals.{IsConsistent};
     ghost use Rattle.proof_rules.specs.State.{HasRoom, constraints};
     ghost use Rattle.search.specs.Conflicts.{LeadsAtLast};
     ghost use Rattle.search.specs.Descents.{IsSettled};
-    ghost use Rattle.search.specs.Log.{GoesOn, IsLegal};
+    ghost use Rattle.search.specs.Log.{CanBeWritten, GoesOn, IsLegal};
+    ghost use Rattle.search.specs.Named.{AreDecisions};
     ghost use Rattle.search.specs.Solving.{BearsOut, TakesId};
     ghost use Rattle.search.specs.Undoing.{IsUndone, NearsEnd};
 
@@ -74,15 +73,15 @@ impl<'a, P: Propagator> Run<'a, P> {
     }
 
     /// Learns from a conflict under the decisions, as long as an id is left.
-    fn resolve(&mut self, conflict: Id) -> Result<(), SearchFault>
+    fn resolve(&mut self, conflict: Id) -> Result<(), AllocError>
         requires some { self.old.decisions.items ≢ [] }
-        requires consistent { IsConsistent self.old.decisions.items }
+        requires decisions { AreDecisions self.old.log self.old.decisions.items }
         requires conflict { LeadsAtLast (constraints self.old.log.state) self.old.decisions.items }
         requires room { HasRoom self.old.log.state }
         ensures goes_on { GoesOn self.old.log self.new.log }
         ensures learned { OnOk result (TakesId self.old.log.state self.new.log.state) }
         ensures biting { OnOk result (self.new.log.biting ≡ self.old.log.biting + 1) }
-        ensures consistent { OnOk result (IsConsistent self.new.decisions.items) }
+        ensures decisions { OnOk result (AreDecisions self.new.log self.new.decisions.items) }
         ensures undone { OnOk result (IsUndone self.old.decisions.items self.new.decisions.items) }
     {
         let is_learned = learn_constraint(
@@ -117,11 +116,11 @@ impl<'a, P: Propagator> Run<'a, P> {
 
     /// Notes what an analysis came by, and counts its conflict.
     fn count_analysed(&mut self) -> Result<(), AllocError>
-        requires { IsConsistent self.old.decisions.items }
+        requires { AreDecisions self.old.log self.old.decisions.items }
         ensures goes_on { GoesOn self.old.log self.new.log }
         ensures next { OnOk result (self.new.log.state.next ≡ self.old.log.state.next) }
         ensures biting { OnOk result (self.new.log.biting ≡ self.old.log.biting) }
-        ensures consistent { OnOk result (IsConsistent self.new.decisions.items) }
+        ensures decisions { OnOk result (AreDecisions self.new.log self.new.decisions.items) }
     {
         let met = &self.analyser.met;
         self.learned
@@ -173,9 +172,9 @@ impl<'a, P: Propagator> Run<'a, P> {
 
     /// Undoes all decisions, where the best solution is worth about as much as the bound.
     fn begin_anew_if_near_bound(&mut self)
-        requires { IsConsistent self.old.decisions.items }
+        requires { AreDecisions self.old.log self.old.decisions.items }
         ensures log { self.new.log ≡ self.old.log }
-        ensures consistent { IsConsistent self.new.decisions.items }
+        ensures decisions { AreDecisions self.new.log self.new.decisions.items }
     {
         if self.is_near_bound() {
             self.decisions.clear();
@@ -185,9 +184,9 @@ impl<'a, P: Propagator> Run<'a, P> {
 
     /// Undoes all decisions, where that is due.
     fn begin_anew_if_due(&mut self)
-        requires { IsConsistent self.old.decisions.items }
+        requires { AreDecisions self.old.log self.old.decisions.items }
         ensures log { self.new.log ≡ self.old.log }
-        ensures consistent { IsConsistent self.new.decisions.items }
+        ensures decisions { AreDecisions self.new.log self.new.decisions.items }
     {
         if self.restarts.is_due() {
             self.decisions.clear();
@@ -198,11 +197,11 @@ impl<'a, P: Propagator> Run<'a, P> {
 
     /// Counts a conflict that taught something; forgets half of what was learned, and begins anew, where that is due.
     pub(crate) fn count_conflict(&mut self) -> Result<(), AllocError>
-        requires { IsConsistent self.old.decisions.items }
+        requires { AreDecisions self.old.log self.old.decisions.items }
         ensures goes_on { GoesOn self.old.log self.new.log }
         ensures next { OnOk result (self.new.log.state.next ≡ self.old.log.state.next) }
         ensures biting { OnOk result (self.new.log.biting ≡ self.old.log.biting) }
-        ensures consistent { IsConsistent self.new.decisions.items }
+        ensures decisions { AreDecisions self.new.log self.new.decisions.items }
     {
         let met = self.analyser.met.variables.len();
         self.advisers.count_conflict(met, self.learned.terms());
@@ -254,8 +253,9 @@ impl<'a, P: Propagator> Run<'a, P> {
     }
 
     /// Logs a better solution. The constraint that asked for it is of no use then.
-    fn improve(&mut self, assigned: Seq<Lit>) -> Result<(), SearchFault>
-        requires { IsLegal self.old.log (Step.Soli assigned) }
+    fn improve(&mut self, assigned: Seq<Lit>) -> Result<(), AllocError>
+        requires writable { CanBeWritten self.old.log (Step.Soli assigned) }
+        requires legal { IsLegal self.old.log (Step.Soli assigned) }
         ensures goes_on { GoesOn self.old.log self.new.log }
         ensures id { OnOk result (TakesId self.old.log.state self.new.log.state) }
         ensures biting { OnOk result (self.new.log.biting ≡ self.old.log.biting) }
@@ -270,7 +270,7 @@ impl<'a, P: Propagator> Run<'a, P> {
     }
 
     /// Logs a solution. Where there is an objective the search goes on for a better one.
-    fn accept(&mut self, assigned: Seq<Lit>, limit: u64) -> Result<Option<Found>, SearchFault>
+    fn accept(&mut self, assigned: Seq<Lit>, limit: u64) -> Result<Option<Found>, AllocError>
         requires { IsSettled self.old.log assigned }
         ensures goes_on { GoesOn self.old.log self.new.log }
         ensures found { IfOk result (λ end. IfSome end (BearsOut limit self.new.log)) }
@@ -302,15 +302,15 @@ impl<'a, P: Propagator> Run<'a, P> {
 
     /// Decides until there is a conflict, a line of an adviser or a solution, and learns from that; or undoes decisions that a conflict does
     /// not take.
-    pub(crate) fn turn(&mut self, limit: u64) -> Result<Option<Found>, SearchFault>
-        requires consistent { IsConsistent self.old.decisions.items }
+    pub(crate) fn turn(&mut self, limit: u64) -> Result<Option<Found>, AllocError>
+        requires decisions { AreDecisions self.old.log self.old.decisions.items }
         requires within { self.old.log.biting < limit }
         ensures goes_on { GoesOn self.old.log self.new.log }
         ensures found { IfOk result (λ end. IfSome end (BearsOut limit self.new.log)) }
         ensures within { OnOk result (self.new.log.biting < limit) }
         ensures nears_end { IfOk result (λ end. IsNone end
             → NearsEnd self.old.log self.old.decisions.items self.new.log self.new.decisions.items) }
-        ensures consistent { OnOk result (IsConsistent self.new.decisions.items) }
+        ensures decisions { OnOk result (AreDecisions self.new.log self.new.decisions.items) }
     {
         let count = self.variables();
         let end = descend(

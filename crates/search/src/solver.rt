@@ -8,7 +8,6 @@ ghost use Rattle.std.specs.Prelude.{◌≤◌, IfOk};
 ghost use Rattle.search.specs.Solving.{IsSolved};
 
 use super::advisers::Advisers;
-use super::fault::SearchFault;
 use super::found::{Found, Unfinished};
 use super::log::Log;
 use super::presolving::presolve;
@@ -16,7 +15,7 @@ use super::run::Run;
 use branching::Brancher;
 use linear::Problem;
 use propagate::Propagator;
-use std::alloc::Global;
+use std::alloc::{AllocError, Global};
 
 /// What a search has found, and the proof of it.
 #[derive(Drop)]
@@ -32,7 +31,7 @@ fn search<'a, P: Propagator>(
     problem: &'a Problem,
     limit: u64,
     brancher: Box<dyn Brancher>,
-) -> Result<Solved<'a, P>, SearchFault>
+) -> Result<Solved<'a, P>, AllocError>
     requires { 1 ≤ limit }
     ensures { IfOk result (λ solved. IsSolved problem.now limit solved.found solved.log) }
 {

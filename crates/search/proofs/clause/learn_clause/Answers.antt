@@ -2,10 +2,11 @@
 use Rattle.std.proofs.Common.{List, ◌-◌, sym, ap, subst}
 use Rattle.linear.specs.declared.term.Lit.{Lit}
 use Rattle.propagate.specs.Chain.{LeadsToConflict}
-use Rattle.propagate.specs.Literals.{IsConsistent}
 use Rattle.proof_rules.specs.State.{constraints}
 use Rattle.search.specs.Clause.{negated_clause}
-use Rattle.search.proofs.BitingClauses.{decisions_bite, take_consistent}
+use Rattle.search.specs.Named.{AreDecisions}
+use Rattle.search.proofs.BitingClauses.{decisions_bite}
+use Rattle.search.proofs.Decisions.{decisions_on, first_decisions}
 use Rattle.search.proofs.clause.learn_clause.Goals as goal
 
 pub log_clause-requires-clause-conflict : goal.log_clause-requires-clause-conflict
@@ -15,9 +16,10 @@ log_clause-requires-clause-conflict g c =
 pub log_clause-requires-clause-bites : goal.log_clause-requires-clause-bites
 log_clause-requires-clause-bites g c =
     let items : List Lit = c.args.decisions.now.items in
-    decisions_bite (constraints c.args.log.now.state) items (negated_clause c.as_slice.result.now) c.requires.some c.requires.consistent c.requires.conflict.1
+    decisions_bite (constraints c.args.log.now.state) items (negated_clause c.as_slice.result.now) c.requires.some c.requires.decisions.consistent c.requires.conflict.1
     (ap negated_clause c.as_slice.ensures.value)
 
-pub returns-clause-consistent : goal.returns-clause-consistent
-returns-clause-consistent g c =
-    subst IsConsistent (sym c.truncate.ensures.items) (take_consistent (c.len-before.result - 1) c.args.decisions.now.items c.requires.consistent)
+pub returns-clause-decisions : goal.returns-clause-decisions
+returns-clause-decisions g c =
+    let left = first_decisions c.args.log.now (c.len-before.result - 1) c.args.decisions.now.items c.requires.decisions in
+    decisions_on c.args.log.now c.log_clause.new.log c.truncate.new.self.items c.log_clause.ensures.goes_on.problem (subst (AreDecisions c.args.log.now) (sym c.truncate.ensures.items) left)

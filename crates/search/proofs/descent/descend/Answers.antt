@@ -1,15 +1,16 @@
 -- What is chosen is free in the table of what stands, so it is one more, and a conflict takes it.
-use Rattle.std.proofs.Common.{◌<◌, List, MatchOption, refl, sym, subst, ◌∙◌}
+use Rattle.std.proofs.Common.{◌≡◌, ℕ, ◌<◌, List, [], ◌∷◌, ◌++◌, MatchOption, length, refl, sym, ap, subst, ◌∙◌}
 use Rattle.linear.specs.declared.term.Lit.{Lit}
 use Rattle.propagate.specs.Chain.{LeadsToConflict}
 use Rattle.propagate.specs.Content.{IsEnd}
-use Rattle.propagate.specs.Literals.{IsConsistent}
 use Rattle.proof_rules.specs.State.{constraints}
 use Rattle.branching.specs.declared.brancher.Value.{Value}
 use Rattle.search.specs.Conflicts.{LeadsAtLast, TakesLast}
 use Rattle.search.specs.Descents.{IsSettled}
 use Rattle.search.specs.Log.{Logbook}
+use Rattle.search.specs.Named.{AreDecisions}
 use Rattle.search.specs.Values.{NoneIsFree, unlisted_below}
+use Rattle.search.proofs.Decisions.{more_decisions}
 use Rattle.search.proofs.Settling.{settled}
 use Rattle.search.proofs.Taking.{IsChosen, chosen}
 use Rattle.search.proofs.descent.descend.Given.{Over}
@@ -18,21 +19,32 @@ use Rattle.search.proofs.descent.descend.Goals as goal
 pub decide-requires-clause-consistent : goal.decide-requires-clause-consistent
 decide-requires-clause-consistent g c =
     (chosen c.loop-standing.log.state.live c.loop-standing.decisions.items c.loop-standing.standing.0 c.loop-standing.standing.1 c.values-in-loop-standing.result.now c.in-Some-choose.literal c.args.count
-    c.loop-standing.invariant.3 c.values-in-loop-standing.ensures.exact c.values-in-loop-standing.ensures.values c.in-Some-choose.ensures.free c.in-Some-choose.ensures.inside c.loop-standing.invariant.2 c.loop-standing.invariant.1).consistent
+    c.loop-standing.invariant.3 c.values-in-loop-standing.ensures.exact c.values-in-loop-standing.ensures.values c.in-Some-choose.ensures.free c.in-Some-choose.ensures.inside c.loop-standing.invariant.2 c.loop-standing.invariant.1.consistent).consistent
 
 -- the same where the decision led to a conflict, and where it did not
 ended : (g : Over) (c : goal.After-drop-standing-inside-in-Some-2-3 g) → IsChosen c.loop-standing.log.state.live c.loop-standing.decisions.items c.in-Some-choose.literal c.args.count
 ended g c =
     chosen c.loop-standing.log.state.live c.loop-standing.decisions.items c.loop-standing.standing.0 c.loop-standing.standing.1 c.values-in-loop-standing.result.now c.in-Some-choose.literal c.args.count
-    c.loop-standing.invariant.3 c.values-in-loop-standing.ensures.exact c.values-in-loop-standing.ensures.values c.in-Some-choose.ensures.free c.in-Some-choose.ensures.inside c.loop-standing.invariant.2 c.loop-standing.invariant.1
+    c.loop-standing.invariant.3 c.values-in-loop-standing.ensures.exact c.values-in-loop-standing.ensures.values c.in-Some-choose.ensures.free c.in-Some-choose.ensures.inside c.loop-standing.invariant.2 c.loop-standing.invariant.1.consistent
 
 going : (g : Over) (c : goal.In_default-2 g) → IsChosen c.loop-standing.log.state.live c.loop-standing.decisions.items c.in-Some-choose.literal c.args.count
 going g c =
     chosen c.loop-standing.log.state.live c.loop-standing.decisions.items c.loop-standing.standing.0 c.loop-standing.standing.1 c.values-in-loop-standing.result.now c.in-Some-choose.literal c.args.count
-    c.loop-standing.invariant.3 c.values-in-loop-standing.ensures.exact c.values-in-loop-standing.ensures.values c.in-Some-choose.ensures.free c.in-Some-choose.ensures.inside c.loop-standing.invariant.2 c.loop-standing.invariant.1
+    c.loop-standing.invariant.3 c.values-in-loop-standing.ensures.exact c.values-in-loop-standing.ensures.values c.in-Some-choose.ensures.free c.in-Some-choose.ensures.inside c.loop-standing.invariant.2 c.loop-standing.invariant.1.consistent
 
-pub returns-in-Some-2-clause-consistent : goal.returns-in-Some-2-clause-consistent
-returns-in-Some-2-clause-consistent g c = subst IsConsistent (sym c.in_ok-conflict-2.ensures.decided) (ended g c).consistent
+-- the decisions with it
+decided : (old new : Logbook) (before after : List Lit) (l : Lit) (count : ℕ) → IsChosen old.state.live before l count → count ≡ length old.problem.names → AreDecisions old before → new ≡ old → after ≡ before ++ l ∷ []
+    → AreDecisions new after
+decided old new before after l count is all decisions same more =
+    let within : l.var.0 < length old.problem.names = subst (λ n. l.var.0 < n) all is.within in
+    subst (λ (x : Logbook). AreDecisions x after) (sym same) (subst (AreDecisions old) (sym more) (more_decisions old before l is.consistent within decisions))
+
+pub returns-in-Some-2-clause-decisions : goal.returns-in-Some-2-clause-decisions
+returns-in-Some-2-clause-decisions g c =
+    let old : Logbook = c.loop-standing.log in
+    let same = c.loop-standing.invariant.0 ∙ c.stand.ensures.same in
+    decided old c.decide.new.log c.loop-standing.decisions.items c.decide.new.decisions.items c.in-Some-choose.literal c.args.count (ended g c)
+    (c.requires.count ∙ ap (λ (x : Logbook). length x.problem.names) (sym same)) c.loop-standing.invariant.1 c.decide.ensures.same c.in_ok-conflict-2.ensures.decided
 
 -- what the open decisions lead to by themselves, where none of them is undone
 pub returns-in-Some-clause-conflict : goal.returns-in-Some-clause-conflict
@@ -63,11 +75,13 @@ pub loop-standing-preserved : goal.loop-standing-preserved
 loop-standing-preserved g c =
     let old : Logbook = c.loop-standing.log in
     let new : List Lit = c.decide.new.decisions.items in
-    let decided = c.in_ok-conflict-2.ensures.decided in
+    let is = c.in_ok-conflict-2.ensures.decided in
+    let same = c.loop-standing.invariant.0 ∙ c.stand.ensures.same in
     let end : IsEnd old.state.live new c.decide.new.standing.0 =
     subst (λ o. MatchOption o (IsEnd old.state.live new c.decide.new.standing.0) (λ id. LeadsToConflict (constraints old.state) new)) c.in_default-2.is c.in_ok-conflict-2.ensures.end in (
       c.decide.ensures.same ∙ c.loop-standing.invariant.0,
-      subst IsConsistent (sym decided) (going g c).consistent,
+      decided old c.decide.new.log c.loop-standing.decisions.items new c.in-Some-choose.literal c.args.count (going g c)
+          (c.requires.count ∙ ap (λ (x : Logbook). length x.problem.names) (sym same)) c.loop-standing.invariant.1 c.decide.ensures.same is,
       c.decide.ensures.count ∙ c.loop-standing.invariant.2,
       subst (λ (x : Logbook). IsEnd x.state.live new c.decide.new.standing.0) (sym c.decide.ensures.same) end,
     )
@@ -80,7 +94,8 @@ returns-in_default-choose-clause-settled g c =
     let standing : List Lit = c.loop-standing.standing.0 in
     let end : IsEnd l.state.live decisions standing =
     subst (λ (x : Logbook). IsEnd x.state.live decisions standing) (c.loop-standing.invariant.0 ∙ c.stand.ensures.same) c.loop-standing.invariant.3 in
+    let decided_here : AreDecisions l decisions = subst (λ (x : Logbook). AreDecisions x decisions) (c.loop-standing.invariant.0 ∙ c.stand.ensures.same) c.loop-standing.invariant.1 in
     let none : NoneIsFree c.loop-standing.standing.1 c.args.count =
     subst (λ (vs : List Value). NoneIsFree vs c.args.count) c.values-in-loop-standing.ensures.values (c.in_default-choose.ensures.none refl) in
     subst (IsSettled l) (sym c.into_assigned.ensures)
-    (settled l decisions standing c.loop-standing.standing.1 c.args.count c.loop-standing.invariant.1 end c.values-in-loop-standing.ensures.exact c.loop-standing.invariant.2 c.requires.count none)
+    (settled l decisions standing c.loop-standing.standing.1 c.args.count c.reveal.ensures.named decided_here end c.values-in-loop-standing.ensures.exact c.loop-standing.invariant.2 c.requires.count none)

@@ -1,12 +1,12 @@
 use Rattle.std.proofs.Common.{◌≡◌, length}
 use Rattle.propagate.specs.Content.{IsEnd}
-use Rattle.propagate.specs.Literals.{IsConsistent}
+use Rattle.search.specs.Named.{AreDecisions}
 use Rattle.search.specs.Values.{unlisted_below}
 use Rattle.search.proofs.descent.descend.Given as goal
 
 abbrev pub invariant-loop-standing : goal.invariant-loop-standing
 invariant-loop-standing g l =
-    (l.log ≡ l.initial.log) × IsConsistent l.decisions.items × (length l.standing.1 ≡ l.count)
+    (l.log ≡ l.initial.log) × AreDecisions l.log l.decisions.items × (length l.standing.1 ≡ l.count)
     × IsEnd l.log.state.live l.decisions.items l.standing.0
 
 abbrev pub decreases-loop-standing : goal.decreases-loop-standing

@@ -2,11 +2,11 @@
 use Rattle.std.proofs.Common.{◌≡◌, ◌-◌, List, length, take, ap, sym, subst, ◌∙◌, arith}
 use Rattle.linear.specs.declared.term.Lit.{Lit}
 use Rattle.propagate.specs.Chain.{IsImpossible}
-use Rattle.propagate.specs.Literals.{IsConsistent}
 use Rattle.proof_rules.specs.State.{constraints}
 use Rattle.search.specs.Conflicts.{AreEnough, TakesLast}
 use Rattle.search.specs.Log.{Logbook}
-use Rattle.search.proofs.BitingClauses.{take_consistent}
+use Rattle.search.specs.Named.{AreDecisions}
+use Rattle.search.proofs.Decisions.{first_decisions}
 use Rattle.search.proofs.overtaken.undo_overtaken.Goals as goal
 
 pub left_of-requires-clause-conflict : goal.left_of-requires-clause-conflict
@@ -19,9 +19,11 @@ left_of-requires-clause-least g c some =
     subst (λ (l : Logbook). IsImpossible (constraints l.state) (take (c.in_ok-count.count - 1) c.as_slice-2.result.now) → ⊥) (sym c.least_conflict.ensures.same)
     (subst (λ (xs : List Lit). IsImpossible (constraints c.args.log.now.state) (take (c.in_ok-count.count - 1) xs) → ⊥) (c.as_slice.ensures.value ∙ sym c.as_slice-2.ensures.value) (c.in_ok-count.ensures.least some))
 
-pub returns-clause-consistent : goal.returns-clause-consistent
-returns-clause-consistent g c =
-    subst IsConsistent (sym c.truncate.ensures.items) (take_consistent c.in_ok-left.left c.args.decisions.now.items c.requires.consistent)
+pub returns-clause-decisions : goal.returns-clause-decisions
+returns-clause-decisions g c =
+    let old : Logbook = c.args.log.now in
+    let left = first_decisions old c.in_ok-left.left c.args.decisions.now.items c.requires.decisions in
+    subst (λ (l : Logbook). AreDecisions l c.truncate.new.self.items) (sym (c.left_of.ensures.same ∙ c.least_conflict.ensures.same)) (subst (AreDecisions old) (sym c.truncate.ensures.items) left)
 
 pub returns-clause-enough : goal.returns-clause-enough
 returns-clause-enough g c undone =

@@ -1,4 +1,4 @@
-use Rattle.std.proofs.Common.{◌<◌, List, All, map, get_or, sym, subst, ◌∙◌}
+use Rattle.std.proofs.Common.{◌<◌, List, All, length, map, get_or, sym, subst, ◌∙◌}
 use Rattle.std.proofs.lemmas.List.Elements.{Contains-get_or}
 use Rattle.std.proofs.lemmas.Result.{on_ok_weaker}
 use Rattle.linear.specs.Opb.{Opb}
@@ -7,6 +7,7 @@ use Rattle.presolve.specs.Fixing.{AreFixed}
 use Rattle.presolve.specs.Swapping.{AreUsed}
 use Rattle.presolve.specs.declared.swapping.Swap.{Swap}
 use Rattle.search.specs.Log.{Logbook}
+use Rattle.search.specs.Named.{AreNamed, IsNamedPair}
 use Rattle.search.specs.Presolving.{TriesAll, fixing, swapping}
 use Rattle.search.proofs.Trying.{tries_both, tries_no_lesson}
 use Rattle.search.proofs.presolving.presolve.Goals as goal
@@ -14,7 +15,18 @@ use Rattle.search.proofs.presolving.presolve.Goals as goal
 pub order-requires : goal.order-requires
 order-requires g c =
     let ss : List Swap = c.in_ok-swaps.swaps.items in
-    subst (All (λ (s : Swap). s.first.0 < s.second.0)) (sym c.as_slice-3.ensures.value) (λ i d h. ((c.in_ok-swaps.ensures.used.exact (get_or ss i d)).0 (Contains-get_or ss i d h)).swappable.order)
+    let l : Logbook = c.fix.new.log in
+    subst (All (IsNamedPair l)) (sym c.as_slice-3.ensures.value) (λ i d h.
+    let used = (c.in_ok-swaps.ensures.used.exact (get_or ss i d)).0 (Contains-get_or ss i d h) in
+    record { order = used.swappable.order; named = subst (λ (q : Opb). (get_or ss i d).second.0 < length q.names) c.problem-2.ensures used.swappable.variable })
+
+pub fix-requires : goal.fix-requires
+fix-requires g c =
+    let l : Logbook = c.args.log.now in
+    let ls : List Lit = c.in_ok-literals.literals.items in
+    subst (AreNamed l) (sym c.as_slice.ensures.value) (λ i d h.
+    let fixed = (c.in_ok-literals.ensures.fixed.exact (get_or ls i d)).0 (Contains-get_or ls i d h) in
+    subst (λ (q : Opb). (get_or ls i d).var.0 < length q.names) c.problem.ensures fixed.fixable.variable)
 
 pub returns-clause-tried : goal.returns-clause-tried
 returns-clause-tried g c =

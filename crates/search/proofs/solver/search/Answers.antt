@@ -1,26 +1,22 @@
 -- The log of the file is presolved, and each turn goes on from there.
-use Rattle.std.proofs.Common.{[], IfSome, refl, sym, ap, subst, ◌∙◌, arith}
-use Rattle.std.proofs.lemmas.Bool.{false≢true}
-use Rattle.propagate.specs.Literals.{IsConsistent}
+use Rattle.std.proofs.Common.{IfSome, refl, ap, subst, ◌∙◌, arith}
 use Rattle.search.specs.Log.{GoesOn, Logbook}
 use Rattle.search.specs.Solving.{BearsOut}
+use Rattle.search.proofs.Decisions.{no_decision}
 use Rattle.search.proofs.GoingOn.{goes_on_more, goes_on_same}
 use Rattle.search.proofs.solver.search.Goals as goal
-
-none_consistent : IsConsistent []
-none_consistent m = false≢true m.1
 
 pub turns-init : goal.turns-init
 turns-init g c = (
   goes_on_same c.in_ok-run.run'.log c.in_ok-run.run'.log refl,
-  subst IsConsistent (sym c.in_ok-run.ensures.decisions) none_consistent,
+  no_decision c.in_ok-run.run'.log c.in_ok-run.run'.decisions.items c.in_ok-run.ensures.decisions,
   omega (arith, ap (λ (l : Logbook). l.biting) c.in_ok-run.ensures.log, c.in_ok-presolve.ensures.biting, c.in_ok-log.ensures.biting, c.requires),
 )
 
 pub turns-preserved : goal.turns-preserved
 turns-preserved g c = (
   goes_on_more c.in_ok-run.run'.log c.turns.run.log c.turn.new.self.log c.turns.invariant.0 c.in_ok-found.ensures.goes_on,
-  c.in_ok-found.ensures.consistent,
+  c.in_ok-found.ensures.decisions,
   c.in_ok-found.ensures.within,
 )
 

@@ -1,11 +1,11 @@
 use Rattle.std.proofs.Common.{◌<◌, ◌-◌, ◌*◌, ◌+◌, length}
-use Rattle.propagate.specs.Literals.{IsConsistent}
 use Rattle.proof_rules.specs.State.{id_limit}
 use Rattle.search.specs.Log.{GoesOn}
+use Rattle.search.specs.Named.{AreDecisions}
 use Rattle.search.proofs.solver.search.Given as goal
 
 abbrev pub invariant-turns : goal.invariant-turns
-invariant-turns g l = GoesOn l.initial.run.log l.run.log × IsConsistent l.run.decisions.items × (l.run.log.biting < l.limit)
+invariant-turns g l = GoesOn l.initial.run.log l.run.log × AreDecisions l.run.log l.run.decisions.items × (l.run.log.biting < l.limit)
 
 -- ids that are left; and where none is taken, decisions that are open
 abbrev pub decreases-turns : goal.decreases-turns

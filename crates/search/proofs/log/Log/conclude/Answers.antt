@@ -3,6 +3,7 @@ use Rattle.linear.specs.Opb.{Opb}
 use Rattle.kernel.specs.Held.{Held}
 use Rattle.search.specs.Kept.{FileStands, ImprovementStands}
 use Rattle.search.specs.Log.{Logbook, IsEntitled, IsProof}
+use Rattle.search.specs.Named.{LiveIsNamed}
 use Rattle.search.proofs.Growing.{concluded, logbook}
 use Rattle.search.proofs.log.Log.conclude.Goals as goal
 
@@ -22,6 +23,7 @@ invariant_of-self-2 g c =
         file = subst (λ (k : Held). FileStands p k.state) (sym same) c.self.invariant.2.file;
         improvement = subst (λ (k : Held). ImprovementStands p log.asking k.state) (sym same) c.self.invariant.2.improvement;
       },
+      subst (λ (k : Held). LiveIsNamed p k.state) (sym same) c.self.invariant.3,
     )
 
 pub returns-clause-justified : goal.returns-clause-justified

@@ -5,6 +5,7 @@ use Rattle.proof_steps.specs.declared.conclusion.Conclusion.TheVariants.{Nothing
 use Rattle.proof_rules.specs.Forms.{problem_ids}
 use Rattle.proof_write.specs.Whole.{first_lines}
 use Rattle.search.proofs.Growing.{logbook, starts}
+use Rattle.search.proofs.Naming.{start_named}
 use Rattle.search.proofs.StaysLive.{kept_first}
 use Rattle.search.proofs.log.Log.new.Goals as goal
 
@@ -19,7 +20,7 @@ invariant_of-result g c =
     c.in_ok-write_start.ensures.lines ∙ ap (λ t. t ++ first_lines c.problem_ids.result) c.new-text.ensures.items ∙ ap first_lines count in
     let proof = starts p kernel.kernel.state c.write_start.new.out.items c.new-2.result.items text c.new-2.ensures.items c.reveal.ensures.table few kernel.ensures.start in
     let live = kept_first (logbook p c.write_start.new.out.items kernel.kernel.state c.new-2.result.items 0 Nothing None) kernel.ensures.start in
-    (kernel.ensures.problem, proof, live)
+    (kernel.ensures.problem, proof, live, start_named p kernel.kernel.state c.reveal.ensures kernel.ensures.start)
 
 pub want_of_memory-requires : goal.want_of_memory-requires
 want_of_memory-requires g c =

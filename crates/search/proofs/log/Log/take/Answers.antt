@@ -1,12 +1,9 @@
 -- A legal step has no fault.
 use Rattle.search.specs.Log.{Logbook}
-use Rattle.search.proofs.Refusals.{short_by, shortage_of}
+use Rattle.search.proofs.Refusals.{legal_by_memory}
 use Rattle.search.proofs.log.Log.take.Goals as goal
 
-pub shortage-requires : goal.shortage-requires
-shortage-requires g c = shortage_of c.args.self.now c.args.step c.in-Err.fault c.requires.legal c.in-Err.ensures.fault
-
-pub returns-in-Err-clause-fault : goal.returns-in-Err-clause-fault
-returns-in-Err-clause-fault g c =
+pub want_of_memory-requires : goal.want_of_memory-requires
+want_of_memory-requires g c =
     let l : Logbook = c.args.self.now in
-    short_by l.problem.names l.problem l.state c.args.step c.in-Err.fault c.shortage.result c.shortage.ensures.unwritable c.in-Err.ensures.fault
+    legal_by_memory l.problem l.state c.requires.legal.0 c.args.step c.in-Err.fault c.requires.legal.1 c.in-Err.ensures.fault

@@ -18,10 +18,16 @@ pub end_solved-requires-clause-logged : goal.end_solved-requires-clause-logged
 end_solved-requires-clause-logged g c =
     let l : Logbook = c.args.self.now.log in sol_logs l.problem l.state c.take.new.self.state c.args.assigned c.in_ok-take.ensures.ok.1
 
-pub improve-requires : goal.improve-requires
-improve-requires g c =
+pub improve-requires-clause-legal : goal.improve-requires-clause-legal
+improve-requires-clause-legal g c =
     let l : Logbook = c.args.self.now.log in
     let known = c.reveal.ensures in
     let some : l.problem.objective ≡ None → ⊥ =
     some_lent c.objective.result l.problem.objective c.is_none.result (c.objective.ensures ∙ ap (λ (p : Opb). p.objective) c.problem.ensures) c.is_none.ensures c.if-is_none.false in
     soli_legal l c.args.assigned known.proof.entitled.1.0 known.within known.live c.requires some (c.has_room.ensures.0 c.if-not-has_room.false)
+
+pub take-requires-clause-writable : goal.take-requires-clause-writable
+take-requires-clause-writable g c = c.requires.named
+
+pub improve-requires-clause-writable : goal.improve-requires-clause-writable
+improve-requires-clause-writable g c = c.requires.named

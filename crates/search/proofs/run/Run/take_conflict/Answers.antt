@@ -1,14 +1,18 @@
--- The first of consistent decisions are consistent.
+-- The first of decisions are decisions.
 use Rattle.std.proofs.Common.{sym, subst, ◌∙◌}
-use Rattle.propagate.specs.Literals.{IsConsistent}
-use Rattle.search.proofs.BitingClauses.{take_consistent}
+use Rattle.search.specs.Log.{Logbook}
+use Rattle.search.specs.Named.{AreDecisions}
+use Rattle.search.proofs.Decisions.{first_decisions}
 use Rattle.search.proofs.run.Run.take_conflict.Goals as goal
 
-pub returns-then-bite-clause-consistent : goal.returns-then-bite-clause-consistent
-returns-then-bite-clause-consistent g c =
-    subst IsConsistent (sym (c.go_back.ensures.decisions ∙ c.truncate.ensures.items)) (take_consistent c.in-Some.bite.level c.args.self.now.decisions.items c.requires)
+pub returns-then-bite-clause-decisions : goal.returns-then-bite-clause-decisions
+returns-then-bite-clause-decisions g c =
+    let old : Logbook = c.args.self.now.log in
+    subst (λ (l : Logbook). AreDecisions l c.go_back.new.self.decisions.items) (sym c.go_back.ensures.log)
+    (subst (AreDecisions old) (sym (c.go_back.ensures.decisions ∙ c.truncate.ensures.items)) (first_decisions old c.in-Some.bite.level c.args.self.now.decisions.items c.requires))
 
 pub count_conflict-requires : goal.count_conflict-requires
 count_conflict-requires g c =
-    subst IsConsistent (sym (c.in_ok-keep.ensures.decisions ∙ c.go_back.ensures.decisions ∙ c.truncate.ensures.items))
-    (take_consistent c.in-Some.bite.level c.args.self.now.decisions.items c.requires)
+    let old : Logbook = c.args.self.now.log in
+    subst (λ (l : Logbook). AreDecisions l c.keep.new.self.decisions.items) (sym (c.keep.ensures.log ∙ c.go_back.ensures.log))
+    (subst (AreDecisions old) (sym (c.keep.ensures.decisions ∙ c.go_back.ensures.decisions ∙ c.truncate.ensures.items)) (first_decisions old c.in-Some.bite.level c.args.self.now.decisions.items c.requires))

@@ -25,7 +25,7 @@ may_stop-requires-clause-conflict g c =
     subst (λ e. IfConflict e (LeadsAtLast (constraints c.args.self.now.log.state) items)) c.in-Conflict.is c.in_ok-end.ensures.conflict in (
       items,
       λ empty. false≢true (sym c.if-is_empty.false ∙ c.is_empty.ensures ∙ ap (λ (n : ℕ). n == 0) (long ∙ ap length empty)),
-      c.in_ok-end.ensures.consistent,
+      c.in_ok-end.ensures.decisions.consistent,
       subst (λ (l : Logbook). LeadsAtLast (constraints l.state) items) (sym c.descend.ensures.same) met,
     )
 
@@ -51,8 +51,8 @@ take_advice-requires-clause-derived g c =
     let old : Logbook = c.args.self.now.log in
     let items : List Lit = c.descend.new.decisions.items in
     let line = c.in-Advised.line in
-    let advised : IsAdvisedUnder old.state items line = subst (λ e. IfAdvised e (IsAdvisedUnder old.state items)) c.in-Advised.is c.in_ok-end.ensures.advised in
-    subst (λ (l : Logbook). IsDerived l.state line) (sym c.descend.ensures.same) (advised.2.0, advised.2.1)
+    let advised : IsAdvisedUnder old items line = subst (λ e. IfAdvised e (IsAdvisedUnder old items)) c.in-Advised.is c.in_ok-end.ensures.advised in
+    subst (λ (l : Logbook). IsDerived l line) (sym c.descend.ensures.same) (advised.2.0, advised.2.1)
 
 pub accept-requires : goal.accept-requires
 accept-requires g c =
