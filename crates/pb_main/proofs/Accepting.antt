@@ -20,7 +20,7 @@ use Rattle.checker.specs.declared.verdict.Code.{Code}
 use Rattle.checker.specs.declared.verdict.Verdict.{Verdict}
 use Rattle.checker.specs.declared.verdict.Verdict.TheVariants as verdicts
 use Rattle.checker.proofs.ProvedAccepted.{proved_accepted}
-use Rattle.search.specs.Log.{Logbook, IsProof}
+use Rattle.proof_log.specs.Log.{Logbook, IsProof}
 use Rattle.search.specs.Solving.{IsOptimum}
 use Rattle.pb_main.specs.Checked.{IsAcceptedOf, IsLogOf, IsWritten}
 use Rattle.pb_main.specs.Outcome.{IsBestOf, IsCheckedOptimum, IsSolutionOf}

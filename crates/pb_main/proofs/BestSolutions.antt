@@ -16,10 +16,10 @@ use Rattle.proof_steps.specs.declared.conclusion.Lower.TheVariants as lowers
 use Rattle.proof_steps.specs.declared.conclusion.Upper.TheVariants as uppers
 use Rattle.proof_steps.specs.declared.step.Step.{Step}
 use Rattle.proof_steps.specs.declared.step.Step.TheVariants as kinds
-use Rattle.search.specs.Log.{Logbook, IsProof, IsFalling, IsWorthLeast, LeadsImproving, improvement, last_of}
+use Rattle.proof_log.specs.Log.{Logbook, IsProof, IsFalling, IsWorthLeast, LeadsImproving, improvement, last_of}
 use Rattle.search.specs.Solving.{BearsOut, IsBestSoFar, IsOptimum, IsSolvedByAny}
 use Rattle.search.specs.declared.found.Found.TheVariants as founds
-use Rattle.search.proofs.Improving.{values_fall}
+use Rattle.proof_log.proofs.Improving.{values_fall}
 use Rattle.pb_main.specs.Outcome.{AreImprovedTo, IsBestOf, IsNoOptimum, any_serves, stopped}
 use Rattle.pb_main.specs.Solution.{NamedValues}
 

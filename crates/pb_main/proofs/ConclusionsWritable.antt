@@ -11,7 +11,7 @@ use Rattle.proof_steps.specs.declared.conclusion.Lower.{Lower}
 use Rattle.proof_steps.specs.declared.conclusion.Lower.TheVariants as lowers
 use Rattle.proof_steps.specs.declared.conclusion.Upper.TheVariants as uppers
 use Rattle.proof_text.specs.Writable.{IsConclusionWritable, IsWritable}
-use Rattle.search.specs.Log.{Logbook, IsProof}
+use Rattle.proof_log.specs.Log.{Logbook, IsProof}
 use Rattle.search.specs.Solving.{BearsOut, IsBestSoFar, IsSolvedByAny}
 use Rattle.search.specs.declared.found.Found.{Found}
 use Rattle.search.specs.declared.found.Found.TheVariants as founds

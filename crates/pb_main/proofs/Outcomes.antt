@@ -2,7 +2,7 @@
 use Rattle.std.proofs.Common.{◌≡◌, inl, inr, ℕ, List, [], subst, sym}
 use Rattle.linear.specs.Limits.{IsWithin}
 use Rattle.opb_read.specs.Spells.{Spells}
-use Rattle.search.specs.Log.{IsProof, Logbook}
+use Rattle.proof_log.specs.Log.{IsProof, Logbook}
 use Rattle.pb_main.specs.Checked.{IsLogOf, IsProofOrNone, IsWrittenOrNone}
 use Rattle.pb_main.specs.Outcome.{IsBestOf, IsNoOptimum, IsOutcomeOf}
 use Rattle.pb_main.specs.Solution.{NamedValues}

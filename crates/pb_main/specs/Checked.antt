@@ -5,7 +5,7 @@ use Rattle.opb_read.specs.Spells.{Spells}
 use Rattle.kernel.specs.Accepted.{Judgement}
 use Rattle.proof_rules.specs.Justified.{IsBest, hint_of}
 use Rattle.checker.specs.Verdicts.{IsTrueOf}
-use Rattle.search.specs.Log.{Logbook, IsProof, IsSpelledBy}
+use Rattle.proof_log.specs.Log.{Logbook, IsProof, IsSpelledBy}
 use Rattle.search.specs.Solving.{BearsOut}
 use Rattle.search.specs.declared.found.Found.{Found}
 

@@ -1,7 +1,7 @@
 -- What a search found, as it is taken out of its log.
 use Rattle.std.specs.Prelude.{◌≡◌, ℕ, ⊤}
 use Rattle.proof_steps.specs.declared.conclusion.Conclusion.TheVariants as conclusions
-use Rattle.search.specs.Log.{Logbook}
+use Rattle.proof_log.specs.Log.{Logbook}
 use Rattle.search.specs.Solving.{IsOpen, IsOptimum}
 use Rattle.pb_main.specs.Outcome.{IsBestOf, IsNoOptimum}
 use Rattle.pb_main.specs.declared.finding.Finding.{Finding}

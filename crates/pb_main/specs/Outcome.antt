@@ -11,7 +11,7 @@ use Rattle.proof_steps.specs.declared.conclusion.Conclusion.TheVariants as concl
 use Rattle.proof_steps.specs.declared.conclusion.Lower.TheVariants as lowers
 use Rattle.proof_steps.specs.declared.conclusion.Upper.TheVariants as uppers
 use Rattle.checker.specs.Verdicts.{IsTrueOf, IsBadProblem}
-use Rattle.search.specs.Log.{Logbook, IsFalling, IsWorthLeast, last_of}
+use Rattle.proof_log.specs.Log.{Logbook, IsFalling, IsWorthLeast, last_of}
 use Rattle.search.specs.Solving.{IsBestSoFar, IsOpen, IsOptimum, IsSolvedByAny}
 use Rattle.pb_main.specs.declared.outcome.Outcome.{Outcome}
 use Rattle.pb_main.specs.declared.outcome.Outcome.TheVariants as outcomes

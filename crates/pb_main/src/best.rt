@@ -3,7 +3,7 @@
 ghost use Rattle.std.specs.Prelude.{◌≢◌, ℕ, [], Some, IfOk};
 ghost use Rattle.proof_rules.specs.Claim.{IsSolution};
 ghost use Rattle.proof_rules.specs.Justified.{IsBest};
-ghost use Rattle.search.specs.Log.{IsWorthLeast};
+ghost use Rattle.proof_log.specs.Log.{IsWorthLeast};
 ghost use Rattle.search.specs.Solving.{IsOptimum};
 ghost use Rattle.pb_main.specs.Finding.{IsFindingOf};
 ghost use Rattle.pb_main.specs.Outcome.{IsBestOf, IsNoOptimum};
@@ -11,8 +11,8 @@ ghost use Rattle.pb_main.specs.Outcome.{IsBestOf, IsNoOptimum};
 use super::finding::Finding;
 use super::solution::Solution;
 use linear::Assignment;
+use proof_log::Log;
 use propagate::Propagator;
-use search::Log;
 use std::alloc::{AllocError, Global};
 
 /// The best solution of a log that has one.

@@ -10,8 +10,9 @@ ghost use Rattle.pb_main.specs.Finding.{IsFindingOf};
 
 use super::best::{best_so_far, optimum};
 use super::solution::Solution;
+use proof_log::Log;
 use propagate::Propagator;
-use search::{Found, Log, Unfinished};
+use search::{Found, Unfinished};
 use std::alloc::Global;
 
 /// What was found, with the solution that is handed out.

@@ -4,7 +4,7 @@
 //! with the problem as it was given. What is said then rests on the checker alone, and not on the search or on the writer.
 
 ghost use Rattle.std.specs.Prelude.{IfSome};
-ghost use Rattle.search.specs.Log.{Logbook};
+ghost use Rattle.proof_log.specs.Log.{Logbook};
 ghost use Rattle.pb_main.specs.Checked.{IsAcceptedOf, IsLogOf, IsWritten};
 
 use checker::{Verdict, check};

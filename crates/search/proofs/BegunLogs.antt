@@ -25,7 +25,7 @@ use Rattle.proof_rules.proofs.ShownHolds.{zero_shown}
 use Rattle.proof_rules.proofs.SmallStates.{live_of}
 use Rattle.proof_rules.proofs.SmallConstraints.{cover_admitted, first_admitted, first_is_one, first_negated}
 use Rattle.proof_write.specs.Whole.{first_lines, step_line}
-use Rattle.search.specs.Log.{GoesOn, Logbook}
+use Rattle.proof_log.specs.Log.{GoesOn, Logbook}
 use Rattle.search.specs.Presolving.{BeginsPresolved, IsFirst, Tries, TriesAll, fixing, swapping}
 use Rattle.search.proofs.GoingOn.{goes_on_more}
 use Rattle.search.proofs.Trying.{tries_go_on}

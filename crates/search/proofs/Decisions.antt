@@ -9,9 +9,10 @@ use Rattle.propagate.specs.Chain.{IsChain, IsClosure, IsForcedByOne, IsReached}
 use Rattle.propagate.specs.Literals.{IsConsistent, among, lists}
 use Rattle.propagate.proofs.Assignments.{among_head, among_tail, or_cases}
 use Rattle.proof_text.specs.Writable.{IsLitWritable}
-use Rattle.search.specs.Log.{Logbook}
-use Rattle.search.specs.Named.{AreDecisions, IsOver}
+use Rattle.proof_log.specs.Log.{Logbook}
+use Rattle.proof_log.specs.Named.{IsOver}
 use Rattle.search.proofs.BitingClauses.{take_consistent}
+use Rattle.search.specs.Decisions.{AreDecisions}
 
 pub no_decision : (l : Logbook) (ds : List Lit) → ds ≡ [] → AreDecisions l ds
 no_decision l ds none = subst (AreDecisions l) (sym none) (record { consistent = λ m. false≢true m.1; named = All-nil (IsLitWritable (length l.problem.names)) })

@@ -21,8 +21,8 @@ use Rattle.proof_steps.specs.declared.conclusion.Conclusion.TheVariants.{Sat, Un
 use Rattle.proof_steps.specs.declared.conclusion.Lower.TheVariants as lowers
 use Rattle.proof_steps.specs.declared.conclusion.Upper.TheVariants as uppers
 use Rattle.kernel.proofs.Improving.{worth_small}
-use Rattle.search.specs.Log.{IsEntitled}
-use Rattle.search.proofs.Growing.{nothing_justified}
+use Rattle.proof_log.specs.Log.{IsEntitled}
+use Rattle.proof_log.proofs.Growing.{nothing_justified}
 
 pub refuted_shows : (live : List NormalConstraint) (n : NormalConstraint) → Rises 0 n.terms → IsRefuted live → IsShown live n
 refuted_shows live n rises refuted =

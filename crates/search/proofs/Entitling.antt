@@ -16,10 +16,10 @@ use Rattle.proof_rules.proofs.Preserving.{steps_preserve}
 use Rattle.proof_steps.specs.declared.conclusion.Conclusion.TheVariants.{Bounds, Nothing}
 use Rattle.proof_steps.specs.declared.conclusion.Lower.TheVariants as lowers
 use Rattle.proof_steps.specs.declared.conclusion.Upper.TheVariants as uppers
-use Rattle.search.specs.Log.{IsEntitled, IsProof, Logbook}
+use Rattle.proof_log.specs.Log.{IsEntitled, IsProof, Logbook}
 use Rattle.search.proofs.Ending.{optimum, so_far}
-use Rattle.search.proofs.Growing.{nothing_justified}
-use Rattle.search.proofs.Improving.{least_kept}
+use Rattle.proof_log.proofs.Growing.{nothing_justified}
+use Rattle.proof_log.proofs.Improving.{least_kept}
 
 -- there is an answer for the problem
 kept : (l : Logbook) → IsProof l → IsPreserved l.problem l.state

@@ -3,7 +3,7 @@ use Rattle.std.proofs.Common.{◌≡◌, [], ◌++◌, append_assoc, sym, ap, �
 use Rattle.std.proofs.lemmas.List.{append-nil}
 use Rattle.proof_steps.specs.declared.step.Step.{Step}
 use Rattle.proof_write.specs.Whole.{step_line}
-use Rattle.search.specs.Log.{GoesOn, Keeps, Logbook}
+use Rattle.proof_log.specs.Log.{GoesOn, Keeps, Logbook}
 
 pub goes_on_same : (a b : Logbook) → b ≡ a → GoesOn a b
 goes_on_same a b same = record {

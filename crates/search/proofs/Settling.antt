@@ -17,10 +17,11 @@ use Rattle.proof_rules.specs.State.{constraints}
 use Rattle.branching.specs.declared.brancher.Value.{Value}
 use Rattle.branching.specs.declared.brancher.Value.TheVariants.{True, False, Free}
 use Rattle.search.specs.Descents.{IsSettled}
-use Rattle.search.specs.Log.{Logbook}
-use Rattle.search.specs.Named.{AreDecisions, LiveIsNamed}
+use Rattle.proof_log.specs.Log.{Logbook}
+use Rattle.proof_log.specs.Named.{LiveIsNamed}
 use Rattle.search.specs.Values.{AreValuesUnder, IsValueUnder, NoneIsFree}
 use Rattle.search.proofs.Decisions.{closure_named}
+use Rattle.search.specs.Decisions.{AreDecisions}
 
 -- what is reached stands behind what is given and a chain
 as_chain : (live : List NormalConstraint) (given : List Lit) (l : Lit) → IsReached live given l → (xs : List Lit) × IsChain live given xs × (lists (given ++ xs) l ≡ true)

@@ -28,7 +28,7 @@ use Rattle.proof_rules.specs.Forms.{AreFormsAs, AreFormsOfAll}
 use Rattle.proof_rules.specs.Legal.{Logs, LegalSol, LegalSoli, with_solution, with_improvement, worth_of}
 use Rattle.proof_rules.specs.Solution.{literal_for, NamesAll, value_at, SaysAll, Completes, at_most}
 use Rattle.proof_rules.specs.State.{State, HasRoom, constraints}
-use Rattle.search.specs.Solving.{FileIsLive, ImprovementIsLive}
+use Rattle.proof_log.specs.Kept.{FileIsLive, ImprovementIsLive}
 
 -- the values that an assignment gives the first variables
 table : ℕ → List Lit → List Bool

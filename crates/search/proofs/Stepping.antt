@@ -13,10 +13,10 @@ use Rattle.proof_rules.specs.Expression.{IsPostfixOf}
 use Rattle.proof_rules.specs.State.{HasRoom, IsOutside, constraint_of, with_constraint}
 use Rattle.proof_rules.proofs.NotLegal.{none_some}
 use Rattle.search.specs.Descents.{IsSettled}
-use Rattle.search.specs.Kept.{KeepsLive}
-use Rattle.search.specs.Log.{IsLegal, Logbook}
+use Rattle.proof_log.specs.Kept.{KeepsLive}
+use Rattle.proof_log.specs.Log.{IsLegal, Logbook}
 use Rattle.search.proofs.Solutions.{fixpoint_sol, fixpoint_soli}
-use Rattle.search.proofs.StaysLive.{file_live, improvement_live}
+use Rattle.proof_log.proofs.StaysLive.{file_live, improvement_live}
 
 -- what is derived from the live constraints, as long as an id is left
 pub pol_legal : (l : Logbook) (items : List Item) (n : NormalConstraint) → IsPostfixOf (constraint_of l.state) items n → HasRoom l.state → IsLegal l (kinds.Pol items)

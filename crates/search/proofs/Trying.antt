@@ -8,7 +8,7 @@ use Rattle.proof_rules.specs.Fault.{OrMemory}
 use Rattle.proof_rules.specs.declared.fault.StepFault.{StepFault}
 use Rattle.proof_rules.specs.declared.fault.StepFault.TheVariants as faults
 use Rattle.proof_steps.specs.declared.step.Step.{Step}
-use Rattle.search.specs.Log.{GoesOn, Logbook}
+use Rattle.proof_log.specs.Log.{GoesOn, Logbook}
 use Rattle.search.specs.Presolving.{Tries, TriesAll}
 use Rattle.search.proofs.GoingOn.{goes_on_kept, goes_on_more, goes_on_same}
 

@@ -3,7 +3,7 @@ use Rattle.std.specs.Prelude.{List}
 use Rattle.linear.specs.declared.term.Lit.{Lit}
 use Rattle.normal_form.specs.Normal.{NormalConstraint}
 use Rattle.propagate.specs.Slack.{IsFalsified, IsForced}
-use Rattle.search.specs.Log.{CanBeWritten, IsValueOf, Logbook}
+use Rattle.proof_log.specs.Log.{CanBeWritten, IsValueOf, Logbook}
 use Rattle.search.specs.declared.advisers.Effect.{Effect}
 use Rattle.search.specs.declared.advisers.Effect.TheVariants as effects
 use Rattle.search.specs.declared.advisers.Line.{Line}

@@ -7,8 +7,8 @@ use Rattle.propagate.specs.Literals.{IsConsistent}
 use Rattle.proof_rules.specs.Solution.{NamesAll}
 use Rattle.proof_rules.specs.State.{constraints}
 use Rattle.search.specs.Advised.{IsAdvised}
-use Rattle.search.specs.Log.{Logbook}
-use Rattle.search.specs.Named.{AreNamed}
+use Rattle.proof_log.specs.Log.{Logbook}
+use Rattle.proof_log.specs.Named.{AreNamed}
 use Rattle.search.specs.declared.advisers.Line.{Line}
 use Rattle.search.specs.declared.descent.Descent.{Descent}
 use Rattle.search.specs.declared.descent.Descent.TheVariants as descents

@@ -1,11 +1,8 @@
 pub mod Advised
 pub mod Clause
 pub mod Conflicts
-pub mod Deleting
+pub mod Decisions
 pub mod Descents
-pub mod Kept
-pub mod Log
-pub mod Named
 pub mod Presolving
 pub mod Solving
 pub mod Undoing

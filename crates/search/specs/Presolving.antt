@@ -1,5 +1,5 @@
 -- What a search puts into its log before it looks for solutions.
-use Rattle.std.specs.Prelude.{◌≡◌, ◌⊎◌, false, true, pos, List, [], ◌∷◌, ◌++◌, if◌then◌else◌, map}
+use Rattle.std.specs.Prelude.{◌≡◌, ◌<◌, ◌⊎◌, false, true, pos, List, [], ◌∷◌, ◌++◌, if◌then◌else◌, length, map}
 use Rattle.linear.specs.Opb.{Opb}
 use Rattle.linear.specs.declared.constraint.Relation.TheVariants.{AtLeast}
 use Rattle.linear.specs.declared.constraint.Signed.{Signed}
@@ -20,7 +20,12 @@ use Rattle.proof_rules.specs.declared.fault.StepFault.{StepFault}
 use Rattle.proof_steps.specs.declared.step.Step.{Step}
 use Rattle.proof_steps.specs.declared.step.Step.TheVariants as kinds
 use Rattle.proof_write.specs.Whole.{first_lines}
-use Rattle.search.specs.Log.{GoesOn, Logbook, Keeps}
+use Rattle.proof_log.specs.Log.{GoesOn, Logbook, Keeps}
+
+-- variables of the file in order
+pub record IsNamedPair (l : Logbook) (s : Swap) : Type 0 where
+  pub order : s.first.0 < s.second.0
+  pub named : s.second.0 < length l.problem.names
 
 -- 1 l >= 1
 abbrev pub is_true : Lit → Signed

@@ -1,11 +1,6 @@
 -- Which constraints are live while a search looks for solutions, and what it may answer.
-use Rattle.std.specs.Prelude.{◌≡◌, ◌≢◌, ℕ, ◌+◌, ◌<◌, ◌⊎◌, ℤ, pos, ◌-ℤ◌, List, [], Option, None, Some, Contains, IfSome, MatchOption}
+use Rattle.std.specs.Prelude.{◌≡◌, ◌≢◌, ℕ, ◌+◌, ◌<◌, ◌⊎◌, ℤ, [], Option, None, Some, MatchOption}
 use Rattle.linear.specs.Opb.{Opb}
-use Rattle.linear.specs.declared.term.Term.{Term}
-use Rattle.normal_form.specs.Normal.{NormalConstraint}
-use Rattle.normal_form.specs.NormalOf.{IsNormalOf}
-use Rattle.proof_rules.specs.Forms.{AreFormsOfAll}
-use Rattle.proof_rules.specs.Solution.{at_most}
 use Rattle.proof_rules.specs.State.{State, HasRoom, constraints}
 use Rattle.proof_steps.specs.declared.conclusion.Conclusion.TheVariants as conclusions
 use Rattle.proof_steps.specs.declared.conclusion.Lower.TheVariants as lowers
@@ -14,18 +9,8 @@ use Rattle.search.specs.declared.found.Found.{Found}
 use Rattle.search.specs.declared.found.Found.TheVariants as founds
 use Rattle.search.specs.declared.found.Unfinished.TheVariants as reasons
 use Rattle.search.specs.Conflicts.{MeetsConflict}
-use Rattle.search.specs.Log.{Logbook}
+use Rattle.proof_log.specs.Log.{Logbook}
 use Rattle.search.specs.Presolving.{BeginsPresolved}
-
--- every normal constraint of the file is live
-abbrev pub FileIsLive : Opb → List NormalConstraint → Type 0
-FileIsLive p live =
-    (ns : List NormalConstraint) × AreFormsOfAll p.constraints ns × ((n : NormalConstraint) → Contains ns n → Contains live n)
-
--- so is a constraint that asks for less than the least improving value, if there is one
-abbrev pub ImprovementIsLive : List Term → State → Type 0
-ImprovementIsLive objective s =
-    IfSome s.least (λ least. (n : NormalConstraint) × IsNormalOf (at_most objective (least -ℤ pos 1)) n × Contains (constraints s) n)
 
 -- one more id is taken
 abbrev pub TakesId : State → State → Type 0

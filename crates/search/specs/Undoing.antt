@@ -2,7 +2,7 @@
 use Rattle.std.specs.Prelude.{◌≡◌, ◌≢◌, ◌<◌, ◌⊎◌, ℕ, List, All, IfSome, length, take}
 use Rattle.linear.specs.declared.term.Lit.{Lit}
 use Rattle.analysis.specs.declared.entry.Entry.{Entry}
-use Rattle.search.specs.Log.{Logbook}
+use Rattle.proof_log.specs.Log.{Logbook}
 use Rattle.search.specs.Solving.{TakesId}
 
 -- the decisions without the last one, or without the last ones

@@ -32,8 +32,8 @@ impl<'a, P: Propagator> Run<'a, P> {
     ghost use Rattle.std.specs.Prelude.{◌≡◌, OnOk};
     ghost use Rattle.proof_rules.specs.State.{HasRoom};
     ghost use Rattle.search.specs.Advised.{IsDerived};
-    ghost use Rattle.search.specs.Log.{GoesOn};
-    ghost use Rattle.search.specs.Named.{AreDecisions};
+    ghost use Rattle.proof_log.specs.Log.{GoesOn};
+    ghost use Rattle.search.specs.Decisions.{AreDecisions};
     ghost use Rattle.search.specs.Solving.{TakesId};
 
     /// What is to be known of the constraint that was logged last.

@@ -5,13 +5,13 @@
 
 ghost use Rattle.std.specs.Prelude.{◌≡◌, IfOk, IfSome};
 ghost use Rattle.search.specs.Advised.{IsAdvised};
-ghost use Rattle.search.specs.Log.{CanBeWritten};
+ghost use Rattle.proof_log.specs.Log.{CanBeWritten};
 
-use super::log::Log;
 use super::searched::Searched;
 use bounding::{Advice, Adviser, Node};
 use branching::Brancher;
 use linear::{Integer, Lit, Seq};
+use proof_log::Log;
 use proof_steps::{Item, Step};
 use propagate::{Id, Propagator};
 use std::alloc::{AllocError, Global};

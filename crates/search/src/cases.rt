@@ -1,26 +1,20 @@
 //! Worked cases: the definitions computed on small logs.
 
-ghost use Rattle.std.specs.Prelude.{◌≡◌, ℕ, [], ◌∷◌, ◌++◌, List, None, Some, false, length, neg_ℤ, pos, true};
-ghost use Rattle.linear.specs.Opb.{Opb};
+ghost use Rattle.std.specs.Prelude.{◌≡◌, ℕ, [], ◌∷◌, ◌++◌, List, None, Some, false, length, pos, true};
 ghost use Rattle.linear.specs.declared.term.Lit.{Lit};
 ghost use Rattle.linear.specs.declared.constraint.Relation.TheVariants.{AtLeast};
 ghost use Rattle.normal_form.specs.Cases.{negated, normal, plain, signed, signed_not};
 ghost use Rattle.propagate.specs.Cases.{one_of_two, x, not_x};
 ghost use Rattle.propagate.specs.Literals.{IsConsistent, among};
 ghost use Rattle.proof_rules.specs.Cases.{cover_file};
-ghost use Rattle.proof_rules.specs.Legal.{Legal};
-ghost use Rattle.proof_rules.specs.State.{HasRoom, State, constraints};
+ghost use Rattle.proof_rules.specs.State.{HasRoom, constraints};
 ghost use Rattle.proof_steps.specs.declared.conclusion.Conclusion.TheVariants as conclusions;
 ghost use Rattle.proof_steps.specs.declared.conclusion.Lower.TheVariants as lowers;
 ghost use Rattle.proof_steps.specs.declared.conclusion.Upper.TheVariants as uppers;
-ghost use Rattle.proof_steps.specs.declared.step.GoalName.TheVariants as goals;
-ghost use Rattle.proof_steps.specs.declared.step.Step.TheVariants as steps;
-ghost use Rattle.proof_steps.specs.declared.step.Step.TheVariants.{Sol, Soli, Del};
 ghost use Rattle.proof_write.specs.Whole.{first_lines, step_line};
 ghost use Rattle.search.specs.Clause.{negated_clause};
 ghost use Rattle.search.specs.Conflicts.{LeadsAtLast, MeetsConflict, TakesLast};
-ghost use Rattle.search.specs.Log.{ImprovesNothing, IsFalling, LeadsBiting, LeadsImproving, Logbook, StandsAlone, StepBites, improvement, last_of};
-ghost use Rattle.search.specs.Named.{AreDecisions, AreNamed, IsOver};
+ghost use Rattle.proof_log.specs.Log.{Logbook};
 ghost use Rattle.search.specs.Presolving.{BeginsPresolved, fixing};
 ghost use Rattle.search.specs.Solving.{BearsOut, MayStop};
 ghost use Rattle.search.specs.Values.{AreValuesUnder, IsValueUnder};
@@ -28,49 +22,13 @@ ghost use Rattle.branching.specs.declared.brancher.Value.{Value};
 ghost use Rattle.branching.specs.declared.brancher.Value.TheVariants as values;
 ghost use Rattle.search.specs.declared.found.Found.TheVariants as founds;
 ghost use Rattle.search.specs.declared.found.Unfinished.TheVariants as reasons;
-
-/// No steps count nothing; a logged solution, or a deletion, never bites, so a log of one counts nothing either.
-pub fn nothing_counts_without_learning()
-    ensures none { (p : Opb) → (s t : State) → LeadsBiting p s [] t 1 → ⊥ }
-    ensures solution { (s : State) → StepBites s (Sol (x 1 ∷ [])) → ⊥ }
-    ensures deletion { (s : State) → StepBites s (Del (pos 3 ∷ [])) → ⊥ }
-    ensures logged { (p : Opb) → (s t : State) → LeadsBiting p s (Sol (x 1 ∷ []) ∷ []) t 1 → ⊥ }
-{}
-
-/// What opens a block stands not alone, nor does what needs one that is open; a derivation and a clause do.
-pub fn steps_of_blocks()
-    ensures begun { StandsAlone (steps.RedBegin (negated_clause []) []) → ⊥ }
-    ensures goal { StandsAlone (steps.Goal goals.Itself) → ⊥ }
-    ensures ended { StandsAlone steps.End → ⊥ }
-    ensures derived { StandsAlone (steps.Pol []) }
-    ensures shown { StandsAlone (steps.Rup (negated_clause (x 1 ∷ []))) }
-{}
+ghost use Rattle.search.specs.Decisions.{AreDecisions};
 
 /// Of no literals the clause says that there is a conflict; of x1 and ~x2 it is 1 ~x1 1 x2 >= 1.
 pub fn clause_of_two_literals()
     ensures none { negated_clause [] ≡ record { terms = []; relation = AtLeast; right = pos 1 } }
     ensures two { negated_clause (x 1 ∷ not_x 2 ∷ [])
         ≡ record { terms = signed_not (pos 1) 1 ∷ signed (pos 1) 2 ∷ []; relation = AtLeast; right = pos 1 } }
-{}
-
-/// A `soli` improves to the least value of the state that it leads to; a `sol` improves nothing, and no step no value.
-pub fn improved_by_soli_alone()
-    ensures better { (s : State) → s.least ≡ Some (pos 7) → improvement (Soli (x 1 ∷ [])) s ≡ pos 7 ∷ [] }
-    ensures other { (s : State) → improvement (Sol (x 1 ∷ [])) s ≡ [] }
-    ensures none { (p : Opb) → (s t : State) → LeadsImproving p s [] t (pos 7 ∷ []) → ⊥ }
-    ensures logged { (p : Opb) → (s t : State) → LeadsImproving p s (Sol (x 1 ∷ []) ∷ []) t (pos 7 ∷ []) → ⊥ }
-    ensures leads { (p : Opb) → (s t : State) → Legal p s (Soli (x 1 ∷ [])) t → t.least ≡ Some (pos 7) → LeadsImproving p s (Soli (x 1 ∷ []) ∷ []) t (pos 7 ∷ []) }
-    ensures other_value { (p : Opb) → (s t : State) → t.least ≡ Some (pos 7) → LeadsImproving p s (Soli (x 1 ∷ []) ∷ []) t (pos 8 ∷ []) → ⊥ }
-    ensures nothing { ImprovesNothing (Soli (x 1 ∷ [])) → ⊥ }
-{}
-
-/// Values fall from 5 to 3 and to -1, and not from 3 to 3 or to 5; the last one counts.
-pub fn values_that_fall()
-    ensures falling { IsFalling (pos 5 ∷ pos 3 ∷ neg_ℤ (pos 1) ∷ []) }
-    ensures equal { IsFalling (pos 3 ∷ pos 3 ∷ []) → ⊥ }
-    ensures rising { IsFalling (pos 5 ∷ pos 1 ∷ pos 3 ∷ []) → ⊥ }
-    ensures last { last_of (pos 5 ∷ pos 3 ∷ []) ≡ Some (pos 3) }
-    ensures none { last_of [] ≡ None }
 {}
 
 /// Under `1 x1 1 x2 >= 1 ; 1 x1 1 ~x2 >= 1` a conflict takes ~x1, and nothing that is decided behind it. Under the first alone none takes ~x2
@@ -114,12 +72,8 @@ pub fn values_of_an_assignment()
         → IsValueUnder assigned v value → value ≡ values.False }
 {}
 
-/// `1 x0 1 x2 >= 1` is over three variables and not over two. Of a file with two variables x0 and ~x1 are literals; x2 is none of its decisions,
-/// nor is a literal beside its opposite.
-pub fn variables_of_a_file()
-    ensures within { IsOver 3 (normal (plain 1 0 ∷ plain 1 2 ∷ []) 1) }
-    ensures beyond { IsOver 2 (normal (plain 1 0 ∷ plain 1 2 ∷ []) 1) → ⊥ }
-    ensures named { (l : Logbook) → length l.problem.names ≡ 2 → AreNamed l (x 0 ∷ not_x 1 ∷ []) }
+/// Of a file with two variables x2 is no decision, nor is a literal beside its opposite.
+pub fn decisions_of_a_file()
     ensures other { (l : Logbook) → length l.problem.names ≡ 2 → AreDecisions l (x 2 ∷ []) → ⊥ }
     ensures opposites { (l : Logbook) → AreDecisions l (x 1 ∷ not_x 1 ∷ []) → ⊥ }
 {}

@@ -9,14 +9,14 @@ ghost use Rattle.propagate.specs.Chain.{LeadsToConflict};
 ghost use Rattle.proof_rules.specs.State.{HasRoom, constraints};
 ghost use Rattle.search.specs.Clause.{negated_clause, opposite_term};
 ghost use Rattle.search.specs.Conflicts.{LeadsAtLast};
-ghost use Rattle.search.specs.Log.{GoesOn, StepBites};
-ghost use Rattle.search.specs.Named.{AreDecisions};
+ghost use Rattle.proof_log.specs.Log.{GoesOn, StepBites};
+ghost use Rattle.search.specs.Decisions.{AreDecisions};
 ghost use Rattle.search.specs.Solving.{TakesId};
 ghost use Rattle.search.specs.Undoing.{IsUndone};
 
-use super::log::Log;
 use branching::Brancher;
 use linear::{Lit, Relation, Seq, Signed, Term, Var};
+use proof_log::Log;
 use proof_steps::Step;
 use propagate::Propagator;
 use std::alloc::{AllocError, Global};

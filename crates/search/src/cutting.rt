@@ -7,16 +7,16 @@
 
 ghost use Rattle.std.specs.Prelude.{◌≡◌, ◌+◌, IfOk, IsTrue, OnOk, false};
 ghost use Rattle.proof_rules.specs.State.{HasRoom};
-ghost use Rattle.search.specs.Log.{GoesOn};
-ghost use Rattle.search.specs.Named.{AreDecisions};
+ghost use Rattle.proof_log.specs.Log.{GoesOn};
+ghost use Rattle.search.specs.Decisions.{AreDecisions};
 ghost use Rattle.search.specs.Solving.{TakesId};
 ghost use Rattle.search.specs.Undoing.{IsUndone};
 
-use super::log::Log;
 use analysis::{Analyser, Entry, Learned, bites_under};
 use branching::Brancher;
 use linear::{Lit, Var};
 use normal_form::Normal;
+use proof_log::Log;
 use proof_steps::Step;
 use propagate::{Id, Propagator, Reach};
 use std::alloc::{AllocError, Global};

@@ -11,15 +11,15 @@ ghost use Rattle.propagate.specs.Literals.{IsConsistent};
 ghost use Rattle.proof_rules.specs.State.{constraints};
 ghost use Rattle.search.specs.Conflicts.{LeadsAtLast};
 ghost use Rattle.search.specs.Descents.{IfAdvised, IfConflict, IfFixpoint, IfUndone, IsAdvisedUnder, IsSettled};
-ghost use Rattle.search.specs.Named.{AreDecisions};
+ghost use Rattle.search.specs.Decisions.{AreDecisions};
 
 use super::advisers::{Advisers, Line};
 use super::choice::choose;
-use super::log::Log;
 use super::overtaken::undo_overtaken;
 use super::standing::Standing;
 use super::trail::{Trail, level_of};
 use linear::{Lit, Seq};
+use proof_log::Log;
 use propagate::{Id, Propagator};
 use std::alloc::{AllocError, Global};
 

@@ -4,12 +4,11 @@ ghost use Rattle.std.specs.Prelude.{◌≡◌, ◌≢◌, ℕ, [], ◌+◌, ◌<
 ghost use Rattle.propagate.specs.Chain.{IsRefuted};
 ghost use Rattle.proof_rules.specs.State.{HasRoom, constraints};
 ghost use Rattle.search.specs.Conflicts.{MeetsConflict};
-ghost use Rattle.search.specs.Log.{GoesOn, IsEntitled, with_conclusion};
+ghost use Rattle.proof_log.specs.Log.{GoesOn, IsEntitled, with_conclusion};
 ghost use Rattle.search.specs.Solving.{BearsOut, MayStop};
 
-use super::fault::want_of_memory;
 use super::found::{Found, Unfinished};
-use super::log::Log;
+use proof_log::{Log, want_of_memory};
 use proof_steps::{Conclusion, Lower, Upper};
 use propagate::Propagator;
 use std::alloc::AllocError;

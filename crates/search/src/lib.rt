@@ -14,11 +14,9 @@ mod clause;
 mod cutting;
 mod descent;
 mod endings;
-mod fault;
 mod found;
 pub mod laws;
 mod learned;
-mod log;
 mod outdone;
 mod overtaken;
 mod presolving;
@@ -31,5 +29,4 @@ mod trail;
 
 pub use branching::{Activity, Brancher, First, Progress, Value};
 pub use found::{Found, Unfinished};
-pub use log::Log;
 pub use solver::{Solved, Solver};

@@ -10,10 +10,10 @@ ghost use Rattle.propagate.specs.Chain.{IsImpossible, LeadsToConflict};
 ghost use Rattle.propagate.specs.Literals.{lists};
 ghost use Rattle.proof_rules.specs.State.{constraints};
 ghost use Rattle.search.specs.Conflicts.{AreEnough, LeavesEnough, TakesLast};
-ghost use Rattle.search.specs.Named.{AreDecisions};
+ghost use Rattle.search.specs.Decisions.{AreDecisions};
 
-use super::log::Log;
 use linear::Lit;
+use proof_log::Log;
 use propagate::{Propagator, Reach};
 use std::alloc::AllocError;
 

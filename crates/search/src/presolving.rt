@@ -9,15 +9,15 @@ ghost use Rattle.std.specs.Prelude.{◌≡◌, ◌≢◌, ◌<◌, All, map, IfO
 ghost use Rattle.kernel.specs.Held.{HasAtLeast};
 ghost use Rattle.presolve.specs.Fixing.{AreFixed};
 ghost use Rattle.presolve.specs.Swapping.{AreUsed};
-ghost use Rattle.search.specs.Kept.{Spares};
-ghost use Rattle.search.specs.Log.{CanBeWritten, ImprovesIfAsked, ImprovesNothing, StandsAlone};
-ghost use Rattle.search.specs.Named.{AreNamed, IsNamedPair};
-ghost use Rattle.search.specs.Presolving.{IsPresolved, Tries, TriesAll, exchange, fixing, in_order, is_true, made_true, swapping, variable};
+ghost use Rattle.proof_log.specs.Kept.{Spares};
+ghost use Rattle.proof_log.specs.Log.{CanBeWritten, ImprovesIfAsked, ImprovesNothing, StandsAlone};
+ghost use Rattle.proof_log.specs.Named.{AreNamed};
+ghost use Rattle.search.specs.Presolving.{IsNamedPair, IsPresolved, Tries, TriesAll, exchange, fixing, in_order, is_true, made_true, swapping, variable};
 
-use super::log::Log;
 use linear::{Lit, Problem, Relation, Seq, Signed, Term, Var};
 use normal_form::CutFault;
 use presolve::{Swap, fixable, swappable};
+use proof_log::Log;
 use proof_rules::StepFault;
 use proof_steps::Step;
 use propagate::Propagator;

@@ -7,13 +7,13 @@ use super::descent::{Descent, descend};
 use super::endings::{end_exhausted, end_solved, end_stopped, may_stop};
 use super::found::Found;
 use super::learned::LearnedConstraints;
-use super::log::Log;
 use super::outdone::Outdone;
 use super::restarts::Restarts;
 use super::trail::{Trail, level_of};
 use analysis::Analyser;
 use branching::Progress;
 use linear::{Integer, Lit, Seq};
+use proof_log::Log;
 use proof_steps::Step;
 use propagate::{Id, Propagator};
 use std::alloc::{AllocError, Global};
@@ -43,8 +43,8 @@ impl<'a, P: Propagator> Run<'a, P> {
     ghost use Rattle.proof_rules.specs.State.{HasRoom, constraints};
     ghost use Rattle.search.specs.Conflicts.{LeadsAtLast};
     ghost use Rattle.search.specs.Descents.{IsSettled};
-    ghost use Rattle.search.specs.Log.{CanBeWritten, GoesOn, IsLegal};
-    ghost use Rattle.search.specs.Named.{AreDecisions};
+    ghost use Rattle.proof_log.specs.Log.{CanBeWritten, GoesOn, IsLegal};
+    ghost use Rattle.search.specs.Decisions.{AreDecisions};
     ghost use Rattle.search.specs.Solving.{BearsOut, TakesId};
     ghost use Rattle.search.specs.Undoing.{IsUndone, NearsEnd};
 

@@ -9,11 +9,11 @@ ghost use Rattle.search.specs.Solving.{IsSolved};
 
 use super::advisers::Advisers;
 use super::found::{Found, Unfinished};
-use super::log::Log;
 use super::presolving::presolve;
 use super::run::Run;
 use branching::Brancher;
 use linear::Problem;
+use proof_log::Log;
 use propagate::Propagator;
 use std::alloc::{AllocError, Global};
 

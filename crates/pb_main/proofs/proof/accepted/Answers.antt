@@ -1,4 +1,4 @@
-use Rattle.search.specs.Log.{Logbook}
+use Rattle.proof_log.specs.Log.{Logbook}
 use Rattle.pb_main.specs.Checked.{IsLogOf}
 use Rattle.pb_main.proofs.Accepting.{accepted_of, never_refused, never_bad}
 use Rattle.pb_main.proofs.proof.accepted.Goals as goal

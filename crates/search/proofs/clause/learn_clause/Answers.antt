@@ -4,7 +4,7 @@ use Rattle.linear.specs.declared.term.Lit.{Lit}
 use Rattle.propagate.specs.Chain.{LeadsToConflict}
 use Rattle.proof_rules.specs.State.{constraints}
 use Rattle.search.specs.Clause.{negated_clause}
-use Rattle.search.specs.Named.{AreDecisions}
+use Rattle.search.specs.Decisions.{AreDecisions}
 use Rattle.search.proofs.BitingClauses.{decisions_bite}
 use Rattle.search.proofs.Decisions.{decisions_on, first_decisions}
 use Rattle.search.proofs.clause.learn_clause.Goals as goal

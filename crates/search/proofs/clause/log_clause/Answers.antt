@@ -6,7 +6,7 @@ use Rattle.linear.specs.declared.term.Lit.{Lit}
 use Rattle.proof_steps.specs.declared.step.Step.TheVariants as kinds
 use Rattle.proof_text.specs.Writable.{IsConstraintWritable, IsLitWritable, IsTermWritable}
 use Rattle.search.specs.Clause.{negated_clause, opposite_term}
-use Rattle.search.specs.Log.{IsLegal, Logbook}
+use Rattle.proof_log.specs.Log.{IsLegal, Logbook}
 use Rattle.search.proofs.Clauses.{clause_legal}
 use Rattle.search.proofs.clause.log_clause.Goals as goal
 

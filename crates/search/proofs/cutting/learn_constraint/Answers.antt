@@ -1,4 +1,4 @@
-use Rattle.std.proofs.Common.{◌⊎◌, List, IfSome, take, sym, subst}
+use Rattle.std.proofs.Common.{◌⊎◌, ◌∙◌, List, IfSome, take, sym, subst, ap}
 use Rattle.linear.specs.declared.term.Lit.{Lit}
 use Rattle.propagate.specs.Reach.{IsReach}
 use Rattle.propagate.specs.Slack.{IsFalsified, IsForced}
@@ -6,8 +6,11 @@ use Rattle.propagate.specs.declared.reach.Reach.TheVariants as reaches
 use Rattle.proof_rules.specs.Expression.{IsPostfixOf}
 use Rattle.proof_rules.specs.State.{State, constraints, constraint_of}
 use Rattle.proof_steps.specs.declared.step.Step.TheVariants as kinds
-use Rattle.search.specs.Log.{IsLegal, Logbook, StepBites}
+use Rattle.proof_log.specs.Log.{IsLegal, Logbook, StepBites}
+use Rattle.search.specs.Decisions.{AreDecisions}
 use Rattle.search.proofs.BitingClauses.{fixpoint_bites}
+use Rattle.search.proofs.Decisions.{decisions_on, first_decisions}
+use Rattle.search.proofs.GoingOn.{goes_on_same}
 use Rattle.search.proofs.Stepping.{pol_legal}
 use Rattle.search.proofs.cutting.learn_constraint.Goals as goal
 
@@ -37,3 +40,12 @@ learn-requires-clause-legal g c =
     let derived : IsPostfixOf (constraint_of c.args.log.now.state) learned.items learned.constraint =
     subst (λ (s : State). IsPostfixOf (constraint_of s) learned.items learned.constraint) c.kernel.ensures.state lent in
     subst (λ (l : Logbook). IsLegal l (kinds.Pol learned.items)) (sym c.extend.ensures.same) (pol_legal c.args.log.now learned.items learned.constraint derived c.requires.room)
+
+pub returns-then-not-can_write-clause-goes_on : goal.returns-then-not-can_write-clause-goes_on
+returns-then-not-can_write-clause-goes_on g c = goes_on_same c.args.log.now c.extend.new.self c.extend.ensures.same
+
+pub returns-clause-decisions : goal.returns-clause-decisions
+returns-clause-decisions g c =
+    let old : Logbook = c.args.log.now in
+    decisions_on old c.learn.new.self c.truncate.new.self.items (c.learn.ensures.goes_on.problem ∙ ap (λ (l : Logbook). l.problem) c.extend.ensures.same)
+    (subst (AreDecisions old) (sym c.truncate.ensures.items) (first_decisions old c.in-Some.learned.level c.args.decisions.now.items c.requires.decisions))

@@ -7,8 +7,8 @@ use Rattle.proof_rules.specs.State.{constraints}
 use Rattle.branching.specs.declared.brancher.Value.{Value}
 use Rattle.search.specs.Conflicts.{LeadsAtLast, TakesLast}
 use Rattle.search.specs.Descents.{IsSettled}
-use Rattle.search.specs.Log.{Logbook}
-use Rattle.search.specs.Named.{AreDecisions}
+use Rattle.proof_log.specs.Log.{Logbook}
+use Rattle.search.specs.Decisions.{AreDecisions}
 use Rattle.search.specs.Values.{NoneIsFree, unlisted_below}
 use Rattle.search.proofs.Decisions.{more_decisions}
 use Rattle.search.proofs.Settling.{settled}

@@ -1,6 +1,6 @@
 use Rattle.std.proofs.Common.{◌≡◌, length}
 use Rattle.propagate.specs.Content.{IsEnd}
-use Rattle.search.specs.Named.{AreDecisions}
+use Rattle.search.specs.Decisions.{AreDecisions}
 use Rattle.search.specs.Values.{unlisted_below}
 use Rattle.search.proofs.descent.descend.Given as goal
 

@@ -1,8 +1,8 @@
 -- What the state entitles to has no fault.
 use Rattle.proof_rules.specs.Fault.{IsConclusionFault}
 use Rattle.proof_rules.proofs.NotLegal.{conclusion_never}
-use Rattle.search.specs.Log.{Logbook}
-use Rattle.search.proofs.Refusals.{only_memory}
+use Rattle.proof_log.specs.Log.{Logbook}
+use Rattle.proof_log.proofs.Refusals.{only_memory}
 use Rattle.search.proofs.endings.conclude.Goals as goal
 
 pub want_of_memory-requires : goal.want_of_memory-requires

@@ -5,7 +5,7 @@ use mir.Syntax.{w128}
 use Rattle.proof_steps.specs.declared.conclusion.Conclusion.TheVariants.{Bounds}
 use Rattle.proof_steps.specs.declared.conclusion.Lower.TheVariants as lowers
 use Rattle.proof_steps.specs.declared.conclusion.Upper.TheVariants as uppers
-use Rattle.search.specs.Log.{IsEntitled, Logbook}
+use Rattle.proof_log.specs.Log.{IsEntitled, Logbook}
 use Rattle.search.proofs.Ending.{unsatisfiable}
 use Rattle.search.proofs.Entitling.{none_logged, optimum_entitled, some_logged}
 use Rattle.search.proofs.endings.end_exhausted.Goals as goal

@@ -1,4 +1,4 @@
-use Rattle.search.specs.Log.{Logbook}
+use Rattle.proof_log.specs.Log.{Logbook}
 use Rattle.search.proofs.Ending.{solved}
 use Rattle.search.proofs.endings.end_solved.Goals as goal
 

@@ -6,7 +6,7 @@ use Rattle.proof_rules.specs.Justified.{IsBest}
 use Rattle.proof_steps.specs.declared.conclusion.Conclusion.TheVariants as conclusions
 use Rattle.proof_steps.specs.declared.conclusion.Lower.TheVariants as lowers
 use Rattle.proof_steps.specs.declared.conclusion.Upper.TheVariants as uppers
-use Rattle.search.specs.Log.{IsEntitled, Logbook, with_conclusion}
+use Rattle.proof_log.specs.Log.{IsEntitled, Logbook, with_conclusion}
 use Rattle.search.specs.Solving.{BearsOut, IsBestSoFar, IsOpen, IsSolvedByAny}
 use Rattle.search.specs.declared.found.Found.TheVariants as founds
 use Rattle.search.proofs.Entitling.{asked, nothing_entitled, so_far_entitled, some_logged}

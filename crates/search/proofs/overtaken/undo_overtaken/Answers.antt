@@ -4,8 +4,8 @@ use Rattle.linear.specs.declared.term.Lit.{Lit}
 use Rattle.propagate.specs.Chain.{IsImpossible}
 use Rattle.proof_rules.specs.State.{constraints}
 use Rattle.search.specs.Conflicts.{AreEnough, TakesLast}
-use Rattle.search.specs.Log.{Logbook}
-use Rattle.search.specs.Named.{AreDecisions}
+use Rattle.proof_log.specs.Log.{Logbook}
+use Rattle.search.specs.Decisions.{AreDecisions}
 use Rattle.search.proofs.Decisions.{first_decisions}
 use Rattle.search.proofs.overtaken.undo_overtaken.Goals as goal
 

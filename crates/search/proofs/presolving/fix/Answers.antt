@@ -6,7 +6,7 @@ use Rattle.substitution.specs.Images.{Images}
 use Rattle.proof_steps.specs.declared.step.Step.{Step}
 use Rattle.proof_steps.specs.declared.step.Step.TheVariants.{Red}
 use Rattle.proof_text.specs.Writable.{IsConstraintWritable, IsPairWritable, IsStepWritable}
-use Rattle.search.specs.Log.{Logbook}
+use Rattle.proof_log.specs.Log.{Logbook}
 use Rattle.search.specs.Presolving.{Tries, fixing, is_true, made_true}
 use Rattle.search.proofs.Trying.{tries_more}
 use Rattle.search.proofs.Written.{fixing_writable}

@@ -6,9 +6,9 @@ use Rattle.linear.specs.declared.term.Lit.{Lit}
 use Rattle.presolve.specs.Fixing.{AreFixed}
 use Rattle.presolve.specs.Swapping.{AreUsed}
 use Rattle.presolve.specs.declared.swapping.Swap.{Swap}
-use Rattle.search.specs.Log.{Logbook}
-use Rattle.search.specs.Named.{AreNamed, IsNamedPair}
-use Rattle.search.specs.Presolving.{TriesAll, fixing, swapping}
+use Rattle.proof_log.specs.Log.{Logbook}
+use Rattle.proof_log.specs.Named.{AreNamed}
+use Rattle.search.specs.Presolving.{IsNamedPair, TriesAll, fixing, swapping}
 use Rattle.search.proofs.Trying.{tries_both, tries_no_lesson}
 use Rattle.search.proofs.presolving.presolve.Goals as goal
 

@@ -1,6 +1,6 @@
 -- The log of the file is presolved, and each turn goes on from there.
 use Rattle.std.proofs.Common.{IfSome, refl, ap, subst, ◌∙◌, arith}
-use Rattle.search.specs.Log.{GoesOn, Logbook}
+use Rattle.proof_log.specs.Log.{GoesOn, Logbook}
 use Rattle.search.specs.Solving.{BearsOut}
 use Rattle.search.proofs.Decisions.{no_decision}
 use Rattle.search.proofs.GoingOn.{goes_on_more, goes_on_same}

@@ -1,7 +1,7 @@
 -- What is settled satisfies the file, and is better than what was improved to before.
 use Rattle.std.proofs.Common.{◌≡◌, None, ap, ◌∙◌}
 use Rattle.linear.specs.Opb.{Opb}
-use Rattle.search.specs.Log.{Logbook}
+use Rattle.proof_log.specs.Log.{Logbook}
 use Rattle.search.proofs.Entitling.{sol_logs}
 use Rattle.search.proofs.Stepping.{sol_legal, soli_legal, some_lent}
 use Rattle.search.proofs.run.Run.accept.Goals as goal

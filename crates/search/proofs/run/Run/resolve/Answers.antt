@@ -3,7 +3,7 @@ use Rattle.std.proofs.Common.{List, sym, subst}
 use Rattle.linear.specs.declared.term.Lit.{Lit}
 use Rattle.proof_rules.specs.State.{constraints}
 use Rattle.search.specs.Conflicts.{LeadsAtLast}
-use Rattle.search.specs.Log.{Logbook}
+use Rattle.proof_log.specs.Log.{Logbook}
 use Rattle.search.proofs.run.Run.resolve.Goals as goal
 
 pub learn_clause-requires-clause-conflict : goal.learn_clause-requires-clause-conflict

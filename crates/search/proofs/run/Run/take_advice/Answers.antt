@@ -1,8 +1,8 @@
 -- The line is a `pol` step that is derived, and can be written.
 use Rattle.std.proofs.Common.{sym, subst}
 use Rattle.kernel.specs.Held.{HasAtLeast}
-use Rattle.search.specs.Kept.{Spares}
-use Rattle.search.specs.Log.{ImprovesIfAsked, ImprovesNothing, IsLegal, StandsAlone}
+use Rattle.proof_log.specs.Kept.{Spares}
+use Rattle.proof_log.specs.Log.{ImprovesIfAsked, ImprovesNothing, IsLegal, StandsAlone}
 use Rattle.search.proofs.Stepping.{pol_legal}
 use Rattle.search.proofs.run.Run.take_advice.Goals as goal
 

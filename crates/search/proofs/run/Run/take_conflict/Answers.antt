@@ -1,7 +1,7 @@
 -- The first of decisions are decisions.
 use Rattle.std.proofs.Common.{sym, subst, ◌∙◌}
-use Rattle.search.specs.Log.{Logbook}
-use Rattle.search.specs.Named.{AreDecisions}
+use Rattle.proof_log.specs.Log.{Logbook}
+use Rattle.search.specs.Decisions.{AreDecisions}
 use Rattle.search.proofs.Decisions.{first_decisions}
 use Rattle.search.proofs.run.Run.take_conflict.Goals as goal
 
@@ -14,5 +14,5 @@ returns-then-bite-clause-decisions g c =
 pub count_conflict-requires : goal.count_conflict-requires
 count_conflict-requires g c =
     let old : Logbook = c.args.self.now.log in
-    subst (λ (l : Logbook). AreDecisions l c.keep.new.self.decisions.items) (sym (c.keep.ensures.log ∙ c.go_back.ensures.log))
-    (subst (AreDecisions old) (sym (c.keep.ensures.decisions ∙ c.go_back.ensures.decisions ∙ c.truncate.ensures.items)) (first_decisions old c.in-Some.bite.level c.args.self.now.decisions.items c.requires))
+    subst (λ (l : Logbook). AreDecisions l c.keep-2.new.self.decisions.items) (sym (c.keep-2.ensures.log ∙ c.go_back.ensures.log))
+    (subst (AreDecisions old) (sym (c.keep-2.ensures.decisions ∙ c.go_back.ensures.decisions ∙ c.truncate.ensures.items)) (first_decisions old c.in-Some.bite.level c.args.self.now.decisions.items c.requires))

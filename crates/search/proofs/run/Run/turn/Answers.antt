@@ -11,7 +11,7 @@ use Rattle.proof_rules.specs.State.{constraints}
 use Rattle.search.specs.Advised.{IsDerived}
 use Rattle.search.specs.Conflicts.{LeadsAtLast}
 use Rattle.search.specs.Descents.{IfAdvised, IfConflict, IfFixpoint, IsAdvisedUnder, IsSettled}
-use Rattle.search.specs.Log.{Logbook}
+use Rattle.proof_log.specs.Log.{Logbook}
 use Rattle.search.proofs.run.Run.turn.Goals as goal
 
 pub returns-then-is_empty-clause-found : goal.returns-then-is_empty-clause-found

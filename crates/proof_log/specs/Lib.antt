@@ -1,0 +1,4 @@
+pub mod Deleting
+pub mod Kept
+pub mod Log
+pub mod Named
