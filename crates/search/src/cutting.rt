@@ -1,6 +1,6 @@
 //! What the analysis of a conflict comes to, logged as one `pol` line.
 //!
-//! The derivation comes with the analysis. That it bites is asked of the constraints as they are now: the closure of the decisions
+//! The derivation comes with the analysis, and what it comes to: so the log takes it as it is, and nothing is run again. That it bites is asked of the constraints as they are now: the closure of the decisions
 //! that are left is computed once more, and the constraint is looked at under it. So a trail that is out of date costs a
 //! weaker step, and never a wrong count. Whether the line can be written is asked as well, since no contract of an analysis says which
 //! factors its items have.
@@ -76,7 +76,7 @@ pub(crate) fn learn_constraint<'a, P: Propagator>(
         return Ok(false);
     }
     let variables = variables_of(alloc, &constraint)?;
-    log.learn(step)?;
+    log.learn_derived(step, constraint)?;
     decisions.truncate(kept);
     brancher.conflict(variables.as_slice());
     Ok(true)
