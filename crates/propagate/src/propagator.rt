@@ -56,10 +56,10 @@ pub trait Propagator: Drop {
     fn after(&self, id: Id) -> Option<Id>
         ensures { IsLeastAbove (content self.now) id result };
 
-    /// Adds the ids of the constraints that have a literal to a set.
-    fn add_occurrences(&mut self, literal: Lit, ids: &mut Ids) -> Result<(), AllocError>
+    /// Adds the ids of the constraints that have a literal to a set. Where memory runs out the set is gone.
+    fn with_occurrences(&mut self, literal: Lit, ids: Ids) -> Result<Ids, AllocError>
         ensures content { content self.new ≡ content self.old }
-        ensures added { OnOk result (AddsOccurrences (content self.old) literal ids.old ids.new) };
+        ensures added { IfOk result (AddsOccurrences (content self.old) literal ids) };
 
     /// Whether the constraints are refuted together with some extra ones: whether a chain from nothing leads to one of
     /// them with negative slack.

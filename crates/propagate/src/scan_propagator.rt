@@ -123,11 +123,12 @@ impl Propagator for ScanPropagator {
         }
     }
 
-    fn add_occurrences(&mut self, literal: Lit, ids: &mut Ids) -> Result<(), AllocError> {
+    fn with_occurrences(&mut self, literal: Lit, ids: Ids) -> Result<Ids, AllocError> {
+        let mut gathered = ids;
         for (id, constraint) in self.all.iter() {
-            add_if_it_has(ids, *id, constraint, literal)?;
+            add_if_it_has(&mut gathered, *id, constraint, literal)?;
         }
-        Ok(())
+        Ok(gathered)
     }
 
     fn refute(&mut self, extras: &[Normal]) -> Result<bool, AllocError> {
