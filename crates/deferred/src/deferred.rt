@@ -92,10 +92,10 @@ impl<P: Propagator> Propagator for Deferred<P> {
         earlier(self.waiting.after(id), self.settled.after(id))
     }
 
-    fn add_occurrences(&mut self, literal: Lit, ids: &mut Ids) -> Result<(), AllocError> {
+    fn with_occurrences(&mut self, literal: Lit, ids: Ids) -> Result<Ids, AllocError> {
         settle(self.alloc, &mut self.waiting, &mut self.settled)?;
         self.asked = true;
-        self.settled.add_occurrences(literal, ids)
+        self.settled.with_occurrences(literal, ids)
     }
 
     fn refute(&mut self, extras: &[Normal]) -> Result<bool, AllocError> {
