@@ -70,12 +70,13 @@ impl Propagator for WatchPropagator {
         self.database.after(id)
     }
 
-    fn add_occurrences(&mut self, literal: Lit, ids: &mut Ids) -> Result<(), AllocError> {
+    fn with_occurrences(&mut self, literal: Lit, ids: Ids) -> Result<Ids, AllocError> {
+        let mut gathered = ids;
         let mut rest = self.occurrences(literal);
         while let Some(id) = rest.next() {
-            ids.insert(id)?;
+            gathered.insert(id)?;
         }
-        Ok(())
+        Ok(gathered)
     }
 
     fn refute(&mut self, extras: &[Normal]) -> Result<bool, AllocError> {
