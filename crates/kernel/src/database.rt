@@ -143,23 +143,25 @@ impl<P: Propagator> Database<P> {
         ensures same { self.new ≡ self.old }
         ensures having { IfOk result (λ ids. (id : ℕ) → HasId ids id ↔ HasLiteral self.old.live literal id) }
     {
-        let mut ids = Ids::empty(alloc);
-        self.constraints.add_occurrences(literal, &mut ids)?;
+        let none = Ids::empty(alloc);
+        let ids = self.constraints.with_occurrences(literal, none)?;
         Ok(ids)
     }
 
-    /// Adds the ids of the live constraints that have a variable to a set.
-    fn add_variable(&mut self, variable: Var, ids: &mut Ids) -> Result<(), AllocError>
+    /// Adds the ids of the live constraints that have a variable to a set. Where memory runs out the set is gone.
+    fn with_variable(&mut self, variable: Var, ids: Ids) -> Result<Ids, AllocError>
         ensures same { self.new ≡ self.old }
-        ensures added { OnOk result (AddsVariable self.old.live variable ids.old ids.new) }
+        ensures added { IfOk result (AddsVariable self.old.live variable ids) }
     {
         let literal = Lit {
             var: variable,
             negated: false,
         };
-        self.constraints.add_occurrences(literal, ids)?;
-        self.constraints.add_occurrences(literal.opposite(), ids)?;
-        Ok(())
+        let middle = self.constraints.with_occurrences(literal, ids)?;
+        let both = self
+            .constraints
+            .with_occurrences(literal.opposite(), middle)?;
+        Ok(both)
     }
 
     /// The ids of the live constraints that have a variable of a witness.
@@ -173,7 +175,7 @@ impl<P: Propagator> Database<P> {
     {
         let mut ids = Ids::empty(alloc);
         for image in witness.as_slice() {
-            self.add_variable(image.0, &mut ids)?;
+            ids = self.with_variable(image.0, ids)?;
         }
         Ok(ids)
     }

@@ -8,5 +8,5 @@ use Rattle.kernel.proofs.database.Database.having.Goals as goal
 
 pub returns-clause-having : goal.returns-clause-having
 returns-clause-having g c =
-    let added = subst (λ (live : Live). AddsOccurrences live c.args.literal c.empty-ids.result c.add_occurrences.new.ids) (ap (λ (d : Constraints). d.live) c.self.view_is) c.in_ok-add_occurrences.ensures.added in
-    occurrences_alone c.args.self.now.live c.args.literal c.empty-ids.result c.add_occurrences.new.ids c.empty-ids.ensures added
+    let added = subst (λ (live : Live). AddsOccurrences live c.args.literal c.empty-none.result c.in_ok-ids.ids) (ap (λ (d : Constraints). d.live) c.self.view_is) c.in_ok-ids.ensures.added in
+    occurrences_alone c.args.self.now.live c.args.literal c.empty-none.result c.in_ok-ids.ids c.empty-none.ensures added
