@@ -25,10 +25,10 @@ loop-image-preserved g c =
     let i = c.loop-image.image-index in
     let count = ap length c.as_slice-image-items.ensures.images in
     let same = c.loop-image.invariant.0 in
-    let adds = subst (λ (images : Images). AddsVariable c.loop-image.self.live (get_or images i d).0 c.loop-image.ids c.in_ok-with_variable.ids) c.as_slice-image-items.ensures.images c.in_ok-with_variable.ensures.added in
-    let adds_live = subst (λ (s : Constraints). AddsVariable s.live (get_or c.args.witness.now i d).0 c.loop-image.ids c.in_ok-with_variable.ids) same adds in (
-      c.in_ok-with_variable.ensures.same ∙ same,
-      gathering_next live c.args.witness.now i d c.loop-image.ids c.in_ok-with_variable.ids (omega (arith, count)) c.loop-image.invariant.1 adds_live,
+    let adds = subst (λ (images : Images). AddsVariable c.loop-image.self.live (get_or images i d).0 c.loop-image.ids c.in_ok-ids.ids) c.as_slice-image-items.ensures.images c.in_ok-ids.ensures.added in
+    let adds_live = subst (λ (s : Constraints). AddsVariable s.live (get_or c.args.witness.now i d).0 c.loop-image.ids c.in_ok-ids.ids) same adds in (
+      c.in_ok-ids.ensures.same ∙ same,
+      gathering_next live c.args.witness.now i d c.loop-image.ids c.in_ok-ids.ids (omega (arith, count)) c.loop-image.invariant.1 adds_live,
     )
 
 pub returns-clause-touched : goal.returns-clause-touched

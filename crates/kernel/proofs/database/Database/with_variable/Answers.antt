@@ -13,7 +13,7 @@ returns-clause-added g c =
     let content = g.P.Propagator.content in
     let middle = c.in_ok-middle.middle in
     let ids = c.in_ok-both.both in
-    let other = subst (λ (l : Lit). AddsOccurrences (content c.with_occurrences-middle.new.self) l middle ids) c.opposite.ensures c.in_ok-both.ensures.added in
+    let other = subst (λ (l : Lit). AddsOccurrences (content c.with_occurrences.new.self) l middle ids) c.opposite.ensures c.in_ok-both.ensures.added in
     let second = subst (λ (m : Live). AddsOccurrences m (record { var = c.args.variable; negated = true }) middle ids) c.in_ok-middle.ensures.content other in
     subst (λ (live : Live). AddsVariable live c.args.variable c.args.ids ids) (ap (λ (d : Constraints). d.live) c.self.view_is)
     (both_literals (content c.self.inside.constraints) c.args.variable c.args.ids middle ids c.in_ok-middle.ensures.added second)
