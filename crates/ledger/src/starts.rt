@@ -2,7 +2,7 @@
 //!
 //! The terms of a clause are gone through round about: from where the last search in it ended to the last one, and then from the
 //! first one on. So where its literals fall one after another each is passed once or twice, and not by each later search anew
-//! (Gent: Watched literals, start from where the last search ended, 2013). Where literals are backtracked nothing is taken back.
+//! (Gent, Optimal implementation of watched literals and more general techniques, 2013). Where literals are backtracked nothing is taken back.
 //! That is a matter of time alone, so no clause speaks of it: wherever a search begins, it finds a literal where there is one.
 
 ghost use Rattle.std.specs.Prelude.{◌≡◌, ◌+◌, ◌<◌, ◌≤◌};
