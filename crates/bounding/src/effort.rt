@@ -2,9 +2,9 @@
 //!
 //! One call costs as much as thousands of propagations, and on many problems it says nothing that propagation does not. So it has a
 //! share of the work, which rises where it ends a descent and falls where it does not. At the root, where a bound serves the whole search,
-//! it may do more: once at the start, and then at restarts, ever more seldom. What it does there, with the rounds of cuts, has a share of its
-//! own, so that a root that took long does not keep the relaxation from the nodes below. All of this is counted and not timed: multiplications of
-//! the relaxation beside terms that the search has looked at, about.
+//! it may do more: once at the start, and then, where the search has not ended soon, at restarts, ever more seldom. What it does there, with
+//! the rounds of cuts, has a share of its own, so that a root that took long does not keep the relaxation from the nodes below. All of this is
+//! counted and not timed: multiplications of the relaxation beside terms that the search has looked at, about.
 
 use super::advice::Node;
 use relaxation::Limits;
@@ -40,7 +40,11 @@ const CALL_WORK: u64 = 100_000_000;
 const ROOT_STEPS: u32 = 1_000_000;
 
 /// How much the first call at the root may do.
-const FIRST_ROOT_WORK: u64 = 100_000_000;
+const FIRST_ROOT_WORK: u64 = 8_000_000;
+
+/// How much a search has done before any further call there: small problems are solved by then, in a fraction of what the rounds of cuts would
+/// take.
+const SEARCHED_BEFORE: u64 = 100_000;
 
 /// How much any later one may do at least.
 const ROOT_WORK: u64 = 20_000_000;
@@ -94,6 +98,7 @@ impl Effort {
             FIRST_ROOT_WORK
         } else {
             if node.conflicts < self.next_root
+                || node.searched < SEARCHED_BEFORE
                 || !self.is_within_share(self.at_root.saturating_sub(ROOT_WORK), node.searched)
             {
                 return None;
