@@ -35,7 +35,7 @@ pub trait Brancher: Drop {
     /// A conflict was learned from: these variables occur in what was learned.
     fn conflict(&mut self, variables: &[Var]);
 
-    /// The search went back: this literal is no more decided or forced.
+    /// This literal is no more decided or forced, since the search went back; or it was picked and is not decided after all.
     fn unassigned(&mut self, literal: Lit);
 
     /// A solution was found, by these literals, which is better than those before.

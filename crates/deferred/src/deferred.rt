@@ -14,7 +14,7 @@ use super::settling::settle;
 use super::waiting::Waiting;
 use linear::Lit;
 use normal_form::Normal;
-use propagate::{Id, Ids, Propagator, Reach, Trace};
+use propagate::{Decided, Id, Ids, Propagator, Reach, Trace};
 use std::alloc::{AllocError, Global};
 use std::marker::Model;
 
@@ -116,9 +116,14 @@ impl<P: Propagator> Propagator for Deferred<P> {
         self.settled.trace(given)
     }
 
-    fn trace_last(&mut self, before: &[Lit], last: Lit) -> Result<Trace, AllocError> {
+    fn trace_each(
+        &mut self,
+        before: &[Lit],
+        first: Lit,
+        more: &[Lit],
+    ) -> Result<Vec<Decided>, AllocError> {
         settle(self.alloc, &mut self.waiting, &mut self.settled)?;
         self.asked = true;
-        self.settled.trace_last(before, last)
+        self.settled.trace_each(before, first, more)
     }
 }

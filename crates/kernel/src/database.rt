@@ -6,7 +6,7 @@ ghost use Rattle.proof_rules.specs.State.{id_limit, id_of};
 
 use linear::{Integer, Lit, Var};
 use normal_form::Normal;
-use propagate::{Id, Ids, Propagator, Reach, Trace};
+use propagate::{Decided, Id, Ids, Propagator, Reach, Trace};
 use std::alloc::{AllocError, Global};
 use std::marker::Model;
 use substitution::{Substitution, apply, becomes_beyond, covers};
@@ -40,7 +40,7 @@ impl<P: Propagator> Database<P> {
     ghost use Rattle.std.specs.Prelude.{◌≡◌, ◌↔◌, ◌<◌, ◌≤◌, [], ◌∷◌, ◌++◌, ℕ, IfOk, IsSome, IsSomeAnd, MatchOption, None, IsTrue, OnErr, OnOk};
     ghost use Rattle.normal_form.specs.Normal.{NormalConstraint};
     ghost use Rattle.propagate.specs.Chain.{IsRefuted};
-    ghost use Rattle.propagate.specs.Content.{HasLiteral, IsTrace, IsTraceOfLast};
+    ghost use Rattle.propagate.specs.Content.{AreDecided, AreTaken, HasLiteral, IsTrace};
     ghost use Rattle.propagate.specs.Ids.{HasId};
     ghost use Rattle.propagate.specs.Literals.{IsConsistent};
     ghost use Rattle.propagate.specs.Reach.{IsReach};
@@ -236,13 +236,19 @@ impl<P: Propagator> Database<P> {
         self.constraints.trace(assigned)
     }
 
-    /// The same for an assignment and one literal more, where what follows from the assignment may be left out.
-    pub(crate) fn trace_last(&mut self, before: &[Lit], last: Lit) -> Result<Trace, AllocError>
-        requires { IsConsistent (before.now ++ last ∷ []) }
+    /// The same for literals that are decided one after another behind an assignment, where what follows from the assignment may be left out.
+    pub(crate) fn trace_each(
+        &mut self,
+        before: &[Lit],
+        first: Lit,
+        more: &[Lit],
+    ) -> Result<Vec<Decided>, AllocError>
+        requires { IsConsistent (before.now ++ first ∷ []) }
         ensures same { self.new ≡ self.old }
-        ensures trace { IfOk result (IsTraceOfLast self.old.live before.now last) }
+        ensures decided { IfOk result (λ v. AreDecided self.old.live before.now v.items) }
+        ensures taken { IfOk result (λ v. AreTaken first more.now v.items) }
     {
-        self.constraints.trace_last(before, last)
+        self.constraints.trace_each(before, first, more)
     }
 
     /// The live constraint that a number in a step means, if there is one: `-k` is the next id less `k`.

@@ -7,7 +7,7 @@
 ghost use Rattle.std.specs.Prelude.{◌≡◌, [], ◌∷◌, ◌++◌, IfOk};
 ghost use Rattle.std.specs.FinMap as map;
 ghost use Rattle.std.specs.Option.{option_copied};
-ghost use Rattle.propagate.specs.Content.{IsTrace, IsTraceOfLast};
+ghost use Rattle.propagate.specs.Content.{AreDecided, AreTaken, IsTrace};
 ghost use Rattle.propagate.specs.Literals.{IsConsistent};
 ghost use Rattle.propagate.specs.Reach.{IsReach};
 ghost use Rattle.proof_rules.specs.State.{constraints};
@@ -15,7 +15,7 @@ ghost use Rattle.proof_rules.specs.State.{constraints};
 use super::kernel::Kernel;
 use linear::Lit;
 use normal_form::Normal;
-use propagate::{Id, Propagator, Reach, Trace};
+use propagate::{Decided, Id, Propagator, Reach, Trace};
 use std::alloc::AllocError;
 
 impl<'a, P: Propagator> Kernel<'a, P> {
@@ -45,13 +45,20 @@ impl<'a, P: Propagator> Kernel<'a, P> {
         self.database.trace(given)
     }
 
-    /// The same for an assignment and one literal more, where what follows from the assignment alone may be left out. So whoever
-    /// asks about one literal after another is told of each what it forces.
-    pub fn trace_last(&mut self, before: &[Lit], last: Lit) -> Result<Trace, AllocError>
-        requires { IsConsistent (before.now ++ last ∷ []) }
+    /// The same for literals that are decided one after another behind an assignment, where what follows from the assignment alone may be left
+    /// out. So whoever asks about some literals after others is told of each what it forces. The first one is decided in any case; of the others
+    /// some are, in their order, but none that stands by then or whose opposite does.
+    pub fn trace_each(
+        &mut self,
+        before: &[Lit],
+        first: Lit,
+        more: &[Lit],
+    ) -> Result<Vec<Decided>, AllocError>
+        requires { IsConsistent (before.now ++ first ∷ []) }
         ensures same { self.new ≡ self.old }
-        ensures value { IfOk result (IsTraceOfLast self.old.state.live before.now last) }
+        ensures decided { IfOk result (λ v. AreDecided self.old.state.live before.now v.items) }
+        ensures taken { IfOk result (λ v. AreTaken first more.now v.items) }
     {
-        self.database.trace_last(before, last)
+        self.database.trace_each(before, first, more)
     }
 }

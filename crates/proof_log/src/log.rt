@@ -33,7 +33,7 @@ use linear::{Assignment, Integer, Lit, Names, Problem, Seq};
 use proof_rules::StepFault;
 use proof_steps::{Conclusion, Step};
 use proof_write::{is_step_writable, write_end, write_start, write_step};
-use propagate::{Id, Ids, Propagator, Reach, Trace};
+use propagate::{Decided, Id, Ids, Propagator, Reach, Trace};
 use std::alloc::{AllocError, Global};
 use std::marker::Model;
 use std::mem;
@@ -123,7 +123,7 @@ impl<'a, P: Propagator> Log<'a, P> {
     ghost use Rattle.std.specs.FinMap as map;
     ghost use Rattle.kernel.specs.Held.{HasAtLeast, given_id};
     ghost use Rattle.linear.specs.Limits.{IsWithin};
-    ghost use Rattle.propagate.specs.Content.{IsTrace, IsTraceOfLast};
+    ghost use Rattle.propagate.specs.Content.{AreDecided, AreTaken, IsTrace};
     ghost use Rattle.propagate.specs.Literals.{IsConsistent};
     ghost use Rattle.propagate.specs.Reach.{IsReach};
     ghost use Rattle.proof_rules.specs.Claim.{IsSolution};
@@ -503,13 +503,20 @@ impl<'a, P: Propagator> Log<'a, P> {
         self.kernel.trace(given)
     }
 
-    /// The same for an assignment and one literal more, where what follows from the assignment alone may be left out.
-    pub fn trace_last(&mut self, before: &[Lit], last: Lit) -> Result<Trace, AllocError>
-        requires { IsConsistent (before.now ++ last ∷ []) }
+    /// The same for literals that are decided one after another behind an assignment, where what follows from the assignment alone may be left
+    /// out. The first one is decided in any case; of the others some are.
+    pub fn trace_each(
+        &mut self,
+        before: &[Lit],
+        first: Lit,
+        more: &[Lit],
+    ) -> Result<Vec<Decided>, AllocError>
+        requires { IsConsistent (before.now ++ first ∷ []) }
         ensures same { self.new ≡ self.old }
-        ensures value { IfOk result (IsTraceOfLast self.old.state.live before.now last) }
+        ensures decided { IfOk result (λ v. AreDecided self.old.state.live before.now v.items) }
+        ensures taken { IfOk result (λ v. AreTaken first more.now v.items) }
     {
-        self.kernel.trace_last(before, last)
+        self.kernel.trace_each(before, first, more)
     }
 
     /// The kernel that the steps have led to its state.

@@ -1,5 +1,5 @@
 -- A trace by ids is a chain of the constraints that have the ids, and its end is theirs.
-use Rattle.std.proofs.Common.{◌≡◌, ℕ, ◌+◌, Bool, true, false, cond, List, [], ◌∷◌, ◌++◌, Any, Option, Some, None, MatchOption, sym, subst, ◌∙◌}
+use Rattle.std.proofs.Common.{◌≡◌, ℕ, Bool, true, false, cond, List, [], ◌∷◌, ◌++◌, Any, Option, Some, None, MatchOption, sym, subst, ◌∙◌}
 use Rattle.std.specs.Ordering.{nat_cmp, eq_by_cmp}
 use Rattle.std.specs.FinMap as fin
 use Rattle.linear.specs.declared.term.Lit.{Lit}

@@ -1,9 +1,10 @@
 -- Small constraints, to compute the definitions on.
-use Rattle.std.specs.Prelude.{ℕ, true, false, List, [], ◌∷◌}
+use Rattle.std.specs.Prelude.{ℕ, true, false, List, [], ◌∷◌, Option}
 use Rattle.std.specs.FinMap as fin
 use Rattle.linear.specs.declared.term.Lit.{Lit}
 use Rattle.normal_form.specs.Normal.{NormalConstraint}
 use Rattle.normal_form.specs.Cases.{plain, negated, normal}
+use Rattle.propagate.specs.declared.trace.Decided.{Decided}
 use Rattle.propagate.specs.Content.{Content}
 
 -- the literals x and ~x of a variable
@@ -55,3 +56,7 @@ improving_moved =
 -- 1 x1 1 x2 >= 1 under the id 2, and 1 ~x2 >= 1 under the id 5
 abbrev pub two_ids : Content
 two_ids = fin.from_entries ((2, one_of_two) ∷ (5, unit_not 2) ∷ [])
+
+-- a decision, with what it forces and where that ends
+abbrev pub decision : Lit → List (Lit × ℕ) → Option ℕ → Decided
+decision l forced conflict = record { literal = l; trace = record { forced = forced; conflict = conflict } }

@@ -1,12 +1,13 @@
 -- Constraints under their ids, and chains whose reasons are ids.
-use Rattle.std.specs.Prelude.{◌≡◌, ◌↔◌, ◌⊎◌, ℕ, ◌<◌, List, [], ◌∷◌, ◌++◌, map, Option, None, Some, MatchOption}
+use Rattle.std.specs.Prelude.{◌≡◌, ◌↔◌, ◌⊎◌, ℕ, ◌<◌, List, [], ◌∷◌, ◌++◌, All, Contains, map, Option, None, Some, MatchOption}
 use Rattle.std.specs.FinMap as fin
 use Rattle.std.specs.Ordering.{nat_cmp}
 use Rattle.linear.specs.declared.term.Lit.{Lit}
 use Rattle.normal_form.specs.Normal.{NormalConstraint}
+use Rattle.propagate.specs.declared.trace.Decided.{Decided}
 use Rattle.propagate.specs.declared.trace.Trace.{Trace}
 use Rattle.propagate.specs.Ids.{IdSet, HasId}
-use Rattle.propagate.specs.Literals.{coefficient_of}
+use Rattle.propagate.specs.Literals.{IsConsistent, coefficient_of}
 use Rattle.propagate.specs.Slack.{IsFalsified, IsForced}
 use Rattle.propagate.specs.Chain.{LeadsToConflict, IsClosure}
 
@@ -60,3 +61,13 @@ pub record IsTraceOfLast (content : Content) (before : List Lit) (last : Lit) (t
   pub left_out : List (Lit × ℕ)
   pub chain : AreForcedIn content before left_out
   pub trace : IsTrace content ((before ++ traced left_out) ++ last ∷ []) t
+
+-- each literal is decided behind what was decided before it, of which none is its opposite, and its trace tells what it forces then
+abbrev pub AreDecided : Content → List Lit → List Decided → Type 0
+AreDecided content before [] = Unit {0}
+AreDecided content before (d ∷ ds) = IsConsistent (before ++ d.literal ∷ []) × IsTraceOfLast content before d.literal d.trace × AreDecided content (before ++ d.literal ∷ []) ds
+
+-- what was decided: the first of the literals that were asked about, and behind it some of the others
+abbrev pub AreTaken : Lit → List Lit → List Decided → Type 0
+AreTaken first more [] = ⊥
+AreTaken first more (d ∷ ds) = (d.literal ≡ first) × All (λ e. Contains more e.literal) ds

@@ -1,11 +1,12 @@
 //! The definitions computed on small constraints, each the contract of a function that does nothing.
 
-ghost use Rattle.std.specs.Prelude.{◌≡◌, All, [], ◌∷◌, ◌++◌, pos, None, Some};
+ghost use Rattle.std.specs.Prelude.{◌≡◌, ℕ, List, All, [], ◌∷◌, ◌++◌, pos, None, Some};
 ghost use Rattle.linear.specs.declared.term.Lit.{Lit};
 ghost use Rattle.normal_form.specs.Cases.{plain, negated, normal};
-ghost use Rattle.propagate.specs.Cases.{x, not_x, unit, unit_not, four_clauses, one_of_two, weighted, pigeons, two_ids, two_of_three, two_of_three_negated, improving_moved};
+ghost use Rattle.propagate.specs.Cases.{x, not_x, decision, unit, unit_not, four_clauses, one_of_two, weighted, pigeons, two_ids, two_of_three, two_of_three_negated, improving_moved};
 ghost use Rattle.propagate.specs.Chain.{IsForcedByOne, IsChain, IsRefuted, IsClosure, IsImpossible, LeadsToConflict};
-ghost use Rattle.propagate.specs.Content.{IsLeastAbove, IsTrace};
+ghost use Rattle.propagate.specs.declared.trace.Trace.{Trace};
+ghost use Rattle.propagate.specs.Content.{AreDecided, AreTaken, IsLeastAbove, IsTrace};
 ghost use Rattle.propagate.specs.Slack.{slack, IsFalsified};
 
 /// `1 ~x2 1 x3 >= 1 ; 1 ~x1 1 x2 >= 1 ; 1 x1 >= 1 ; 1 ~x3 >= 1`: the first two force something only after the
@@ -90,4 +91,22 @@ pub fn traced_by_ids()
     ensures other_reason { IsTrace two_ids (not_x 1 ∷ []) (record { forced = (x 2, 5) ∷ []; conflict = Some 5 }) → ⊥ }
     ensures not_falsified { IsTrace two_ids (x 1 ∷ []) (record { forced = (not_x 2, 5) ∷ []; conflict = Some 2 }) → ⊥ }
     ensures conflict_left_out { IsTrace two_ids (not_x 1 ∷ []) (record { forced = (x 2, 2) ∷ []; conflict = None }) → ⊥ }
+{}
+
+/// `~x2` is forced by the second of these alone, so it is told of the decision of x1, or left out. No decision is made beside its opposite,
+/// and none without the conflict that it leads to.
+pub fn decided_by_ids()
+    ensures told { AreDecided two_ids [] (decision (x 1) ((not_x 2, 5) ∷ []) None ∷ []) }
+    ensures left_out { AreDecided two_ids [] (decision (x 1) [] None ∷ []) }
+    ensures beside_opposite { (forced : List (Lit × ℕ)) → AreDecided two_ids (x 1 ∷ []) (decision (not_x 1) forced None ∷ []) → ⊥ }
+    ensures conflict_left_out { AreDecided two_ids [] (decision (not_x 1) [] None ∷ []) → ⊥ }
+{}
+
+/// Asked about x1, and then x2 and x3, a propagator decides x1 in any case.
+pub fn taken_in_part()
+    ensures first_alone { AreTaken (x 1) (x 2 ∷ x 3 ∷ []) (decision (x 1) [] None ∷ []) }
+    ensures one_passed_over { AreTaken (x 1) (x 2 ∷ x 3 ∷ []) (decision (x 1) [] None ∷ decision (x 3) [] None ∷ []) }
+    ensures none { AreTaken (x 1) (x 2 ∷ x 3 ∷ []) [] → ⊥ }
+    ensures without_first { AreTaken (x 1) (x 2 ∷ x 3 ∷ []) (decision (x 3) [] None ∷ []) → ⊥ }
+    ensures not_asked { AreTaken (x 1) (x 3 ∷ []) (decision (x 1) [] None ∷ decision (x 2) [] None ∷ []) → ⊥ }
 {}

@@ -22,4 +22,4 @@ pub use ids::Ids;
 pub use propagator::{Id, Propagator};
 pub use reach::Reach;
 pub use scan_propagator::ScanPropagator;
-pub use trace::Trace;
+pub use trace::{Decided, Trace, decided_alone};

@@ -14,13 +14,13 @@ ghost use Rattle.std.specs.FinMap as map;
 ghost use Rattle.std.specs.Ordering.{nat_cmp};
 ghost use Rattle.normal_form.specs.Normal.{NormalConstraint};
 ghost use Rattle.propagate.specs.Chain.{IsRefuted};
-ghost use Rattle.propagate.specs.Content.{AddsOccurrences, IsLeastAbove, IsTrace, IsTraceOfLast};
+ghost use Rattle.propagate.specs.Content.{AddsOccurrences, IsLeastAbove, AreDecided, AreTaken, IsTrace};
 ghost use Rattle.propagate.specs.Literals.{IsConsistent};
 ghost use Rattle.propagate.specs.Reach.{IsReach};
 
 use super::ids::Ids;
 use super::reach::Reach;
-use super::trace::Trace;
+use super::trace::{Decided, Trace};
 use linear::Lit;
 use normal_form::Normal;
 use std::alloc::{AllocError, Global};
@@ -80,11 +80,19 @@ pub trait Propagator: Drop {
         ensures content { content self.new ≡ content self.old }
         ensures value { IfOk result (IsTrace (content self.old) given.now) };
 
-    /// The same for an assignment and one literal more, where what follows from the assignment alone may be left out: so where the
-    /// literals of the assignment were asked about before, a propagator that keeps what it found tells what the last one
-    /// forces, and no more. A search that decides one literal after another asks this.
-    fn trace_last(&mut self, before: &[Lit], last: Lit) -> Result<Trace, AllocError>
-        requires { IsConsistent (before.now ++ last ∷ []) }
+    /// The same for literals that are decided one after another behind an assignment, where what follows from the assignment alone may be left
+    /// out: so where the literals of the assignment were asked about before, a propagator that keeps what it found tells what each decision
+    /// forces, and no more. The first one is decided in any case. Which of the others are is up to the propagator, in their order: none that
+    /// stands by then, or whose opposite does, and none behind a conflict. A search that asks about many at a time has its assignment gone
+    /// over once for all of them.
+    fn trace_each(
+        &mut self,
+        before: &[Lit],
+        first: Lit,
+        more: &[Lit],
+    ) -> Result<Vec<Decided>, AllocError>
+        requires { IsConsistent (before.now ++ first ∷ []) }
         ensures content { content self.new ≡ content self.old }
-        ensures value { IfOk result (IsTraceOfLast (content self.old) before.now last) };
+        ensures decided { IfOk result (λ v. AreDecided (content self.old) before.now v.items) }
+        ensures taken { IfOk result (λ v. AreTaken first more.now v.items) };
 }

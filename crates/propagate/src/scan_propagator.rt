@@ -16,7 +16,7 @@ use super::ids::Ids;
 use super::propagator::{Id, Propagator};
 use super::reach::Reach;
 use super::refutation::refuted;
-use super::trace::Trace;
+use super::trace::{Decided, Trace, decided_alone};
 use linear::Lit;
 use normal_form::Normal;
 use std::alloc::{AllocError, Global};
@@ -147,9 +147,15 @@ impl Propagator for ScanPropagator {
         Trace::of(self.alloc, constraints.as_slice(), ids.as_slice(), given)
     }
 
-    /// It keeps nothing, so nothing is left out.
-    fn trace_last(&mut self, before: &[Lit], last: Lit) -> Result<Trace, AllocError> {
-        let given = with_last(self.alloc, before, last)?;
-        self.trace(given.as_slice())
+    /// It keeps nothing, so nothing is left out, and a second one would cost as much as the first.
+    fn trace_each(
+        &mut self,
+        before: &[Lit],
+        first: Lit,
+        _more: &[Lit],
+    ) -> Result<Vec<Decided>, AllocError> {
+        let given = with_last(self.alloc, before, first)?;
+        let trace = self.trace(given.as_slice())?;
+        decided_alone(self.alloc, first, trace)
     }
 }

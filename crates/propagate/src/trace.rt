@@ -1,6 +1,6 @@
 //! What an assignment forces, step by step and with reasons: what a solver that learns from conflicts asks for.
 
-ghost use Rattle.std.specs.Prelude.{◌≡◌, ◌<◌, All, IfOk, IfSome, length, map, slice_index_or};
+ghost use Rattle.std.specs.Prelude.{◌≡◌, ◌<◌, [], ◌∷◌, All, IfOk, IfSome, length, map, slice_index_or};
 ghost use Rattle.std.specs.Option.{option_map};
 ghost use Rattle.propagate.specs.Literals.{IsConsistent};
 ghost use Rattle.propagate.specs.TraceByPlaces.{named};
@@ -21,6 +21,22 @@ use std::alloc::{AllocError, Global};
 pub struct Trace {
     pub forced: Seq<(Lit, Id)>,
     pub conflict: Option<Id>,
+}
+
+/// A literal that is decided, and what it forces behind what was decided before it.
+#[derive(Debug, Drop)]
+pub struct Decided {
+    pub literal: Lit,
+    pub trace: Trace,
+}
+
+/// One decision, in a list of its own.
+pub fn decided_alone(alloc: Global, literal: Lit, trace: Trace) -> Result<Vec<Decided>, AllocError>
+    ensures { IfOk result (λ v. v.items ≡ record { literal = literal; trace = trace } ∷ []) }
+{
+    let mut decided = Vec::new(alloc);
+    decided.push(Decided { literal, trace })?;
+    Ok(decided)
 }
 
 /// The steps with ids for the places of their reasons.

@@ -7,6 +7,7 @@ pub mod Solutions
 pub mod Trying
 pub mod Taking
 pub mod Decisions
+pub mod Deciding
 pub mod Descending
 pub mod Written
 pub mod GoingOn

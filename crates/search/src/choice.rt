@@ -6,11 +6,12 @@
 ghost use Rattle.std.specs.Prelude.{◌≡◌, ◌↔◌, ◌<◌, IfSome, IsTrue, None, length};
 ghost use Rattle.search.specs.Values.{IsFree, NoneIsFree};
 
-use branching::Value;
+use branching::{Brancher, Value};
 use linear::{Lit, Var};
+use std::alloc::{AllocError, Global};
 
 /// Whether a variable is free.
-fn is_free(values: &[Value], variable: Var) -> bool
+pub(crate) fn is_free(values: &[Value], variable: Var) -> bool
     ensures free { IsTrue result ↔ IsFree values.now (variable.0) }
     ensures inside { IsTrue result → variable.0 < length values.now }
 {
@@ -20,6 +21,23 @@ fn is_free(values: &[Value], variable: Var) -> bool
     } else {
         false
     }
+}
+
+/// Some literals more that are free, as a brancher picks them, each once where it forgets what it has picked.
+pub(crate) fn pick_more(
+    alloc: Global,
+    brancher: &mut Box<dyn Brancher>,
+    values: &[Value],
+    count: usize,
+) -> Result<Vec<Lit>, AllocError> {
+    let mut more = Vec::new(alloc);
+    for _ in 0..count {
+        match brancher.pick(values) {
+            Some(literal) if is_free(values, literal.var) => more.push(literal)?,
+            _ => return Ok(more),
+        }
+    }
+    Ok(more)
 }
 
 /// The first free variable.

@@ -1,27 +1,34 @@
 //! Deciding one literal after another, until there is a conflict, or an adviser comes to a line, or every variable has a value.
 //!
-//! What the open decisions force is asked once. From there on each question is about one literal more, and its answer, and
-//! what is noted of it, are as long as what that literal forces. Where the open decisions lead to a conflict that does not take all of
+//! What the open decisions force is asked once. From there on each question is about literals behind those that are decided, and its answer, and
+//! what is noted of it, are as long as what these force. A question is about one literal at first, and about ever more at a time where many were
+//! decided without a conflict: that what was decided before is what was decided last time takes a look at each of those literals, and to look at
+//! all of them for each one more would take the square of their number. Where the open decisions lead to a conflict that does not take all of
 //! them, those that it does not take are undone, and nothing is decided.
 
+ghost use Rattle.std.specs.FinMap as map;
 ghost use Rattle.std.specs.Prelude.{◌≡◌, ◌<◌, [], ◌∷◌, ◌++◌, IfOk, MatchOption, OnOk, length};
 ghost use Rattle.propagate.specs.Chain.{LeadsToConflict};
-ghost use Rattle.propagate.specs.Content.{IsEnd};
+ghost use Rattle.propagate.specs.Content.{Content, IsEnd, IsTraceOfLast};
 ghost use Rattle.propagate.specs.Literals.{IsConsistent};
 ghost use Rattle.proof_rules.specs.State.{constraints};
 ghost use Rattle.search.specs.Conflicts.{LeadsAtLast};
 ghost use Rattle.search.specs.Descents.{IfAdvised, IfConflict, IfFixpoint, IfUndone, IsAdvisedUnder, IsSettled};
 ghost use Rattle.search.specs.Decisions.{AreDecisions};
+ghost use Rattle.search.specs.Values.{IsFree, unlisted_below};
 
 use super::advisers::{Advisers, Line};
-use super::choice::choose;
+use super::choice::{choose, is_free, pick_more};
 use super::overtaken::undo_overtaken;
 use super::standing::Standing;
 use super::trail::{Trail, level_of};
 use linear::{Lit, Seq};
 use proof_log::Log;
-use propagate::{Id, Propagator};
+use propagate::{Decided, Id, Propagator};
 use std::alloc::{AllocError, Global};
+
+/// A question is about one literal more for so many that were decided since the last conflict.
+const DECISIONS_FOR_ONE_MORE: usize = 64;
 
 /// Where decisions end.
 #[derive(Drop)]
@@ -59,32 +66,64 @@ fn stand<'a, P: Propagator>(
     Ok(trace.conflict)
 }
 
-/// Decides a literal that is free, and notes what it forces; the id of a constraint with negative slack, if there is one then.
+/// Notes a decision, and what it forces; the id of a constraint with negative slack, if there is one then.
+fn note(
+    decisions: &mut Vec<Lit>,
+    standing: &mut Standing,
+    trail: &mut Trail,
+    decided: &Decided,
+) -> Result<Option<Id>, AllocError>
+    ensures count { length standing.new.1 ≡ length standing.old.1 }
+    ensures decided { OnOk result (decisions.new.items ≡ decisions.old.items ++ decided.now.literal ∷ []) }
+    ensures end { IfOk result (λ falsified. (live : Content) → IsEnd live decisions.old.items standing.old.0 → IsTraceOfLast live decisions.old.items decided.now.literal decided.now.trace
+        → MatchOption falsified (IsEnd live decisions.new.items standing.new.0) (λ id. LeadsToConflict (map.values live) decisions.new.items)) }
+{
+    decisions.push(decided.literal)?;
+    let level = level_of(decisions.as_slice());
+    trail.decide(decided.literal, level)?;
+    trail.force(decided.trace.forced.as_slice(), level)?;
+    if decided.trace.conflict.is_none() {
+        standing.add(decided.literal)?;
+        standing.add_forced(decided.trace.forced.as_slice())?;
+    }
+    Ok(decided.trace.conflict)
+}
+
+/// Decides a literal that is free, and then others, as long as they are free and there is no conflict, and notes what each forces; the id of a
+/// constraint with negative slack, if there is one then.
 fn decide<'a, P: Propagator>(
     log: &mut Log<'a, P>,
     decisions: &mut Vec<Lit>,
     standing: &mut Standing,
     trail: &mut Trail,
-    literal: Lit,
+    first: Lit,
+    more: &[Lit],
 ) -> Result<Option<Id>, AllocError>
-    requires consistent { IsConsistent (decisions.old.items ++ literal ∷ []) }
+    requires decisions { AreDecisions log.old decisions.old.items }
+    requires consistent { IsConsistent (decisions.old.items ++ first ∷ []) }
     requires end { IsEnd log.old.state.live decisions.old.items standing.old.0 }
+    requires free { IsFree standing.old.1 (first.var.0) }
+    requires inside { first.var.0 < length standing.old.1 }
+    requires count { length standing.old.1 ≡ length log.old.problem.names }
     ensures same { log.new ≡ log.old }
     ensures count { length standing.new.1 ≡ length standing.old.1 }
-    ensures decided { OnOk result (decisions.new.items ≡ decisions.old.items ++ literal ∷ []) }
+    ensures decisions { OnOk result (AreDecisions log.old decisions.new.items) }
+    ensures fewer { OnOk result (unlisted_below (length log.old.problem.names) decisions.new.items < unlisted_below (length log.old.problem.names) decisions.old.items) }
     ensures end { IfOk result (λ falsified. MatchOption falsified (IsEnd log.old.state.live decisions.new.items standing.new.0)
-        (λ id. LeadsToConflict (constraints log.old.state) decisions.new.items)) }
+        (λ id. LeadsAtLast (constraints log.old.state) decisions.new.items)) }
 {
-    let trace = log.trace_last(decisions.as_slice(), literal)?;
-    decisions.push(literal)?;
-    let level = level_of(decisions.as_slice());
-    trail.decide(literal, level)?;
-    trail.force(trace.forced.as_slice(), level)?;
-    if trace.conflict.is_none() {
-        standing.add(literal)?;
-        standing.add_forced(trace.forced.as_slice())?;
+    let decided = log.trace_each(decisions.as_slice(), first, more)?;
+    for one in &decided {
+        // What a propagator answers is looked up as what a brancher picks is.
+        if !is_free(standing.values(), one.literal.var) {
+            return Ok(None);
+        }
+        let conflict = note(decisions, standing, trail, one)?;
+        if conflict.is_some() {
+            return Ok(conflict);
+        }
     }
-    Ok(trace.conflict)
+    Ok(None)
 }
 
 /// Decides until there is a conflict, or an adviser comes to a line, or every variable has a value; or undoes decisions that a conflict does
@@ -108,6 +147,7 @@ pub(crate) fn descend<'a, P: Propagator>(
 {
     // That what is live is over the file's variables is known by the log's type; this makes it known here.
     log.reveal();
+    let begun = decisions.len();
     let mut standing = Standing::new(alloc, count)?;
     if let Some(conflict) = stand(log, decisions.as_slice(), &mut standing, trail)? {
         if undo_overtaken(log, decisions)? {
@@ -121,10 +161,14 @@ pub(crate) fn descend<'a, P: Propagator>(
             return Ok(Descent::Advised(line));
         }
         let picked = advisers.brancher.pick(standing.values());
-        let Some(literal) = choose(standing.values(), count, picked) else {
+        let Some(first) = choose(standing.values(), count, picked) else {
             return Ok(Descent::Fixpoint(standing.into_assigned()));
         };
-        if let Some(conflict) = decide(log, decisions, &mut standing, trail, literal)? {
+        let further = decisions.len().saturating_sub(begun) / DECISIONS_FOR_ONE_MORE;
+        let more = pick_more(alloc, &mut advisers.brancher, standing.values(), further)?;
+        let end = decide(log, decisions, &mut standing, trail, first, more.as_slice())?;
+        trail.give_back(more.as_slice(), &mut advisers.brancher);
+        if let Some(conflict) = end {
             return Ok(Descent::Conflict(conflict));
         }
     }

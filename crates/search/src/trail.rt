@@ -79,6 +79,16 @@ impl Trail {
         self.entries.truncate(kept);
     }
 
+    /// Tells a brancher which of its picks do not stand, so that it may pick them again.
+    pub(crate) fn give_back(&self, picks: &[Lit], brancher: &mut Box<dyn Brancher>) {
+        for literal in picks {
+            let place = literal.var.0 as usize;
+            if place < self.stands.len() && !self.stands[place] {
+                brancher.unassigned(*literal);
+            }
+        }
+    }
+
     /// How many literals came so far.
     pub(crate) fn pushed(&self) -> u64 {
         self.pushed

@@ -21,5 +21,6 @@ pub mod Settling
 pub mod TakenBack
 pub mod ToldTail
 pub mod ToldTrail
+pub mod Underlying
 pub mod Walking
 pub mod WideEnough

@@ -111,12 +111,19 @@ steps_below ns given (s ∷ ss) count e c =
 as_many : (slots : Slots) (es : Places) (ids : List ℕ) → AreNamed es ids slots → length (shown slots) ≡ length ids
 as_many slots es ids a = length-map slots constraint_in ∙ sym a.as_many
 
+-- the same for as many ids as places
+pub places_below : (slots : Slots) (ids : List ℕ) (given : List Lit) (c : Chain) → length ids ≡ length slots → IsFound (shown slots) given c → All (λ s. s.place < length ids) c.steps.items
+places_below slots ids given c many f = steps_below (shown slots) given c.steps.items (length ids) (length-map slots constraint_in ∙ sym many) f.chain
+
 pub places_named : (slots : Slots) (es : Places) (ids : List ℕ) (given : List Lit) (c : Chain) → AreNamed es ids slots → IsFound (shown slots) given c → All (λ s. s.place < length ids) c.steps.items
 places_named slots es ids given c a f = steps_below (shown slots) given c.steps.items (length ids) (as_many slots es ids a) f.chain
 
 end_below : (ns : List NormalConstraint) (assigned : List Lit) (count : ℕ) (o : Option ℕ) → length ns ≡ count → MatchOption o (IsFixpoint ns assigned) (IsFalsifiedAt ns assigned) → IfSome o (λ place. place < count)
 end_below ns assigned count None e q = tt
 end_below ns assigned count (Some k) e b = omega (arith, b.1.0, e)
+
+pub falsified_place_below : (slots : Slots) (ids : List ℕ) (given : List Lit) (c : Chain) → length ids ≡ length slots → IsFound (shown slots) given c → IfSome c.falsified (λ place. place < length ids)
+falsified_place_below slots ids given c many f = end_below (shown slots) (given ++ literals_of c.steps.items) (length ids) c.falsified (length-map slots constraint_in ∙ sym many) f.end
 
 pub falsified_place_named : (slots : Slots) (es : Places) (ids : List ℕ) (given : List Lit) (c : Chain) → AreNamed es ids slots → IsFound (shown slots) given c → IfSome c.falsified (λ place. place < length ids)
 falsified_place_named slots es ids given c a f = end_below (shown slots) (given ++ literals_of c.steps.items) (length ids) c.falsified (as_many slots es ids a) f.end

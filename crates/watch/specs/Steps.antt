@@ -11,7 +11,7 @@ use Rattle.propagate.specs.Walk.{IsFalsifiedAt}
 use Rattle.watch.specs.declared.chain.Step.{Step}
 use Rattle.watch.specs.declared.chain.Chain.{Chain}
 use Rattle.watch.specs.Givens.{HasAll}
-use Rattle.ledger.specs.Ledgers.{IsReason}
+use Rattle.ledger.specs.Ledgers.{IsReason, State}
 
 -- each literal is forced by the constraint at its place under what is given and those before it
 abbrev pub AreSteps : List NormalConstraint → List Lit → List Step → Type 0
@@ -36,6 +36,11 @@ pub record IsFoundOfLast (constraints : List NormalConstraint) (before : List Li
 -- a literal without a reason is a given one
 abbrev pub AreGiven : List Lit → List (Option ℕ) → List Lit → Type 0
 AreGiven assigned reasons given = (k : ℕ) (d : Lit) → k < length assigned → slice_index_or reasons k None ≡ None → lists given (slice_index_or assigned k d) ≡ true
+
+-- what is on the trail stands on these literals: they are all there, and what is there besides has a reason
+pub record Underlies (given : List Lit) (s : State) : Type 0 where
+  pub all : HasAll given s.assigned
+  pub others : AreGiven s.assigned s.reasons given
 
 -- the first literals of a trail, told as steps from what is given: those that are not given themselves
 pub record IsTold (constraints : List NormalConstraint) (given trail : List Lit) (steps : List Step) : Type 0 where

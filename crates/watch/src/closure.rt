@@ -8,18 +8,20 @@
 //! that. Its place stays empty, and its entries in the lists of literals stay and cost a little, until the places are
 //! made anew.
 
-ghost use Rattle.std.specs.Prelude.{◌≡◌, ◌↔◌, ◌<◌, ◌++◌, ◌∷◌, [], All, IfOk};
+ghost use Rattle.std.specs.Prelude.{◌≡◌, ◌↔◌, ◌<◌, ◌++◌, ◌∷◌, [], ℕ, List, All, IfOk};
 ghost use Rattle.std.specs.Prelude.{IsTrue, None, OnErr, OnOk, Some, length, slice_index_or, slice_set};
 ghost use Rattle.std.specs.Option.{option_copied};
 ghost use Rattle.propagate.specs.Chain.{IsRefuted};
+ghost use Rattle.propagate.specs.Content.{AreDecided, AreTaken};
 ghost use Rattle.propagate.specs.Literals.{IsConsistent};
 ghost use Rattle.propagate.specs.Reach.{IsReach};
 ghost use Rattle.ledger.specs.Ledgers.{constraint_at, shown};
 ghost use Rattle.ledger.specs.Entered.{AreEntriesOf, all_of};
-ghost use Rattle.watch.specs.Steps.{IsFound, IsFoundOfLast};
+ghost use Rattle.watch.specs.Named.{AreNamed, content_at};
+ghost use Rattle.watch.specs.Steps.{IsFound};
 
 use super::chain::Chain;
-use super::continuing::chain_of_last;
+use super::continuing::traces_of_each;
 use super::extension::reach_over;
 use super::extras::attach_waiting;
 use super::following::go_back;
@@ -30,7 +32,7 @@ use super::tracing::chain_over;
 use ledger::{Entries, Ledger, Queue};
 use linear::Lit;
 use normal_form::Normal;
-use propagate::Reach;
+use propagate::{Decided, Id, Reach};
 use std::alloc::{AllocError, Global};
 use std::marker::Model;
 
@@ -160,19 +162,31 @@ impl Closure {
         )
     }
 
-    /// The same for an assignment and one literal more, where what follows from the assignment alone may be left out.
-    pub(crate) fn trace_last(&mut self, before: &[Lit], last: Lit) -> Result<Chain, AllocError>
-        requires { IsConsistent (before.now ++ last ∷ []) }
+    /// Traces of literals that are decided behind an assignment, told by the ids of places, where what follows from the assignment alone may be
+    /// left out.
+    pub(crate) fn trace_each(
+        &mut self,
+        before: &[Lit],
+        first: Lit,
+        more: &[Lit],
+        ids: &[Id],
+    ) -> Result<Vec<Decided>, AllocError>
+        requires consistent { IsConsistent (before.now ++ first ∷ []) }
+        requires ids { length ids.now ≡ length self.old }
         ensures slots { self.new ≡ self.old }
-        ensures value { IfOk result (IsFoundOfLast (shown self.old) before.now last) }
+        ensures decided { IfOk result (λ v. (places : List (ℕ × ℕ)) → AreNamed places ids.now self.old
+            → AreDecided (content_at self.old places) before.now v.items) }
+        ensures taken { IfOk result (λ v. AreTaken first more.now v.items) }
     {
-        chain_of_last(
+        traces_of_each(
             self.alloc,
             &mut self.ledger,
             &mut self.queue,
             &mut self.levels,
             before,
-            last,
+            first,
+            more,
+            ids,
         )
     }
 }

@@ -8,7 +8,7 @@ ghost use Rattle.std.specs.Prelude.{◌≡◌, ◌↔◌, ◌++◌, ◌∷◌, [
 ghost use Rattle.std.specs.FinMap as map;
 ghost use Rattle.std.specs.Option.{option_copied};
 ghost use Rattle.propagate.specs.Chain.{IsRefuted};
-ghost use Rattle.propagate.specs.Content.{HasLiteral, IsLeastAbove, IsTrace, IsTraceOfLast};
+ghost use Rattle.propagate.specs.Content.{AreDecided, AreTaken, HasLiteral, IsLeastAbove, IsTrace};
 ghost use Rattle.propagate.specs.Literals.{IsConsistent};
 ghost use Rattle.propagate.specs.Reach.{IsReach};
 ghost use Rattle.watch.specs.Lent.{IsEachOnce};
@@ -19,7 +19,7 @@ use super::naming::trace_of;
 use super::places::Places;
 use linear::Lit;
 use normal_form::Normal;
-use propagate::{Id, Reach, Trace};
+use propagate::{Decided, Id, Reach, Trace};
 use std::alloc::{AllocError, Global};
 use std::marker::Model;
 
@@ -196,14 +196,21 @@ impl Database {
         trace_of(self.alloc, chain, self.ids.as_slice())
     }
 
-    /// The same for an assignment and one literal more, where what follows from the assignment alone may be left out.
-    pub(crate) fn trace_last(&mut self, before: &[Lit], last: Lit) -> Result<Trace, AllocError>
-        requires { IsConsistent (before.now ++ last ∷ []) }
+    /// The same for literals that are decided one after another behind an assignment, where what follows from the assignment alone may be left
+    /// out.
+    pub(crate) fn trace_each(
+        &mut self,
+        before: &[Lit],
+        first: Lit,
+        more: &[Lit],
+    ) -> Result<Vec<Decided>, AllocError>
+        requires { IsConsistent (before.now ++ first ∷ []) }
         ensures content { self.new ≡ self.old }
-        ensures value { IfOk result (IsTraceOfLast self.old before.now last) }
+        ensures decided { IfOk result (λ v. AreDecided self.old before.now v.items) }
+        ensures taken { IfOk result (λ v. AreTaken first more.now v.items) }
     {
-        let chain = self.closure.trace_last(before, last)?;
-        trace_of(self.alloc, chain, self.ids.as_slice())
+        self.closure
+            .trace_each(before, first, more, self.ids.as_slice())
     }
 
     /// The least id above another that has a constraint.

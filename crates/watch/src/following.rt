@@ -149,6 +149,7 @@ pub(crate) fn decide(
     requires unset { lists ledger.old.assigned literal ≡ false }
     requires opposite_unset { lists ledger.old.assigned (opposite literal) ≡ false }
     ensures slots { ledger.new.slots ≡ ledger.old.slots }
+    ensures variables { ledger.new.variables ≡ ledger.old.variables }
     ensures kept { IsKept ledger.new levels.new queue.new.0 queue.new.1 }
     ensures decided { OnOk result (IsDecided ledger.old ledger.new literal) }
     ensures falsified { IfOk result (λ a. IsFixpointOrFalsified (shown ledger.old.slots) ledger.new.assigned (falsified_place a)) }

@@ -8,7 +8,7 @@ use super::database::Database;
 use super::lending::Occurrences;
 use linear::Lit;
 use normal_form::Normal;
-use propagate::{Id, Ids, Propagator, Reach, Trace};
+use propagate::{Decided, Id, Ids, Propagator, Reach, Trace};
 use std::alloc::{AllocError, Global};
 use std::marker::Model;
 
@@ -91,7 +91,12 @@ impl Propagator for WatchPropagator {
         self.database.trace(given)
     }
 
-    fn trace_last(&mut self, before: &[Lit], last: Lit) -> Result<Trace, AllocError> {
-        self.database.trace_last(before, last)
+    fn trace_each(
+        &mut self,
+        before: &[Lit],
+        first: Lit,
+        more: &[Lit],
+    ) -> Result<Vec<Decided>, AllocError> {
+        self.database.trace_each(before, first, more)
     }
 }
