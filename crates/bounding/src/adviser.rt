@@ -119,6 +119,15 @@ fn relaxation_of(alloc: Global, problem: &Problem, count: usize) -> Result<Relax
     Ok(relaxation)
 }
 
+/// What it takes to go over so many terms once for each row and each variable; nothing without an objective, where no bound is looked for.
+fn pass_of(problem: &Problem, sources: &Sources, terms: usize) -> u64 {
+    if problem.objective().is_none() {
+        return 0;
+    }
+    let lines = problem.names().len().saturating_add(sources.file_rows());
+    lines.saturating_mul(terms) as u64
+}
+
 impl Adviser {
     ghost use Rattle.std.specs.Prelude.{◌≤◌, IfOk, IfSome};
     ghost use Rattle.bounding.specs.Advice.{IsBorneOut, IsDerivable};
@@ -137,14 +146,15 @@ impl Adviser {
         }
         let mut relaxation = relaxation_of(alloc, problem, names)?;
         let mut sources = Sources::new(alloc);
-        if !sources.add_file(alloc, kernel, &mut relaxation, size.terms)? {
+        let Some(terms) = sources.add_file(alloc, kernel, &mut relaxation, size.terms)? else {
             return Ok(None);
-        }
+        };
+        let effort = Effort::new(pass_of(problem, &sources, terms));
         Ok(Some(Adviser {
             alloc,
             relaxation,
             sources,
-            effort: Effort::new(),
+            effort,
             rounds: Rounds::new(),
             cuts: Cuts::new(alloc, kernel, names)?,
             cut_rows: CutRows::new(alloc),

@@ -13,6 +13,7 @@ use super::clique_search::CliqueSearch;
 use super::cliques;
 use super::conflict_graph::ConflictGraph;
 use super::gomory::{self, Rounding, roundings};
+use super::single_rows::row_roundings;
 use super::sources::Sources;
 use super::violation::efficacy;
 use kernel::Kernel;
@@ -21,9 +22,10 @@ use normal_form::Normal;
 use proof_rules::StepFault;
 use proof_steps::Item;
 use propagate::Propagator;
-use relaxation::Relaxation;
+use relaxation::{Relaxation, Row};
 use std::alloc::{AllocError, Global};
 use std::collections::BTreeSet;
+use std::mem;
 
 /// How many cuts a round hands out.
 const MOST_CUTS: usize = 30;
@@ -40,10 +42,20 @@ const WORK_OF_TERM: usize = 10;
 /// How a cut is made.
 #[derive(Debug, Drop)]
 enum Recipe {
-    /// Rows are summed up and divided.
+    /// Rows are summed up and divided, or one is.
     Rounding(Rounding),
     /// At most one of some literals is true.
     Clique(Vec<Lit>),
+}
+
+impl Recipe {
+    /// The row that it is made of, where that is one alone.
+    fn only_row(&self) -> Option<Row> {
+        match self {
+            Recipe::Rounding(rounding) => rounding.only_row(),
+            Recipe::Clique(_) => None,
+        }
+    }
 }
 
 /// A cut that waits.
@@ -129,9 +141,25 @@ impl Cuts {
         }
         self.waiting
             .sort_by_key(|candidate| u128::MAX.saturating_sub(candidate.efficacy))?;
-        self.waiting.truncate(MOST_CUTS);
+        self.keep_best()?;
         self.waiting.reverse();
         Ok(done)
+    }
+
+    /// Keeps the first cuts that wait, and one of each row: those that are made of one row alone are much the same.
+    fn keep_best(&mut self) -> Result<(), AllocError> {
+        let mut rows = BTreeSet::new(self.alloc);
+        let sorted = mem::replace(&mut self.waiting, Vec::new(self.alloc));
+        for candidate in sorted {
+            let is_fresh = match candidate.recipe.only_row() {
+                Some(row) => rows.insert(row.0)?,
+                None => true,
+            };
+            if is_fresh && self.waiting.len() < MOST_CUTS {
+                self.waiting.push(candidate)?;
+            }
+        }
+        Ok(())
     }
 
     /// All that the point suggests.
@@ -141,6 +169,9 @@ impl Cuts {
         point: Point<'_>,
     ) -> Result<Vec<Recipe>, AllocError> {
         let mut recipes = self.clique_recipes(kernel, point)?;
+        for rounding in row_roundings(self.alloc, kernel, point.sources, point.relaxation)? {
+            recipes.push(Recipe::Rounding(rounding))?;
+        }
         for rounding in roundings(self.alloc, point.relaxation)? {
             recipes.push(Recipe::Rounding(rounding))?;
         }

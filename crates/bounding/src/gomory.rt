@@ -20,7 +20,7 @@ use normal_form::{Normal, NormalTerm};
 use proof_rules::StepFault;
 use proof_steps::Item;
 use propagate::Propagator;
-use relaxation::{Fixed, FractionalMultiplier, Relaxation, Source, WholeMultiplier};
+use relaxation::{Fixed, FractionalMultiplier, Relaxation, Row, Source, WholeMultiplier};
 use std::alloc::{AllocError, Global};
 
 /// Up to this denominators are tried out.
@@ -49,6 +49,33 @@ const FRACTIONAL: i64 = 2_061_584_302;
 pub(crate) struct Rounding {
     multipliers: Vec<WholeMultiplier>,
     divisor: u64,
+}
+
+impl Rounding {
+    /// A row that is divided by a number.
+    pub(crate) fn of_row(alloc: Global, row: Row, divisor: u64) -> Result<Self, AllocError> {
+        let multiplier = WholeMultiplier {
+            source: Source::Row(row),
+            factor: 1,
+        };
+        Ok(Rounding {
+            multipliers: vec![in alloc; multiplier; 1]?,
+            divisor,
+        })
+    }
+
+    /// The row, where there is one alone.
+    pub(crate) fn only_row(&self) -> Option<Row> {
+        match self.multipliers.as_slice() {
+            [
+                WholeMultiplier {
+                    source: Source::Row(row),
+                    factor: _,
+                },
+            ] => Some(*row),
+            _ => None,
+        }
+    }
 }
 
 /// A basic variable that is not whole.

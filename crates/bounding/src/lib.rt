@@ -14,8 +14,9 @@
 //! multipliers over `line`, which writes and runs it at once, and `judgement` looks at the sum under the literals of `standing`.
 //!
 //! At the root it also hands out cuts: constraints that follow in whole numbers, and that the best point of the relaxation violates. `rounds` says
-//! how long, `cuts` has those of a round, which `gomory` makes of rows of the tableau and `cliques` of pairs of literals that exclude
-//! each other (`conflict_graph`, `clique_search`); `violation` says what one is worth, and `cut_rows` keeps those that became rows.
+//! how long, `cuts` has those of a round, which `gomory` makes of rows of the tableau, `single_rows` of one row alone, and `cliques` of pairs of
+//! literals that exclude each other (`conflict_graph`, `clique_search`); `violation` says what one is worth, and `cut_rows` keeps those that
+//! became rows.
 #![tactic(auto)]
 
 mod advice;
@@ -30,6 +31,7 @@ mod gomory;
 mod judgement;
 mod line;
 mod rounds;
+mod single_rows;
 mod sources;
 mod standing;
 mod summing;

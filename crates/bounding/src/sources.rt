@@ -34,6 +34,8 @@ pub(crate) struct Cited {
 #[derive(Debug, Drop)]
 pub(crate) struct Sources {
     rows: Vec<Id>,
+    /// How many of them, the first ones, are constraints of the file.
+    file_rows: usize,
     improving: Option<Improving>,
 }
 
@@ -88,32 +90,34 @@ impl Sources {
     pub(crate) fn new(alloc: Global) -> Self {
         Sources {
             rows: Vec::new(alloc),
+            file_rows: 0,
             improving: None,
         }
     }
 
-    /// Adds the rows of the file's constraints; whether these have at most so many terms together.
+    /// Adds the rows of the file's constraints; how many terms these have together, if they are at most so many.
     pub(crate) fn add_file<'a, P: Propagator>(
         &mut self,
         alloc: Global,
         kernel: &Kernel<'a, P>,
         relaxation: &mut Relaxation,
         most_terms: usize,
-    ) -> Result<bool, AllocError> {
+    ) -> Result<Option<usize>, AllocError> {
         let mut left = most_terms;
         for number in 0..kernel.problem_ids() {
             let Ok(id) = Id::try_from(number.saturating_add(1)) else {
-                return Ok(false);
+                return Ok(None);
             };
             if let Some(constraint) = kernel.constraint(id) {
                 let Some(rest) = left.checked_sub(constraint.len()) else {
-                    return Ok(false);
+                    return Ok(None);
                 };
                 left = rest;
                 self.add_row(alloc, relaxation, id, constraint)?;
             }
         }
-        Ok(true)
+        self.file_rows = self.rows.len();
+        Ok(Some(most_terms.saturating_sub(left)))
     }
 
     /// Adds the row of a constraint, unless that holds everywhere.
@@ -183,6 +187,21 @@ impl Sources {
             }
             None => None,
         }
+    }
+
+    /// How many rows are constraints of the file: the first ones.
+    pub(crate) fn file_rows(&self) -> usize {
+        self.file_rows
+    }
+
+    /// The constraint of a row.
+    pub(crate) fn constraint<'k, 'a, P: Propagator>(
+        &self,
+        kernel: &'k Kernel<'a, P>,
+        row: Row,
+    ) -> Option<&'k Normal> {
+        let id = self.rows.get(row.0)?;
+        kernel.constraint(*id)
     }
 
     /// The constraint that a multiplier belongs to.
