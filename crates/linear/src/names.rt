@@ -15,6 +15,7 @@ ghost use Rattle.pb_text.specs.Name.{is_name};
 use super::short_names::ShortNames;
 use super::term::Var;
 use indexmap::IndexSet;
+use pb_text::{Literal, Said};
 use std::alloc::{AllocError, Global};
 use std::marker::Model;
 
@@ -134,17 +135,40 @@ impl Names {
         Ok(Some(var))
     }
 
+    /// The variable of the name in a literal, as `intern_within` gives it.
+    #[inline(always)]
+    pub fn intern_literal(
+        &mut self,
+        literal: Literal<'_>,
+        most: usize,
+    ) -> Result<Option<Var>, AllocError>
+        requires room { most ≤ most_names }
+        ensures cases { IfOk result (λ found. MatchOption found
+            (IsFullFor self.old most literal.entry.name.now)
+            (λ v. v.0 ≡ place_of self.old literal.entry.name.now)) }
+        ensures some { IfOk result (λ found. IfSome found (λ _. self.new ≡ with_name self.old literal.entry.name.now)) }
+        ensures few { length self.old ≤ most → length self.new ≤ most }
+        ensures table { IsTable self.new }
+        ensures none { IfOk result (λ found. found ≡ None → self.new ≡ self.old) }
+        ensures err { OnErr result (self.new ≡ self.old) }
+    {
+        match literal.said {
+            Said::Short(number) => self.intern_short(literal.name, number, most),
+            Said::Number(_) | Said::Nothing => self.intern_within(literal.name, most),
+        }
+    }
+
     /// The variable of a short name whose number is known, as `intern_within` gives it: where the table has the name, its bytes
     /// are not looked at.
     #[inline(always)]
-    pub fn intern_short(
+    fn intern_short(
         &mut self,
         name: &[u8],
         number: usize,
         most: usize,
     ) -> Result<Option<Var>, AllocError>
         requires spelled { is_name name.now ≡ true }
-        requires short { IsShort name.now number }
+        requires short { ∥ IsShort name.now number ∥₁ }
         requires room { most ≤ most_names }
         ensures cases { IfOk result (λ found. MatchOption found
             (IsFullFor self.old most name.now)
@@ -164,7 +188,7 @@ impl Names {
     /// The variable of a short name, where its place is kept by its number.
     #[inline(always)]
     fn find_short(&self, name: &[u8], number: usize) -> Option<Var>
-        requires { IsShort name.now number }
+        requires { ∥ IsShort name.now number ∥₁ }
         ensures found { IfSome result (λ v. (has_name self.now name.now ≡ true) × (v.0 ≡ place_of self.now name.now)) }
         ensures table { IsTable self.now }
     {

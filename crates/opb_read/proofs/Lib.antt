@@ -1,6 +1,5 @@
 pub mod NumbersOfNames
 pub mod CasesOfCodes
-pub mod SizeOfValue
 pub mod ReadAsWritten
 pub mod Spelled
 pub mod Passing

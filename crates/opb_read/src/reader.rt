@@ -10,7 +10,6 @@ ghost use Rattle.std.specs.Prelude.{◌≡◌, ◌+◌, ◌<◌, ◌≤◌, ◌�
 ghost use Rattle.linear.specs.Limits.{largest_integer, most_constraints, most_terms, most_variables};
 ghost use Rattle.pb_text.specs.Lexeme.{lexemes};
 ghost use Rattle.pb_text.specs.Number.{integer_value};
-ghost use Rattle.pb_text.specs.Said.{Says};
 ghost use Rattle.pb_text.specs.Token.{lexeme_of};
 ghost use Rattle.opb_read.specs.Kinds.{begins_objective, relation_at, statements_of};
 ghost use Rattle.opb_read.specs.Progress.{HoldsLimits, IsLargeCode, IsOneTooMany, Reaches, Refuses, Step, StopsAt, closed, start_of, with_coefficient, with_relation, with_right, with_term, without_terms};
@@ -24,7 +23,7 @@ use super::mark::begins_objective;
 use super::spot::Spot;
 use super::variables::Variables;
 use linear::{LARGEST_INTEGER, MOST_CONSTRAINTS, MOST_TERMS, Relation, Seq, Signed, Term};
-use pb_text::{Found, Kind, Lookahead, Said, Symbol, Token, Tokens, as_literal, integer};
+use pb_text::{Found, Kind, Lookahead, Symbol, Token, Tokens, as_literal, integer};
 use std::alloc::Global;
 
 /// Where reading has come to. At a fault, the token that has it stands next.
@@ -99,25 +98,20 @@ impl<'a> Reader<'a> {
     fn pass(&mut self, alloc: Global, found: Found<'a>) -> Result<(), OpbCode>
         requires next { self.old.left ≡ lexeme_of found.token ∷ drop 1 self.old.left }
         requires behind { found.behind ≡ drop 1 self.old.left }
-        requires says { Says found.said found.token.text.now }
         requires holds { HoldsLimits (progress_of self.old) }
         ensures step { OnOk result (Step (progress_of self.old) (lexeme_of found.entry.token) (progress_of self.new)) }
         ensures left { OnOk result (self.new.left ≡ drop 1 self.old.left) }
         ensures stays { OnErr result (self.new.left ≡ self.old.left) }
         ensures refuses { IfErr result (λ code. Refuses code (progress_of self.old) self.old.left) }
     {
-        let Found {
-            token,
-            said,
-            behind,
-        } = found;
+        let Found { token, behind } = found;
         let Some(next) = self.spot.next(token.kind) else {
             return Err(self.fault());
         };
         if next.is_in_constraint() && self.constraints.len() >= MOST_CONSTRAINTS {
             return Err(OpbCode::TooMany);
         }
-        self.take(alloc, token, said, next)?;
+        self.take(alloc, token, next)?;
         self.spot = next;
         self.left = behind;
         Ok(())
@@ -125,15 +119,8 @@ impl<'a> Reader<'a> {
 
     /// What the token that stands next says, where it leads to this spot.
     #[inline(always)]
-    fn take(
-        &mut self,
-        alloc: Global,
-        token: Token<'a>,
-        said: Said,
-        next: Spot,
-    ) -> Result<(), OpbCode>
+    fn take(&mut self, alloc: Global, token: Token<'a>, next: Spot) -> Result<(), OpbCode>
         requires next { self.old.left ≡ lexeme_of token ∷ drop 1 self.old.left }
-        requires says { Says said token.text.now }
         requires stands { next_spot self.old.spot token.kind ≡ Some next }
         requires holds { HoldsLimits (progress_of self.old) }
         requires room { length self.old.constraints.items + begun next ≤ most_constraints }
@@ -142,15 +129,15 @@ impl<'a> Reader<'a> {
         ensures refuses { IfErr result (λ code. Refuses code (progress_of self.old) self.old.left) }
     {
         match next {
-            Spot::Coefficient => self.take_coefficient(token, said),
-            Spot::ObjectiveCoefficient => self.take_coefficient(token, said),
-            Spot::Literal => self.take_literal(token, said),
-            Spot::ObjectiveLiteral => self.take_literal(token, said),
+            Spot::Coefficient => self.take_coefficient(token),
+            Spot::ObjectiveCoefficient => self.take_coefficient(token),
+            Spot::Literal => self.take_literal(token),
+            Spot::ObjectiveLiteral => self.take_literal(token),
             Spot::Relation => {
                 self.take_relation(token.kind);
                 Ok(())
             }
-            Spot::RightSide => self.take_right(token, said),
+            Spot::RightSide => self.take_right(token),
             Spot::Start => self.close(alloc),
             // The mark alone leads there, and `new` has passed it.
             Spot::ObjectiveMark => Err(OpbCode::BadToken),
@@ -161,28 +148,26 @@ impl<'a> Reader<'a> {
 /// What each token says.
 impl<'a> Reader<'a> {
     #[inline(always)]
-    fn take_coefficient(&mut self, token: Token<'a>, said: Said) -> Result<(), OpbCode>
+    fn take_coefficient(&mut self, token: Token<'a>) -> Result<(), OpbCode>
         requires integer { token.kind ≡ Kind.Integer }
-        requires says { Says said token.text.now }
         ensures moves { OnOk result (progress_of self.new ≡ with_coefficient (progress_of self.old) token.entry.text.now) }
         ensures small { OnOk result (unsigned_abs (integer_value token.entry.text.now) ≤ largest_integer) }
         ensures left { self.new.left ≡ self.old.left }
         ensures large { IfErr result (IsLargeCode token.entry.text.now) }
     {
-        self.coefficient = file_integer(token, said)?;
+        self.coefficient = file_integer(token)?;
         Ok(())
     }
 
     #[inline(always)]
-    fn take_right(&mut self, token: Token<'a>, said: Said) -> Result<(), OpbCode>
+    fn take_right(&mut self, token: Token<'a>) -> Result<(), OpbCode>
         requires integer { token.kind ≡ Kind.Integer }
-        requires says { Says said token.text.now }
         ensures moves { OnOk result (progress_of self.new ≡ with_right (progress_of self.old) token.entry.text.now) }
         ensures small { OnOk result (unsigned_abs (integer_value token.entry.text.now) ≤ largest_integer) }
         ensures left { self.new.left ≡ self.old.left }
         ensures large { IfErr result (IsLargeCode token.entry.text.now) }
     {
-        self.right = file_integer(token, said)?;
+        self.right = file_integer(token)?;
         Ok(())
     }
 
@@ -198,9 +183,8 @@ impl<'a> Reader<'a> {
     }
 
     #[inline(always)]
-    fn take_literal(&mut self, token: Token<'a>, said: Said) -> Result<(), OpbCode>
+    fn take_literal(&mut self, token: Token<'a>) -> Result<(), OpbCode>
         requires literal { token.kind ≡ Kind.Literal }
-        requires says { Says said token.text.now }
         ensures moves { OnOk result (progress_of self.new ≡ with_term (progress_of self.old) token.entry.text.now) }
         ensures names { OnOk result (length self.new.variables ≤ most_variables) }
         ensures terms { OnOk result (length self.new.terms.items ≤ most_terms) }
@@ -213,7 +197,7 @@ impl<'a> Reader<'a> {
         if self.terms.len() >= MOST_TERMS {
             return Err(OpbCode::TooMany);
         }
-        let var = self.variables.number(literal.name, said)?;
+        let var = self.variables.number(literal)?;
         let term = Term {
             coef: self.coefficient,
             var,
@@ -275,18 +259,14 @@ fn pass_mark(left: &mut Tokens<'_>) -> Spot
     Spot::ObjectiveMark
 }
 
-/// The number of an integer token, where it is at most 2^90 in size; one of few digits was read while it was cut.
+/// The number of an integer token, where it is at most 2^90 in size.
 #[inline(always)]
-fn file_integer(token: Token<'_>, said: Said) -> Result<i128, OpbCode>
+fn file_integer(token: Token<'_>) -> Result<i128, OpbCode>
     requires integer { token.kind ≡ Kind.Integer }
-    requires says { Says said token.text.now }
     ensures value { IfOk result (λ n. n ≡ integer_value token.entry.text.now) }
     ensures small { OnOk result (unsigned_abs (integer_value token.entry.text.now) ≤ largest_integer) }
     ensures large { IfErr result (IsLargeCode token.entry.text.now) }
 {
-    if let Said::Number(number) = said {
-        return Ok(i128::from(number));
-    }
     let Ok(number) = integer(token) else {
         return Err(OpbCode::IntegerTooLarge);
     };

@@ -2,6 +2,7 @@ pub mod Cutting
 pub mod Comment
 pub mod KindTests
 pub mod Digits
+pub mod SizeOfValue
 pub mod Positions
 pub mod FirstToken
 pub mod BytesRead

@@ -1,9 +1,8 @@
-//! The tokens that are left of a text, with the next two in sight.
+//! The tokens that are left of a text, with the next one in sight.
 //!
-//! Both grammars are read from left to right, and two tokens decide everywhere: in the OPB format (Roussel and Manquinho)
-//! `min` begins an objective only where `:` follows; in the VeriPB proof format an integer belongs to the `*` or `d` behind
-//! it, and a name to the `w`. So nothing is ever read twice, and a reader's contract speaks of one list, the tokens ahead.
-//! The two are kept as tokens, so that each is cut and classified once.
+//! Both grammars are read from left to right, and nearly everywhere the next token decides: it is kept, so that it is cut and looked at
+//! once however often it is asked for. The one behind it decides seldom, and is cut anew where it does: in the OPB format (Roussel and
+//! Manquinho) `min` begins an objective only where `:` follows, and a `;` may close a line of a proof only where nothing does.
 
 ghost use Rattle.std.specs.Prelude.{◌≡◌};
 
@@ -12,11 +11,10 @@ use super::token::Token;
 use super::tokens::{Tokens, end_line};
 use std::marker::Model;
 
-/// The tokens that are left, of which the next two can be seen.
+/// The tokens that are left, of which the next one is at hand.
 #[derive(Drop)]
 pub struct Lookahead<'a> {
     next: Option<Token<'a>>,
-    after: Option<Token<'a>>,
     rest: Tokens<'a>,
 }
 
@@ -27,9 +25,9 @@ impl<'a> Model for Lookahead<'a> {
 
     ghost Value = { List Lexeme };
 
-    ghost view = { λ l. onto l.next (onto l.after l.rest) };
+    ghost view = { λ l. onto l.next l.rest };
 
-    ghost invariant = { λ l. (l.next ≡ None → l.after ≡ None) × (l.after ≡ None → l.rest ≡ []) };
+    ghost invariant = { λ l. l.next ≡ None → l.rest ≡ [] };
 }
 
 impl<'a> Lookahead<'a> {
@@ -51,8 +49,7 @@ impl<'a> Lookahead<'a> {
     {
         let mut rest = tokens.again();
         let next = rest.next();
-        let after = rest.next();
-        Lookahead { next, after, rest }
+        Lookahead { next, rest }
     }
 
     /// The next token; `None` at the end.
@@ -62,11 +59,11 @@ impl<'a> Lookahead<'a> {
         self.next
     }
 
-    /// The token behind the next one.
+    /// The token behind the next one, which is cut for each time that it is asked for.
     pub fn after(&self) -> Option<Token<'a>>
         ensures { MatchOption result (drop 1 self.now ≡ []) (λ t. drop 1 self.now ≡ lexeme_of t ∷ drop 2 self.now) }
     {
-        self.after
+        self.rest.again().next()
     }
 
     /// The kind of the next token; `None` at the end.
@@ -105,8 +102,7 @@ impl<'a> Lookahead<'a> {
     pub fn advance(&mut self)
         ensures { self.new ≡ drop 1 self.old }
     {
-        self.next = self.after;
-        self.after = self.rest.next();
+        self.next = self.rest.next();
     }
 
     /// Passes the next token, and gives it; `None` at the end.

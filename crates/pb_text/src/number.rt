@@ -12,6 +12,7 @@ ghost use Rattle.pb_text.specs.Number.{digits_value, integer_size, integer_value
 ghost use Rattle.pb_text.specs.Word.{without_sign};
 
 use super::kind::Kind;
+use super::said::Said;
 use super::token::Token;
 
 /// Why a token gives no number.
@@ -66,6 +67,8 @@ fn long_size(digits: &[u8]) -> Option<u128>
 }
 
 /// The number that digits write, where it is at most 2^120.
+// Seldom asked for: integers of few digits are read while they are cut.
+#[inline(never)]
 fn size_of_digits(digits: &[u8]) -> Option<u128>
     requires { list_all is_digit digits.now ≡ true }
     ensures { SomeIff result (digits_value digits.now ≤ largest_number) (digits_value digits.now) }
@@ -98,11 +101,12 @@ fn signed(text: &[u8], size: u128) -> i128
 }
 
 /// The number of an integer token: `+`, `-` or no sign, then digits in decimal; leading zeros count nothing, and `-0`
-/// is 0. A number of any length is read; its size may be at most 2^120.
+/// is 0. A number of any length is read; its size may be at most 2^120. One of few digits was read while it was cut.
 ///
 /// Errors: `NotNumber` exactly where the token is no integer, `NumberTooLarge` exactly where it is one above 2^120 in
 /// size.
 #[tactic(auto, using(crate::proofs::KindTests::integer_digits), unfolding(crate::specs::Number::integer_size, crate::specs::Number::integer_value))]
+#[inline(always)]
 pub fn integer(t: Token<'_>) -> Result<i128, NumFault>
     ensures value { IfOk result (λ n. n ≡ integer_value t.entry.text.now) }
     ensures ok { IfOk result (λ _. (t.entry.kind ≡ Kind.Integer) × (integer_size t.entry.text.now ≤ largest_number)) }
@@ -113,6 +117,9 @@ pub fn integer(t: Token<'_>) -> Result<i128, NumFault>
     let Kind::Integer = t.kind else {
         return Err(NumFault::NotNumber);
     };
+    if let Said::Number(number) = t.said {
+        return Ok(i128::from(number));
+    }
     match size_of_digits(digits_of(t.text)) {
         Some(size) => Ok(signed(t.text, size)),
         None => Err(NumFault::NumberTooLarge),

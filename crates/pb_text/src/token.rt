@@ -3,9 +3,11 @@
 ghost use Rattle.std.specs.Prelude.{◌≡◌, ◌≢◌, true, MatchOption};
 ghost use Rattle.pb_text.specs.Lexeme as lexeme;
 ghost use Rattle.pb_text.specs.Name as names;
+ghost use Rattle.pb_text.specs.Said.{Says, SaysName};
 ghost use Rattle.pb_text.specs.Word.{is_literal, is_negated, name_of};
 
 use super::kind::Kind;
+use super::said::Said;
 
 /// A word, a symbol or a stray byte of a text.
 #[derive(Clone, Copy, Debug)]
@@ -18,7 +20,10 @@ pub struct Token<'a> {
     pub start: usize,
     /// Its bytes: the slice of the text from `start` on.
     pub text: &'a [u8],
+    /// What was read of it while it was cut.
+    pub said: Said,
     pub ghost kind_is: { kind ≡ lexeme.kind_of text.now },
+    pub ghost says: { ∥ Says said text.now ∥₁ },
 }
 
 /// A variable's name, or its opposite.
@@ -28,12 +33,16 @@ pub struct Literal<'a> {
     pub negated: bool,
     /// The name: a letter or `_`, and then one or more letters, digits and `_ [ ] { } ^ -`.
     pub name: &'a [u8],
+    /// What was read of it while it was cut.
+    pub said: Said,
     pub ghost name_is: { names.is_name name.now ≡ true },
+    pub ghost says: { ∥ SaysName said name.now ∥₁ },
 }
 
 #[tactic(auto, unfolding(crate::specs::Word::is_literal))]
-fn literal_word(text: &[u8]) -> Literal<'_>
-    requires { is_literal text.now ≡ true }
+fn literal_word(text: &[u8], said: Said) -> Literal<'_>
+    requires literal { is_literal text.now ≡ true }
+    requires says { ∥ Says said text.now ∥₁ }
     ensures negated { result.negated ≡ is_negated text.now }
     ensures name { result.name.now ≡ name_of text.now }
 {
@@ -41,10 +50,12 @@ fn literal_word(text: &[u8]) -> Literal<'_>
         [b'~', name @ ..] => Literal {
             negated: true,
             name,
+            said,
         },
         name => Literal {
             negated: false,
             name,
+            said,
         },
     }
 }
@@ -59,5 +70,5 @@ pub fn as_literal(t: Token<'_>) -> Option<Literal<'_>>
     let Kind::Literal = t.kind else {
         return None;
     };
-    Some(literal_word(t.text))
+    Some(literal_word(t.text, t.said))
 }

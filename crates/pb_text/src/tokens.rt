@@ -5,7 +5,6 @@ ghost use Rattle.std.specs.Prelude.{◌≡◌, length};
 ghost use Rattle.pb_text.specs.Span.{line_of};
 
 use super::cursor::past_gaps;
-use super::said::Said;
 use super::scan::first_token;
 use super::spot::{Cursor, Spot};
 use super::token::Token;
@@ -30,7 +29,6 @@ impl<'a> Model for Tokens<'a> {
 impl<'a> Tokens<'a> {
     ghost use Rattle.std.specs.Prelude.{◌≡◌, [], ◌∷◌, drop, IfSome, MatchOption};
     ghost use Rattle.pb_text.specs.Lexeme.{lexemes, kind_of};
-    ghost use Rattle.pb_text.specs.Said.{Says};
     ghost use Rattle.pb_text.specs.Token.{lexeme_of};
 
     /// All tokens of a text.
@@ -53,13 +51,12 @@ impl<'a> Tokens<'a> {
         }
     }
 
-    /// The next token, what was read of it on the way, and the tokens behind it; `None` at the end of the text.
+    /// The next token, and the tokens behind it; `None` at the end of the text.
     #[tactic(auto, using(crate::proofs::Cutting::end_empty))]
     #[inline(always)]
     pub fn peek(&self) -> Option<Found<'a>>
         ensures tokens { MatchOption result (self.now ≡ []) (λ f. self.now ≡ lexeme_of f.token ∷ drop 1 self.now) }
         ensures behind { IfSome result (λ f. f.behind ≡ drop 1 self.now) }
-        ensures says { IfSome result (λ f. Says f.said f.token.text.now) }
     {
         let here = past_gaps(self.at);
         let found = first_token(here.rest)?;
@@ -69,6 +66,7 @@ impl<'a> Tokens<'a> {
             line: here.breaks + 1,
             start: here.start,
             text,
+            said: found.said,
         };
         let at = Cursor {
             rest,
@@ -78,7 +76,6 @@ impl<'a> Tokens<'a> {
         };
         Some(Found {
             token,
-            said: found.said,
             behind: Tokens { at },
         })
     }
@@ -91,11 +88,7 @@ impl<'a> Tokens<'a> {
         ensures tokens { MatchOption result ((self.old ≡ []) × (self.new ≡ [])) (λ t. self.old ≡ lexeme_of t ∷ self.new) }
         ensures kind { MatchOption result (Unit {0}) (λ t. t.kind ≡ kind_of t.text.now) }
     {
-        let Found {
-            token,
-            said: _,
-            behind,
-        } = self.peek()?;
+        let Found { token, behind } = self.peek()?;
         *self = behind;
         Some(token)
     }
@@ -119,8 +112,6 @@ impl<'a> Tokens<'a> {
 #[derive(Drop)]
 pub struct Found<'a> {
     pub token: Token<'a>,
-    /// What was read of it while it was cut.
-    pub said: Said,
     /// The tokens behind it.
     pub behind: Tokens<'a>,
 }

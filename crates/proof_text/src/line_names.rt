@@ -58,7 +58,7 @@ impl LineNames {
         ensures err { OnErr result (self.new ≡ self.old) }
     {
         let negated = literal.negated;
-        let var = match self.names.intern_within(literal.name, MOST_NAMES)? {
+        let var = match self.names.intern_literal(literal, MOST_NAMES)? {
             Some(var) => var,
             None => {
                 self.full = true;

@@ -69,10 +69,11 @@ impl<'a> LineWords<'a> {
     pub(crate) fn is_empty(&self) -> bool
         ensures { result ≡ words.is_empty self.now }
     {
-        match (self.left.next(), self.left.after()) {
-            (None, _) => true,
-            (Some(token), None) => matches!(token.kind, Kind::Symbol(Symbol::Semicolon)),
-            _ => false,
+        match self.left.next() {
+            None => true,
+            Some(token) => {
+                matches!(token.kind, Kind::Symbol(Symbol::Semicolon)) && self.left.after().is_none()
+            }
         }
     }
 }
