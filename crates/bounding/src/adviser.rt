@@ -137,19 +137,21 @@ impl Adviser {
         }
         let mut relaxation = relaxation_of(alloc, problem, names)?;
         let mut sources = Sources::new(alloc);
-        if !sources.add_file(alloc, kernel, &mut relaxation, size.terms)? {
+        let Some(terms) = sources.add_file(alloc, kernel, &mut relaxation, size.terms)? else {
             return Ok(None);
-        }
+        };
+        let has_objective = problem.objective().is_some();
+        let priced_terms = if has_objective { terms as u64 } else { 0 };
         Ok(Some(Adviser {
             alloc,
             relaxation,
             sources,
-            effort: Effort::new(),
+            effort: Effort::new(priced_terms),
             rounds: Rounds::new(),
             cuts: Cuts::new(alloc, kernel, names)?,
             cut_rows: CutRows::new(alloc),
             count: names as u32,
-            has_objective: problem.objective().is_some(),
+            has_objective,
             fixed: Vec::new(alloc),
             leanings: Vec::new(alloc),
             bound: None,

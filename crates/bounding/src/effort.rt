@@ -39,8 +39,11 @@ const CALL_WORK: u64 = 100_000_000;
 /// How many steps a call at the root may take.
 const ROOT_STEPS: u32 = 1_000_000;
 
-/// How much the first call at the root may do.
+/// How much the first call at the root may do at least,
 const FIRST_ROOT_WORK: u64 = 8_000_000;
+
+/// and how much for each term that the rows have, where there is an objective: a search over many variables that knows no bound goes astray.
+const FIRST_ROOT_WORK_OF_TERM: u64 = 4_000;
 
 /// How much a search has done before any further call there: small problems are solved by then, in a fraction of what the rounds of cuts would
 /// take.
@@ -56,6 +59,8 @@ const CONFLICTS_BETWEEN_ROOTS: u64 = 200;
 #[derive(Clone, Copy, Debug)]
 pub(crate) struct Effort {
     share: u64,
+    /// How much the first call at the root may do.
+    first_root_work: u64,
     /// How much the calls at the root have done.
     at_root: u64,
     root_calls: u64,
@@ -63,10 +68,12 @@ pub(crate) struct Effort {
 }
 
 impl Effort {
-    /// Nothing was done yet.
-    pub(crate) fn new() -> Self {
+    /// Nothing was done yet, for rows of so many priced terms: none where there is no objective.
+    pub(crate) fn new(priced_terms: u64) -> Self {
+        let work = priced_terms.saturating_mul(FIRST_ROOT_WORK_OF_TERM);
         Effort {
             share: FIRST_SHARE,
+            first_root_work: work.max(FIRST_ROOT_WORK),
             at_root: 0,
             root_calls: 0,
             next_root: 0,
@@ -95,7 +102,7 @@ impl Effort {
     /// What a call at the root may do, where one is due.
     fn root_limits(&mut self, node: Node<'_>) -> Option<Limits> {
         let work = if self.root_calls == 0 {
-            FIRST_ROOT_WORK
+            self.first_root_work
         } else {
             if node.conflicts < self.next_root
                 || node.searched < SEARCHED_BEFORE

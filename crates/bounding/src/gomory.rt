@@ -20,7 +20,7 @@ use normal_form::{Normal, NormalTerm};
 use proof_rules::StepFault;
 use proof_steps::Item;
 use propagate::Propagator;
-use relaxation::{Fixed, FractionalMultiplier, Relaxation, Source, WholeMultiplier};
+use relaxation::{Fixed, FractionalMultiplier, Relaxation, Row, Source, WholeMultiplier};
 use std::alloc::{AllocError, Global};
 
 /// Up to this denominators are tried out.
@@ -49,6 +49,23 @@ const FRACTIONAL: i64 = 2_061_584_302;
 pub(crate) struct Rounding {
     multipliers: Vec<WholeMultiplier>,
     divisor: u64,
+}
+
+impl Rounding {
+    /// Rows, each once, whose sum is divided by a number.
+    pub(crate) fn of_rows(alloc: Global, rows: &[Row], divisor: u64) -> Result<Self, AllocError> {
+        let mut multipliers = Vec::with_capacity(alloc, rows.len())?;
+        for row in rows {
+            multipliers.push(WholeMultiplier {
+                source: Source::Row(*row),
+                factor: 1,
+            })?;
+        }
+        Ok(Rounding {
+            multipliers,
+            divisor,
+        })
+    }
 }
 
 /// A basic variable that is not whole.

@@ -92,28 +92,28 @@ impl Sources {
         }
     }
 
-    /// Adds the rows of the file's constraints; whether these have at most so many terms together.
+    /// Adds the rows of the file's constraints; how many terms these have together, if they are at most so many.
     pub(crate) fn add_file<'a, P: Propagator>(
         &mut self,
         alloc: Global,
         kernel: &Kernel<'a, P>,
         relaxation: &mut Relaxation,
         most_terms: usize,
-    ) -> Result<bool, AllocError> {
+    ) -> Result<Option<usize>, AllocError> {
         let mut left = most_terms;
         for number in 0..kernel.problem_ids() {
             let Ok(id) = Id::try_from(number.saturating_add(1)) else {
-                return Ok(false);
+                return Ok(None);
             };
             if let Some(constraint) = kernel.constraint(id) {
                 let Some(rest) = left.checked_sub(constraint.len()) else {
-                    return Ok(false);
+                    return Ok(None);
                 };
                 left = rest;
                 self.add_row(alloc, relaxation, id, constraint)?;
             }
         }
-        Ok(true)
+        Ok(Some(most_terms.saturating_sub(left)))
     }
 
     /// Adds the row of a constraint, unless that holds everywhere.
@@ -183,6 +183,21 @@ impl Sources {
             }
             None => None,
         }
+    }
+
+    /// How many rows there are, those that were taken out among them.
+    pub(crate) fn row_count(&self) -> usize {
+        self.rows.len()
+    }
+
+    /// The constraint of a row.
+    pub(crate) fn constraint<'k, 'a, P: Propagator>(
+        &self,
+        kernel: &'k Kernel<'a, P>,
+        row: Row,
+    ) -> Option<&'k Normal> {
+        let id = self.rows.get(row.0)?;
+        kernel.constraint(*id)
     }
 
     /// The constraint that a multiplier belongs to.
