@@ -141,12 +141,18 @@ impl Adviser {
             return Ok(None);
         };
         let has_objective = problem.objective().is_some();
-        let priced_terms = if has_objective { terms as u64 } else { 0 };
+        let pass = if has_objective {
+            names
+                .saturating_add(sources.file_rows())
+                .saturating_mul(terms) as u64
+        } else {
+            0
+        };
         Ok(Some(Adviser {
             alloc,
             relaxation,
             sources,
-            effort: Effort::new(priced_terms),
+            effort: Effort::new(pass),
             rounds: Rounds::new(),
             cuts: Cuts::new(alloc, kernel, names)?,
             cut_rows: CutRows::new(alloc),

@@ -13,7 +13,6 @@ use super::clique_search::CliqueSearch;
 use super::cliques;
 use super::conflict_graph::ConflictGraph;
 use super::gomory::{self, Rounding, roundings};
-use super::halves::halves;
 use super::single_rows::row_roundings;
 use super::sources::Sources;
 use super::violation::efficacy;
@@ -23,9 +22,10 @@ use normal_form::Normal;
 use proof_rules::StepFault;
 use proof_steps::Item;
 use propagate::Propagator;
-use relaxation::Relaxation;
+use relaxation::{Relaxation, Row};
 use std::alloc::{AllocError, Global};
 use std::collections::BTreeSet;
+use std::mem;
 
 /// How many cuts a round hands out.
 const MOST_CUTS: usize = 30;
@@ -48,6 +48,16 @@ enum Recipe {
     Clique(Vec<Lit>),
 }
 
+impl Recipe {
+    /// The row that it is made of, where that is one alone.
+    fn only_row(&self) -> Option<Row> {
+        match self {
+            Recipe::Rounding(rounding) => rounding.only_row(),
+            Recipe::Clique(_) => None,
+        }
+    }
+}
+
 /// A cut that waits.
 #[derive(Debug, Drop)]
 struct Candidate {
@@ -66,8 +76,6 @@ pub(crate) struct Cuts {
     waiting: Vec<Candidate>,
     handed_out: BTreeSet<u64>,
     most_terms: usize,
-    /// How many variables the problem has.
-    count: u32,
 }
 
 /// What is looked at where cuts are made.
@@ -109,7 +117,6 @@ impl Cuts {
             waiting: Vec::new(alloc),
             handed_out: BTreeSet::new(alloc),
             most_terms: MOST_TERMS.saturating_add(variables / 5),
-            count: u32::try_from(variables).unwrap_or(u32::MAX),
         })
     }
 
@@ -134,9 +141,25 @@ impl Cuts {
         }
         self.waiting
             .sort_by_key(|candidate| u128::MAX.saturating_sub(candidate.efficacy))?;
-        self.waiting.truncate(MOST_CUTS);
+        self.keep_best()?;
         self.waiting.reverse();
         Ok(done)
+    }
+
+    /// Keeps the first cuts that wait, and one of each row: those that are made of one row alone are much the same.
+    fn keep_best(&mut self) -> Result<(), AllocError> {
+        let mut rows = BTreeSet::new(self.alloc);
+        let sorted = mem::replace(&mut self.waiting, Vec::new(self.alloc));
+        for candidate in sorted {
+            let is_fresh = match candidate.recipe.only_row() {
+                Some(row) => rows.insert(row.0)?,
+                None => true,
+            };
+            if is_fresh && self.waiting.len() < MOST_CUTS {
+                self.waiting.push(candidate)?;
+            }
+        }
+        Ok(())
     }
 
     /// All that the point suggests.
@@ -151,9 +174,6 @@ impl Cuts {
             relaxation,
         } = point;
         for rounding in row_roundings(self.alloc, kernel, sources, relaxation)? {
-            recipes.push(Recipe::Rounding(rounding))?;
-        }
-        for rounding in halves(self.alloc, kernel, sources, relaxation, self.count)? {
             recipes.push(Recipe::Rounding(rounding))?;
         }
         for rounding in roundings(self.alloc, relaxation)? {

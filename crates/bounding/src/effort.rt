@@ -42,8 +42,12 @@ const ROOT_STEPS: u32 = 1_000_000;
 /// How much the first call at the root may do at least,
 const FIRST_ROOT_WORK: u64 = 8_000_000;
 
-/// and how much for each term that the rows have, where there is an objective: a search over many variables that knows no bound goes astray.
-const FIRST_ROOT_WORK_OF_TERM: u64 = 4_000;
+/// how many times it may go over all terms for each row and each variable, where there is an objective: a search over many variables goes
+/// astray without a bound,
+const FIRST_ROOT_PASSES: u64 = 16;
+
+/// and how much it may do at most.
+const MOST_FIRST_ROOT_WORK: u64 = 1_000_000_000;
 
 /// How much a search has done before any further call there: small problems are solved by then, in a fraction of what the rounds of cuts would
 /// take.
@@ -68,9 +72,11 @@ pub(crate) struct Effort {
 }
 
 impl Effort {
-    /// Nothing was done yet, for rows of so many priced terms: none where there is no objective.
-    pub(crate) fn new(priced_terms: u64) -> Self {
-        let work = priced_terms.saturating_mul(FIRST_ROOT_WORK_OF_TERM);
+    /// Nothing was done yet, where one pass over all terms for each row and each variable takes so much: 0 where there is no objective.
+    pub(crate) fn new(pass: u64) -> Self {
+        let work = pass
+            .saturating_mul(FIRST_ROOT_PASSES)
+            .min(MOST_FIRST_ROOT_WORK);
         Effort {
             share: FIRST_SHARE,
             first_root_work: work.max(FIRST_ROOT_WORK),

@@ -52,19 +52,29 @@ pub(crate) struct Rounding {
 }
 
 impl Rounding {
-    /// Rows, each once, whose sum is divided by a number.
-    pub(crate) fn of_rows(alloc: Global, rows: &[Row], divisor: u64) -> Result<Self, AllocError> {
-        let mut multipliers = Vec::with_capacity(alloc, rows.len())?;
-        for row in rows {
-            multipliers.push(WholeMultiplier {
-                source: Source::Row(*row),
-                factor: 1,
-            })?;
-        }
+    /// A row that is divided by a number.
+    pub(crate) fn of_row(alloc: Global, row: Row, divisor: u64) -> Result<Self, AllocError> {
+        let multiplier = WholeMultiplier {
+            source: Source::Row(row),
+            factor: 1,
+        };
         Ok(Rounding {
-            multipliers,
+            multipliers: vec![in alloc; multiplier; 1]?,
             divisor,
         })
+    }
+
+    /// The row, where there is one alone.
+    pub(crate) fn only_row(&self) -> Option<Row> {
+        match self.multipliers.as_slice() {
+            [
+                WholeMultiplier {
+                    source: Source::Row(row),
+                    factor: _,
+                },
+            ] => Some(*row),
+            _ => None,
+        }
     }
 }
 

@@ -27,7 +27,6 @@ mod cut_rows;
 mod cuts;
 mod effort;
 mod gomory;
-mod halves;
 mod judgement;
 mod line;
 mod rounds;

@@ -85,7 +85,7 @@ fn add_roundings<'a, P: Propagator>(
     }
     for divisor in &divisors(alloc, constraint, relaxation)? {
         if found.len() < MOST_ROUNDINGS {
-            found.push(Rounding::of_rows(alloc, &[row], *divisor)?)?;
+            found.push(Rounding::of_row(alloc, row, *divisor)?)?;
         }
     }
     Ok(())
@@ -99,7 +99,7 @@ pub(crate) fn row_roundings<'a, P: Propagator>(
     relaxation: &Relaxation,
 ) -> Result<Vec<Rounding>, AllocError> {
     let mut found = Vec::new(alloc);
-    for place in 0..sources.row_count() {
+    for place in 0..sources.file_rows() {
         add_roundings(alloc, kernel, sources, relaxation, Row(place), &mut found)?;
     }
     Ok(found)

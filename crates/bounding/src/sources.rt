@@ -34,6 +34,8 @@ pub(crate) struct Cited {
 #[derive(Debug, Drop)]
 pub(crate) struct Sources {
     rows: Vec<Id>,
+    /// How many of them, the first ones, are constraints of the file.
+    file_rows: usize,
     improving: Option<Improving>,
 }
 
@@ -88,6 +90,7 @@ impl Sources {
     pub(crate) fn new(alloc: Global) -> Self {
         Sources {
             rows: Vec::new(alloc),
+            file_rows: 0,
             improving: None,
         }
     }
@@ -113,6 +116,7 @@ impl Sources {
                 self.add_row(alloc, relaxation, id, constraint)?;
             }
         }
+        self.file_rows = self.rows.len();
         Ok(Some(most_terms.saturating_sub(left)))
     }
 
@@ -185,9 +189,9 @@ impl Sources {
         }
     }
 
-    /// How many rows there are, those that were taken out among them.
-    pub(crate) fn row_count(&self) -> usize {
-        self.rows.len()
+    /// How many rows are constraints of the file: the first ones.
+    pub(crate) fn file_rows(&self) -> usize {
+        self.file_rows
     }
 
     /// The constraint of a row.
