@@ -13,6 +13,7 @@ use super::clique_search::CliqueSearch;
 use super::cliques;
 use super::conflict_graph::ConflictGraph;
 use super::gomory::{self, Rounding, roundings};
+use super::halves::halves;
 use super::single_rows::row_roundings;
 use super::sources::Sources;
 use super::violation::efficacy;
@@ -76,6 +77,8 @@ pub(crate) struct Cuts {
     waiting: Vec<Candidate>,
     handed_out: BTreeSet<u64>,
     most_terms: usize,
+    /// How many variables the problem has.
+    count: u32,
 }
 
 /// What is looked at where cuts are made.
@@ -117,6 +120,7 @@ impl Cuts {
             waiting: Vec::new(alloc),
             handed_out: BTreeSet::new(alloc),
             most_terms: MOST_TERMS.saturating_add(variables / 5),
+            count: u32::try_from(variables).unwrap_or(u32::MAX),
         })
     }
 
@@ -174,6 +178,9 @@ impl Cuts {
             relaxation,
         } = point;
         for rounding in row_roundings(self.alloc, kernel, sources, relaxation)? {
+            recipes.push(Recipe::Rounding(rounding))?;
+        }
+        for rounding in halves(self.alloc, kernel, sources, relaxation, self.count)? {
             recipes.push(Recipe::Rounding(rounding))?;
         }
         for rounding in roundings(self.alloc, relaxation)? {

@@ -52,6 +52,21 @@ pub(crate) struct Rounding {
 }
 
 impl Rounding {
+    /// Rows, each once, whose sum is divided by a number.
+    pub(crate) fn of_rows(alloc: Global, rows: &[Row], divisor: u64) -> Result<Self, AllocError> {
+        let mut multipliers = Vec::with_capacity(alloc, rows.len())?;
+        for row in rows {
+            multipliers.push(WholeMultiplier {
+                source: Source::Row(*row),
+                factor: 1,
+            })?;
+        }
+        Ok(Rounding {
+            multipliers,
+            divisor,
+        })
+    }
+
     /// A row that is divided by a number.
     pub(crate) fn of_row(alloc: Global, row: Row, divisor: u64) -> Result<Self, AllocError> {
         let multiplier = WholeMultiplier {

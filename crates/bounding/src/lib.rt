@@ -27,6 +27,7 @@ mod cut_rows;
 mod cuts;
 mod effort;
 mod gomory;
+mod halves;
 mod judgement;
 mod line;
 mod rounds;

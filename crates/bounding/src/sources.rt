@@ -189,6 +189,11 @@ impl Sources {
         }
     }
 
+    /// How many rows there are, those that were taken out among them.
+    pub(crate) fn row_count(&self) -> usize {
+        self.rows.len()
+    }
+
     /// How many rows are constraints of the file: the first ones.
     pub(crate) fn file_rows(&self) -> usize {
         self.file_rows
