@@ -7,14 +7,11 @@ ghost use Rattle.std.specs.Prelude.{◌≡◌, IfOk};
 ghost use Rattle.bounding.specs.Advice.{IsBorneOut};
 
 use super::advice::{Advice, Figures, Node};
-use super::cut_rows::CutRows;
-use super::cuts::{Cuts, Point};
 use super::effort::{Aim, Effort};
 use super::judgement::{Judgement, judge};
 use super::rounds::Rounds;
-use super::sources::Sources;
 use super::standing::Standing;
-use super::summing::line_of;
+use cuts::{CutRows, Cuts, Point, Sources, line_of};
 use kernel::Kernel;
 use linear::{Integer, Lit, Problem, Seq, Var};
 use proof_rules::StepFault;
@@ -130,7 +127,8 @@ fn pass_of(problem: &Problem, sources: &Sources, terms: usize) -> u64 {
 
 impl Adviser {
     ghost use Rattle.std.specs.Prelude.{◌≤◌, IfOk, IfSome};
-    ghost use Rattle.bounding.specs.Advice.{IsBorneOut, IsDerivable};
+    ghost use Rattle.bounding.specs.Advice.{IsBorneOut};
+    ghost use Rattle.cuts.specs.Derived.{IsDerivable};
 
     /// The adviser of a problem whose file's constraints a kernel has. None where the problem is too large for one: with an objective, above
     /// 500,000 variables or 1,000,000 terms; without one, above 20,000 variables or 60,000 terms.
@@ -421,8 +419,7 @@ impl Adviser {
         ensures { IfOk result (λ found. IfSome found (IsBorneOut kernel.now.state standing.now)) }
     {
         let whole = whole_multipliers(self.alloc, self.relaxation.multipliers(), bits)?;
-        let line = line_of(self.alloc, kernel, &self.sources, whole.as_slice())?;
-        let (items, constraint) = line.finish(self.alloc)?;
+        let (items, constraint) = line_of(self.alloc, kernel, &self.sources, whole.as_slice())?;
         match judge(&constraint, standing) {
             Judgement::False => Ok(Some(Advice::Conflict(items))),
             Judgement::Forces => Ok(Some(Advice::Forcing(items))),
