@@ -82,7 +82,7 @@ impl CutRows {
         Ok(())
     }
 
-    /// Looks at the point of a round, that of the last call: cuts that had slack at the points of more than eight rounds, one after another, leave.
+    /// Looks at the point of a round, that of the last call: cuts that had slack at more than eight points one after another leave.
     ///
     /// `AllocError` comes where a growth was refused. Some of these cuts may have left then.
     pub fn age(&mut self, relaxation: &mut Relaxation) -> Result<(), AllocError> {
@@ -101,7 +101,7 @@ impl CutRows {
         Ok(())
     }
 
-    /// Takes the ids of the cuts that have left: no line will cite them from now on.
+    /// Takes the ids of the cuts that have left: they are rows no more, so no multipliers of later calls cite them.
     pub fn take_left(&mut self) -> Vec<Id> {
         mem::replace(&mut self.left, Vec::new(self.alloc))
     }

@@ -81,7 +81,7 @@ pub struct Cuts {
 pub struct Point<'p> {
     /// Which constraints the rows are.
     pub sources: &'p Sources,
-    /// The relaxation after a call that found the point.
+    /// The relaxation, of whose last call the point is the best one.
     pub relaxation: &'p Relaxation,
 }
 

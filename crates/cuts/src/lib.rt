@@ -1,9 +1,9 @@
 //! What is made of the rows of the linear relaxation: sums of them, and cuts, each as a line of a proof.
 //!
-//! The relaxation answers with multipliers, whose sum of constraints bounds or forces something, and with its best point, which a cut violates: a
-//! constraint that follows in whole numbers. Each is one `pol` line. Which constraints and which numbers it takes is found in fixed point and
-//! may be wrong; but a line is run while it is written, by the stack that a kernel runs, so what is handed out derives a constraint: that is the
-//! contract of `line_of` and of `Cuts::next`. What the sum of some multipliers says is judged by who asks.
+//! The relaxation answers with multipliers, by which its rows are summed up, and with its best point, which a cut violates: a constraint that
+//! follows in whole numbers. Either is one `pol` line. Which constraints and which numbers it takes is found in fixed point and may be wrong;
+//! but a line is run while it is written, by the stack that a kernel runs, so what is handed out derives a constraint: that is the contract of
+//! `line_of` and of `Cuts::next`. What a sum says where a search stands is judged in the layer above.
 //!
 //! `sources` keeps which constraint is which row, and `summing` writes the line of some multipliers over `line`, which writes and runs it at once.
 //!

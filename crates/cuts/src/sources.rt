@@ -168,7 +168,7 @@ impl Sources {
         Ok(row)
     }
 
-    /// Notes the constraint that the newest improving solution added, by its id too, and the value of the objective at that solution.
+    /// Notes the constraint that the newest improving solution added, under which id, and the value of the objective at that solution.
     pub fn improve(&mut self, id: Id, value: Integer, constraint: &Normal) {
         self.improving = Some(Improving {
             id,
