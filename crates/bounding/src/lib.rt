@@ -18,6 +18,7 @@
 
 mod advice;
 mod adviser;
+mod dives;
 mod effort;
 mod judgement;
 mod rounds;
