@@ -37,6 +37,8 @@ impl Brancher for Stubborn {
 
     fn lean(&mut self, _literals: &[Lit]) {}
 
+    fn prefer(&mut self, _literals: &[Lit]) {}
+
     fn progress(&mut self, _progress: Progress) {}
 }
 

@@ -2,20 +2,11 @@
 use Rattle.std.specs.Prelude.{List}
 use Rattle.linear.specs.declared.term.Lit.{Lit}
 use Rattle.normal_form.specs.Normal.{NormalConstraint}
-use Rattle.proof_steps.specs.declared.step.Item.{Item}
 use Rattle.propagate.specs.Slack.{IsFalsified, IsForced}
-use Rattle.proof_rules.specs.Expression.{IsPostfixOf}
-use Rattle.proof_rules.specs.State.{State, constraint_of}
+use Rattle.proof_rules.specs.State.{State}
+use Rattle.cuts.specs.Derived.{Derives, IsDerivable}
 use Rattle.bounding.specs.declared.advice.Advice.{Advice}
 use Rattle.bounding.specs.declared.advice.Advice.TheVariants.{Conflict, Forcing, Cut, Values, Nothing}
-
--- the items write an expression of the live constraints, and this is its value
-abbrev pub Derives : State → List Item → NormalConstraint → Type 0
-Derives s items n = IsPostfixOf (constraint_of s) items n
-
--- the items write an expression of the live constraints
-abbrev pub IsDerivable : State → List Item → Type 0
-IsDerivable s items = (n : NormalConstraint) × Derives s items n
 
 -- a conflict derives a constraint that has negative slack under the literals that stand, and what forces one that forces a literal there; a
 -- cut derives a constraint, and nothing is said of it

@@ -7,14 +7,12 @@ ghost use Rattle.std.specs.Prelude.{◌≡◌, IfOk};
 ghost use Rattle.bounding.specs.Advice.{IsBorneOut};
 
 use super::advice::{Advice, Figures, Node};
-use super::cut_rows::CutRows;
-use super::cuts::{Cuts, Point};
+use super::dives::Dives;
 use super::effort::{Aim, Effort};
 use super::judgement::{Judgement, judge};
 use super::rounds::Rounds;
-use super::sources::Sources;
 use super::standing::Standing;
-use super::summing::line_of;
+use cuts::{CutRows, Cuts, Point, Sources, line_of};
 use kernel::Kernel;
 use linear::{Integer, Lit, Problem, Seq, Var};
 use proof_rules::StepFault;
@@ -57,6 +55,7 @@ pub struct Adviser {
     relaxation: Relaxation,
     sources: Sources,
     effort: Effort,
+    dives: Dives,
     rounds: Rounds,
     cuts: Cuts,
     cut_rows: CutRows,
@@ -67,6 +66,8 @@ pub struct Adviser {
     /// The literals that are fixed in the relaxation.
     fixed: Vec<Lit>,
     leanings: Vec<Lit>,
+    /// What a dive may decide next, the first one first.
+    preferred: Vec<Lit>,
     bound: Option<Integer>,
     figures: Figures,
 }
@@ -77,6 +78,11 @@ fn distance_from_middle(value: Fixed) -> i64 {
         .units()
         .saturating_sub(Fixed::HALF.units())
         .saturating_abs()
+}
+
+/// What a value lacks to 1, in units of `2^-32`.
+fn lack(value: Fixed) -> i64 {
+    Fixed::ONE.units().saturating_sub(value.units())
 }
 
 /// Whether a value is about 0 or 1.
@@ -130,7 +136,8 @@ fn pass_of(problem: &Problem, sources: &Sources, terms: usize) -> u64 {
 
 impl Adviser {
     ghost use Rattle.std.specs.Prelude.{◌≤◌, IfOk, IfSome};
-    ghost use Rattle.bounding.specs.Advice.{IsBorneOut, IsDerivable};
+    ghost use Rattle.bounding.specs.Advice.{IsBorneOut};
+    ghost use Rattle.cuts.specs.Derived.{IsDerivable};
 
     /// The adviser of a problem whose file's constraints a kernel has. None where the problem is too large for one: with an objective, above
     /// 500,000 variables or 1,000,000 terms; without one, above 20,000 variables or 60,000 terms.
@@ -155,6 +162,7 @@ impl Adviser {
             relaxation,
             sources,
             effort,
+            dives: Dives::new(),
             rounds: Rounds::new(),
             cuts: Cuts::new(alloc, kernel, names)?,
             cut_rows: CutRows::new(alloc),
@@ -162,6 +170,7 @@ impl Adviser {
             has_objective: problem.objective().is_some(),
             fixed: Vec::new(alloc),
             leanings: Vec::new(alloc),
+            preferred: Vec::new(alloc),
             bound: None,
             figures: Figures {
                 calls: 0,
@@ -180,6 +189,7 @@ impl Adviser {
         };
         if let (Some(value), Some(constraint)) = (kernel.least_value(), kernel.constraint(id)) {
             self.sources.improve(id, value, constraint);
+            self.dives.end();
         }
     }
 
@@ -232,7 +242,13 @@ impl Adviser {
         let standing = Standing::of(self.alloc, node.standing)?;
         self.fix(node.standing)?;
         let end = self.relaxation.solve(self.sources.upper(), limits)?;
+        self.preferred.clear();
         let advice = self.answer(kernel, &standing, end)?;
+        if let Advice::Values = advice
+            && self.dives.are_open(node)
+        {
+            self.prefer(&standing)?;
+        }
         self.go_on(&advice);
         self.count(&advice, node, before);
         Ok(advice)
@@ -274,12 +290,24 @@ impl Adviser {
         if let Some(limits) = self.rounds.next(before) {
             return Some(limits);
         }
+        self.begin_dive(node);
+        if self.dives.are_open(node) {
+            return Some(self.dives.limits());
+        }
+        let below = before.saturating_sub(self.dives.done());
         let aim = self.aim();
-        let limits = self.effort.limits(before, node, aim)?;
+        let limits = self.effort.limits(below, node, aim)?;
         if node.decisions == 0 && node.conflicts > 0 && self.has_objective {
             self.rounds.begin(before, self.effort.at_root(), limits);
         }
         Some(limits)
+    }
+
+    /// Begins a dive at the root, if one may begin, as long as there is no solution: without an objective one is as good as another.
+    fn begin_dive(&mut self, node: Node<'_>) {
+        if node.decisions == 0 && self.has_objective && self.aim() == Aim::Any {
+            self.dives.begin(node, self.effort.at_root());
+        }
     }
 
     /// Ends the rounds at the root, unless the answer is one after which the relaxation says more.
@@ -421,8 +449,7 @@ impl Adviser {
         ensures { IfOk result (λ found. IfSome found (IsBorneOut kernel.now.state standing.now)) }
     {
         let whole = whole_multipliers(self.alloc, self.relaxation.multipliers(), bits)?;
-        let line = line_of(self.alloc, kernel, &self.sources, whole.as_slice())?;
-        let (items, constraint) = line.finish(self.alloc)?;
+        let (items, constraint) = line_of(self.alloc, kernel, &self.sources, whole.as_slice())?;
         match judge(&constraint, standing) {
             Judgement::False => Ok(Some(Advice::Conflict(items))),
             Judgement::Forces => Ok(Some(Advice::Forcing(items))),
@@ -446,6 +473,23 @@ impl Adviser {
             }
         }
         Ok(())
+    }
+
+    /// Notes the free variables whose values of the last call are between 0 and 1, as literals that are true at 1, those that are nearest to 1
+    /// first.
+    fn prefer(&mut self, standing: &Standing<'_>) -> Result<(), AllocError> {
+        for number in 0..self.count {
+            let variable = Var(number);
+            if is_free(standing, variable) && !is_whole(self.relaxation.value(variable)) {
+                self.preferred.push(Lit {
+                    var: variable,
+                    negated: false,
+                })?;
+            }
+        }
+        let relaxation = &self.relaxation;
+        self.preferred
+            .sort_by_key(|literal| lack(relaxation.value(literal.var)))
     }
 
     /// Whether all free variables have whole values, about.
@@ -475,6 +519,10 @@ impl Adviser {
             self.note_bound(advice);
             return;
         }
+        if self.dives.are_open(node) {
+            self.dives.note(cost);
+            return;
+        }
         match advice {
             Advice::Conflict(_) | Advice::Forcing(_) => self.effort.reward(),
             Advice::Cut(_) | Advice::Values | Advice::Nothing => self.effort.charge(cost),
@@ -492,6 +540,12 @@ impl Adviser {
     /// solution and the values say little of the others.
     pub fn leanings(&self) -> &[Lit] {
         self.leanings.as_slice()
+    }
+
+    /// The literals that a dive may decide next, the first of them that is free first: those of the variables that the last point has between
+    /// their bounds. None where no dive goes on.
+    pub fn preferred(&self) -> &[Lit] {
+        self.preferred.as_slice()
     }
 
     /// The bound of the last relaxation at the root, rounded down, if there was one. It may be wrong: for progress lines alone.

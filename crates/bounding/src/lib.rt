@@ -10,32 +10,19 @@
 //! that it was asked about: that is the contract of `Adviser::ask`. How much it may do is counted beside what the search does, with no clock, so
 //! that runs repeat exactly.
 //!
-//! `adviser` has the calls, `effort` says when they are due, `sources` keeps which constraint is which row, `summing` writes the line of some
-//! multipliers over `line`, which writes and runs it at once, and `judgement` looks at the sum under the literals of `standing`.
+//! `adviser` has the calls, `effort` says when they are due, and `judgement` looks at a sum under the literals of `standing`.
 //!
 //! At the root it also hands out cuts: constraints that follow in whole numbers, and that the best point of the relaxation violates. `rounds` says
-//! how long, `cuts` has those of a round, which `gomory` makes of rows of the tableau, `single_rows` of one row alone, and `cliques` of pairs of
-//! literals that exclude each other (`conflict_graph`, `clique_search`); `violation` says what one is worth, and `cut_rows` keeps those that
-//! became rows.
+//! how long. The lines of sums and of cuts are made by the crate `cuts`.
 #![tactic(auto)]
 
 mod advice;
 mod adviser;
-mod clique_search;
-mod cliques;
-mod conflict_graph;
-mod cut_rows;
-mod cuts;
+mod dives;
 mod effort;
-mod gomory;
 mod judgement;
-mod line;
 mod rounds;
-mod single_rows;
-mod sources;
 mod standing;
-mod summing;
-mod violation;
 
 pub use advice::{Advice, Figures, Node};
 pub use adviser::Adviser;

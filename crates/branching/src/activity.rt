@@ -35,6 +35,8 @@ pub struct Activity {
     increment: u64,
     /// The value that each variable had last.
     phases: Vec<bool>,
+    /// What is to be decided next, the first one last.
+    preferred: Vec<Lit>,
 }
 
 impl Activity {
@@ -46,6 +48,7 @@ impl Activity {
             scores: Vec::new(alloc),
             increment: FIRST_INCREMENT,
             phases: Vec::new(alloc),
+            preferred: Vec::new(alloc),
         }
     }
 
@@ -89,6 +92,17 @@ impl Activity {
             *score >>= FALL;
         }
         self.increment = (self.increment >> FALL).max(1);
+    }
+
+    /// The first preferred literal of a free variable; those before it are passed over for good.
+    fn take_preferred(&mut self, values: &[Value]) -> Option<Lit> {
+        for _ in 0..self.preferred.len() {
+            let literal = self.preferred.pop()?;
+            if is_free(values, literal.var.0) {
+                return Some(literal);
+            }
+        }
+        None
     }
 
     /// The score of a variable rises.
@@ -146,6 +160,10 @@ impl Brancher for Activity {
 
     /// Variables that are not free leave the heap; they come back as soon as they are free again.
     fn pick(&mut self, values: &[Value]) -> Option<Lit> {
+        let preferred = self.take_preferred(values);
+        if preferred.is_some() {
+            return preferred;
+        }
         for _ in 0..self.heap.len() {
             let number = self.heap.take(&self.scores)?;
             if is_free(values, number) {
@@ -166,6 +184,7 @@ impl Brancher for Activity {
     }
 
     fn conflict(&mut self, _variables: &[Var]) {
+        self.preferred.clear();
         self.increment = self.increment.saturating_add(self.increment / 20);
         if self.increment > LARGEST_SCORE {
             self.lower();
@@ -193,6 +212,17 @@ impl Brancher for Activity {
             if place < self.phases.len() {
                 self.phases[place] = !literal.negated;
             }
+        }
+    }
+
+    /// Where there is no memory for them, the choice is by the scores.
+    fn prefer(&mut self, literals: &[Lit]) {
+        self.preferred.clear();
+        if self.preferred.reserve(literals.len()).is_err() {
+            return;
+        }
+        for literal in literals.iter().rev() {
+            let _ = self.preferred.push(*literal);
         }
     }
 

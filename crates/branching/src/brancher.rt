@@ -48,6 +48,10 @@ pub trait Brancher: Drop {
     /// free.
     fn lean(&mut self, literals: &[Lit]);
 
+    /// These literals are to be decided next, the first of them that is free first, until there is a conflict or others are preferred: so a dive
+    /// goes along the best points of the relaxation.
+    fn prefer(&mut self, literals: &[Lit]);
+
     /// So far the search has come: it is told with each solution that is better than those before, and every so many conflicts. Nothing
     /// is asked; a line may be printed.
     fn progress(&mut self, progress: Progress);
@@ -78,6 +82,8 @@ impl Brancher for First {
     fn restarted(&mut self) {}
 
     fn lean(&mut self, _literals: &[Lit]) {}
+
+    fn prefer(&mut self, _literals: &[Lit]) {}
 
     fn progress(&mut self, _progress: Progress) {}
 }

@@ -67,6 +67,10 @@ impl Brancher for Reporting {
         self.rules.lean(literals);
     }
 
+    fn prefer(&mut self, literals: &[Lit]) {
+        self.rules.prefer(literals);
+    }
+
     fn progress(&mut self, progress: Progress) {
         let Some(rt) = &self.lines else {
             return;

@@ -18,6 +18,8 @@ pub(crate) struct Costs {
     exponent: u32,
     constant: Integer,
     is_given: bool,
+    /// The sum of the sizes of what is added, in units of `2^-32`.
+    all_added: i128,
 }
 
 /// A generator of numbers that look random (a linear congruential one, with the constants of Numerical Recipes).
@@ -71,6 +73,7 @@ impl Costs {
             exponent: 0,
             constant: 0,
             is_given: false,
+            all_added: 0,
         }
     }
 
@@ -102,6 +105,7 @@ impl Costs {
     /// Chooses what is added to each cost.
     fn perturb(&mut self) {
         let mut dice = Dice { state: 12_345 };
+        let mut all_added: i128 = 0;
         for (added, scaled) in self.added.iter_mut().zip(self.scaled.iter()) {
             let number = dice.next();
             *added = if !self.is_given {
@@ -111,7 +115,9 @@ impl Costs {
             } else {
                 Fixed::of_units(number / 2)
             };
+            all_added = all_added.saturating_add(i128::from(added.size().units()));
         }
+        self.all_added = all_added;
     }
 
     /// The cost of a variable with what is added to it.
@@ -122,6 +128,11 @@ impl Costs {
     /// What is added to the cost of a variable.
     pub(crate) fn added(&self, variable: usize) -> Fixed {
         read(self.added.as_slice(), variable)
+    }
+
+    /// The sum of the sizes of what is added to all costs, in units of `2^-32`: by so much a bound may be less than with what is added.
+    pub(crate) fn all_added(&self) -> i128 {
+        self.all_added
     }
 
     /// Whether there is an objective that is not constant.

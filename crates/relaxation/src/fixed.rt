@@ -62,12 +62,19 @@ impl Fixed {
         }
     }
 
+    /// The number of so many units, or the nearest that is not too large, where 64 bits are enough for them.
+    fn clamped(units: i64) -> Fixed {
+        Fixed {
+            units: units.clamp(-LARGEST_UNITS, LARGEST_UNITS),
+        }
+    }
+
     pub(crate) fn plus(self, other: Fixed) -> Fixed {
-        Fixed::nearest(i128::from(self.units) + i128::from(other.units))
+        Fixed::clamped(self.units.wrapping_add(other.units))
     }
 
     pub(crate) fn minus(self, other: Fixed) -> Fixed {
-        Fixed::nearest(i128::from(self.units) - i128::from(other.units))
+        Fixed::clamped(self.units.wrapping_sub(other.units))
     }
 
     pub(crate) fn negated(self) -> Fixed {

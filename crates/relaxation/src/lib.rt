@@ -16,6 +16,7 @@ mod domain;
 mod duals;
 mod ends;
 mod fixed;
+mod following;
 mod fractional;
 mod inverse;
 mod multipliers;

@@ -89,7 +89,7 @@ impl Relaxation {
     }
 
     /// Moves the basic variables along, where what enters changes by so much.
-    fn move_basic(&mut self, change: Fixed) {
+    pub(crate) fn move_basic(&mut self, change: Fixed) {
         let negated = change.negated();
         for (variable, slope) in self.basis.basic().iter().zip(self.column.iter()) {
             let shift = slope.times(negated);

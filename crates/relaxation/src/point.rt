@@ -68,6 +68,11 @@ impl Point {
         self.activities.as_slice()
     }
 
+    /// The activity of a row, as it is kept.
+    pub(crate) fn activity(&self, row: usize) -> Fixed {
+        read(self.activities.as_slice(), row)
+    }
+
     pub(crate) fn set_activity(&mut self, row: usize, activity: Fixed) {
         write(self.activities.as_mut_slice(), row, activity);
     }

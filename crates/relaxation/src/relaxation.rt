@@ -71,6 +71,10 @@ pub struct Relaxation {
     pub(crate) cutoff: Option<i128>,
     /// Steps since the inverse was made anew.
     pub(crate) pivots: u32,
+    /// Steps since duals and point were made anew; none where they have to be, since rows or costs changed.
+    pub(crate) steps_since_made: Option<u32>,
+    /// What it took to make them.
+    pub(crate) work_of_making: u64,
     pub(crate) steps: u64,
     pub(crate) work: Work,
 }
@@ -97,6 +101,8 @@ impl Relaxation {
             bound: 0,
             cutoff: None,
             pivots: 0,
+            steps_since_made: None,
+            work_of_making: 0,
             steps: 0,
             work: Work::new(),
         };
@@ -107,6 +113,7 @@ impl Relaxation {
     /// Makes room for so many variables, where there are fewer.
     pub(crate) fn widen(&mut self, variables: usize) -> Result<(), AllocError> {
         if variables > self.rows.variables() {
+            self.steps_since_made = None;
             self.rows.widen(variables)?;
             self.costs.widen(variables)?;
             self.duals.widen(variables)?;
@@ -122,11 +129,13 @@ impl Relaxation {
 
     /// Takes an objective to be minimised, in the stead of the one before. Variables beyond those that there are cost nothing.
     pub fn set_cost(&mut self, terms: &[Term]) -> Result<(), AllocError> {
+        self.steps_since_made = None;
         self.costs.set(terms)
     }
 
     /// Adds a constraint. Where memory ends it is not added.
     pub fn add_row(&mut self, constraint: &Normal) -> Result<Row, AllocError> {
+        self.steps_since_made = None;
         self.widen(constraint.variable_count())?;
         let row = self.rows.count();
         self.rows.add(constraint)?;

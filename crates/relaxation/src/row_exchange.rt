@@ -32,6 +32,7 @@ impl Relaxation {
 
     /// Puts a constraint in the place of a row that was taken out. Where memory ends the place is as it was.
     pub fn replace_row(&mut self, row: Row, constraint: &Normal) -> Result<(), AllocError> {
+        self.steps_since_made = None;
         self.widen(constraint.variable_count())?;
         if self.basis.is_tight(row.0) {
             self.forget_basis();

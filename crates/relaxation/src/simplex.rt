@@ -34,8 +34,14 @@ const STALE: u32 = 200;
 /// After so many steps the inverse is made anew at once.
 const OVERDUE: u32 = 1_000;
 
+/// After so many steps a call begins with duals and a point that are made anew, since their errors add up.
+const REMADE: u32 = 50;
+
 /// After each so many steps the tight rows are measured.
 const MEASURED: u32 = 100;
+
+/// What rounding may take from what a step gains, in units of `2^-32`.
+const ROUNDED: i128 = 1 << 12;
 
 /// The largest kernel.
 const LARGEST_KERNEL: usize = 1_000;
@@ -47,10 +53,18 @@ pub(crate) struct Call {
     cutoff: Option<i128>,
     /// How much may have been done at its end, about.
     work: u64,
+    /// What the bound is at most, about, by what the steps have gained, in the same units.
+    estimate: i128,
     /// Whether steps were made.
     has_moved: bool,
     /// Whether the inverse was made anew since something went wrong.
     is_refreshed: bool,
+}
+
+/// What the bound gains by a step, and a little more for what rounding may have lost, in units of `2^-32`.
+fn gain(violation: Violation, chosen: Candidate) -> i128 {
+    let gained = violation.size.times(chosen.ratio);
+    i128::from(gained.size().units()).saturating_add(ROUNDED)
 }
 
 impl Relaxation {
@@ -61,6 +75,7 @@ impl Relaxation {
         let call = Call {
             cutoff: self.cutoff(upper),
             work: self.work.done().saturating_add(limits.work),
+            estimate: i128::MAX,
             has_moved: false,
             is_refreshed: false,
         };
@@ -89,7 +104,7 @@ impl Relaxation {
                 return Ok(end);
             }
         }
-        if self.is_cut_off(call) {
+        if self.is_cut_off(&mut call) {
             return self.cut_off();
         }
         Ok(End::Limit)
@@ -102,17 +117,31 @@ impl Relaxation {
         } else if self.pivots >= OVERDUE {
             self.forget_basis();
         }
+        if self.follows_domains() {
+            return self.follow_domains();
+        }
+        let before = self.work.done();
         self.make_duals()?;
         if NEGATIVE.is_above(self.duals.least_multiplier()) {
             self.forget_basis();
             self.make_duals()?;
         }
-        self.make_point()
+        self.make_point()?;
+        self.work_of_making = self.work.done().saturating_sub(before);
+        Ok(())
+    }
+
+    /// Whether domains are all that changed since duals and point were made, and not many steps ago.
+    fn follows_domains(&self) -> bool {
+        match self.steps_since_made {
+            Some(steps) => steps < REMADE && !NEGATIVE.is_above(self.duals.least_multiplier()),
+            None => false,
+        }
     }
 
     /// One step, or how the call ends.
     fn step(&mut self, call: &mut Call) -> Result<Option<End>, AllocError> {
-        if self.is_cut_off(*call) {
+        if self.is_cut_off(call) {
             return Ok(Some(self.cut_off()?));
         }
         if self.work.done() > call.work || self.basis.len() >= LARGEST_KERNEL {
@@ -173,15 +202,19 @@ impl Relaxation {
         )
     }
 
-    /// Whether the bound is above the cutoff, where there is one.
-    fn is_cut_off(&mut self, call: Call) -> bool {
-        match call.cutoff {
-            Some(cutoff) => {
-                self.bound = self.current_bound();
-                self.bound > cutoff
-            }
-            None => false,
+    /// Whether the bound is above the cutoff, where there is one. To compute it takes a look at every variable, so it is not computed where
+    /// that cannot be, by what was gained since it was computed last. It is counted as if it were, as in `following`.
+    fn is_cut_off(&mut self, call: &mut Call) -> bool {
+        let Some(cutoff) = call.cutoff else {
+            return false;
+        };
+        if call.estimate <= cutoff {
+            self.work.count(self.domains.len());
+            return false;
         }
+        self.bound = self.current_bound();
+        call.estimate = self.bound.saturating_add(self.costs.all_added());
+        self.bound > cutoff
     }
 
     /// What is violated most.
@@ -230,11 +263,21 @@ impl Relaxation {
         }
         self.pivot(violation, chosen)?;
         call.has_moved = true;
-        self.steps = self.steps.saturating_add(1);
+        call.estimate = call.estimate.saturating_add(gain(violation, chosen));
+        self.count_step();
         if self.is_inaccurate() {
-            return self.refresh(*call);
+            return self.refresh(call);
         }
         Ok(None)
+    }
+
+    /// Counts a step.
+    fn count_step(&mut self) {
+        self.steps = self.steps.saturating_add(1);
+        self.steps_since_made = match self.steps_since_made {
+            Some(steps) => steps.checked_add(1),
+            None => None,
+        };
     }
 
     /// Whether the inverse is to be made anew, asked after each so many steps.
@@ -258,18 +301,19 @@ impl Relaxation {
     /// Makes all anew since something went wrong.
     fn refresh_once(&mut self, call: &mut Call) -> Result<Option<End>, AllocError> {
         call.is_refreshed = true;
-        self.refresh(*call)
+        self.refresh(call)
     }
 
     /// Makes all anew; the end of the call where that is too much work.
-    fn refresh(&mut self, call: Call) -> Result<Option<End>, AllocError> {
-        if !self.can_refactor(call) {
+    fn refresh(&mut self, call: &mut Call) -> Result<Option<End>, AllocError> {
+        if !self.can_refactor(*call) {
             self.pivots = OVERDUE;
             return Ok(Some(End::Limit));
         }
         self.refactor()?;
         self.make_duals()?;
         self.make_point()?;
+        call.estimate = i128::MAX;
         Ok(None)
     }
 
@@ -283,6 +327,7 @@ impl Relaxation {
     /// Makes the inverse anew, where the kernel has none with the empty basis.
     fn refactor(&mut self) -> Result<(), AllocError> {
         self.pivots = 0;
+        self.steps_since_made = None;
         let is_regular = self
             .inverse
             .refactor(&self.rows, &self.basis, &mut self.work)?;
@@ -295,6 +340,7 @@ impl Relaxation {
     /// Makes it the empty basis.
     pub(crate) fn forget_basis(&mut self) {
         self.pivots = 0;
+        self.steps_since_made = None;
         self.basis.clear();
         self.inverse.clear();
         self.duals.clear();
@@ -320,6 +366,8 @@ impl Relaxation {
             &self.inverse,
             &self.duals,
             &mut self.work,
-        )
+        )?;
+        self.steps_since_made = Some(0);
+        Ok(())
     }
 }

@@ -72,6 +72,16 @@ fn after_conflict() -> Node<'static> {
     }
 }
 
+/// A node below the root of a search that met so many conflicts and has done nothing else, so that no call is due but in a dive.
+fn quiet(conflicts: u64) -> Node<'static> {
+    Node {
+        standing: &[],
+        decisions: 1,
+        conflicts,
+        searched: 0,
+    }
+}
+
 /// What the literals that are not false come to, less the degree.
 fn slack(constraint: &Normal, standing: &[Lit]) -> i128 {
     let mut slack = (constraint.degree().min(1 << 120) as i128).saturating_neg();
@@ -177,17 +187,15 @@ fn force<'a, P: Propagator>(rt: &impl Abort, alloc: Global, problem: &'a Problem
     assert!(rt; greatest > slack);
 }
 
-/// The corners lean to half, until a cut comes.
+/// The corners lean to half, and a dive prefers them, until a cut comes.
 fn lean<'a, P: Propagator>(rt: &impl Abort, alloc: Global, problem: &'a Problem) {
     let (mut kernel, mut adviser) = adviser_of::<P>(rt, alloc, problem).expect(rt, "memory");
-    let quiet = Node {
-        standing: &[],
-        decisions: 1,
-        conflicts: 0,
-        searched: 0,
-    };
     // Before a conflict no cut comes.
     assert!(rt; matches!(adviser.ask(&kernel, root()), Ok(Advice::Values)));
+    assert!(rt; adviser.preferred().is_empty());
+    // A dive goes on below the root: a call is due at each node, and what is open is preferred.
+    assert!(rt; matches!(adviser.ask(&kernel, quiet(0)), Ok(Advice::Values)));
+    assert_eq!(rt; adviser.preferred().len(), 3);
     let asked = adviser.ask(&kernel, after_conflict());
     let Ok(Advice::Cut(items)) = asked else {
         panic!(rt; "no cut");
@@ -197,12 +205,12 @@ fn lean<'a, P: Propagator>(rt: &impl Abort, alloc: Global, problem: &'a Problem)
     adviser.take_cut(&kernel).expect(rt, "memory");
     assert!(rt; matches!(adviser.ask(&kernel, after_conflict()), Ok(Advice::Values)));
     assert_eq!(rt; adviser.leanings().len(), 3);
-    assert!(rt; matches!(adviser.ask(&kernel, quiet), Ok(Advice::Nothing)));
+    assert!(rt; matches!(adviser.ask(&kernel, quiet(100)), Ok(Advice::Nothing)));
     let first = [literal(0, false)];
     let asked = adviser.ask(&kernel, below_root(&first));
     assert!(rt; matches!(asked, Ok(Advice::Values)));
     assert_eq!(rt; adviser.leanings().len(), 2);
-    assert_eq!(rt; adviser.figures().calls, 4);
+    assert_eq!(rt; adviser.figures().calls, 5);
     assert_eq!(rt; adviser.figures().cuts, 1);
 }
 

@@ -8,7 +8,7 @@ mod advice;
 #[cfg(test)]
 mod answers;
 #[cfg(test)]
-mod cuts;
+mod cut_rounds;
 #[cfg(test)]
 mod made;
 #[cfg(test)]

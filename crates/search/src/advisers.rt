@@ -106,6 +106,7 @@ impl Advisers {
             Advice::Cut(items) => Ok(line_of(log, items, Effect::Cut)),
             Advice::Values => {
                 self.brancher.lean(adviser.leanings());
+                self.brancher.prefer(adviser.preferred());
                 Ok(None)
             }
             Advice::Nothing => Ok(None),
