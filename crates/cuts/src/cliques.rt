@@ -94,26 +94,6 @@ fn put_pair<'k, 'a, P: Propagator>(
     line.divide(alloc, coefficient_of(kernel, id))
 }
 
-/// Adds to a line that a literal excludes another one.
-fn add_pair<'k, 'a, P: Propagator>(
-    alloc: Global,
-    kernel: &'k Kernel<'a, P>,
-    graph: &ConflictGraph,
-    line: &mut Line<'k>,
-    left: Lit,
-    right: Lit,
-) -> Result<(), StepFault>
-    requires { LeavesStack (constraint_of kernel.now.state) line.old.items.items line.old.stack }
-    ensures { OnOk result (LeavesStack (constraint_of kernel.now.state) line.new.items.items line.new.stack) }
-{
-    let is_first = line.is_empty();
-    put_pair(alloc, kernel, graph, line, left, right)?;
-    if is_first {
-        return Ok(());
-    }
-    line.add(alloc)
-}
-
 /// Makes the clique of some literals, which stands on a line, that of one literal more.
 fn add_member<'k, 'a, P: Propagator>(
     alloc: Global,
@@ -129,7 +109,8 @@ fn add_member<'k, 'a, P: Propagator>(
     let count = members.len() as u128;
     line.multiply(alloc, count.saturating_sub(1).max(1))?;
     for member in members {
-        add_pair(alloc, kernel, graph, line, *member, next)?;
+        put_pair(alloc, kernel, graph, line, *member, next)?;
+        line.add_if_two(alloc)?;
     }
     line.divide(alloc, count)
 }

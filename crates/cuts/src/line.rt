@@ -20,6 +20,8 @@ use std::alloc::Global;
 pub(crate) struct Line<'k> {
     pub(crate) items: Vec<Item>,
     pub(crate) stack: Stack<'k>,
+    /// How many constraints are on the stack.
+    depth: usize,
 }
 
 /// A number as a line has it.
@@ -43,6 +45,7 @@ impl<'k> Line<'k> {
         Line {
             items: Vec::new(alloc),
             stack: Stack::new(alloc, Accumulator::new(alloc)),
+            depth: 0,
         }
     }
 
@@ -55,6 +58,7 @@ impl<'k> Line<'k> {
         Ok(Line {
             items: items.into_vec(),
             stack,
+            depth: 1,
         })
     }
 
@@ -75,6 +79,7 @@ impl<'k> Line<'k> {
     {
         self.items.push(Item::Id(i128::from(id)))?;
         self.stack.push(Operand::Live(constraint))?;
+        self.depth = self.depth.saturating_add(1);
         Ok(())
     }
 
@@ -85,6 +90,7 @@ impl<'k> Line<'k> {
     {
         self.items.push(Item::Axiom(literal))?;
         self.stack.push_axiom(alloc, literal)?;
+        self.depth = self.depth.saturating_add(1);
         Ok(())
     }
 
@@ -105,7 +111,19 @@ impl<'k> Line<'k> {
     {
         self.items.push(Item::Add)?;
         self.stack.add_top_two(alloc)?;
+        self.depth = self.depth.saturating_sub(1);
         Ok(())
+    }
+
+    /// Adds the two on top, where there are two.
+    pub(crate) fn add_if_two(&mut self, alloc: Global) -> Result<(), StepFault>
+        ensures { (given : Given) → LeavesStack given self.old.items.items self.old.stack
+            → OnOk result (LeavesStack given self.new.items.items self.new.stack) }
+    {
+        if self.depth < 2 {
+            return Ok(());
+        }
+        self.add(alloc)
     }
 
     /// Saturates the one on top.
@@ -150,7 +168,11 @@ impl<'k> Line<'k> {
     pub(crate) fn finish(self, alloc: Global) -> Result<(Seq<Item>, Normal), StepFault>
         ensures { (given : Given) → LeavesStack given self.entry.items.items self.entry.stack → IfOk result (λ p. IsPostfixOf given p.0 p.1) }
     {
-        let Line { items, mut stack } = self;
+        let Line {
+            items,
+            mut stack,
+            ..
+        } = self;
         let value = stack.only(alloc)?;
         Ok((Seq::from_vec(items), value))
     }

@@ -56,26 +56,6 @@ fn put<'k, 'a, P: Propagator>(
     line.multiply(alloc, factor.saturating_mul(cited.unit))
 }
 
-/// Adds the constraint of a multiplier to a line, times a factor.
-fn add<'k, 'a, P: Propagator>(
-    alloc: Global,
-    kernel: &'k Kernel<'a, P>,
-    sources: &Sources,
-    line: &mut Line<'k>,
-    source: Source,
-    factor: u128,
-) -> Result<(), StepFault>
-    requires { LeavesStack (constraint_of kernel.now.state) line.old.items.items line.old.stack }
-    ensures { OnOk result (LeavesStack (constraint_of kernel.now.state) line.new.items.items line.new.stack) }
-{
-    let is_first = line.is_empty();
-    put(alloc, kernel, sources, line, source, factor)?;
-    if is_first {
-        return Ok(());
-    }
-    line.add(alloc)
-}
-
 /// The line of some multipliers, divided by what they have in common: its items, and the constraint that they derive.
 ///
 /// `DeadId` comes where a multiplier has no live constraint, `StackShape` where there is no multiplier, `BadFactor` where one is 0, `TooLarge`
@@ -107,7 +87,8 @@ pub(crate) fn divided_line<'k, 'a, P: Propagator>(
     let mut line = Line::new(alloc);
     for multiplier in multipliers {
         let factor = u128::from(multiplier.factor) / common;
-        add(alloc, kernel, sources, &mut line, multiplier.source, factor)?;
+        put(alloc, kernel, sources, &mut line, multiplier.source, factor)?;
+        line.add_if_two(alloc)?;
     }
     Ok(line)
 }

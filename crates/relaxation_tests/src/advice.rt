@@ -187,15 +187,26 @@ fn force<'a, P: Propagator>(rt: &impl Abort, alloc: Global, problem: &'a Problem
     assert!(rt; greatest > slack);
 }
 
+/// Whether a dive goes on below the root, before a conflict and so before a cut: a call is due at a node that has done nothing, and all three
+/// corners, which are open, are preferred.
+fn dives<'a, P: Propagator>(
+    kernel: &Kernel<'a, P>,
+    adviser: &mut Adviser,
+) -> Result<bool, AllocError> {
+    let at_root = adviser.ask(kernel, root())?;
+    let is_early = adviser.preferred().is_empty();
+    let below = adviser.ask(kernel, quiet(0))?;
+    Ok(
+        matches!((at_root, below), (Advice::Values, Advice::Values))
+            && is_early
+            && adviser.preferred().len() == 3,
+    )
+}
+
 /// The corners lean to half, and a dive prefers them, until a cut comes.
 fn lean<'a, P: Propagator>(rt: &impl Abort, alloc: Global, problem: &'a Problem) {
     let (mut kernel, mut adviser) = adviser_of::<P>(rt, alloc, problem).expect(rt, "memory");
-    // Before a conflict no cut comes.
-    assert!(rt; matches!(adviser.ask(&kernel, root()), Ok(Advice::Values)));
-    assert!(rt; adviser.preferred().is_empty());
-    // A dive goes on below the root: a call is due at each node, and what is open is preferred.
-    assert!(rt; matches!(adviser.ask(&kernel, quiet(0)), Ok(Advice::Values)));
-    assert_eq!(rt; adviser.preferred().len(), 3);
+    assert!(rt; matches!(dives(&kernel, &mut adviser), Ok(true)));
     let asked = adviser.ask(&kernel, after_conflict());
     let Ok(Advice::Cut(items)) = asked else {
         panic!(rt; "no cut");
