@@ -19,17 +19,18 @@
 //! Any constraint may be deleted by a legal step. That those which a search needs are not, the file's and the one that asks for a better
 //! solution, is a fact of this type too: the call that deletes asks for it.
 
-ghost use Rattle.std.specs.Prelude.{◌≡◌, length, IfOk, IfErr, OnOk, OnErr};
+ghost use Rattle.std.specs.Prelude.{◌≡◌, length, IfOk, IfErr, OnOk, OnErr, Some};
 ghost use Rattle.kernel.specs.Held.{HasAtLeast, given_id};
 ghost use Rattle.proof_rules.specs.Fault.{OrMemory, IsStepFault};
 ghost use Rattle.proof_rules.specs.Legal.{Legal};
-ghost use Rattle.proof_rules.specs.State.{State};
+ghost use Rattle.proof_rules.specs.State.{HasRoom, State};
 ghost use Rattle.proof_text.specs.Writable.{IsStepWritable};
-ghost use Rattle.proof_log.specs.Log.{AreAsBefore, Records};
+ghost use Rattle.proof_log.specs.Log.{AreAsBefore, IsValueOf, Records};
 
 use super::fault::want_of_memory;
 use kernel::{Applied, Kernel};
 use linear::{Assignment, Integer, Lit, Names, Problem, Seq};
+use normal_form::Normal;
 use proof_rules::StepFault;
 use proof_steps::{Conclusion, Step};
 use proof_write::{is_step_writable, write_end, write_start, write_step};
@@ -118,11 +119,39 @@ fn keep_legal<'a, P: Propagator>(
     }
 }
 
+/// Keeps the line of a `pol` step and its value, which is at hand, or neither: nothing is run a second time. Running out of memory is the only
+/// fault.
+fn keep_derived<'a, P: Propagator>(
+    text: &mut Vec<u8>,
+    names: &Names,
+    kernel: &mut Kernel<'a, P>,
+    step: &Step,
+    value: Normal,
+) -> Result<Applied, AllocError>
+    requires writable { IsStepWritable (length names.now) step.now }
+    requires value { IsValueOf kernel.old.state step.now value }
+    requires room { HasRoom kernel.old.state }
+    ensures ok { OnOk result (Records names.now step.now text.old.items kernel.old text.new.items kernel.new) }
+    ensures id { IfOk result (λ applied. applied.id ≡ Some kernel.old.state.next) }
+    ensures err { OnErr result (AreAsBefore text.old.items kernel.old text.new.items kernel.new) }
+{
+    let length = text.len();
+    write_step(step, names, text)?;
+    match kernel.add_derived(value) {
+        Ok(applied) => Ok(applied),
+        Err(fault) => {
+            text.truncate(length);
+            Err(want_of_memory(fault))
+        }
+    }
+}
+
 impl<'a, P: Propagator> Log<'a, P> {
     ghost use Rattle.std.specs.Prelude.{◌≡◌, ◌↔◌, ◌+◌, [], ◌∷◌, ◌++◌, IfOk, IfErr, IfSome, IsSome, IsTrue, None, OnOk, OnErr, Some, length};
     ghost use Rattle.std.specs.FinMap as map;
     ghost use Rattle.kernel.specs.Held.{HasAtLeast, given_id};
     ghost use Rattle.linear.specs.Limits.{IsWithin};
+    ghost use Rattle.propagate.specs.Biting.{Bites};
     ghost use Rattle.propagate.specs.Content.{AreDecided, AreTaken, IsTrace};
     ghost use Rattle.propagate.specs.Literals.{IsConsistent};
     ghost use Rattle.propagate.specs.Reach.{IsReach};
@@ -137,7 +166,7 @@ impl<'a, P: Propagator> Log<'a, P> {
     ghost use Rattle.proof_write.specs.Whole.{first_lines, last_lines};
     ghost use Rattle.proof_log.specs.Deleting.{AreNoted};
     ghost use Rattle.proof_log.specs.Kept.{IsSpare, KeepsLive, Spares};
-    ghost use Rattle.proof_log.specs.Log.{CanBeWritten, GoesOn, ImprovesIfAsked, ImprovesNothing, IsEntitled, IsFalling, IsLegal, IsProof, IsRefused, IsSpelledBy, IsWorthLeast, Keeps, StandsAlone, StepBites, improvement, last_of, with_conclusion};
+    ghost use Rattle.proof_log.specs.Log.{CanBeWritten, GoesOn, ImprovesIfAsked, ImprovesNothing, IsEntitled, IsFalling, IsLegal, IsProof, IsRefused, IsSpelledBy, IsValueOf, IsWorthLeast, Keeps, StandsAlone, StepBites, improvement, last_of, with_conclusion};
     ghost use Rattle.proof_log.specs.Named.{LiveIsNamed};
 
     /// The log of a problem's file, with no step.
@@ -237,6 +266,34 @@ impl<'a, P: Propagator> Log<'a, P> {
         ensures err { OnErr result (self.new ≡ self.old) }
     {
         let applied = keep_legal(&mut self.text, self.source.names(), &mut self.kernel, &step)?;
+        self.biting += 1;
+        drop(mem::replace(&mut self.conclusion, Conclusion::Nothing));
+        Ok(applied)
+    }
+
+    /// The same for a `pol` step whose value is at hand, as long as an id is left. The kernel takes the value, and runs nothing.
+    pub fn learn_derived(&mut self, step: Step, value: Normal) -> Result<Applied, AllocError>
+        requires writable { CanBeWritten self.old step }
+        requires value { IsValueOf self.old.state step value }
+        requires bites { Bites (constraints self.old.state) value }
+        requires room { HasRoom self.old.state }
+        ensures goes_on { GoesOn self.old self.new }
+        ensures ok { OnOk result (Legal self.old.problem self.old.state step self.new.state) }
+        ensures kept { OnOk result (Keeps self.old step self.new) }
+        ensures improved { OnOk result (self.new.improved ≡ self.old.improved) }
+        ensures biting { OnOk result (self.new.biting ≡ self.old.biting + 1) }
+        ensures asking { OnOk result (self.new.asking ≡ self.old.asking) }
+        ensures conclusion { OnOk result (self.new.conclusion ≡ Conclusion.Nothing) }
+        ensures id { IfOk result (λ applied. applied.id ≡ Some self.old.state.next) }
+        ensures err { OnErr result (self.new ≡ self.old) }
+    {
+        let applied = keep_derived(
+            &mut self.text,
+            self.source.names(),
+            &mut self.kernel,
+            &step,
+            value,
+        )?;
         self.biting += 1;
         drop(mem::replace(&mut self.conclusion, Conclusion::Nothing));
         Ok(applied)

@@ -44,9 +44,10 @@ impl Fixed {
 
     /// The number of so many units, or the nearest that is not too large.
     pub(crate) fn nearest(units: i128) -> Fixed {
-        let limit = i128::from(LARGEST_UNITS);
-        Fixed {
-            units: units.clamp(-limit, limit) as i64,
+        match i64::try_from(units) {
+            Ok(few) => Fixed::clamped(few),
+            Err(_) if units < 0 => Fixed::LARGEST.negated(),
+            Err(_) => Fixed::LARGEST,
         }
     }
 

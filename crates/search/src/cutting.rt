@@ -1,9 +1,9 @@
 //! What the analysis of a conflict comes to, logged as one `pol` line.
 //!
-//! The derivation comes with the analysis. That it bites is asked of the constraints as they are now: the closure of the decisions
-//! that are left is computed once more, and the constraint is looked at under it. So a trail that is out of date costs a
-//! weaker step, and never a wrong count. Whether the line can be written is asked as well, since no contract of an analysis says which
-//! factors its items have.
+//! The derivation comes with the analysis, and so does what it derives: the log takes that as it is, and nothing is run a second time. That it bites
+//! is asked of the constraints as they are now: the closure of the decisions that are left is computed once more, and the constraint is looked
+//! at under it. So a trail that is out of date costs a weaker step, and never a wrong count. Whether the line can be written is asked as
+//! well, since no contract of an analysis says which factors its items have.
 
 ghost use Rattle.std.specs.Prelude.{◌≡◌, ◌+◌, IfOk, IsTrue, OnOk, false};
 ghost use Rattle.proof_rules.specs.State.{HasRoom};
@@ -76,7 +76,7 @@ pub(crate) fn learn_constraint<'a, P: Propagator>(
         return Ok(false);
     }
     let variables = variables_of(alloc, &constraint)?;
-    log.learn(step)?;
+    log.learn_derived(step, constraint)?;
     decisions.truncate(kept);
     brancher.conflict(variables.as_slice());
     Ok(true)

@@ -1,15 +1,13 @@
 use Rattle.std.proofs.Common.{ℕ, ◌+◌, List, ◌++◌, length, sym, ap, subst, ◌∙◌, arith}
 use Rattle.linear.specs.Opb.{Opb}
-use Rattle.proof_steps.specs.declared.conclusion.Conclusion.TheVariants.{Nothing}
 use Rattle.proof_rules.specs.Legal.{Legal}
 use Rattle.proof_rules.specs.State.{State}
 use Rattle.proof_steps.specs.declared.step.Step.{Step}
 use Rattle.proof_text.specs.Writable.{IsStepWritable}
 use Rattle.proof_write.specs.Whole.{step_line}
 use Rattle.proof_log.specs.Log.{CanBeWritten, Logbook, IsLegal, IsProof, StepBites}
-use Rattle.proof_log.proofs.Growing.{biting_alone, biting_other, biting_within, grows_biting, line_longer, logbook, no_improvement, written_behind}
-use Rattle.proof_log.proofs.Naming.{step_named}
-use Rattle.proof_log.proofs.StaysLive.{kept_spared, spares_biting}
+use Rattle.proof_log.proofs.Growing.{biting_within, line_longer, logbook, written_behind}
+use Rattle.proof_log.proofs.Learning.{learned}
 use Rattle.proof_log.proofs.log.Log.learn.Goals as goal
 
 pub overflow_add-self : goal.overflow_add-self
@@ -30,22 +28,18 @@ invariant_of-self-2 g c =
     let p : Opb = log.source.now in
     let new : State = c.keep_legal.new.kernel.state in
     let text : List ℕ = c.keep_legal.new.text.items in
+    let step : Step = c.args.step in
     let kept = c.in_ok-applied.ensures.ok in
-    let legal : Legal p log.kernel.state c.args.step new = subst (λ q. Legal q log.kernel.state c.args.step new) c.self.invariant.0 kept.legal in
-    let bites : StepBites log.kernel.state c.args.step = subst (λ (l : Logbook). StepBites l.state c.args.step) (sym c.self.view_is) c.requires.bites in
-    let writable : IsStepWritable (length p.names) c.args.step = subst (λ (l : Logbook). CanBeWritten l c.args.step) (sym c.self.view_is) c.requires.writable in
-    let behind = written_behind p log.text.items c.args.step text c.names.result.now c.names.ensures.names kept.line writable kept.proper in
-    let grown = grows_biting p log.text.items text log.kernel.state new log.improved.items log.biting log.conclusion log.asking c.args.step c.self.invariant.1 behind legal bites in
-    let same = no_improvement c.args.step new log.improved.items (biting_other log.kernel.state c.args.step bites) in
-    let proof : IsProof (logbook p text new log.improved.items (log.biting + 1) Nothing log.asking) =
-    subst (λ vs. IsProof (logbook p text new vs (log.biting + 1) Nothing log.asking)) same grown in
+    let legal : Legal p log.kernel.state step new = subst (λ q. Legal q log.kernel.state step new) c.self.invariant.0 kept.legal in
+    let bites : StepBites log.kernel.state step = subst (λ (l : Logbook). StepBites l.state step) (sym c.self.view_is) c.requires.bites in
+    let writable : IsStepWritable (length p.names) step = subst (λ (l : Logbook). CanBeWritten l step) (sym c.self.view_is) c.requires.writable in
+    let behind = written_behind p log.text.items step text c.names.result.now c.names.ensures.names kept.line writable kept.proper in
     let book : Logbook = logbook p log.text.items log.kernel.state log.improved.items log.biting log.conclusion log.asking in
-    let other = biting_other log.kernel.state c.args.step bites in
-    let live = kept_spared book c.args.step new c.self.invariant.2 (spares_biting book c.args.step bites) other legal in (
+    let all = learned book step text new c.self.invariant.1 c.self.invariant.2 c.self.invariant.3 behind legal bites in (
       kept.problem ∙ c.self.invariant.0,
-      subst (λ x. IsProof (logbook p text new log.improved.items (log.biting + 1) x log.asking)) (sym c.replace.ensures.after) proof,
-      record { file = live.file; improvement = live.improvement },
-      step_named p log.kernel.state new c.args.step c.self.invariant.3 (biting_alone log.kernel.state c.args.step bites) other writable legal,
+      subst (λ x. IsProof (logbook p text new log.improved.items (log.biting + 1) x log.asking)) (sym c.replace.ensures.after) all.0,
+      record { file = all.1.file; improvement = all.1.improvement },
+      all.2,
     )
 
 pub returns-clause-goes_on : goal.returns-clause-goes_on
