@@ -8,9 +8,9 @@ use super::basis::Basis;
 use super::costs::Costs;
 use super::domain::{Domain, domain_of};
 use super::fixed::{Fixed, read, write};
-use super::inverse::Inverse;
+use super::inverse::{Inverse, Scratch};
 use super::rows::{Entry, Rows};
-use super::sums::{Sum, add_row, clear, take_entries};
+use super::sums::{Sum, take_entries};
 use super::work::Work;
 use std::alloc::{AllocError, Global};
 
@@ -20,6 +20,8 @@ pub(crate) struct Duals {
     multipliers: Vec<Fixed>,
     reduced_costs: Vec<Fixed>,
     sums: Vec<Sum>,
+    /// The costs of the basic variables that are not 0, by variable.
+    basic: Vec<Entry>,
 }
 
 impl Duals {
@@ -29,6 +31,7 @@ impl Duals {
             multipliers: Vec::new(alloc),
             reduced_costs: Vec::new(alloc),
             sums: Vec::new(alloc),
+            basic: Vec::new(alloc),
         }
     }
 
@@ -91,32 +94,33 @@ impl Duals {
         costs: &Costs,
         basis: &Basis,
         inverse: &Inverse,
+        scratch: &mut Scratch,
         work: &mut Work,
     ) -> Result<(), AllocError> {
-        self.make_multipliers(costs, basis, inverse)?;
+        self.gather_costs(costs, basis)?;
+        inverse.weights(
+            scratch,
+            self.basic.as_slice(),
+            basis,
+            &mut self.multipliers,
+            work,
+        )?;
         self.make_reduced_costs(rows, costs, basis, work)?;
-        work.count_square(basis.len());
         work.count(self.reduced_costs.len());
         Ok(())
     }
 
-    /// The costs of the basic variables times the inverse.
-    fn make_multipliers(
-        &mut self,
-        costs: &Costs,
-        basis: &Basis,
-        inverse: &Inverse,
-    ) -> Result<(), AllocError> {
-        clear(&mut self.sums, basis.len())?;
-        for (place, variable) in basis.basic().iter().enumerate() {
-            let cost = costs.perturbed(*variable);
-            if !cost.is_zero() {
-                add_row(self.sums.as_mut_slice(), cost, inverse.row(place));
+    /// Gathers the costs of the basic variables.
+    fn gather_costs(&mut self, costs: &Costs, basis: &Basis) -> Result<(), AllocError> {
+        self.basic.clear();
+        for variable in basis.basic() {
+            let value = costs.perturbed(*variable);
+            if !value.is_zero() {
+                self.basic.push(Entry {
+                    place: *variable,
+                    value,
+                })?;
             }
-        }
-        self.multipliers.clear();
-        for sum in &self.sums {
-            self.multipliers.push(sum.rounded())?;
         }
         Ok(())
     }

@@ -20,8 +20,13 @@ impl Relaxation {
             self.follow_domain(variable);
         }
         self.gather_residuals()?;
-        self.inverse
-            .product_of_few(self.tight_entries.as_slice(), &mut self.column)?;
+        self.inverse.product(
+            &mut self.scratch,
+            self.tight_entries.as_slice(),
+            &self.basis,
+            &mut self.column,
+            &mut self.work,
+        )?;
         self.move_basic(Fixed::ONE);
         Ok(())
     }
@@ -39,13 +44,13 @@ impl Relaxation {
         }
     }
 
-    /// The activities of the tight rows, by the places of these.
+    /// The activities of the tight rows.
     fn gather_residuals(&mut self) -> Result<(), AllocError> {
         self.tight_entries.clear();
-        for (place, row) in self.basis.tight().iter().enumerate() {
+        for row in self.basis.tight() {
             let value = self.point.activity(*row);
             if !value.is_zero() {
-                self.tight_entries.push(Entry { place, value })?;
+                self.tight_entries.push(Entry { place: *row, value })?;
             }
         }
         Ok(())

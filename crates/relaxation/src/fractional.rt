@@ -5,8 +5,12 @@
 //! makes stronger than the point is (Gomory; Chvátal for the sum itself). A row was divided by its scale, and so its number is too: the
 //! fractional part is that of the number by which the constraint itself is multiplied.
 
+use super::fixed::Fixed;
+use super::inverse::Scratch;
 use super::multipliers::Row;
 use super::relaxation::Relaxation;
+use super::rows::Entry;
+use super::work::Work;
 use linear::Var;
 use std::alloc::{AllocError, Global};
 
@@ -48,6 +52,24 @@ impl Relaxation {
         self.basis.len()
     }
 
+    /// The numbers by which the tight rows make up the basic variable of a place.
+    fn weights_of(&self, alloc: Global, place: usize) -> Result<Vec<Fixed>, AllocError> {
+        let mut scratch = Scratch::new(alloc);
+        scratch.widen(self.rows.count(), self.rows.variables())?;
+        let mut weights = Vec::new(alloc);
+        let mut work = Work::new();
+        let Some(variable) = self.basis.basic().get(place) else {
+            return Ok(weights);
+        };
+        let one = [Entry {
+            place: *variable,
+            value: Fixed::ONE,
+        }];
+        self.inverse
+            .weights(&mut scratch, &one, &self.basis, &mut weights, &mut work)?;
+        Ok(weights)
+    }
+
     /// The fractional parts of the numbers that make up the basic variable of a place, or of these with their signs changed. Those that are
     /// whole numbers, about, are left out.
     pub fn fractional_multipliers(
@@ -57,12 +79,8 @@ impl Relaxation {
         is_negated: bool,
     ) -> Result<Vec<FractionalMultiplier>, AllocError> {
         let mut multipliers = Vec::new(alloc);
-        for (value, row) in self
-            .inverse
-            .row(place)
-            .iter()
-            .zip(self.basis.tight().iter())
-        {
+        let weights = self.weights_of(alloc, place)?;
+        for (value, row) in weights.iter().zip(self.basis.tight().iter()) {
             let sided = if is_negated { value.negated() } else { *value };
             let fraction = fractional_part(sided.units(), self.rows.exponent(*row));
             if fraction > 0 {

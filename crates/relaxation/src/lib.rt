@@ -6,7 +6,7 @@
 //! range, and that no number overflows or is divided by 0.
 //!
 //! A step goes through the files in this order: `pricing` (what is violated most), `tableau` (its row), `ratio` (what enters), `pivot` (the
-//! exchange, of `basis`, `inverse`, `point` and `duals`); `simplex` has the rounds of a call, `ends` how it ends, `multipliers` what is handed out.
+//! exchange, of `basis`, `inverse`, `point` and `duals`; what the inverse is made of stands in `elimination`, `triangles` and `exchange`); `simplex` has the rounds of a call, `ends` how it ends, `multipliers` what is handed out.
 //! Of `fractional` cuts are made, and `row_exchange` lets them go again.
 #![tactic(auto)]
 
@@ -14,7 +14,9 @@ mod basis;
 mod costs;
 mod domain;
 mod duals;
+mod elimination;
 mod ends;
+mod exchange;
 mod fixed;
 mod following;
 mod fractional;
@@ -27,10 +29,12 @@ mod ratio;
 mod relaxation;
 mod row_exchange;
 mod rows;
+mod scattered;
 mod simplex;
 mod sums;
 mod tableau;
 mod touched;
+mod triangles;
 mod work;
 
 pub use fixed::Fixed;

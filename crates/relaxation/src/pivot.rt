@@ -1,7 +1,7 @@
 //! A step: what enters takes the place of what leaves.
 //!
-//! What enters moves by `theta`, what leaves lacks over its entry, and takes the basic variables along by its column. Then the inverse
-//! changes by one product, `column / pivot` times the weights of the tableau row, in all four cases alike:
+//! What enters moves by `theta`, what leaves lacks over its entry, and takes the basic variables along by its column. The inverse notes the
+//! exchange, in all four cases alike:
 //!
 //! | Leaves | Enters | The kernel |
 //! |---|---|---|
@@ -9,14 +9,14 @@
 //! | a row | a slack | has the row in the stead of the slack's |
 //! | a variable | a variable | has the one in the stead of the other |
 //! | a variable | a slack | loses the variable and the slack's row |
-//!
-//! A variable that enters has the row `-weights / pivot` of the inverse, a row that becomes tight the column `-column / pivot`.
 
-use super::fixed::Fixed;
+use super::exchange::{Exchange, Left};
+use super::fixed::{Fixed, read};
 use super::pricing::{Leaving, Violation};
 use super::ratio::{Candidate, Entering};
 use super::relaxation::Relaxation;
 use super::rows::Entry;
+use super::sums::Sum;
 use std::alloc::AllocError;
 
 impl Relaxation {
@@ -30,11 +30,7 @@ impl Relaxation {
         self.form_column(chosen.entering)?;
         self.move_point(chosen, theta);
         self.duals.take(chosen.ratio, self.tableau.weights(), self.tableau.entries());
-        self.form_factors(chosen.entry)?;
-        self.inverse
-            .add_products(self.factors.as_slice(), self.tableau.weights());
-        self.work
-            .count_product(self.factors.len(), self.tableau.weights().len());
+        self.note_exchange(violation.leaving, chosen.entering)?;
         self.pivots = self.pivots.saturating_add(1);
         match violation.leaving {
             Leaving::Row(row) => self.tighten(row, chosen, theta),
@@ -46,26 +42,36 @@ impl Relaxation {
     /// How the basic variables move, with its sign changed, where what enters grows by one.
     fn form_column(&mut self, entering: Entering) -> Result<(), AllocError> {
         match entering {
-            Entering::Slack(place) => self.inverse.negated_column(place, &mut self.column),
-            Entering::Variable(variable) => {
-                self.gather_column(variable)?;
-                self.work
-                    .count_product(self.tight_entries.len(), self.basis.len());
-                self.inverse
-                    .product_of_few(self.tight_entries.as_slice(), &mut self.column)
-            }
+            Entering::Slack(place) => self.gather_slack(place)?,
+            Entering::Variable(variable) => self.gather_column(variable)?,
         }
+        self.inverse.product(
+            &mut self.scratch,
+            self.tight_entries.as_slice(),
+            &self.basis,
+            &mut self.column,
+            &mut self.work,
+        )
     }
 
-    /// The coefficients of a variable in the tight rows, by the places of these.
+    /// The slack of the tight row at a place, which counts against its row.
+    fn gather_slack(&mut self, place: usize) -> Result<(), AllocError> {
+        self.tight_entries.clear();
+        if let Some(row) = self.basis.tight().get(place) {
+            self.tight_entries.push(Entry {
+                place: *row,
+                value: Fixed::ONE.negated(),
+            })?;
+        }
+        Ok(())
+    }
+
+    /// The coefficients of a variable in the tight rows.
     fn gather_column(&mut self, variable: usize) -> Result<(), AllocError> {
         self.tight_entries.clear();
         for entry in self.rows.column(variable) {
-            if let Some(place) = self.basis.place_of_row(entry.place) {
-                self.tight_entries.push(Entry {
-                    place,
-                    value: entry.value,
-                })?;
+            if self.basis.is_tight(entry.place) {
+                self.tight_entries.push(*entry)?;
             }
         }
         Ok(())
@@ -100,43 +106,77 @@ impl Relaxation {
         }
     }
 
-    /// The column over the pivot.
-    fn form_factors(&mut self, pivot: Fixed) -> Result<(), AllocError> {
-        self.factors.clear();
-        for slope in &self.column {
-            self.factors.push(slope.over(pivot))?;
-        }
-        Ok(())
+    /// Notes the step for later products with the inverse.
+    fn note_exchange(&mut self, leaving: Leaving, entering: Entering) -> Result<(), AllocError> {
+        let (entered, loosened) = match entering {
+            Entering::Variable(variable) => (Some(variable), None),
+            Entering::Slack(place) => (None, self.basis.tight().get(place).copied()),
+        };
+        let exchange = match leaving {
+            Leaving::Row(row) => self.exchange_of_row(row, entered)?,
+            Leaving::Below(place) | Leaving::Above(place) => {
+                self.exchange_of_variable(place, entered)?
+            }
+        };
+        self.inverse.exchange(exchange, loosened)
     }
 
-    /// The row of the inverse of a variable that enters: the weights over the pivot, with their signs changed.
-    fn form_entering_row(&mut self, pivot: Fixed) -> Result<(), AllocError> {
-        self.entering_row.clear();
-        for weight in self.tableau.weights() {
-            let value = weight.value.over(pivot).negated();
-            self.entering_row.push(Entry {
-                place: weight.place,
-                value,
-            })?;
+    /// The column by variable, without what is 0.
+    fn column_entries(&self) -> Result<Vec<Entry>, AllocError> {
+        let mut entries = Vec::new(self.alloc);
+        for (variable, value) in self.basis.basic().iter().zip(self.column.iter()) {
+            if !value.is_zero() {
+                entries.push(Entry {
+                    place: *variable,
+                    value: *value,
+                })?;
+            }
         }
-        Ok(())
+        Ok(entries)
     }
 
-    /// Changes the signs of the factors, which then are the column of the inverse of a row that becomes tight.
-    fn negate_factors(&mut self) {
-        for factor in self.factors.iter_mut() {
-            *factor = factor.negated();
+    /// The exchange where the basic variable of a place leaves.
+    fn exchange_of_variable(
+        &self,
+        place: usize,
+        entered: Option<usize>,
+    ) -> Result<Exchange, AllocError> {
+        let variable = self.basis.basic().get(place).copied().unwrap_or(0);
+        Ok(Exchange {
+            left: Left::Variable(variable),
+            entered,
+            column: self.column_entries()?,
+            pivot: read(self.column.as_slice(), place),
+        })
+    }
+
+    /// The exchange where the slack of a row leaves: it is divided by how much that slack falls where what enters grows by one.
+    fn exchange_of_row(&self, row: usize, entered: Option<usize>) -> Result<Exchange, AllocError> {
+        let mut entries = Vec::new(self.alloc);
+        let mut fall = Sum::ZERO;
+        for entry in self.rows.row(row) {
+            if entered == Some(entry.place) {
+                fall = fall.plus(Sum::of(entry.value));
+            }
+            if let Some(place) = self.basis.place_of_variable(entry.place) {
+                fall = fall.minus_product(entry.value, read(self.column.as_slice(), place));
+                entries.push(*entry)?;
+            }
         }
+        Ok(Exchange {
+            left: Left::Slack { row, entries },
+            entered,
+            column: self.column_entries()?,
+            pivot: fall.rounded(),
+        })
     }
 
     /// A row becomes tight.
     fn tighten(&mut self, row: usize, chosen: Candidate, theta: Fixed) -> Result<(), AllocError> {
-        self.negate_factors();
         match chosen.entering {
             Entering::Variable(variable) => self.enlarge(row, variable, chosen),
             Entering::Slack(place) => {
                 self.loosen(place, theta);
-                self.inverse.set_column(place, self.factors.as_slice());
                 self.basis.exchange_row(place, row);
                 self.duals.set_multiplier(place, chosen.ratio);
                 self.point.set_activity(row, Fixed::ZERO);
@@ -152,15 +192,6 @@ impl Relaxation {
         variable: usize,
         chosen: Candidate,
     ) -> Result<(), AllocError> {
-        let place = self.basis.len();
-        self.form_entering_row(chosen.entry)?;
-        self.entering_row.push(Entry {
-            place,
-            value: Fixed::ONE.over(chosen.entry),
-        })?;
-        self.inverse.append_column(self.factors.as_slice())?;
-        self.inverse
-            .append_row(place.saturating_add(1), self.entering_row.as_slice())?;
         self.basis.append_row(row)?;
         self.basis.append_variable(variable)?;
         self.duals.append_multiplier(chosen.ratio)?;
@@ -181,14 +212,11 @@ impl Relaxation {
         }
         match chosen.entering {
             Entering::Variable(variable) => {
-                self.form_entering_row(chosen.entry)?;
-                self.inverse.set_row(place, self.entering_row.as_slice());
                 self.basis.exchange_variable(place, variable);
                 self.duals.set_reduced_cost(variable, Fixed::ZERO);
             }
             Entering::Slack(column) => {
                 self.loosen(column, theta);
-                self.inverse.take_out(place, column);
                 self.basis.take_out_row(column);
                 self.basis.take_out_variable(place);
                 self.duals.take_out_multiplier(column);

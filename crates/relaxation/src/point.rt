@@ -7,7 +7,7 @@ use super::basis::Basis;
 use super::domain::{Domain, domain_of};
 use super::duals::Duals;
 use super::fixed::{Fixed, read, write};
-use super::inverse::Inverse;
+use super::inverse::{Inverse, Scratch};
 use super::rows::{Entry, Rows};
 use super::sums::Sum;
 use super::work::Work;
@@ -19,7 +19,7 @@ pub(crate) struct Point {
     values: Vec<Fixed>,
     activities: Vec<Fixed>,
     /// What the tight rows still want where the basic variables are 0.
-    wanted: Vec<Fixed>,
+    wanted: Vec<Entry>,
     /// The values of the basic variables, by their places.
     basic: Vec<Fixed>,
 }
@@ -104,12 +104,22 @@ impl Point {
         basis: &Basis,
         inverse: &Inverse,
         duals: &Duals,
+        scratch: &mut Scratch,
         work: &mut Work,
     ) -> Result<(), AllocError> {
         self.put_to_bounds(domains, basis, duals);
-        self.solve_basic(rows, basis, inverse)?;
+        self.gather_wanted(rows, basis)?;
+        inverse.product(
+            scratch,
+            self.wanted.as_slice(),
+            basis,
+            &mut self.basic,
+            work,
+        )?;
+        for (variable, value) in basis.basic().iter().zip(self.basic.iter()) {
+            write(self.values.as_mut_slice(), *variable, *value);
+        }
         self.measure_all(rows, work);
-        work.count_square(basis.len());
         work.count(self.values.len());
         Ok(())
     }
@@ -125,21 +135,12 @@ impl Point {
         }
     }
 
-    /// Gives the basic variables the values that make the tight rows hold with equality.
-    fn solve_basic(
-        &mut self,
-        rows: &Rows,
-        basis: &Basis,
-        inverse: &Inverse,
-    ) -> Result<(), AllocError> {
+    /// Gathers what the tight rows want where the basic variables are 0.
+    fn gather_wanted(&mut self, rows: &Rows, basis: &Basis) -> Result<(), AllocError> {
         self.wanted.clear();
         for row in basis.tight() {
-            let wanted = self.measure(rows, *row).negated();
-            self.wanted.push(wanted)?;
-        }
-        inverse.product(self.wanted.as_slice(), &mut self.basic)?;
-        for (variable, value) in basis.basic().iter().zip(self.basic.iter()) {
-            write(self.values.as_mut_slice(), *variable, *value);
+            let value = self.measure(rows, *row).negated();
+            self.wanted.push(Entry { place: *row, value })?;
         }
         Ok(())
     }

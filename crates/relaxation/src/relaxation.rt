@@ -7,7 +7,7 @@ use super::costs::Costs;
 use super::domain::{Domain, domain_of};
 use super::duals::Duals;
 use super::fixed::Fixed;
-use super::inverse::Inverse;
+use super::inverse::{Inverse, Scratch};
 use super::multipliers::{Multiplier, Row};
 use super::point::Point;
 use super::ratio::Candidates;
@@ -45,22 +45,20 @@ pub struct Limits {
 /// The linear relaxation, with the basis of its last call.
 #[derive(Debug, Drop)]
 pub struct Relaxation {
+    pub(crate) alloc: Global,
     pub(crate) rows: Rows,
     pub(crate) costs: Costs,
     pub(crate) domains: Vec<Domain>,
     pub(crate) basis: Basis,
     pub(crate) inverse: Inverse,
+    pub(crate) scratch: Scratch,
     pub(crate) point: Point,
     pub(crate) duals: Duals,
     pub(crate) tableau: TableauRow,
     pub(crate) candidates: Candidates,
     /// How the basic variables move in a step.
     pub(crate) column: Vec<Fixed>,
-    /// The column over the pivot.
-    pub(crate) factors: Vec<Fixed>,
-    /// The row of the inverse of the variable that enters.
-    pub(crate) entering_row: Vec<Entry>,
-    /// The coefficients of the variable that enters in tight rows, by their places.
+    /// The coefficients of the variable that enters in tight rows, by row.
     pub(crate) tight_entries: Vec<Entry>,
     pub(crate) multipliers: Vec<Multiplier>,
     /// The sum of the rows by the multipliers.
@@ -83,18 +81,18 @@ impl Relaxation {
     /// No constraint and no objective over so many variables.
     pub fn new(alloc: Global, variables: usize) -> Result<Self, AllocError> {
         let mut relaxation = Relaxation {
+            alloc,
             rows: Rows::new(alloc, 0)?,
             costs: Costs::new(alloc),
             domains: Vec::new(alloc),
             basis: Basis::new(alloc),
             inverse: Inverse::new(alloc),
+            scratch: Scratch::new(alloc),
             point: Point::new(alloc),
             duals: Duals::new(alloc),
             tableau: TableauRow::new(alloc),
             candidates: Candidates::new(alloc),
             column: Vec::new(alloc),
-            factors: Vec::new(alloc),
-            entering_row: Vec::new(alloc),
             tight_entries: Vec::new(alloc),
             multipliers: Vec::new(alloc),
             sum: TouchedSums::new(alloc),
@@ -124,6 +122,8 @@ impl Relaxation {
             }
         }
         self.basis.widen(self.rows.count(), variables)?;
+        self.inverse.widen(self.rows.count())?;
+        self.scratch.widen(self.rows.count(), variables)?;
         self.point.widen(self.rows.count(), variables)
     }
 

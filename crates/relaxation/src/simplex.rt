@@ -44,7 +44,7 @@ const MEASURED: u32 = 100;
 const ROUNDED: i128 = 1 << 12;
 
 /// The largest kernel.
-const LARGEST_KERNEL: usize = 1_000;
+const LARGEST_KERNEL: usize = 20_000;
 
 /// What a call has to keep to.
 #[derive(Clone, Copy)]
@@ -231,6 +231,7 @@ impl Relaxation {
             &self.rows,
             &self.basis,
             &self.inverse,
+            &mut self.scratch,
             &mut self.work,
         )?;
         let chosen = self.candidates.choose(
@@ -268,6 +269,24 @@ impl Relaxation {
         if self.is_inaccurate() {
             return self.refresh(call);
         }
+        if self.inverse.is_long() {
+            return self.shorten(call);
+        }
+        Ok(None)
+    }
+
+    /// Makes the triangles of the inverse anew, and all else where the kernel has no inverse.
+    fn shorten(&mut self, call: &mut Call) -> Result<Option<End>, AllocError> {
+        let is_regular = self
+            .inverse
+            .refactor(&self.rows, &self.basis, &mut self.work)?;
+        if is_regular {
+            return Ok(None);
+        }
+        self.forget_basis();
+        self.make_duals()?;
+        self.make_point()?;
+        call.estimate = i128::MAX;
         Ok(None)
     }
 
@@ -317,11 +336,9 @@ impl Relaxation {
         Ok(None)
     }
 
-    /// Whether a refactorisation is within what a call may do, about: its kernel is taken to have entries in an eighth of its places.
+    /// Whether a refactorisation is within what a call may do, about: it is taken to do as much as the last one.
     fn can_refactor(&self, call: Call) -> bool {
-        let size = self.basis.len() as u64;
-        let cost = size.saturating_mul(size).saturating_mul(size) / 8;
-        self.work.done().saturating_add(cost) <= call.work
+        self.work.done().saturating_add(self.inverse.cost()) <= call.work
     }
 
     /// Makes the inverse anew, where the kernel has none with the empty basis.
@@ -353,6 +370,7 @@ impl Relaxation {
             &self.costs,
             &self.basis,
             &self.inverse,
+            &mut self.scratch,
             &mut self.work,
         )
     }
@@ -365,6 +383,7 @@ impl Relaxation {
             &self.basis,
             &self.inverse,
             &self.duals,
+            &mut self.scratch,
             &mut self.work,
         )?;
         self.steps_since_made = Some(0);

@@ -2,9 +2,8 @@
 //!
 //! A product is kept whole, and only the sum is rounded. With 128 bits a sum of 2^33 products of the largest numbers still fits.
 
-use super::fixed::{Fixed, read};
+use super::fixed::Fixed;
 use super::rows::Entry;
-use std::alloc::AllocError;
 
 /// A sum of products, in units of `2^-64`, that is rounded once at its end.
 #[derive(Clone, Copy, Debug)]
@@ -63,31 +62,6 @@ impl Sum {
     }
 }
 
-/// The sum of the products of two lists of numbers, place by place.
-pub(crate) fn dot(left: &[Fixed], right: &[Fixed]) -> Fixed {
-    let mut sum = Sum::ZERO;
-    for (a, b) in left.iter().zip(right.iter()) {
-        sum = sum.plus_product(*a, *b);
-    }
-    sum.rounded()
-}
-
-/// The product of a list of numbers with one of which the entries that are not 0 are given.
-pub(crate) fn sparse_dot(numbers: &[Fixed], entries: &[Entry]) -> Fixed {
-    let mut sum = Sum::ZERO;
-    for entry in entries {
-        sum = sum.plus_product(read(numbers, entry.place), entry.value);
-    }
-    sum.rounded()
-}
-
-/// Adds a multiple of a list of numbers to sums, place by place.
-pub(crate) fn add_row(sums: &mut [Sum], factor: Fixed, row: &[Fixed]) {
-    for (sum, value) in sums.iter_mut().zip(row.iter()) {
-        *sum = sum.plus_product(factor, *value);
-    }
-}
-
 /// Takes a multiple of some entries from the sums of their places.
 pub(crate) fn take_entries(sums: &mut [Sum], factor: Fixed, entries: &[Entry]) {
     for entry in entries {
@@ -100,10 +74,4 @@ pub(crate) fn take(sums: &mut [Sum], place: usize, left: Fixed, right: Fixed) {
     if place < sums.len() {
         sums[place] = sums[place].minus_product(left, right);
     }
-}
-
-/// Makes a list of so many sums that are 0.
-pub(crate) fn clear(sums: &mut Vec<Sum>, count: usize) -> Result<(), AllocError> {
-    sums.clear();
-    sums.resize(count, Sum::ZERO)
 }

@@ -5,10 +5,9 @@
 
 use super::basis::Basis;
 use super::fixed::Fixed;
-use super::inverse::Inverse;
+use super::inverse::{Inverse, Scratch};
 use super::pricing::Leaving;
 use super::rows::{Entry, Rows};
-use super::sums::{Sum, add_row, clear};
 use super::touched::TouchedSums;
 use super::work::Work;
 use std::alloc::{AllocError, Global};
@@ -23,8 +22,10 @@ pub(crate) struct TableauRow {
     weights: Vec<Entry>,
     /// The entries at variables that stand at bounds.
     entries: Vec<Entry>,
-    /// Sums by place of a tight row.
-    place_sums: Vec<Sum>,
+    /// The coefficients of the basic variables in what leaves, by variable.
+    basic: Vec<Entry>,
+    /// A number for each tight row.
+    numbers: Vec<Fixed>,
     /// Sums by variable.
     sums: TouchedSums,
 }
@@ -35,7 +36,8 @@ impl TableauRow {
         TableauRow {
             weights: Vec::new(alloc),
             entries: Vec::new(alloc),
-            place_sums: Vec::new(alloc),
+            basic: Vec::new(alloc),
+            numbers: Vec::new(alloc),
             sums: TouchedSums::new(alloc),
         }
     }
@@ -62,16 +64,27 @@ impl TableauRow {
         rows: &Rows,
         basis: &Basis,
         inverse: &Inverse,
+        scratch: &mut Scratch,
         work: &mut Work,
     ) -> Result<(), AllocError> {
         self.clear();
         match leaving {
             Leaving::Row(row) => {
-                self.weigh_row(rows.row(row), basis, inverse, work)?;
+                self.gather_basic(rows.row(row), basis)?;
                 self.sums.take_row(Fixed::ONE.negated(), rows.row(row))?;
             }
-            Leaving::Below(place) => self.copy_weights(inverse.row(place), false)?,
-            Leaving::Above(place) => self.copy_weights(inverse.row(place), true)?,
+            Leaving::Below(place) => self.gather_one(place, Fixed::ONE, basis)?,
+            Leaving::Above(place) => self.gather_one(place, Fixed::ONE.negated(), basis)?,
+        }
+        inverse.weights(
+            scratch,
+            self.basic.as_slice(),
+            basis,
+            &mut self.numbers,
+            work,
+        )?;
+        for (place, number) in self.numbers.iter().enumerate() {
+            keep(&mut self.weights, place, *number)?;
         }
         self.take_tight_rows(rows, basis, work)?;
         self.round_entries(basis)
@@ -82,38 +95,26 @@ impl TableauRow {
         self.sums.clear();
         self.weights.clear();
         self.entries.clear();
+        self.basic.clear();
     }
 
-    /// The weights of a row: its basic variables' coefficients times the inverse.
-    fn weigh_row(
-        &mut self,
-        row: &[Entry],
-        basis: &Basis,
-        inverse: &Inverse,
-        work: &mut Work,
-    ) -> Result<(), AllocError> {
-        clear(&mut self.place_sums, basis.len())?;
+    /// Gathers the coefficients of basic variables in a row.
+    fn gather_basic(&mut self, row: &[Entry], basis: &Basis) -> Result<(), AllocError> {
         for entry in row {
-            if let Some(place) = basis.place_of_variable(entry.place) {
-                add_row(
-                    self.place_sums.as_mut_slice(),
-                    entry.value,
-                    inverse.row(place),
-                );
-                work.count(basis.len());
+            if basis.is_basic(entry.place) {
+                self.basic.push(*entry)?;
             }
-        }
-        for (place, sum) in self.place_sums.iter().enumerate() {
-            keep(&mut self.weights, place, sum.rounded())?;
         }
         Ok(())
     }
 
-    /// The weights of a basic variable: its row of the inverse, with its signs changed where it has to shrink.
-    fn copy_weights(&mut self, row: &[Fixed], shrinks: bool) -> Result<(), AllocError> {
-        for (place, value) in row.iter().enumerate() {
-            let weight = if shrinks { value.negated() } else { *value };
-            keep(&mut self.weights, place, weight)?;
+    /// Gathers a basic variable alone.
+    fn gather_one(&mut self, place: usize, value: Fixed, basis: &Basis) -> Result<(), AllocError> {
+        if let Some(variable) = basis.basic().get(place) {
+            self.basic.push(Entry {
+                place: *variable,
+                value,
+            })?;
         }
         Ok(())
     }

@@ -22,8 +22,4 @@ impl Work {
     pub(crate) fn count_product(&mut self, left: usize, right: usize) {
         self.count(left.saturating_mul(right));
     }
-
-    pub(crate) fn count_square(&mut self, number: usize) {
-        self.count_product(number, number);
-    }
 }
