@@ -17,7 +17,7 @@ use propagate::{Id, Propagator};
 use std::alloc::{AllocError, Global};
 
 /// A constraint that forces a literal where an adviser came to it is kept as if its literals were of so many levels.
-const LEVELS_OF_FORCING: u32 = 2;
+const LEVELS_OF_FORCING: u32 = 6;
 
 /// What is to be known of an advised constraint.
 #[derive(Drop)]

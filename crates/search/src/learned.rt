@@ -19,6 +19,12 @@ const CONFLICTS: u64 = 2000;
 /// So many more come before each later time.
 const MORE: u64 = 300;
 
+/// Half is forgotten sooner where all have so many terms together,
+const TERMS: u64 = 100_000;
+
+/// and then twice as many as are left.
+const TIMES_LEFT: u64 = 2;
+
 /// A constraint whose literals are of so many levels at most stays for long.
 const FEW_LEVELS: u32 = 2;
 
@@ -73,6 +79,8 @@ pub(crate) struct LearnedConstraints {
     interval: u64,
     /// How many terms all have together.
     terms: u64,
+    /// How many they may have.
+    most_terms: u64,
 }
 
 /// The ids in whose constraints literals of a trail are forced.
@@ -97,6 +105,7 @@ impl LearnedConstraints {
             next: CONFLICTS,
             interval: CONFLICTS,
             terms: 0,
+            most_terms: TERMS,
         }
     }
 
@@ -162,12 +171,12 @@ impl LearnedConstraints {
 
     /// Whether it is time to forget half; then the next time is later.
     pub(crate) fn is_due(&mut self) -> bool {
-        if self.conflicts < self.next {
-            return false;
+        if self.conflicts >= self.next {
+            self.interval = self.interval.saturating_add(MORE);
+            self.next = self.conflicts.saturating_add(self.interval);
+            return true;
         }
-        self.interval = self.interval.saturating_add(MORE);
-        self.next = self.conflicts.saturating_add(self.interval);
-        true
+        self.terms > self.most_terms
     }
 
     /// The rank below which half of those lie that may go.
@@ -208,6 +217,7 @@ impl LearnedConstraints {
         }
         self.all = kept;
         self.terms = terms;
+        self.most_terms = terms.saturating_mul(TIMES_LEFT).max(TERMS);
         Ok(gone)
     }
 }
