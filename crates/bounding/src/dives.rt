@@ -22,7 +22,7 @@ const MORE_WORK: u64 = 50_000_000;
 const MOST_WORK: u64 = 1_000_000_000;
 
 /// How many steps a call may take.
-const STEPS: u32 = 200;
+const STEPS: u32 = 1_000;
 
 /// How much a call may do.
 const CALL_WORK: u64 = 100_000_000;

@@ -22,13 +22,13 @@ const LEAST_SHARE: u64 = 52_429;
 const GREATEST_SHARE: u64 = 838_861;
 
 /// A term that the search looks at takes as long as so many multiplications.
-const WEIGHT_OF_SEARCH: u64 = 4;
+const WEIGHT_OF_SEARCH: u64 = 10;
 
 /// How many steps a call may take.
-const STEPS: u32 = 200;
+const STEPS: u32 = 1_000;
 
 /// How many a call may take that is far from the root, as long as there is no solution to be better than.
-const FEW_STEPS: u32 = 60;
+const FEW_STEPS: u32 = 200;
 
 /// From so many open decisions on a call is far from the root.
 const FAR: usize = 5;
