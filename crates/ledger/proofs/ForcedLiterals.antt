@@ -18,8 +18,8 @@ use Rattle.propagate.proofs.Assignments.{among_right, among_head}
 use Rattle.propagate.proofs.Occurrences.{TermForces, nothing_forced}
 use Rattle.ledger.specs.Forcing.{AreForced, IsForcedOn}
 use Rattle.ledger.specs.Ledgers.{AreReasons, constraint_at, constraint_in, open_sum, shown}
-use Rattle.ledger.specs.Orders.{IsDecreasing, coefficient_at, place_in}
-use Rattle.ledger.specs.Trails.{on_trail}
+use Rattle.ledger.specs.Orders.{ArePassed, IsDecreasing, coefficient_at, place_in, placed}
+use Rattle.ledger.specs.Trails.{IsFree, on_trail}
 use Rattle.ledger.proofs.Opening.{fewer, open_less}
 use Rattle.ledger.proofs.Reasons.{reasons_push}
 use Rattle.ledger.proofs.Standing.{shown_at}
@@ -103,37 +103,33 @@ as_many_on n place xs ys rs ss e f =
 pub pushed_on : (a b : List Lit × ℕ × List Lit) (l m : Lit) → b ≡ (a.0, a.1, a.2 ++ m ∷ []) → m ≡ l → on_trail b ≡ on_trail a ++ l ∷ []
 pushed_on a b l m e f = ap on_trail e ∙ sym (append_assoc a.0 a.2 (m ∷ [])) ∙ ap (λ (x : Lit). on_trail a ++ x ∷ []) f
 
--- a term that can force behind other literals can force before them
-pub can_before : (xs new : List Lit) (ys : List Lit) (slack : ℕ) (t : NormalTerm) → new ≡ xs ++ ys → TermForces new slack t → TermForces xs slack t
-can_before xs new ys slack t e f =
-    let here : TermForces (xs ++ ys) slack t = rw e at f in
-    (here.0, fewer xs ys (t.var.0) t.negated (lists xs (literal_of t)) refl here.1, fewer xs ys (t.var.0) (not t.negated) (lists xs (opposite (literal_of t))) refl here.2)
+-- a literal that is free behind other literals is free before them
+free_before : (xs new ys : List Lit) (l : Lit) → new ≡ xs ++ ys → IsFree new l → IsFree xs l
+free_before xs new ys l e f =
+    let here : IsFree (xs ++ ys) l = rw e at f in
+    (fewer xs ys (l.var.0) l.negated (lists xs l) refl here.0, fewer xs ys (l.var.0) (not l.negated) (lists xs (opposite l)) refl here.1)
 
--- a literal that is listed is forced no more
-pub forced_no_more : (xs new : List Lit) (slack : ℕ) (t : NormalTerm) → new ≡ xs ++ literal_of t ∷ [] → TermForces new slack t → ⊥
-forced_no_more xs new slack t e f =
-    let here : TermForces (xs ++ literal_of t ∷ []) slack t = rw e at f in
-    false≢true (sym here.1 ∙ among_right xs (literal_of t ∷ []) (t.var.0) t.negated (among_head (literal_of t) []))
+-- a literal that is listed is not free
+pub free_no_more : (xs new : List Lit) (l : Lit) → new ≡ xs ++ l ∷ [] → IsFree new l → ⊥
+free_no_more xs new l e f =
+    let here : IsFree (xs ++ l ∷ []) l = rw e at f in
+    false≢true (sym here.0 ∙ among_right xs (l ∷ []) (l.var.0) l.negated (among_head l []))
 
--- the term at a place
-abbrev pub placed : List NormalTerm → ℕ → NormalTerm
-placed terms k = get_or terms k (record { coef = 0; var = record { 0 = 0 }; negated = false })
+-- what is passed before other literals is passed behind them
+pub still_passed : (terms : List NormalTerm) (order : List ℕ) (xs new ls : List Lit) (count : ℕ) → ArePassed terms order xs count → new ≡ xs ++ ls → ArePassed terms order new count
+still_passed terms order xs new ls count done e k h free = done k h (free_before xs new ls (literal_of (placed terms (place_in order k))) e free)
 
--- the terms at the first indices of an order force nothing
-abbrev pub AreSpent : NormalConstraint → List ℕ → List Lit → ℕ → ℕ → Type 0
-AreSpent n order assigned slack index = (k : ℕ) → k < index → TermForces assigned slack (placed n.terms (place_in order k)) → ⊥
-
-pub spent_more : (n : NormalConstraint) (order : List ℕ) (xs new ls : List Lit) (slack index : ℕ) (t : NormalTerm) → AreSpent n order xs slack index → new ≡ xs ++ ls → index < length n.terms → IsDecreasing n.terms order → t ≡ get_or n.terms (place_in order index) t → (TermForces new slack t → ⊥) → AreSpent n order new slack (index + 1)
-spent_more n order xs new ls slack index t done e low o is none k h can = elim (cases_lt k index) [
-  | inl before ↦ done k before (can_before xs new ls slack (placed n.terms (place_in order k)) e can)
+pub passed_more : (n : NormalConstraint) (order : List ℕ) (xs new ls : List Lit) (index : ℕ) (t : NormalTerm) → ArePassed n.terms order xs index → new ≡ xs ++ ls → index < length n.terms → IsDecreasing n.terms order → t ≡ get_or n.terms (place_in order index) t → (IsFree new (literal_of t) → ⊥) → ArePassed n.terms order new (index + 1)
+passed_more n order xs new ls index t done e low o is none k h free = elim (cases_lt k index) [
+  | inl before ↦ still_passed n.terms order xs new ls index done e k before free
   | inr past ↦
       let same : k ≡ index = omega (arith, h, past) in
       let its : placed n.terms (place_in order index) ≡ t = get_or_default n.terms (place_in order index) (record { coef = 0; var = record { 0 = 0 }; negated = false }) t (o.below index low) ∙ sym is in
-      none (subst (λ (u : NormalTerm). TermForces new slack u) its (subst (λ (j : ℕ). TermForces new slack (placed n.terms (place_in order j))) same can))
+      none (subst (λ (u : NormalTerm). IsFree new (literal_of u)) its (subst (λ (j : ℕ). IsFree new (literal_of (placed n.terms (place_in order j)))) same free))
 ]
 
--- where all terms before an index force nothing, and the coefficient there is not above the slack, nothing is forced
-pub quiet_from : (n : NormalConstraint) (order : List ℕ) (assigned : List Lit) (slack index : ℕ) → Rises 0 n.terms → open_sum assigned n ≡ n.degree + slack → IsDecreasing n.terms order → AreSpent n order assigned slack index
+-- where all terms before an index are passed, and the coefficient there is not above the slack, nothing is forced
+pub quiet_from : (n : NormalConstraint) (order : List ℕ) (assigned : List Lit) (slack index : ℕ) → Rises 0 n.terms → open_sum assigned n ≡ n.degree + slack → IsDecreasing n.terms order → ArePassed n.terms order assigned index
     → (index < length n.terms → coefficient_at n.terms (place_in order index) ≤ slack) → IsQuiet assigned n
 quiet_from n order assigned slack index rises has o done small = (
   λ b. omega (arith, ints, b, has),
@@ -141,7 +137,9 @@ quiet_from n order assigned slack index rises has o done small = (
       let at = o.each k low in
       let here : TermForces assigned slack (placed n.terms k) = subst (λ (t : NormalTerm). TermForces assigned slack t) (get_or_default n.terms k d (record { coef = 0; var = record { 0 = 0 }; negated = false }) low) can in
       elim (cases_lt at.0 index) [
-        | inl before ↦ done at.0 before (subst (λ (j : ℕ). TermForces assigned slack (placed n.terms j)) (sym at.2) here)
+        | inl before ↦
+            let there : TermForces assigned slack (placed n.terms (place_in order at.0)) = subst (λ (j : ℕ). TermForces assigned slack (placed n.terms j)) (sym at.2) here in
+            done at.0 before (there.1, there.2)
         | inr past ↦
             let first : index < length n.terms = omega (arith, past, at.1) in
             let most : coefficient_at n.terms (place_in order at.0) ≤ coefficient_at n.terms (place_in order index) = o.decreases index at.0 past at.1 in

@@ -28,3 +28,4 @@ pub mod FalsifiedClauses
 pub mod PlacedOrders
 pub mod DecreasingTerms
 pub mod ForcedLiterals
+pub mod Notes

@@ -16,7 +16,7 @@ use Rattle.linear.specs.Literal.{code}
 use Rattle.ledger.specs.Occurrences.{share_of, occurrences_of}
 use Rattle.ledger.specs.Trails.{on_trail}
 use Rattle.ledger.specs.Ledgers.{constraint_at, constraint_in, shown, nothing, open_sum, IsLedger, IsIndex, AreCounters, AreKnown, AreParted, AreLimits, AreReasons}
-use Rattle.ledger.specs.Orders.{AreOrders}
+use Rattle.ledger.specs.Orders.{AreOrders, Ordering}
 use Rattle.ledger.specs.declared.pair.Pair.{Pair}
 use Rattle.ledger.specs.Falls.{IsAt}
 use Rattle.ledger.specs.Watched.{AreSameKinds, AreWatched, Watching}
@@ -240,15 +240,18 @@ nowhere = record {
 nobody : AreWatched [] [] 0 (record { rows = []; pairs = [] })
 nobody = record { size = omega arith; within = λ k p e. absurd (cc); each = λ k n p e f. absurd (cc) }
 
-no_orders : (orders : List (List ℕ)) → AreOrders [] orders
-no_orders orders k n e = absurd (cc)
+no_constraint : (n : NormalConstraint) → None ≡ Some n → ⊥
+no_constraint n e = cc
+
+no_orders : (xs : List Lit) (orders : Ordering) → AreOrders [] xs orders
+no_orders xs orders k n e = absurd (no_constraint n e)
 
 no_reasons : AreReasons [] [] []
 no_reasons = record { as_many = refl; forced = λ k d h. absurd (omega (arith, h)) }
 
-pub empty : (slots : Slots) (trail : List Lit × ℕ × List Lit) (table clauses : List (List Occurrence)) (counters limits : List ℕ) (watchers : Watching) (reasons : List (Option ℕ)) (capacity : ℕ) (orders : List (List ℕ)) → slots ≡ [] → trail ≡ ([], 0, []) → table ≡ [] → clauses ≡ [] → counters ≡ [] → limits ≡ [] → watchers ≡ record { rows = []; pairs = [] } → reasons ≡ []
-    → IsLedger slots trail.0 trail.1 table clauses counters limits watchers.pairs × AreReasons (shown slots) (on_trail trail) reasons × (trail.1 ≤ capacity) × AreWatched slots trail.0 trail.1 watchers × AreOrders slots orders
-empty slots trail table clauses counters limits watchers reasons capacity orders s t b d c l w r = rw (s, t, b, d, c, l, w, r) (nowhere, no_reasons, omega arith, nobody, no_orders orders)
+pub empty : (slots : Slots) (trail : List Lit × ℕ × List Lit) (table clauses : List (List Occurrence)) (counters limits : List ℕ) (watchers : Watching) (reasons : List (Option ℕ)) (capacity : ℕ) (orders : Ordering) → slots ≡ [] → trail ≡ ([], 0, []) → table ≡ [] → clauses ≡ [] → counters ≡ [] → limits ≡ [] → watchers ≡ record { rows = []; pairs = [] } → reasons ≡ []
+    → IsLedger slots trail.0 trail.1 table clauses counters limits watchers.pairs × AreReasons (shown slots) (on_trail trail) reasons × (trail.1 ≤ capacity) × AreWatched slots trail.0 trail.1 watchers × AreOrders slots (on_trail trail) orders
+empty slots trail table clauses counters limits watchers reasons capacity orders s t b d c l w r = rw (s, t, b, d, c, l, w, r) (nowhere, no_reasons, omega arith, nobody, no_orders (on_trail ([], 0, [])) orders)
 
 pub queued_there : (slots same : List (Option NormalConstraint)) (assigned new : List Lit) (queue : List ℕ) (l : Lit) → slots ≡ same → new ≡ assigned ++ l ∷ []
     → ((k : ℕ) → 0 < coefficient_of (constraint_at (shown slots) k) (opposite l) → IsQuiet (assigned ++ l ∷ []) (constraint_at (shown slots) k) ⊎ Contains queue k)

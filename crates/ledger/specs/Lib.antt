@@ -5,6 +5,7 @@ pub mod Hints
 pub mod Ledgers
 pub mod Occurrences
 pub mod Orders
+pub mod Passed
 pub mod Rounds
 pub mod Rows
 pub mod Trails

@@ -1,4 +1,7 @@
 //! What one constraint forces, from its largest coefficient on.
+//!
+//! The first terms are passed over where they are known not to be free, so that what a look costs is what it forces, and not how wide the
+//! constraint is.
 
 ghost use Rattle.std.specs.Prelude.{◌≡◌, ◌+◌, ◌<◌, ◌≤◌, length, vec_capacity};
 ghost use Rattle.normal_form.specs.Normal.{variable_bound};
@@ -7,8 +10,8 @@ ghost use Rattle.propagate.specs.Passes.{literal_of};
 ghost use Rattle.propagate.specs.Slack.{IsForced};
 ghost use Rattle.ledger.specs.Forcing.{IsForcedOn};
 ghost use Rattle.ledger.specs.Ledgers.{open_sum};
-ghost use Rattle.ledger.specs.Orders.{IsDecreasing};
-ghost use Rattle.ledger.specs.Trails.{on_trail};
+ghost use Rattle.ledger.specs.Orders.{ArePassed, IsDecreasing};
+ghost use Rattle.ledger.specs.Trails.{IsFree, on_trail};
 
 use super::assignment::Assignment;
 use super::order::place_in;
@@ -32,7 +35,7 @@ fn force_term(
     ensures count { trail.new.1 ≡ trail.old.1 }
     ensures capacity { vec_capacity reasons.new ≡ vec_capacity reasons.old }
     ensures forced { IsForcedOn constraint.now place (on_trail trail.old) reasons.old.items (on_trail trail.new) reasons.new.items }
-    ensures done { CanForce (on_trail trail.new) slack term.coef (literal_of term) → ⊥ }
+    ensures done { IsFree (on_trail trail.new) (literal_of term) → ⊥ }
 {
     let literal = term.literal();
     if !trail.leaves_free(literal) {
@@ -42,17 +45,19 @@ fn force_term(
     reasons.push_reserved(Some(place));
 }
 
-/// Assigns all that the constraint at a place forces, where its slack is this: in the order of its terms, as far as to the first
-/// coefficient that is not above the slack.
+/// Assigns all that the constraint at a place forces, where its slack is this: in the order of its terms, from the first that is not passed
+/// as far as to the first coefficient that is not above the slack. How many terms are passed then is returned.
 pub(crate) fn force_terms(
     constraint: &Normal,
     order: &[u32],
+    passed: usize,
     slack: u128,
     place: usize,
     trail: &mut Assignment,
     reasons: &mut Vec<Option<usize>>,
-)
+) -> usize
     requires order { IsDecreasing constraint.now.terms order.now }
+    requires passed { ArePassed constraint.now.terms order.now (on_trail trail.old) passed }
     requires slack { open_sum (on_trail trail.old) constraint.now ≡ constraint.now.degree + slack }
     requires variables { variable_bound constraint.now.terms ≤ trail.old.1 }
     requires room { trail.old.1 ≤ vec_capacity reasons.old }
@@ -62,12 +67,14 @@ pub(crate) fn force_terms(
     ensures capacity { vec_capacity reasons.new ≡ vec_capacity reasons.old }
     ensures forced { IsForcedOn constraint.now place (on_trail trail.old) reasons.old.items (on_trail trail.new) reasons.new.items }
     ensures quiet { IsQuiet (on_trail trail.new) constraint.now }
+    ensures passed { ArePassed constraint.now.terms order.now (on_trail trail.new) result }
 {
-    for index in 0..constraint.len() {
+    for index in passed..constraint.len() {
         let term = constraint.term(place_in(order, index));
         if term.coef <= slack {
-            return;
+            return index;
         }
         force_term(constraint, term, slack, place, trail, reasons);
     }
+    constraint.len()
 }

@@ -51,7 +51,7 @@ use std::marker::Model;
 #[derive(Drop)]
 pub struct Ledger {
     slots: Vec<Option<Normal>>,
-    /// The places of the terms of each constraint by decreasing coefficient.
+    /// The places of the terms of each constraint by decreasing coefficient, and how many are passed.
     orders: Orders,
     /// Where literals stand in constraints that are counted.
     table: EntryTable,
@@ -85,7 +85,7 @@ impl Model for Ledger {
 
     ghost invariant = { λ e. IsLedger e.slots.items e.trail.0 e.trail.1 e.table e.clauses e.counters.items e.limits.items e.watchers.pairs
         × AreReasons (shown e.slots.items) (on_trail e.trail) e.reasons.items × (e.trail.1 ≤ vec_capacity e.reasons)
-        × AreWatched e.slots.items e.trail.0 e.trail.1 e.watchers × AreOrders e.slots.items e.orders };
+        × AreWatched e.slots.items e.trail.0 e.trail.1 e.watchers × AreOrders e.slots.items (on_trail e.trail) e.orders };
 }
 
 impl Ledger {
@@ -143,14 +143,16 @@ impl Ledger {
         let Some(constraint) = &self.slots[place] else {
             return;
         };
-        force_terms(
+        let passed = force_terms(
             constraint,
             self.orders.order(place),
+            self.orders.passed(place),
             slack,
             place,
             &mut self.trail,
             &mut self.reasons,
         );
+        self.orders.pass(place, passed);
     }
 
     /// Whether all literals that are taken as true were propagated.
@@ -209,6 +211,7 @@ impl Ledger {
         let counted = self.trail.is_propagated();
         let literal = self.trail.pop()?;
         self.reasons.pop();
+        self.orders.forget_passed();
         if counted {
             raise(
                 &mut self.counters,

@@ -23,6 +23,7 @@ mod occurrence;
 mod order;
 mod orders;
 mod pair;
+mod passed;
 mod queue;
 mod starts;
 mod table;

@@ -6,7 +6,7 @@ use Rattle.normal_form.proofs.Sums.{bound_at}
 use Rattle.propagate.proofs.Occurrences.{forced_at}
 use Rattle.ledger.specs.Orders.{coefficient_at, place_in}
 use Rattle.ledger.specs.Trails.{on_trail}
-use Rattle.ledger.proofs.ForcedLiterals.{as_many_on, coefficient_there, forced_both, forced_none, quiet_from, slack_kept, spent_more}
+use Rattle.ledger.proofs.ForcedLiterals.{as_many_on, coefficient_there, forced_both, forced_none, passed_more, quiet_from, slack_kept}
 use Rattle.ledger.proofs.forcing.force_terms.Goals as goal
 
 pub loop-index-init : goal.loop-index-init
@@ -17,7 +17,7 @@ loop-index-init c = record {
   as_many = c.requires.as_many;
   slack = c.requires.slack;
   forced = forced_none c.args.constraint.now c.args.place (on_trail c.args.trail.now) c.args.reasons.now.items;
-  spent = λ k h. absurd (omega (arith, h));
+  passed = c.requires.passed;
 }
 
 pub term-term-requires : goal.term-term-requires
@@ -51,7 +51,7 @@ loop-index-preserved c =
       as_many = as_many_on n c.args.place (on_trail old.trail) (on_trail new.trail) old.reasons.items new.reasons.items i.as_many f.forced;
       slack = slack_kept n c.args.place (on_trail old.trail) old.reasons.items (on_trail new.trail) new.reasons.items c.args.slack c.len-index-end.ensures.normal.rises f.forced i.slack;
       forced = forced_both n c.args.place (on_trail c.args.trail.now) (on_trail old.trail) (on_trail new.trail) c.args.reasons.now.items old.reasons.items new.reasons.items i.forced f.forced;
-      spent = spent_more n c.args.order.now (on_trail old.trail) (on_trail new.trail) f.forced.literals c.args.slack c.loop-index.index c.term-term.result i.spent f.forced.longer inside c.requires.order is f.done;
+      passed = passed_more n c.args.order.now (on_trail old.trail) (on_trail new.trail) f.forced.literals c.loop-index.index c.term-term.result i.passed f.forced.longer inside c.requires.order is f.done;
     }
 
 pub returns-then-term-slack-clause-quiet : goal.returns-then-term-slack-clause-quiet
@@ -61,11 +61,14 @@ returns-then-term-slack-clause-quiet c =
     let low : c.place_in.result < length n.terms = omega (arith, c.place_in.ensures, c.requires.order.below c.loop-index.index (omega (arith, c.loop-index-test.true, c.len-index-end.ensures.value))) in
     let there : coefficient_at n.terms c.place_in.result ≡ c.term-term.result.coef = coefficient_there n.terms c.place_in.result c.term-term.result low c.term-term.ensures.value in
     let small : coefficient_at n.terms (place_in c.args.order.now c.loop-index.index) ≤ c.args.slack = omega (arith, there, ap (coefficient_at n.terms) c.place_in.ensures, c.if-term-slack.true) in
-    quiet_from n c.args.order.now (on_trail c.loop-index.trail) c.args.slack c.loop-index.index c.len-index-end.ensures.normal.rises i.slack c.requires.order i.spent (λ h. small)
+    quiet_from n c.args.order.now (on_trail c.loop-index.trail) c.args.slack c.loop-index.index c.len-index-end.ensures.normal.rises i.slack c.requires.order i.passed (λ h. small)
 
 pub returns-clause-quiet : goal.returns-clause-quiet
 returns-clause-quiet c =
     let n : NormalConstraint = c.args.constraint.now in
     let i = c.loop-index.invariant in
     let past : length n.terms ≤ c.loop-index.index = omega (arith, c.loop-index-test.false, c.len-index-end.ensures.value) in
-    quiet_from n c.args.order.now (on_trail c.loop-index.trail) c.args.slack c.loop-index.index c.len-index-end.ensures.normal.rises i.slack c.requires.order i.spent (λ h. absurd (omega (arith, past, h)))
+    quiet_from n c.args.order.now (on_trail c.loop-index.trail) c.args.slack c.loop-index.index c.len-index-end.ensures.normal.rises i.slack c.requires.order i.passed (λ h. absurd (omega (arith, past, h)))
+
+pub returns-clause-passed : goal.returns-clause-passed
+returns-clause-passed c k h free = c.loop-index.invariant.passed k (omega (arith, h, c.loop-index-test.false, c.len-index-end.ensures.value, c.len.ensures.value)) free

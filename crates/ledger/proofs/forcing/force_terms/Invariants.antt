@@ -1,9 +1,9 @@
--- What the terms so far can force is assigned.
+-- The terms so far are passed.
 use Rattle.std.proofs.Common.{◌≡◌, ◌+◌, length, vec_capacity}
 use Rattle.ledger.specs.Forcing.{IsForcedOn}
 use Rattle.ledger.specs.Ledgers.{open_sum}
+use Rattle.ledger.specs.Orders.{ArePassed}
 use Rattle.ledger.specs.Trails.{on_trail}
-use Rattle.ledger.proofs.ForcedLiterals.{AreSpent}
 use Rattle.ledger.proofs.forcing.force_terms.Given as goal
 
 abbrev pub invariant-loop-index : goal.invariant-loop-index
@@ -14,5 +14,5 @@ invariant-loop-index l = record {
   as_many : length l.reasons.items ≡ length (on_trail l.trail);
   slack : open_sum (on_trail l.trail) l.constraint ≡ l.constraint.degree + l.slack;
   forced : IsForcedOn l.constraint l.place (on_trail l.initial.trail) l.initial.reasons.items (on_trail l.trail) l.reasons.items;
-  spent : AreSpent l.constraint l.order (on_trail l.trail) l.slack l.index;
+  passed : ArePassed l.constraint.terms l.order (on_trail l.trail) l.index;
 }

@@ -3,6 +3,7 @@ use Rattle.std.proofs.Common.{◌++◌, ◌∷◌, [], List, sym, subst, append_
 use Rattle.linear.specs.declared.term.Lit.{Lit}
 use Rattle.ledger.specs.Ledgers.{AreReasons, IsReason, State, shown}
 use Rattle.ledger.specs.Trails.{on_trail}
+use Rattle.ledger.proofs.PlacedOrders.{orders_longer}
 use Rattle.ledger.proofs.Reasons.{reasons_push}
 use Rattle.ledger.proofs.ledger.Ledger.assign.Goals as goal
 
@@ -17,5 +18,5 @@ invariant_of-self c =
       subst (λ (xs : List Lit). AreReasons (shown e.slots.items) xs (e.reasons.items ++ c.args.reason ∷ [])) (append_assoc e.trail.0 e.trail.2 (l ∷ [])) reasons,
       omega (arith, c.self.invariant.2, c.push_reserved.ensures.capacity),
       c.self.invariant.3,
-      c.self.invariant.4,
+      orders_longer e.slots.items (on_trail e.trail) (e.trail.0 ++ (e.trail.2 ++ l ∷ [])) (l ∷ []) e.orders c.self.invariant.4 (sym (append_assoc e.trail.0 e.trail.2 (l ∷ []))),
     )

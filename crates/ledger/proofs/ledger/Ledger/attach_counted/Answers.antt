@@ -8,6 +8,9 @@ use Rattle.ledger.proofs.PlacedOrders.{its, orders_beside, orders_more, others}
 use Rattle.ledger.proofs.WatchedPlaces.{same_rows, watched_kept, watched_more}
 use Rattle.ledger.proofs.ledger.Ledger.attach_counted.Goals as goal
 
+pub invariant_of-self : goal.invariant_of-self
+invariant_of-self c = rw (c.in_err-make_room.ensures.slots, c.in_err-make_room.ensures.counters, c.in_err-make_room.ensures.limits) c.self.invariant
+
 pub invariant_of-self-in_err-give : goal.invariant_of-self-in_err-give
 invariant_of-self-in_err-give c =
     let e = c.self.inside in
@@ -17,7 +20,7 @@ invariant_of-self-in_err-give c =
       c.self.invariant.1,
       c.self.invariant.2,
       c.self.invariant.3,
-      orders_beside e.slots.items e.orders c.give.new.self c.self.invariant.4 (others e.slots.items c.make_room.new.slots.items e.orders c.give.new.self c.len.result room.slots (omega (arith, c.len.ensures, c.make_room.new.slots.ok)) c.give.ensures.others),
+      orders_beside e.slots.items (on_trail e.trail) e.orders c.give.new.self c.self.invariant.4 (others e.slots.items c.make_room.new.slots.items e.orders c.give.new.self c.len.result room.slots (omega (arith, c.len.ensures, c.make_room.new.slots.ok)) c.give.ensures.others),
     )
 
 pub invariant_of-self-in_err-enter_counted : goal.invariant_of-self-in_err-enter_counted
@@ -32,7 +35,7 @@ invariant_of-self-in_err-enter_counted c =
       c.self.invariant.1,
       c.self.invariant.2,
       watched_kept e.slots.items e.trail.0 e.trail.1 e.watchers new c.self.invariant.3 c.in_err-enter_counted.ensures.no_pairs (omega (arith, ap (length {A = List ℕ}) c.enter_counted.ensures.rows)) (same_rows e.watchers.rows new.rows c.enter_counted.ensures.rows),
-      orders_beside e.slots.items e.orders c.give.new.self c.self.invariant.4 (others e.slots.items c.make_room.new.slots.items e.orders c.give.new.self c.len.result room.slots (omega (arith, c.len.ensures, c.make_room.new.slots.ok)) c.give.ensures.others),
+      orders_beside e.slots.items (on_trail e.trail) e.orders c.give.new.self c.self.invariant.4 (others e.slots.items c.make_room.new.slots.items e.orders c.give.new.self c.len.result room.slots (omega (arith, c.len.ensures, c.make_room.new.slots.ok)) c.give.ensures.others),
     )
 
 pub invariant_of-self-2 : goal.invariant_of-self-2
@@ -54,5 +57,5 @@ invariant_of-self-2 c =
       reasons_beside e.slots.items n (on_trail e.trail) e.reasons.items c.self.invariant.1,
       c.self.invariant.2,
       watched_more e.slots.items e.trail.0 e.trail.1 e.watchers new n None c.self.invariant.3 i.slots_are.pair_count pairs (omega (arith, ap (length {A = List ℕ}) c.enter_counted.ensures.rows)) (same_rows e.watchers.rows new.rows c.enter_counted.ensures.rows) tt,
-      orders_more e.slots.items e.orders c.give.new.self n c.self.invariant.4 (others e.slots.items c.make_room.new.slots.items e.orders c.give.new.self c.len.result room.slots (omega (arith, c.len.ensures, c.make_room.new.slots.ok)) c.give.ensures.others) (its e.slots.items c.make_room.new.slots.items n c.give.new.self c.len.result room.slots (omega (arith, c.len.ensures, c.make_room.new.slots.ok)) c.in_ok-give.ensures.ok),
+      orders_more e.slots.items (on_trail e.trail) e.orders c.give.new.self n c.self.invariant.4 (others e.slots.items c.make_room.new.slots.items e.orders c.give.new.self c.len.result room.slots (omega (arith, c.len.ensures, c.make_room.new.slots.ok)) c.give.ensures.others) (its e.slots.items c.make_room.new.slots.items (on_trail e.trail) n c.give.new.self c.len.result room.slots (omega (arith, c.len.ensures, c.make_room.new.slots.ok)) c.in_ok-give.ensures.ok c.in_ok-give.ensures.none),
     )

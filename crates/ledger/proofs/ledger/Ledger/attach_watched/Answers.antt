@@ -40,6 +40,9 @@ enter_watched-requires-clause-second c =
     let within : variable_bound c.args.constraint.terms ≤ e.trail.1 = omega (arith, c.requires.variables, ap (λ (s : State). s.variables) c.self.view_is) in
     number_inside c.args.pair.second e.trail.1 e.watchers.rows (second_below c.args.constraint c.args.pair e.trail.1 c.requires.pair within) c.self.invariant.3.size
 
+pub invariant_of-self : goal.invariant_of-self
+invariant_of-self c = rw (c.in_err-make_room.ensures.slots, c.in_err-make_room.ensures.counters, c.in_err-make_room.ensures.limits) c.self.invariant
+
 pub invariant_of-self-in_err-give : goal.invariant_of-self-in_err-give
 invariant_of-self-in_err-give c =
     let e = c.self.inside in
@@ -49,7 +52,7 @@ invariant_of-self-in_err-give c =
       c.self.invariant.1,
       c.self.invariant.2,
       c.self.invariant.3,
-      orders_beside e.slots.items e.orders c.give.new.self c.self.invariant.4 (others e.slots.items c.make_room.new.slots.items e.orders c.give.new.self c.len-place.result room.slots (omega (arith, c.len-place.ensures, c.make_room.new.slots.ok)) c.give.ensures.others),
+      orders_beside e.slots.items (on_trail e.trail) e.orders c.give.new.self c.self.invariant.4 (others e.slots.items c.make_room.new.slots.items e.orders c.give.new.self c.len-place.result room.slots (omega (arith, c.len-place.ensures, c.make_room.new.slots.ok)) c.give.ensures.others),
     )
 
 pub invariant_of-self-in_err-widen : goal.invariant_of-self-in_err-widen
@@ -61,7 +64,7 @@ invariant_of-self-in_err-widen c =
       c.self.invariant.1,
       c.self.invariant.2,
       c.self.invariant.3,
-      orders_beside e.slots.items e.orders c.give.new.self c.self.invariant.4 (others e.slots.items c.make_room.new.slots.items e.orders c.give.new.self c.len-place.result room.slots (omega (arith, c.len-place.ensures, c.make_room.new.slots.ok)) c.give.ensures.others),
+      orders_beside e.slots.items (on_trail e.trail) e.orders c.give.new.self c.self.invariant.4 (others e.slots.items c.make_room.new.slots.items e.orders c.give.new.self c.len-place.result room.slots (omega (arith, c.len-place.ensures, c.make_room.new.slots.ok)) c.give.ensures.others),
     )
 
 pub invariant_of-self-in_err-enter_watched : goal.invariant_of-self-in_err-enter_watched
@@ -76,7 +79,7 @@ invariant_of-self-in_err-enter_watched c =
       c.self.invariant.1,
       c.self.invariant.2,
       watched_kept e.slots.items e.trail.0 e.trail.1 e.watchers new c.self.invariant.3 c.in_err-enter_watched.ensures.no_pairs (omega (arith, c.enter_watched.ensures.row_count)) c.enter_watched.ensures.kept,
-      orders_beside e.slots.items e.orders c.give.new.self c.self.invariant.4 (others e.slots.items c.make_room.new.slots.items e.orders c.give.new.self c.len-place.result room.slots (omega (arith, c.len-place.ensures, c.make_room.new.slots.ok)) c.give.ensures.others),
+      orders_beside e.slots.items (on_trail e.trail) e.orders c.give.new.self c.self.invariant.4 (others e.slots.items c.make_room.new.slots.items e.orders c.give.new.self c.len-place.result room.slots (omega (arith, c.len-place.ensures, c.make_room.new.slots.ok)) c.give.ensures.others),
     )
 
 pub invariant_of-self-2 : goal.invariant_of-self-2
@@ -102,5 +105,5 @@ invariant_of-self-2 c =
       c.self.invariant.2,
       watched_more e.slots.items e.trail.0 e.trail.1 e.watchers new n (Some p) c.self.invariant.3 i.slots_are.pair_count said.pairs (omega (arith, said.row_count)) said.kept
           (c.requires.pair, (first_below n p e.trail.1 c.requires.pair within, second_below n p e.trail.1 c.requires.pair within), tell, said.first_there, said.second_there),
-      orders_more e.slots.items e.orders c.give.new.self n c.self.invariant.4 (others e.slots.items c.make_room.new.slots.items e.orders c.give.new.self c.len-place.result room.slots (omega (arith, c.len-place.ensures, c.make_room.new.slots.ok)) c.give.ensures.others) (its e.slots.items c.make_room.new.slots.items n c.give.new.self c.len-place.result room.slots (omega (arith, c.len-place.ensures, c.make_room.new.slots.ok)) c.in_ok-give.ensures.ok),
+      orders_more e.slots.items (on_trail e.trail) e.orders c.give.new.self n c.self.invariant.4 (others e.slots.items c.make_room.new.slots.items e.orders c.give.new.self c.len-place.result room.slots (omega (arith, c.len-place.ensures, c.make_room.new.slots.ok)) c.give.ensures.others) (its e.slots.items c.make_room.new.slots.items (on_trail e.trail) n c.give.new.self c.len-place.result room.slots (omega (arith, c.len-place.ensures, c.make_room.new.slots.ok)) c.in_ok-give.ensures.ok c.in_ok-give.ensures.none),
     )

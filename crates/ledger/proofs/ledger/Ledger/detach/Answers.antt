@@ -8,7 +8,7 @@ use Rattle.ledger.specs.declared.occurrence.Occurrence.{Occurrence}
 use Rattle.ledger.specs.declared.pair.Pair.{Pair}
 use Rattle.ledger.specs.Trails.{on_trail}
 use Rattle.ledger.specs.Ledgers.{AreReasons, IsLedger, State, shown}
-use Rattle.ledger.specs.Orders.{AreOrders}
+use Rattle.ledger.specs.Orders.{AreOrders, Ordering, order_at}
 use Rattle.ledger.specs.Watched.{AreWatched, Watching}
 use Rattle.ledger.specs.Occurrences.{HasMore, occurrences_of}
 use Rattle.ledger.proofs.Attaching.{counted_before, detached, reasons_without, watched_before, with_pairs}
@@ -38,7 +38,7 @@ abbrev Left : End → List (List Occurrence) → List (List Occurrence) → Type
 Left c after behind =
     IsLedger c.pop.new.self.items c.self.inside.trail.0 c.self.inside.trail.1 after behind c.pop-in-Some-Some.new.self.items c.pop-in-Some-Some-2.new.self.items c.detach.new.self.pairs
     × AreReasons (shown c.pop.new.self.items) (on_trail c.self.inside.trail) c.self.inside.reasons.items × (c.self.inside.trail.1 ≤ vec_capacity c.self.inside.reasons)
-    × AreWatched c.pop.new.self.items c.self.inside.trail.0 c.self.inside.trail.1 c.detach.new.self × AreOrders c.pop.new.self.items c.take_out.new.self
+    × AreWatched c.pop.new.self.items c.self.inside.trail.0 c.self.inside.trail.1 c.detach.new.self × AreOrders c.pop.new.self.items (on_trail c.self.inside.trail) c.take_out.new.self
 
 left : (c : End) (after behind : List (List Occurrence)) → length after ≡ length c.self.inside.table → HasMore (λ l. occurrences_of l 0 (take (length c.pop.new.self.items) c.self.invariant.0.counted)) after (length c.pop.new.self.items) []
     → length behind ≡ length c.self.inside.clauses → HasMore (λ l. occurrences_of l 0 (take (length c.pop.new.self.items) c.self.invariant.0.watched)) behind (length c.pop.new.self.items) []
@@ -55,13 +55,13 @@ left c after behind long none long_w none_w same_counters same_limits same_watch
     let rows : c.detach.new.self.rows ≡ e.watchers.rows = c.detach.ensures.rows ∙ ap (λ (w : Watching). w.rows) same_watchers in
     let it = detached e.slots.items rest e.trail.0 e.trail.1 e.table after e.clauses behind e.counters.items e.limits.items e.watchers.pairs n i (split c) long none long_w none_w in
     let below : (k place : ℕ) → k < length (on_trail e.trail) → get_or e.reasons.items k None ≡ Some place → place + 1 < length e.slots.items = subst (λ (s : State). (k place : ℕ) → k < length s.assigned → get_or s.reasons k None ≡ Some place → place + 1 < length s.slots) (sym c.self.view_is) c.requires.reasons in
-    let fewer : (k : ℕ) → k < length rest → get_or c.take_out.new.self k [] ≡ get_or e.orders k [] = λ k low. c.take_out.ensures k (λ here. absurd (omega (arith, here, low, c.len-place.ensures, c.pop.new.self.ok))) ∙ ap (λ (os : List (List ℕ)). get_or os k []) same_orders in
+    let fewer : (k : ℕ) → k < length rest → order_at c.take_out.new.self k ≡ order_at e.orders k = λ k low. c.take_out.ensures k (λ here. absurd (omega (arith, here, low, c.len-place.ensures, c.pop.new.self.ok))) ∙ ap (λ (o : Ordering). order_at o k) same_orders in
     rw (counters, limits) (
       with_pairs rest e.trail.0 e.trail.1 after behind (take (length e.counters.items - 1) e.counters.items) (take (length e.limits.items - 1) e.limits.items) (take (length e.watchers.pairs - 1) e.watchers.pairs) c.detach.new.self.pairs it pairs,
       reasons_without e.slots.items rest n (on_trail e.trail) e.reasons.items (split c) c.self.invariant.1 below,
       c.self.invariant.2,
       watched_fewer e.slots.items rest e.trail.0 e.trail.1 e.watchers c.detach.new.self n (split c) i.slots_are.pair_count pairs rows c.self.invariant.3,
-      orders_fewer e.slots.items rest e.orders c.take_out.new.self n (split c) c.self.invariant.4 fewer,
+      orders_fewer e.slots.items rest (on_trail e.trail) e.orders c.take_out.new.self n (split c) c.self.invariant.4 fewer,
     )
 
 pub invariant_of-self : goal.invariant_of-self

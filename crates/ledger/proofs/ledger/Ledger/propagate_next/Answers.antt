@@ -10,6 +10,7 @@ use Rattle.ledger.specs.Falls.{IsAt, IsFalsifiedThere}
 use Rattle.ledger.specs.Trails.{on_trail}
 use Rattle.ledger.specs.Ledgers.{AreReasons, State, shown}
 use Rattle.ledger.specs.Occurrences.{share_of}
+use Rattle.ledger.specs.Orders.{AreOrders}
 use Rattle.ledger.specs.Rows.{all_in}
 use Rattle.ledger.proofs.Standing.{all_within, each_kind, entries, enough, counted, parted_same, queued_there, recounted}
 use Rattle.ledger.proofs.WatchedQuiet.{fallen_queued, fallen_watched}
@@ -56,15 +57,16 @@ invariant_of-self-2 c =
     let i = c.self.invariant.0 in
     let l : Lit = c.next.result in
     let next : c.advance.new.self ≡ (e.trail.0 ++ l ∷ [], e.trail.1, drop 1 e.trail.2) = c.advance.ensures l c.next.ensures.first in
+    let same = same_assigned e.trail c.advance.new.self l c.next.ensures.first next in
     let given = entries i.counted e.trail.1 e.table l c.opposite-fallen.result c.code.result (all_in c.row.result) i.index c.opposite-fallen.ensures c.code.ensures c.row.ensures in
     let after = counted i.counted e.trail.0 e.counters.items c.lower.new.counters.items l (all_in c.row.result) i.counters_are given c.next.ensures.unset c.lower.ensures.length c.lower.ensures.lowered in
     let watched = rw c.as_slice.ensures.value at c.fall.ensures.watched in
     let handled = rw c.as_slice.ensures.value at (none_case _ _ c.in_ok-falsified.falsified (sym c.is_some.ensures ∙ c.if-is_some.false) c.in_ok-falsified.ensures.end) in (
       (rw next (recounted e.slots.items e.trail.0 (e.trail.0 ++ l ∷ []) e.trail.1 e.trail.1 e.table e.clauses e.counters.items c.lower.new.counters.items e.limits.items e.watchers.pairs c.fall.new.self.pairs i refl after c.fall.ensures.kinds)),
-      subst (λ (xs : List Lit). AreReasons (shown e.slots.items) xs e.reasons.items) (sym (same_assigned e.trail c.advance.new.self l c.next.ensures.first next)) c.self.invariant.1,
+      subst (λ (xs : List Lit). AreReasons (shown e.slots.items) xs e.reasons.items) (sym same) c.self.invariant.1,
       omega (arith, c.self.invariant.2, ap (λ (w : Whole). w.1) next),
       (rw next (fallen_watched e.slots.items e.trail.0 e.trail.1 c.fall.new.self l c.opposite-fallen.result c.fall.new.queue.0 watched c.opposite-fallen.ensures handled)),
-      c.self.invariant.4,
+      subst (λ (xs : List Lit). AreOrders e.slots.items xs e.orders) (sym same) c.self.invariant.4,
     )
 
 pub returns-then-is_some-clause-end : goal.returns-then-is_some-clause-end

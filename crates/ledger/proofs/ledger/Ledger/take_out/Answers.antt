@@ -18,5 +18,5 @@ invariant_of-self c =
       reasons_apart e.slots.items c.args.place (on_trail e.trail) e.reasons.items c.self.invariant.1 free,
       c.self.invariant.2,
       watched_without e.slots.items c.args.place e.trail.0 e.trail.1 e.watchers low c.self.invariant.3,
-      orders_without e.slots.items c.args.place e.orders c.take_out.new.self low c.self.invariant.4 c.take_out.ensures,
+      orders_without e.slots.items (on_trail e.trail) c.args.place e.orders c.take_out.new.self low c.self.invariant.4 c.take_out.ensures,
     )

@@ -8,6 +8,7 @@ use Rattle.ledger.specs.Rows.{all_in}
 use Rattle.ledger.proofs.AssignedLiterals.{last_counted, unset_first}
 use Rattle.ledger.proofs.Standing.{entries, room, counted_back, recounted}
 use Rattle.ledger.proofs.FallingRows.{kinds_same}
+use Rattle.ledger.proofs.PlacedOrders.{orders_anew}
 use Rattle.ledger.proofs.Reasons.{reasons_pop}
 use Rattle.ledger.proofs.WatchedQuiet.{watched_back}
 use Rattle.ledger.proofs.ledger.Ledger.unassign_last.Goals as goal
@@ -30,6 +31,9 @@ raise-requires-clause-room c =
     let a = subst (λ (xs : List Lit). AreCounters i.counted xs e.counters.items) last i.counters_are in
     room i.counted e.trail.1 c.pop.new.self.0 e.counters.items l (all_in c.row.result) i.known a given (unset_first c.pop.new.self l c.in_ok-literal.ensures.unset)
 
+pub invariant_of-self : goal.invariant_of-self
+invariant_of-self c = rw c.in_err-literal.ensures.value.1 c.self.invariant
+
 pub invariant_of-self-then-counted : goal.invariant_of-self-then-counted
 invariant_of-self-then-counted c =
     let e = c.self.inside in
@@ -46,7 +50,7 @@ invariant_of-self-then-counted c =
       (rw rest reasons),
       omega (arith, c.self.invariant.2, c.pop-2.ensures.capacity, c.pop.ensures.count),
       (rw c.pop.ensures.count (watched_back e.slots.items e.trail.0 c.pop.new.self.0 e.trail.1 e.watchers l last c.self.invariant.3)),
-      c.self.invariant.4,
+      orders_anew e.slots.items (on_trail e.trail) (on_trail c.pop.new.self) e.orders c.forget_passed.new.self c.self.invariant.4 c.forget_passed.ensures.orders c.forget_passed.ensures.none,
     )
 
 pub invariant_of-self-else-counted : goal.invariant_of-self-else-counted
@@ -60,7 +64,7 @@ invariant_of-self-else-counted c =
       (rw rest reasons),
       omega (arith, c.self.invariant.2, c.pop-2.ensures.capacity, c.pop.ensures.count),
       (rw (pending, c.pop.ensures.count) c.self.invariant.3),
-      c.self.invariant.4,
+      orders_anew e.slots.items (on_trail e.trail) (on_trail c.pop.new.self) e.orders c.forget_passed.new.self c.self.invariant.4 c.forget_passed.ensures.orders c.forget_passed.ensures.none,
     )
   where
     not_both : (b : Bool) → b ≡ false → b ≡ true → ⊥
