@@ -4,8 +4,7 @@
 //! from 0: among equal costs a dual simplex finds many steps that gain nothing, and may go round in a circle. Bounds are told without
 //! what was added. Where there is no objective these numbers are the costs, and large, since then nothing is lost by them.
 
-use super::fixed::{Fixed, read};
-use super::rows::{bits, sided};
+use factorisation::{Fixed, at_variable, bit_length, number_at};
 use linear::{Integer, Term};
 use std::alloc::{AllocError, Global};
 
@@ -48,7 +47,7 @@ fn summed(terms: &[Term], sums: &mut [Integer]) -> Integer {
         }
         let place = term.var.0 as usize;
         if place < sums.len() {
-            sums[place] = sums[place].saturating_add(sided(term.coef, term.negated));
+            sums[place] = sums[place].saturating_add(at_variable(term.coef, term.negated));
         }
     }
     constant
@@ -93,7 +92,7 @@ impl Costs {
     pub(crate) fn set(&mut self, terms: &[Term]) -> Result<(), AllocError> {
         let mut sums = Vec::from_elem(self.alloc, 0, self.scaled.len())?;
         self.constant = summed(terms, sums.as_mut_slice());
-        self.exponent = bits(largest_size(sums.as_slice()));
+        self.exponent = bit_length(largest_size(sums.as_slice()));
         self.is_given = self.exponent > 0;
         for (scaled, sum) in self.scaled.iter_mut().zip(sums.iter()) {
             *scaled = Fixed::scaled(*sum, self.exponent);
@@ -122,12 +121,12 @@ impl Costs {
 
     /// The cost of a variable with what is added to it.
     pub(crate) fn perturbed(&self, variable: usize) -> Fixed {
-        read(self.scaled.as_slice(), variable).plus(self.added(variable))
+        number_at(self.scaled.as_slice(), variable).plus(self.added(variable))
     }
 
     /// What is added to the cost of a variable.
     pub(crate) fn added(&self, variable: usize) -> Fixed {
-        read(self.added.as_slice(), variable)
+        number_at(self.added.as_slice(), variable)
     }
 
     /// The sum of the sizes of what is added to all costs, in units of `2^-32`: by so much a bound may be less than with what is added.

@@ -1,6 +1,6 @@
 //! What values a variable may take: both bounds are 0 or 1.
 
-use super::fixed::Fixed;
+use factorisation::Fixed;
 
 /// The values that a variable may take.
 #[derive(Clone, Copy, Debug, PartialEq, Eq)]

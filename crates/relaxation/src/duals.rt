@@ -4,14 +4,12 @@
 //! their multipliers are taken from it. Where no multiplier is negative they tell a bound on every solution, whatever the point is:
 //! the right sides times the multipliers, and each reduced cost at its better bound.
 
-use super::basis::Basis;
 use super::costs::Costs;
 use super::domain::{Domain, domain_of};
-use super::fixed::{Fixed, read, write};
-use super::inverse::{Inverse, Scratch};
-use super::rows::{Entry, Rows};
-use super::sums::{Sum, take_entries};
-use super::work::Work;
+use factorisation::{
+    Basis, Entry, Fixed, Inverse, Number, Rows, Scratch, Sum, Work, add_multiple, number_at,
+    put_number,
+};
 use std::alloc::{AllocError, Global};
 
 /// The multipliers of the tight rows by their places, and the reduced costs of the variables.
@@ -54,11 +52,11 @@ impl Duals {
     }
 
     pub(crate) fn multiplier(&self, place: usize) -> Fixed {
-        read(self.multipliers.as_slice(), place)
+        number_at(self.multipliers.as_slice(), place)
     }
 
     pub(crate) fn set_multiplier(&mut self, place: usize, multiplier: Fixed) {
-        write(self.multipliers.as_mut_slice(), place, multiplier);
+        put_number(self.multipliers.as_mut_slice(), place, multiplier);
     }
 
     pub(crate) fn append_multiplier(&mut self, multiplier: Fixed) -> Result<(), AllocError> {
@@ -74,17 +72,17 @@ impl Duals {
     }
 
     pub(crate) fn reduced_cost(&self, variable: usize) -> Fixed {
-        read(self.reduced_costs.as_slice(), variable)
+        number_at(self.reduced_costs.as_slice(), variable)
     }
 
     pub(crate) fn set_reduced_cost(&mut self, variable: usize, reduced_cost: Fixed) {
-        write(self.reduced_costs.as_mut_slice(), variable, reduced_cost);
+        put_number(self.reduced_costs.as_mut_slice(), variable, reduced_cost);
     }
 
     /// Takes a multiple of a tableau row from the multipliers and the reduced costs.
     pub(crate) fn take(&mut self, factor: Fixed, weights: &[Entry], entries: &[Entry]) {
-        take_multiple(self.multipliers.as_mut_slice(), factor, weights);
-        take_multiple(self.reduced_costs.as_mut_slice(), factor, entries);
+        add_multiple(self.multipliers.as_mut_slice(), factor.negated(), weights);
+        add_multiple(self.reduced_costs.as_mut_slice(), factor.negated(), entries);
     }
 
     /// Makes all anew.
@@ -139,7 +137,11 @@ impl Duals {
         }
         for (row, multiplier) in basis.tight().iter().zip(self.multipliers.iter()) {
             if !multiplier.is_zero() {
-                take_entries(self.sums.as_mut_slice(), *multiplier, rows.row(*row));
+                add_multiple(
+                    self.sums.as_mut_slice(),
+                    multiplier.negated(),
+                    rows.row(*row),
+                );
                 work.count(rows.row(*row).len());
             }
         }
@@ -201,15 +203,5 @@ impl Duals {
             }
         }
         total
-    }
-}
-
-/// Takes a multiple of some entries from the numbers at their places.
-fn take_multiple(numbers: &mut [Fixed], factor: Fixed, entries: &[Entry]) {
-    let negated = factor.negated();
-    for entry in entries {
-        if entry.place < numbers.len() {
-            numbers[entry.place] = numbers[entry.place].plus_product(negated, entry.value);
-        }
     }
 }

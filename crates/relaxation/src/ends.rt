@@ -2,19 +2,18 @@
 //!
 //! Errors of many steps may add up to an answer that is far off, and whoever asked would sum up exactly what is not false, or follow values
 //! that satisfy nothing. So the rows times the multipliers are summed up in fixed point, and the activities are measured at the
-//! point: both cost what a step costs, or a begin. Where they do not bear the answer out, the inverse is made anew, once in a call. That is no
-//! proof: only the exact sum tells.
+//! point: both cost what a step costs, or a begin. Where they do not bear the answer out, the triangles of the inverse are made anew, and with
+//! them duals and point, once in a call. That is no proof: only the exact sum tells.
 
 use super::domain::{Domain, domain_of};
-use super::fixed::Fixed;
 use super::multipliers::{Multiplier, Row, Source};
 use super::pricing::{Leaving, TOLERANCE, Violation};
 use super::relaxation::Relaxation;
-use super::sums::Sum;
+use factorisation::{Fixed, Number, Sum};
 use std::alloc::AllocError;
 
-/// Multipliers up to this are left out.
-const DROPPED: Fixed = Fixed { units: 32 };
+/// Multipliers up to this are left out, in units of `2^-32`.
+const DROPPED: i64 = 32;
 
 /// What a sum comes to at most where a variable of a domain has it as its coefficient.
 fn at_most(sum: Sum, domain: Domain) -> Sum {
@@ -32,7 +31,7 @@ impl Relaxation {
         let mut left = Sum::ZERO;
         for variable in self.sum.touched() {
             let domain = domain_of(self.domains.as_slice(), *variable);
-            left = left.plus(at_most(self.sum.sum(*variable), domain));
+            left = left.plus(at_most(self.sum.value(*variable), domain));
         }
         Ok(left.minus(right).is_negative())
     }
@@ -44,7 +43,7 @@ impl Relaxation {
         for multiplier in &self.multipliers {
             if let Source::Row(row) = multiplier.source() {
                 let entries = self.rows.row(row.0);
-                self.sum.take_row(multiplier.value().negated(), entries)?;
+                self.sum.add_multiple(multiplier.value(), entries)?;
                 right = right.plus_product(multiplier.value(), self.rows.right(row.0));
                 self.work.count(entries.len());
             }
@@ -55,7 +54,7 @@ impl Relaxation {
     /// Whether the tight rows hold with equality at the point, and no row is violated, about; the activities are measured for that.
     pub(crate) fn is_accurate(&mut self) -> bool {
         self.point.measure_all(&self.rows, &mut self.work);
-        let limit = TOLERANCE.plus(TOLERANCE);
+        let limit = Fixed::of_units(2 * TOLERANCE);
         for (row, activity) in self.point.activities().iter().enumerate() {
             if limit.negated().is_above(*activity) {
                 return false;
@@ -75,7 +74,7 @@ impl Relaxation {
             .iter()
             .zip(self.duals.multipliers().iter())
         {
-            if value.is_above(DROPPED) {
+            if value.units() > DROPPED {
                 let exponent = self.rows.exponent(*row);
                 self.multipliers
                     .push(Multiplier::new(Source::Row(Row(*row)), *value, exponent))?;
@@ -101,7 +100,7 @@ impl Relaxation {
         for weight in self.tableau.weights() {
             let value = weight.value.negated();
             if let Some(row) = self.basis.tight().get(weight.place) {
-                if value.is_above(DROPPED) {
+                if value.units() > DROPPED {
                     let exponent = self.rows.exponent(*row);
                     self.multipliers
                         .push(Multiplier::new(Source::Row(Row(*row)), value, exponent))?;

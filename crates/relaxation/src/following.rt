@@ -7,9 +7,8 @@
 //! It is counted as if all were made anew, so that the relaxation is asked as often as it was when it did that.
 
 use super::domain::domain_of;
-use super::fixed::Fixed;
 use super::relaxation::Relaxation;
-use super::rows::Entry;
+use factorisation::{Entry, Fixed};
 use std::alloc::AllocError;
 
 impl Relaxation {

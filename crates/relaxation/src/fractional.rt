@@ -5,12 +5,9 @@
 //! makes stronger than the point is (Gomory; Chvátal for the sum itself). A row was divided by its scale, and so its number is too: the
 //! fractional part is that of the number by which the constraint itself is multiplied.
 
-use super::fixed::Fixed;
-use super::inverse::Scratch;
 use super::multipliers::Row;
 use super::relaxation::Relaxation;
-use super::rows::Entry;
-use super::work::Work;
+use factorisation::{Entry, Fixed, Scratch, Work};
 use linear::Var;
 use std::alloc::{AllocError, Global};
 
@@ -23,8 +20,9 @@ const WHOLE: i64 = 1 << 13;
 /// A row, and the fractional part of a number by which its constraint is multiplied.
 #[derive(Clone, Copy, Debug, PartialEq, Eq)]
 pub struct FractionalMultiplier {
+    /// The row whose constraint is multiplied.
     pub row: Row,
-    /// In units of `2^-32`.
+    /// Above 0 and below 1, in units of `2^-32`.
     pub fraction: u32,
 }
 
@@ -39,7 +37,7 @@ fn fractional_part(units: i64, exponent: u32) -> u32 {
 }
 
 impl Relaxation {
-    /// The basic variables of the last call, by their places.
+    /// The basic variable of a place, at the end of the last call; none where there is no such place.
     pub fn basic_variable(&self, place: usize) -> Option<Var> {
         match self.basis.basic().get(place) {
             Some(variable) => u32::try_from(*variable).ok().map(Var),
@@ -47,7 +45,7 @@ impl Relaxation {
         }
     }
 
-    /// How many variables are basic.
+    /// How many variables are basic, which is how many rows are tight.
     pub fn basic_count(&self) -> usize {
         self.basis.len()
     }
@@ -72,6 +70,8 @@ impl Relaxation {
 
     /// The fractional parts of the numbers that make up the basic variable of a place, or of these with their signs changed. Those that are
     /// whole numbers, about, are left out.
+    ///
+    /// `AllocError` comes where a growth was refused.
     pub fn fractional_multipliers(
         &self,
         alloc: Global,

@@ -6,21 +6,17 @@
 //! range, and that no number overflows or is divided by 0.
 //!
 //! A step goes through the files in this order: `pricing` (what is violated most), `tableau` (its row), `ratio` (what enters), `pivot` (the
-//! exchange, of `basis`, `inverse`, `point` and `duals`; what the inverse is made of stands in `elimination`, `triangles` and `exchange`); `simplex` has the rounds of a call, `ends` how it ends, `multipliers` what is handed out.
-//! Of `fractional` cuts are made, and `row_exchange` lets them go again.
+//! exchange, of the basis and its inverse, `point` and `duals`); `simplex` has the rounds of a call, `following` how it begins where domains
+//! alone have changed, `ends` how it ends, `multipliers` what is handed out. Of `fractional` cuts are made, and `row_exchange` lets them go
+//! again. The rows, the basis and what is solved for its kernel are those of the crate `factorisation`.
 #![tactic(auto)]
 
-mod basis;
 mod costs;
 mod domain;
 mod duals;
-mod elimination;
 mod ends;
-mod exchange;
-mod fixed;
 mod following;
 mod fractional;
-mod inverse;
 mod multipliers;
 mod pivot;
 mod point;
@@ -28,16 +24,10 @@ mod pricing;
 mod ratio;
 mod relaxation;
 mod row_exchange;
-mod rows;
-mod scattered;
 mod simplex;
-mod sums;
 mod tableau;
-mod touched;
-mod triangles;
-mod work;
 
-pub use fixed::Fixed;
+pub use factorisation::Fixed;
 pub use fractional::FractionalMultiplier;
 pub use multipliers::{Multiplier, Row, Source, WholeMultiplier, whole_multipliers};
 pub use relaxation::{End, Limits, Relaxation};

@@ -9,8 +9,7 @@
 ghost use Rattle.std.specs.Prelude.{◌≤◌, ◌^◌, All, IfOk};
 ghost use Rattle.relaxation.specs.Whole.{IsWhole};
 
-use super::fixed::Fixed;
-use super::rows::bits;
+use factorisation::{Fixed, bit_length};
 use std::alloc::{AllocError, Global};
 
 /// A row, by the number that `add_row` gave it.
@@ -57,7 +56,9 @@ impl Multiplier {
 /// A constraint, and a whole number above 0 by which it is to be multiplied.
 #[derive(Clone, Copy, Debug, PartialEq, Eq)]
 pub struct WholeMultiplier {
+    /// The constraint that is multiplied.
     pub source: Source,
+    /// From 1 to `2^52`.
     pub factor: u64,
 }
 
@@ -101,6 +102,8 @@ fn share(part: u128, whole: u128, bits: u32) -> u64
 
 /// The multipliers as whole numbers, in the same proportions, the greatest of them `2^bits`. Those that are nearer to 0 than to 1 then are left
 /// out.
+///
+/// `AllocError` comes where a growth was refused.
 pub fn whole_multipliers(
     alloc: Global,
     multipliers: &[Multiplier],
@@ -111,7 +114,7 @@ pub fn whole_multipliers(
 {
     let exponent = greatest_exponent(multipliers);
     let greatest = greatest(multipliers, exponent);
-    let cut = bits(greatest).saturating_sub(62);
+    let cut = bit_length(greatest).saturating_sub(62);
     let whole = greatest.unbounded_shr(cut);
     let mut factors = Vec::new(alloc);
     for multiplier in multipliers {

@@ -10,13 +10,10 @@
 //! | a variable | a variable | has the one in the stead of the other |
 //! | a variable | a slack | loses the variable and the slack's row |
 
-use super::exchange::{Exchange, Left};
-use super::fixed::{Fixed, read};
 use super::pricing::{Leaving, Violation};
-use super::ratio::{Candidate, Entering};
+use super::ratio::Candidate;
 use super::relaxation::Relaxation;
-use super::rows::Entry;
-use super::sums::Sum;
+use factorisation::{Entering, Entry, Fixed};
 use std::alloc::AllocError;
 
 impl Relaxation {
@@ -108,67 +105,17 @@ impl Relaxation {
 
     /// Notes the step for later products with the inverse.
     fn note_exchange(&mut self, leaving: Leaving, entering: Entering) -> Result<(), AllocError> {
-        let (entered, loosened) = match entering {
-            Entering::Variable(variable) => (Some(variable), None),
-            Entering::Slack(place) => (None, self.basis.tight().get(place).copied()),
-        };
-        let exchange = match leaving {
-            Leaving::Row(row) => self.exchange_of_row(row, entered)?,
+        let column = self.column.as_slice();
+        match leaving {
+            Leaving::Row(row) => {
+                self.inverse
+                    .exchange_slack(row, entering, column, &self.rows, &self.basis)
+            }
             Leaving::Below(place) | Leaving::Above(place) => {
-                self.exchange_of_variable(place, entered)?
-            }
-        };
-        self.inverse.exchange(exchange, loosened)
-    }
-
-    /// The column by variable, without what is 0.
-    fn column_entries(&self) -> Result<Vec<Entry>, AllocError> {
-        let mut entries = Vec::new(self.alloc);
-        for (variable, value) in self.basis.basic().iter().zip(self.column.iter()) {
-            if !value.is_zero() {
-                entries.push(Entry {
-                    place: *variable,
-                    value: *value,
-                })?;
+                self.inverse
+                    .exchange_variable(place, entering, column, &self.basis)
             }
         }
-        Ok(entries)
-    }
-
-    /// The exchange where the basic variable of a place leaves.
-    fn exchange_of_variable(
-        &self,
-        place: usize,
-        entered: Option<usize>,
-    ) -> Result<Exchange, AllocError> {
-        let variable = self.basis.basic().get(place).copied().unwrap_or(0);
-        Ok(Exchange {
-            left: Left::Variable(variable),
-            entered,
-            column: self.column_entries()?,
-            pivot: read(self.column.as_slice(), place),
-        })
-    }
-
-    /// The exchange where the slack of a row leaves: it is divided by how much that slack falls where what enters grows by one.
-    fn exchange_of_row(&self, row: usize, entered: Option<usize>) -> Result<Exchange, AllocError> {
-        let mut entries = Vec::new(self.alloc);
-        let mut fall = Sum::ZERO;
-        for entry in self.rows.row(row) {
-            if entered == Some(entry.place) {
-                fall = fall.plus(Sum::of(entry.value));
-            }
-            if let Some(place) = self.basis.place_of_variable(entry.place) {
-                fall = fall.minus_product(entry.value, read(self.column.as_slice(), place));
-                entries.push(*entry)?;
-            }
-        }
-        Ok(Exchange {
-            left: Left::Slack { row, entries },
-            entered,
-            column: self.column_entries()?,
-            pivot: fall.rounded(),
-        })
     }
 
     /// A row becomes tight.

@@ -3,14 +3,12 @@
 //! Both follow from the basis. A step moves few of them, so they are kept, and made anew at the begin of a call and after a
 //! refactorisation.
 
-use super::basis::Basis;
 use super::domain::{Domain, domain_of};
 use super::duals::Duals;
-use super::fixed::{Fixed, read, write};
-use super::inverse::{Inverse, Scratch};
-use super::rows::{Entry, Rows};
-use super::sums::Sum;
-use super::work::Work;
+use factorisation::{
+    Basis, Entry, Fixed, Inverse, Number, Rows, Scratch, Sum, Work, add_multiple, number_at,
+    put_number,
+};
 use std::alloc::{AllocError, Global};
 
 /// The values of the variables, and the activities of the rows.
@@ -28,7 +26,7 @@ pub(crate) struct Point {
 fn activity(entries: &[Entry], values: &[Fixed], right: Fixed) -> Fixed {
     let mut sum = Sum::of(right.negated());
     for entry in entries {
-        sum = sum.plus_product(entry.value, read(values, entry.place));
+        sum = sum.plus_product(entry.value, number_at(values, entry.place));
     }
     sum.rounded()
 }
@@ -56,11 +54,11 @@ impl Point {
     }
 
     pub(crate) fn value(&self, variable: usize) -> Fixed {
-        read(self.values.as_slice(), variable)
+        number_at(self.values.as_slice(), variable)
     }
 
     pub(crate) fn set_value(&mut self, variable: usize, value: Fixed) {
-        write(self.values.as_mut_slice(), variable, value);
+        put_number(self.values.as_mut_slice(), variable, value);
     }
 
     /// The activities, row by row.
@@ -70,11 +68,11 @@ impl Point {
 
     /// The activity of a row, as it is kept.
     pub(crate) fn activity(&self, row: usize) -> Fixed {
-        read(self.activities.as_slice(), row)
+        number_at(self.activities.as_slice(), row)
     }
 
     pub(crate) fn set_activity(&mut self, row: usize, activity: Fixed) {
-        write(self.activities.as_mut_slice(), row, activity);
+        put_number(self.activities.as_mut_slice(), row, activity);
     }
 
     /// The activity of a row, from its terms.
@@ -86,14 +84,11 @@ impl Point {
     pub(crate) fn shift(&mut self, rows: &Rows, variable: usize, change: Fixed) {
         let value = self.value(variable).plus(change);
         self.set_value(variable, value);
-        for entry in rows.column(variable) {
-            if entry.place < self.activities.len() {
-                self.activities[entry.place] = self.activities[entry.place].plus_product(
-                    entry.value,
-                    change,
-                );
-            }
-        }
+        add_multiple(
+            self.activities.as_mut_slice(),
+            change,
+            rows.column(variable),
+        );
     }
 
     /// Makes the point anew.
@@ -117,7 +112,7 @@ impl Point {
             work,
         )?;
         for (variable, value) in basis.basic().iter().zip(self.basic.iter()) {
-            write(self.values.as_mut_slice(), *variable, *value);
+            put_number(self.values.as_mut_slice(), *variable, *value);
         }
         self.measure_all(rows, work);
         work.count(self.values.len());

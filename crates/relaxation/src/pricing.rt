@@ -4,13 +4,12 @@
 //! from 1 to 2 and the domains have length 1, so that both compare as they are. The greatest one is repaired; norms of the rows of the
 //! inverse were tried, and brought nothing.
 
-use super::basis::Basis;
 use super::domain::{Domain, domain_of};
-use super::fixed::Fixed;
 use super::point::Point;
+use factorisation::{Basis, Fixed};
 
-/// Violations up to this are not repaired.
-pub(crate) const TOLERANCE: Fixed = Fixed { units: 1 << 20 };
+/// Violations up to this are not repaired, in units of `2^-32`.
+pub(crate) const TOLERANCE: i64 = 1 << 20;
 
 /// What leaves its violation behind.
 #[derive(Clone, Copy, Debug, PartialEq, Eq)]
@@ -34,7 +33,7 @@ pub(crate) struct Violation {
 fn worse(known: Option<Violation>, leaving: Leaving, size: Fixed) -> Option<Violation> {
     let least = match known {
         Some(violation) => violation.size,
-        None => TOLERANCE,
+        None => Fixed::of_units(TOLERANCE),
     };
     if size.is_above(least) {
         Some(Violation { leaving, size })

@@ -8,27 +8,17 @@
 
 use super::domain::{Domain, domain_of};
 use super::duals::Duals;
-use super::fixed::Fixed;
 use super::point::Point;
 use super::pricing::Violation;
-use super::rows::Entry;
 use super::tableau::TableauRow;
+use factorisation::{Entering, Entry, Fixed};
 use std::alloc::{AllocError, Global};
 
-/// Entries up to this are not divided by.
-const LEAST_ENTRY: Fixed = Fixed { units: 32 };
+/// Entries up to this are not divided by, in units of `2^-32`.
+const LEAST_ENTRY: i64 = 32;
 
-/// By how much a dual may be wrong after a step.
-const ALLOWED: Fixed = Fixed { units: 1 << 10 };
-
-/// What enters.
-#[derive(Clone, Copy, Debug, PartialEq, Eq)]
-pub(crate) enum Entering {
-    /// The slack of the tight row of a place: the row is no longer tight.
-    Slack(usize),
-    /// A variable that was at a bound: it becomes basic.
-    Variable(usize),
-}
+/// By how much a dual may be wrong after a step, in units of `2^-32`.
+const ALLOWED: i64 = 1 << 10;
 
 /// What may enter: its entry in the tableau row, and how much of the row its dual bears.
 #[derive(Clone, Copy, Debug)]
@@ -87,7 +77,7 @@ impl Candidates {
     /// Adds the slacks that make what leaves grow.
     fn gather_slacks(&mut self, weights: &[Entry], duals: &Duals) -> Result<(), AllocError> {
         for weight in weights {
-            if weight.value.is_above(LEAST_ENTRY) {
+            if weight.value.units() > LEAST_ENTRY {
                 let multiplier = duals.multiplier(weight.place).greater(Fixed::ZERO);
                 self.has_slack = true;
                 self.list.push(Candidate {
@@ -111,7 +101,7 @@ impl Candidates {
     ) -> Result<(), AllocError> {
         for entry in entries {
             let size = entry.value.size();
-            if size.is_above(LEAST_ENTRY) && domain_of(domains, entry.place).is_free() {
+            if size.units() > LEAST_ENTRY && domain_of(domains, entry.place).is_free() {
                 let is_low = point.value(entry.place).is_zero();
                 if is_low != entry.value.is_negative() {
                     let reduced_cost = duals.reduced_cost(entry.place);
@@ -144,7 +134,10 @@ impl Candidates {
     fn largest_ratio(&self) -> Fixed {
         let mut largest = Fixed::LARGEST;
         for candidate in &self.list {
-            let ratio = candidate.borne.plus(ALLOWED).over(candidate.entry.size());
+            let ratio = candidate
+                .borne
+                .plus(Fixed::of_units(ALLOWED))
+                .over(candidate.entry.size());
             if largest.is_above(ratio) {
                 largest = ratio;
             }

@@ -2,19 +2,14 @@
 //!
 //! A search adds the constraints once, fixes what it decided and propagated, and asks. Rows and domains may change in any way between calls.
 
-use super::basis::Basis;
 use super::costs::Costs;
 use super::domain::{Domain, domain_of};
 use super::duals::Duals;
-use super::fixed::Fixed;
-use super::inverse::{Inverse, Scratch};
 use super::multipliers::{Multiplier, Row};
 use super::point::Point;
 use super::ratio::Candidates;
-use super::rows::{Entry, Rows};
 use super::tableau::TableauRow;
-use super::touched::TouchedSums;
-use super::work::Work;
+use factorisation::{Basis, Entry, Fixed, Inverse, Rows, Scattered, Scratch, Sum, Work};
 use linear::{Integer, Lit, Term, Var};
 use normal_form::Normal;
 use std::alloc::{AllocError, Global};
@@ -45,7 +40,6 @@ pub struct Limits {
 /// The linear relaxation, with the basis of its last call.
 #[derive(Debug, Drop)]
 pub struct Relaxation {
-    pub(crate) alloc: Global,
     pub(crate) rows: Rows,
     pub(crate) costs: Costs,
     pub(crate) domains: Vec<Domain>,
@@ -62,12 +56,12 @@ pub struct Relaxation {
     pub(crate) tight_entries: Vec<Entry>,
     pub(crate) multipliers: Vec<Multiplier>,
     /// The sum of the rows by the multipliers.
-    pub(crate) sum: TouchedSums,
+    pub(crate) sum: Scattered<Sum>,
     /// The bound on the scaled costs, in units of `2^-32`.
     pub(crate) bound: i128,
     /// What the bound has to be above to end a call.
     pub(crate) cutoff: Option<i128>,
-    /// Steps since the inverse was made anew.
+    /// Steps since `refactor` made the triangles of the inverse anew, or since the basis was empty.
     pub(crate) pivots: u32,
     /// Steps since duals and point were made anew; none where they have to be, since rows or costs changed.
     pub(crate) steps_since_made: Option<u32>,
@@ -79,9 +73,10 @@ pub struct Relaxation {
 
 impl Relaxation {
     /// No constraint and no objective over so many variables.
+    ///
+    /// `AllocError` comes where a growth was refused.
     pub fn new(alloc: Global, variables: usize) -> Result<Self, AllocError> {
         let mut relaxation = Relaxation {
-            alloc,
             rows: Rows::new(alloc, 0)?,
             costs: Costs::new(alloc),
             domains: Vec::new(alloc),
@@ -95,7 +90,7 @@ impl Relaxation {
             column: Vec::new(alloc),
             tight_entries: Vec::new(alloc),
             multipliers: Vec::new(alloc),
-            sum: TouchedSums::new(alloc),
+            sum: Scattered::new(alloc),
             bound: 0,
             cutoff: None,
             pivots: 0,
@@ -128,12 +123,16 @@ impl Relaxation {
     }
 
     /// Takes an objective to be minimised, in the stead of the one before. Variables beyond those that there are cost nothing.
+    ///
+    /// `AllocError` comes where a growth was refused, and then the objective is the one before.
     pub fn set_cost(&mut self, terms: &[Term]) -> Result<(), AllocError> {
         self.steps_since_made = None;
         self.costs.set(terms)
     }
 
-    /// Adds a constraint. Where memory ends it is not added.
+    /// Adds a constraint, and makes room for its variables; the row by which it is named from then on.
+    ///
+    /// `AllocError` comes where a growth was refused; whether the constraint takes part then is not said.
     pub fn add_row(&mut self, constraint: &Normal) -> Result<Row, AllocError> {
         self.steps_since_made = None;
         self.widen(constraint.variable_count())?;
@@ -165,17 +164,18 @@ impl Relaxation {
         }
     }
 
-    /// The multipliers of the last call: none where it reached its limits.
+    /// The multipliers of the last call: none where it reached its limits. They may be wrong: whoever takes them sums up exactly.
     pub fn multipliers(&self) -> &[Multiplier] {
         self.multipliers.as_slice()
     }
 
-    /// The value of a variable at the point of the last call.
+    /// The value of a variable at the point of the last call, about from 0 to 1; 0 for one that is not there.
     pub fn value(&self, variable: Var) -> Fixed {
         self.point.value(variable.0 as usize)
     }
 
-    /// The reduced cost of a variable: what the scaled bound grows by for each unit that the variable is off its better bound.
+    /// The reduced cost of a variable: what the scaled bound grows by for each unit that the variable is off its better bound, below 0 where
+    /// that is 1.
     pub fn reduced_cost(&self, variable: Var) -> Fixed {
         let place = variable.0 as usize;
         self.duals

@@ -3,18 +3,18 @@
 //! A basis is told by its tight rows and basic variables, so a row with slack may leave at any time, and nothing else changes. Its place
 //! stays: there it is a row without coefficients, which holds everywhere, until another row is put there.
 
-use super::fixed::Fixed;
 use super::multipliers::Row;
 use super::pricing::TOLERANCE;
 use super::relaxation::Relaxation;
+use factorisation::Fixed;
 use normal_form::Normal;
 use std::alloc::AllocError;
 
 impl Relaxation {
-    /// Whether a row has slack at the point of the last call.
+    /// Whether a row has slack at the point of the last call; no for one that is not there.
     pub fn is_slack(&self, row: Row) -> bool {
         match self.point.activities().get(row.0) {
-            Some(activity) => activity.is_above(TOLERANCE) && !self.basis.is_tight(row.0),
+            Some(activity) => activity.units() > TOLERANCE && !self.basis.is_tight(row.0),
             None => false,
         }
     }
@@ -30,7 +30,9 @@ impl Relaxation {
         true
     }
 
-    /// Puts a constraint in the place of a row that was taken out. Where memory ends the place is as it was.
+    /// Puts a constraint in the place of a row that was taken out, and makes room for its variables.
+    ///
+    /// `AllocError` comes where a growth was refused, and then the row that was taken out holds everywhere, as before.
     pub fn replace_row(&mut self, row: Row, constraint: &Normal) -> Result<(), AllocError> {
         self.steps_since_made = None;
         self.widen(constraint.variable_count())?;

@@ -5,33 +5,33 @@
 //! them. A call ends as soon as the bound is above the cutoff, as a violated row cannot be repaired, as nothing is violated, or as the
 //! limits are reached.
 //!
-//! Fixed point goes wrong where pivots are small. Then the inverse is made anew, once in a call, and the step is looked for again; a pivot
-//! that is smaller still ends the call. Multipliers that are negative at the begin of a call are errors too, and the empty basis takes
-//! the place of theirs.
+//! Fixed point goes wrong where pivots are small. Then the triangles of the inverse are made anew from the rows, and with them duals and point,
+//! once in a call, and the step is looked for again; a pivot that is smaller still ends the call. Multipliers that are negative at the begin
+//! of a call are errors too, and the empty basis takes the place of theirs.
 
-use super::fixed::Fixed;
 use super::pricing::{Violation, worst_violation};
 use super::ratio::Candidate;
 use super::relaxation::{End, Limits, Relaxation};
+use factorisation::Fixed;
 use linear::Integer;
 use std::alloc::AllocError;
 
-/// A pivot below this is looked for again with an inverse that is made anew.
-const SMALL_PIVOT: Fixed = Fixed { units: 1 << 19 };
+/// A pivot below this is looked for again with triangles that are made anew; like all limits here in units of `2^-32`.
+const SMALL_PIVOT: i64 = 1 << 19;
 
 /// A pivot below this is not taken.
-const TINY_PIVOT: Fixed = Fixed { units: 1 << 16 };
+const TINY_PIVOT: i64 = 1 << 16;
 
-/// A tight row whose activity is above this in size tells that the inverse is to be made anew.
-const RESIDUAL: Fixed = Fixed { units: 1 << 16 };
+/// A tight row whose activity is above this in size tells that the triangles are to be made anew.
+const RESIDUAL: i64 = 1 << 16;
 
 /// Multipliers below minus this are errors.
-const NEGATIVE: Fixed = Fixed { units: -(1 << 16) };
+const NEGATIVE: i64 = -(1 << 16);
 
-/// After so many steps a call begins with an inverse that is made anew.
+/// After so many steps a call begins with triangles that are made anew.
 const STALE: u32 = 200;
 
-/// After so many steps the inverse is made anew at once.
+/// After so many steps the triangles are made anew at once, and a call begins with the empty basis where that is too much work.
 const OVERDUE: u32 = 1_000;
 
 /// After so many steps a call begins with duals and a point that are made anew, since their errors add up.
@@ -57,7 +57,7 @@ pub(crate) struct Call {
     estimate: i128,
     /// Whether steps were made.
     has_moved: bool,
-    /// Whether the inverse was made anew since something went wrong.
+    /// Whether the triangles were made anew since something went wrong.
     is_refreshed: bool,
 }
 
@@ -122,7 +122,7 @@ impl Relaxation {
         }
         let before = self.work.done();
         self.make_duals()?;
-        if NEGATIVE.is_above(self.duals.least_multiplier()) {
+        if self.duals.least_multiplier().units() < NEGATIVE {
             self.forget_basis();
             self.make_duals()?;
         }
@@ -134,7 +134,7 @@ impl Relaxation {
     /// Whether domains are all that changed since duals and point were made, and not many steps ago.
     fn follows_domains(&self) -> bool {
         match self.steps_since_made {
-            Some(steps) => steps < REMADE && !NEGATIVE.is_above(self.duals.least_multiplier()),
+            Some(steps) => steps < REMADE && self.duals.least_multiplier().units() >= NEGATIVE,
             None => false,
         }
     }
@@ -172,8 +172,8 @@ impl Relaxation {
         Ok(Some(End::Values))
     }
 
-    /// Ends a call where a violation cannot be repaired, if the sum of the rows tells so. Where it does not even with an inverse that
-    /// is made anew, the basis is forgotten.
+    /// Ends a call where a violation cannot be repaired, if the sum of the rows tells so. Where it does not even with triangles that
+    /// are made anew, the basis is forgotten.
     fn end_as_infeasible(
         &mut self,
         call: &mut Call,
@@ -253,11 +253,11 @@ impl Relaxation {
         chosen: Candidate,
     ) -> Result<Option<End>, AllocError> {
         let pivot = chosen.entry.size();
-        if SMALL_PIVOT.is_above(pivot) {
+        if pivot.units() < SMALL_PIVOT {
             if self.pivots > 0 && !call.is_refreshed {
                 return self.refresh_once(call);
             }
-            if TINY_PIVOT.is_above(pivot) {
+            if pivot.units() < TINY_PIVOT {
                 self.pivots = OVERDUE;
                 return Ok(Some(End::Limit));
             }
@@ -275,7 +275,7 @@ impl Relaxation {
         Ok(None)
     }
 
-    /// Makes the triangles of the inverse anew, and all else where the kernel has no inverse.
+    /// Makes the triangles of the inverse anew since products have become dear, and all else where the kernel has no inverse.
     fn shorten(&mut self, call: &mut Call) -> Result<Option<End>, AllocError> {
         let is_regular = self
             .inverse
@@ -299,12 +299,12 @@ impl Relaxation {
         };
     }
 
-    /// Whether the inverse is to be made anew, asked after each so many steps.
+    /// Whether all is to be made anew, asked after each so many steps.
     fn is_inaccurate(&mut self) -> bool {
         if self.pivots % MEASURED != 0 {
             return false;
         }
-        self.pivots >= OVERDUE || self.largest_residual().is_above(RESIDUAL)
+        self.pivots >= OVERDUE || self.largest_residual().units() > RESIDUAL
     }
 
     /// The largest size of the activity of a tight row, which is to be 0.
@@ -341,7 +341,7 @@ impl Relaxation {
         self.work.done().saturating_add(self.inverse.cost()) <= call.work
     }
 
-    /// Makes the inverse anew, where the kernel has none with the empty basis.
+    /// Makes the triangles of the inverse anew; where the kernel has none, it becomes the empty basis.
     fn refactor(&mut self) -> Result<(), AllocError> {
         self.pivots = 0;
         self.steps_since_made = None;

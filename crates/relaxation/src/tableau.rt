@@ -3,17 +3,12 @@
 //! A violated row is written over the nonbasic variables and the slacks of the tight rows, a basic variable by its row of the inverse.
 //! Signs are such that what leaves has to grow. Most entries are 0, so both parts are lists of those that are not.
 
-use super::basis::Basis;
-use super::fixed::Fixed;
-use super::inverse::{Inverse, Scratch};
 use super::pricing::Leaving;
-use super::rows::{Entry, Rows};
-use super::touched::TouchedSums;
-use super::work::Work;
+use factorisation::{Basis, Entry, Fixed, Inverse, Rows, Scattered, Scratch, Sum, Work};
 use std::alloc::{AllocError, Global};
 
-/// Entries up to this are taken for 0.
-const ZERO: Fixed = Fixed { units: 4 };
+/// Entries up to this are taken for 0, in units of `2^-32`.
+const ZERO: i64 = 4;
 
 /// The tableau row that a step looks at.
 #[derive(Debug, Drop)]
@@ -27,7 +22,7 @@ pub(crate) struct TableauRow {
     /// A number for each tight row.
     numbers: Vec<Fixed>,
     /// Sums by variable.
-    sums: TouchedSums,
+    sums: Scattered<Sum>,
 }
 
 impl TableauRow {
@@ -38,7 +33,7 @@ impl TableauRow {
             entries: Vec::new(alloc),
             basic: Vec::new(alloc),
             numbers: Vec::new(alloc),
-            sums: TouchedSums::new(alloc),
+            sums: Scattered::new(alloc),
         }
     }
 
@@ -71,7 +66,7 @@ impl TableauRow {
         match leaving {
             Leaving::Row(row) => {
                 self.gather_basic(rows.row(row), basis)?;
-                self.sums.take_row(Fixed::ONE.negated(), rows.row(row))?;
+                self.sums.add_multiple(Fixed::ONE, rows.row(row))?;
             }
             Leaving::Below(place) => self.gather_one(place, Fixed::ONE, basis)?,
             Leaving::Above(place) => self.gather_one(place, Fixed::ONE.negated(), basis)?,
@@ -129,7 +124,7 @@ impl TableauRow {
         for weight in &self.weights {
             if let Some(row) = basis.tight().get(weight.place) {
                 let entries = rows.row(*row);
-                self.sums.take_row(weight.value, entries)?;
+                self.sums.add_multiple(weight.value.negated(), entries)?;
                 work.count(entries.len());
             }
         }
@@ -140,7 +135,7 @@ impl TableauRow {
     fn round_entries(&mut self, basis: &Basis) -> Result<(), AllocError> {
         for variable in self.sums.touched() {
             if !basis.is_basic(*variable) {
-                let value = self.sums.sum(*variable).rounded();
+                let value = self.sums.value(*variable).rounded();
                 self.entries.push(Entry {
                     place: *variable,
                     value,
@@ -153,7 +148,7 @@ impl TableauRow {
 
 /// Keeps an entry, unless it is taken for 0.
 fn keep(entries: &mut Vec<Entry>, place: usize, value: Fixed) -> Result<(), AllocError> {
-    if value.size().is_above(ZERO) {
+    if value.size().units() > ZERO {
         entries.push(Entry { place, value })?;
     }
     Ok(())

@@ -1,13 +1,14 @@
-//! The inverse of the kernel, the coefficients of the basic variables in the tight rows.
+//! The inverse of the kernel, which are the coefficients of the basic variables in the tight rows.
 //!
 //! It is never formed: a product with it is solved for, by the triangles of an earlier kernel and the exchanges since. Both have few entries where
 //! the rows have few. As exchanges come, products become dearer and errors add up, so the triangles are made anew from the rows at times.
 
 use super::basis::Basis;
 use super::elimination::triangles_of;
-use super::exchange::Exchange;
+use super::entry::Entry;
+use super::exchange::{Entering, Exchange};
 use super::fixed::Fixed;
-use super::rows::{Entry, Rows};
+use super::rows::Rows;
 use super::scattered::Scattered;
 use super::triangles::{Triangles, from_end};
 use super::work::Work;
@@ -16,19 +17,20 @@ use std::alloc::{AllocError, Global};
 /// After so many exchanges triangles are made anew.
 const MOST_EXCHANGES: usize = 100;
 
-/// Numbers that are kept for their memory.
+/// What a product is solved for in: vectors that are kept for their memory, and say nothing between two products.
 #[derive(Debug, Drop)]
-pub(crate) struct Scratch {
+pub struct Scratch {
     /// By row, of those that are tight since the triangles were made.
-    early: Scattered,
+    early: Scattered<Fixed>,
     /// By row, of those that became tight since.
-    late: Scattered,
+    late: Scattered<Fixed>,
     /// By variable.
-    variables: Scattered,
+    variables: Scattered<Fixed>,
 }
 
 impl Scratch {
-    pub(crate) fn new(alloc: Global) -> Self {
+    /// Room for no rows and no variables.
+    pub fn new(alloc: Global) -> Self {
         Scratch {
             early: Scattered::new(alloc),
             late: Scattered::new(alloc),
@@ -36,8 +38,10 @@ impl Scratch {
         }
     }
 
-    /// Makes room for so many rows and variables, where there are fewer.
-    pub(crate) fn widen(&mut self, rows: usize, variables: usize) -> Result<(), AllocError> {
+    /// Makes room for so many rows and variables, where there are fewer. What has no room counts as 0 in a product.
+    ///
+    /// `AllocError` comes where a growth was refused; some of the room may be there then.
+    pub fn widen(&mut self, rows: usize, variables: usize) -> Result<(), AllocError> {
         self.early.widen(rows)?;
         self.late.widen(rows)?;
         self.variables.widen(variables)
@@ -50,9 +54,9 @@ impl Scratch {
     }
 }
 
-/// The inverse of the kernel.
+/// The inverse of the kernel of a basis, which whoever changes that basis keeps up with it. Rows, variables and places are counted from 0.
 #[derive(Debug, Drop)]
-pub(crate) struct Inverse {
+pub struct Inverse {
     alloc: Global,
     triangles: Triangles,
     exchanges: Vec<Exchange>,
@@ -64,7 +68,7 @@ pub(crate) struct Inverse {
 
 impl Inverse {
     /// The inverse of the empty kernel.
-    pub(crate) fn new(alloc: Global) -> Self {
+    pub fn new(alloc: Global) -> Self {
         Inverse {
             alloc,
             triangles: Triangles::new(alloc),
@@ -74,8 +78,10 @@ impl Inverse {
         }
     }
 
-    /// Makes room for so many rows, where there are fewer.
-    pub(crate) fn widen(&mut self, rows: usize) -> Result<(), AllocError> {
+    /// Makes room for so many rows, where there are fewer: of others it is not noted that they are tight.
+    ///
+    /// `AllocError` comes where a growth was refused; some of the room may be there then, and the inverse is as it was.
+    pub fn widen(&mut self, rows: usize) -> Result<(), AllocError> {
         for _ in self.since.len()..rows {
             self.since.push(None)?;
         }
@@ -83,7 +89,7 @@ impl Inverse {
     }
 
     /// Makes it that of the empty kernel.
-    pub(crate) fn clear(&mut self) {
+    pub fn clear(&mut self) {
         self.triangles = Triangles::new(self.alloc);
         self.exchanges.clear();
         for since in self.since.iter_mut() {
@@ -92,12 +98,12 @@ impl Inverse {
     }
 
     /// Whether products are so dear that the triangles are to be made anew.
-    pub(crate) fn is_long(&self) -> bool {
+    pub fn is_long(&self) -> bool {
         self.exchanges.len() >= MOST_EXCHANGES
     }
 
-    /// What it takes to make the triangles anew, about.
-    pub(crate) fn cost(&self) -> u64 {
+    /// What it takes to make the triangles anew, about: so many multiplications as it took the last time, 0 where they were never made.
+    pub fn cost(&self) -> u64 {
         self.cost
     }
 
@@ -114,8 +120,11 @@ impl Inverse {
         self.since(row) == Some(number)
     }
 
-    /// The inverse times a vector over the tight rows, whose entries that are not 0 are given by row: a number for each basic variable.
-    pub(crate) fn product(
+    /// The inverse times a vector over the tight rows, whose entries that are not 0 are given by row: a number for each basic variable, by its
+    /// place in the basis. They are put into `product`, and what was done is counted.
+    ///
+    /// `AllocError` comes where a growth was refused; what is in `product` means nothing then.
+    pub fn product(
         &self,
         scratch: &mut Scratch,
         entries: &[Entry],
@@ -153,8 +162,11 @@ impl Inverse {
         }
     }
 
-    /// A vector over the basic variables, whose entries that are not 0 are given by variable, times the inverse: a number for each tight row.
-    pub(crate) fn weights(
+    /// A vector over the basic variables, whose entries that are not 0 are given by variable, times the inverse: a number for each tight row, by
+    /// its place in the basis. They are put into `weights`, and what was done is counted.
+    ///
+    /// `AllocError` comes where a growth was refused; what is in `weights` means nothing then.
+    pub fn weights(
         &self,
         scratch: &mut Scratch,
         entries: &[Entry],
@@ -208,8 +220,38 @@ impl Inverse {
         }
     }
 
+    /// Notes a step in which the basic variable of a place leaves. The basis is that before the step, and the column the product of the inverse with
+    /// what enters: how the basic variables move, with its sign changed, where that grows by one.
+    ///
+    /// `AllocError` comes where a growth was refused, and then nothing is noted.
+    pub fn exchange_variable(
+        &mut self,
+        place: usize,
+        entering: Entering,
+        column: &[Fixed],
+        basis: &Basis,
+    ) -> Result<(), AllocError> {
+        let exchange = Exchange::of_variable(self.alloc, place, entering, column, basis)?;
+        self.note_exchange(exchange, entering.loosened(basis))
+    }
+
+    /// Notes a step in which the slack of a row leaves, so that the row is tight from now on. Basis and column are as in `exchange_variable`.
+    ///
+    /// `AllocError` comes where a growth was refused, and then nothing is noted.
+    pub fn exchange_slack(
+        &mut self,
+        row: usize,
+        entering: Entering,
+        column: &[Fixed],
+        rows: &Rows,
+        basis: &Basis,
+    ) -> Result<(), AllocError> {
+        let exchange = Exchange::of_slack(self.alloc, row, entering, column, rows, basis)?;
+        self.note_exchange(exchange, entering.loosened(basis))
+    }
+
     /// Notes a step, by which a row may have slack from now on.
-    pub(crate) fn exchange(
+    fn note_exchange(
         &mut self,
         exchange: Exchange,
         loosened: Option<usize>,
@@ -232,9 +274,11 @@ impl Inverse {
         }
     }
 
-    /// Makes the triangles anew; whether the kernel has an inverse. Where it has none, or memory ends, the inverse is as it was. What it does is counted
-    /// as it is done.
-    pub(crate) fn refactor(
+    /// Makes the triangles of the basis anew, and forgets the steps; whether its kernel has an inverse, as far as fixed point tells. Where it has
+    /// none, the inverse is as it was. What it does is counted as it is done.
+    ///
+    /// `AllocError` comes where a growth was refused, and then the inverse is as it was too.
+    pub fn refactor(
         &mut self,
         rows: &Rows,
         basis: &Basis,

@@ -5,16 +5,10 @@
 //! undone exactly. Columns are not scaled, so that each variable stays between 0 and 1. Numbers that are 0 at that scale are left out;
 //! whoever sums the constraints up by the multipliers sees the exact ones.
 
+use super::entry::Entry;
 use super::fixed::Fixed;
 use normal_form::Normal;
 use std::alloc::{AllocError, Global};
-
-/// A coefficient and its place: a variable in a row, a row in a column.
-#[derive(Clone, Copy, Debug)]
-pub(crate) struct Entry {
-    pub(crate) place: usize,
-    pub(crate) value: Fixed,
-}
 
 /// `sum of entries >= right`, a constraint times `2^-exponent`.
 #[derive(Debug, Drop)]
@@ -24,16 +18,16 @@ struct ScaledRow {
     exponent: u32,
 }
 
-/// All rows, and the same by columns.
+/// All rows, and the same by columns. Rows and variables are counted from 0.
 #[derive(Debug, Drop)]
-pub(crate) struct Rows {
+pub struct Rows {
     alloc: Global,
     rows: Vec<ScaledRow>,
     columns: Vec<Vec<Entry>>,
 }
 
-/// How many bits a number has: 0 for 0.
-pub(crate) fn bits(number: u128) -> u32 {
+/// How many bits a number has, from 0 (for 0 alone) to 128.
+pub fn bit_length(number: u128) -> u32 {
     match number.checked_ilog2() {
         Some(log) => log.wrapping_add(1),
         None => 0,
@@ -45,8 +39,8 @@ fn signed(number: u128) -> i128 {
     number.min(1 << 120) as i128
 }
 
-/// A coefficient at a literal, as one at its variable.
-pub(crate) fn sided(coefficient: i128, negated: bool) -> i128 {
+/// A coefficient at a literal as the one at its variable: with its sign changed where the literal is negated.
+pub fn at_variable(coefficient: i128, negated: bool) -> i128 {
     if negated {
         coefficient.wrapping_neg()
     } else {
@@ -65,13 +59,13 @@ fn largest_coefficient(constraint: &Normal) -> u128 {
 
 /// The power of two below the norm, at least 1: its exponent. Coefficients are cut to 31 bits first, so that their squares add up.
 fn scale(constraint: &Normal) -> u32 {
-    let cut = bits(largest_coefficient(constraint)).saturating_sub(31);
+    let cut = bit_length(largest_coefficient(constraint)).saturating_sub(31);
     let mut squares: u128 = 0;
     for place in 0..constraint.len() {
         let coefficient = constraint.term(place).coef.unbounded_shr(cut);
         squares = squares.saturating_add(coefficient.saturating_mul(coefficient));
     }
-    cut.wrapping_add(bits(squares).saturating_sub(1) / 2)
+    cut.wrapping_add(bit_length(squares).saturating_sub(1) / 2)
 }
 
 /// The row of a constraint.
@@ -85,7 +79,7 @@ fn scaled_row(alloc: Global, constraint: &Normal) -> Result<ScaledRow, AllocErro
         if term.negated {
             right = right.saturating_sub(size);
         }
-        let value = Fixed::scaled(sided(size, term.negated), exponent);
+        let value = Fixed::scaled(at_variable(size, term.negated), exponent);
         if !value.is_zero() {
             entries.push(Entry {
                 place: term.var.0 as usize,
@@ -111,7 +105,9 @@ fn leave(columns: &mut Vec<Vec<Entry>>, row: usize, entries: &[Entry]) {
 
 impl Rows {
     /// No rows, over so many variables.
-    pub(crate) fn new(alloc: Global, variables: usize) -> Result<Self, AllocError> {
+    ///
+    /// `AllocError` comes where a growth was refused.
+    pub fn new(alloc: Global, variables: usize) -> Result<Self, AllocError> {
         let mut rows = Rows {
             alloc,
             rows: Vec::new(alloc),
@@ -121,8 +117,10 @@ impl Rows {
         Ok(rows)
     }
 
-    /// Makes columns for so many variables, where there are fewer.
-    pub(crate) fn widen(&mut self, variables: usize) -> Result<(), AllocError> {
+    /// Makes columns for so many variables, where there are fewer. They stand in no row yet.
+    ///
+    /// `AllocError` comes where a growth was refused; the rows are as they were then, and some of the columns may be there.
+    pub fn widen(&mut self, variables: usize) -> Result<(), AllocError> {
         for _ in self.columns.len()..variables {
             self.columns.push(Vec::new(self.alloc))?;
         }
@@ -130,17 +128,19 @@ impl Rows {
     }
 
     /// How many rows there are.
-    pub(crate) fn count(&self) -> usize {
+    pub fn count(&self) -> usize {
         self.rows.len()
     }
 
     /// How many variables have columns.
-    pub(crate) fn variables(&self) -> usize {
+    pub fn variables(&self) -> usize {
         self.columns.len()
     }
 
-    /// Adds the row of a constraint, at the end.
-    pub(crate) fn add(&mut self, constraint: &Normal) -> Result<(), AllocError> {
+    /// Adds the row of a constraint, at the end. A variable of it that has no column stands in the row alone.
+    ///
+    /// `AllocError` comes where a growth was refused, and then nothing is added.
+    pub fn add(&mut self, constraint: &Normal) -> Result<(), AllocError> {
         let row = scaled_row(self.alloc, constraint)?;
         self.rows.reserve(1)?;
         let place = self.rows.len();
@@ -149,8 +149,8 @@ impl Rows {
         Ok(())
     }
 
-    /// Takes the coefficients of a row out: it holds everywhere then.
-    pub(crate) fn clear(&mut self, row: usize) {
+    /// Takes the coefficients of a row out, if there is one: it holds everywhere then, and keeps its number and its scale.
+    pub fn clear(&mut self, row: usize) {
         if let Some(scaled) = self.rows.get_mut(row) {
             leave(&mut self.columns, row, scaled.entries.as_slice());
             scaled.entries.clear();
@@ -158,8 +158,10 @@ impl Rows {
         }
     }
 
-    /// Puts the row of a constraint in the place of another one, if there is one.
-    pub(crate) fn put(&mut self, row: usize, constraint: &Normal) -> Result<(), AllocError> {
+    /// Puts the row of a constraint in the place of another one; nothing changes where there is no such row.
+    ///
+    /// `AllocError` comes where a growth was refused: the row is as it was then, or has no coefficients if its columns were what could not grow.
+    pub fn put(&mut self, row: usize, constraint: &Normal) -> Result<(), AllocError> {
         if row >= self.rows.len() {
             return Ok(());
         }
@@ -190,32 +192,32 @@ impl Rows {
         Ok(())
     }
 
-    /// The coefficients of a row.
-    pub(crate) fn row(&self, row: usize) -> &[Entry] {
+    /// The coefficients of a row that are not 0 at its scale, by variable; none where there is no such row.
+    pub fn row(&self, row: usize) -> &[Entry] {
         match self.rows.get(row) {
             Some(scaled) => scaled.entries.as_slice(),
             None => &[],
         }
     }
 
-    /// The coefficients of a variable.
-    pub(crate) fn column(&self, variable: usize) -> &[Entry] {
+    /// The coefficients of a variable, by row; none where it has no column.
+    pub fn column(&self, variable: usize) -> &[Entry] {
         match self.columns.get(variable) {
             Some(column) => column.as_slice(),
             None => &[],
         }
     }
 
-    /// The right side of a row.
-    pub(crate) fn right(&self, row: usize) -> Fixed {
+    /// The right side of a row, at its scale; 0 where there is no such row.
+    pub fn right(&self, row: usize) -> Fixed {
         match self.rows.get(row) {
             Some(scaled) => scaled.right,
             None => Fixed::ZERO,
         }
     }
 
-    /// The scale of a row: it is its constraint times `2^-exponent`.
-    pub(crate) fn exponent(&self, row: usize) -> u32 {
+    /// The scale of a row: it is its constraint times `2^-exponent`. The exponent is 0 where there is no such row, and 160 at most.
+    pub fn exponent(&self, row: usize) -> u32 {
         match self.rows.get(row) {
             Some(scaled) => scaled.exponent,
             None => 0,

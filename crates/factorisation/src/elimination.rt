@@ -5,21 +5,23 @@
 //! so that few entries come to others.
 
 use super::basis::Basis;
+use super::entry::Entry;
 use super::fixed::Fixed;
-use super::rows::{Entry, Rows};
+use super::numbers::Number;
+use super::rows::Rows;
 use super::triangles::{Pivot, Triangles, from_end};
 use super::work::Work;
 use std::alloc::{AllocError, Global};
 use std::mem;
 
-/// Pivots up to this are taken for 0.
-const SINGULAR: Fixed = Fixed { units: 1 << 16 };
+/// Pivots up to this are taken for 0, in units of `2^-32`.
+const SINGULAR: i64 = 1 << 16;
 
-/// Numbers up to this that are left of others are taken for 0.
-const NOTHING: Fixed = Fixed { units: 8 };
+/// Numbers up to this that are left of others are taken for 0, in units of `2^-32`.
+const NOTHING: i64 = 8;
 
-/// A pivot is at least the largest number of its row over this.
-const THRESHOLD: Fixed = Fixed { units: 10 << 32 };
+/// A pivot is at least the largest number of its row over this, in units of `2^-32`.
+const THRESHOLD: i64 = 10 << 32;
 
 /// The rows and columns that are left, by their places in the basis.
 #[derive(Drop)]
@@ -243,7 +245,7 @@ impl Elimination {
 
     /// Of the entries of a row that are not much smaller than its largest, the one in the shortest column.
     fn best_column(&self, row: &[Entry]) -> Option<usize> {
-        let least = largest_of(row).over(THRESHOLD);
+        let least = largest_of(row).over(Fixed::of_units(THRESHOLD));
         let mut shortest = usize::MAX;
         let mut found = None;
         for entry in row {
@@ -268,7 +270,7 @@ impl Elimination {
         let Some(pivot) = others.as_slice().get(index).map(|entry| entry.value) else {
             return Ok(None);
         };
-        if !pivot.size().is_above(SINGULAR) {
+        if pivot.size().units() <= SINGULAR {
             return Ok(None);
         }
         if index < others.len() {
@@ -403,7 +405,7 @@ impl Elimination {
     /// Takes an entry out of a row if it is about 0; its column then.
     fn take_small(&mut self, row: usize, index: usize) -> Option<usize> {
         let entries = self.rows.get_mut(row)?;
-        if index < entries.len() && !entries[index].value.size().is_above(NOTHING) {
+        if index < entries.len() && entries[index].value.size().units() <= NOTHING {
             return Some(entries.swap_remove(index).place);
         }
         None

@@ -3,8 +3,9 @@
 //! The kernel of a basis has few entries, and so have its triangles, where the order of the pivots is chosen well (`elimination`); its inverse may be
 //! dense. Rows are named by their numbers and columns by their variables, and not by places, which change from step to step.
 
+use super::entry::Entry;
 use super::fixed::Fixed;
-use super::rows::Entry;
+use super::numbers::Number;
 use super::scattered::Scattered;
 use super::work::Work;
 use std::alloc::{AllocError, Global};
@@ -42,19 +43,6 @@ fn list_of(lists: &[Vec<Entry>], place: usize) -> &[Entry] {
     }
 }
 
-/// Takes a multiple of some entries from numbers.
-fn take_multiple(
-    numbers: &mut Scattered,
-    factor: Fixed,
-    entries: &[Entry],
-) -> Result<(), AllocError> {
-    let negated = factor.negated();
-    for entry in entries {
-        numbers.add_product(entry.place, negated, entry.value)?;
-    }
-    Ok(())
-}
-
 impl Triangles {
     /// Those of the empty kernel.
     pub(crate) fn new(alloc: Global) -> Self {
@@ -69,8 +57,8 @@ impl Triangles {
     /// Solves the kernel times a solution over its variables for a right side over its rows, which is used up.
     pub(crate) fn solve(
         &self,
-        right: &mut Scattered,
-        solution: &mut Scattered,
+        right: &mut Scattered<Fixed>,
+        solution: &mut Scattered<Fixed>,
         work: &mut Work,
     ) -> Result<(), AllocError> {
         self.eliminate(right, work)?;
@@ -87,11 +75,11 @@ impl Triangles {
     }
 
     /// Does to a right side what was done to the rows.
-    fn eliminate(&self, right: &mut Scattered, work: &mut Work) -> Result<(), AllocError> {
+    fn eliminate(&self, right: &mut Scattered<Fixed>, work: &mut Work) -> Result<(), AllocError> {
         for (pivot, others) in self.pivots.iter().zip(self.lower.iter()) {
             let value = right.value(pivot.row);
             if !value.is_zero() && !others.is_empty() {
-                take_multiple(right, value, others.as_slice())?;
+                right.add_multiple(value.negated(), others.as_slice())?;
                 work.count(others.len());
             }
         }
@@ -101,8 +89,8 @@ impl Triangles {
     /// Solves weights over the rows times the kernel for costs over the variables, which are used up.
     pub(crate) fn solve_transposed(
         &self,
-        costs: &mut Scattered,
-        weights: &mut Scattered,
+        costs: &mut Scattered<Fixed>,
+        weights: &mut Scattered<Fixed>,
         work: &mut Work,
     ) -> Result<(), AllocError> {
         for (pivot, row) in self.pivots.iter().zip(self.upper_rows.iter()) {
@@ -110,7 +98,7 @@ impl Triangles {
             if !wanted.is_zero() {
                 let value = wanted.over(pivot.value);
                 weights.set(pivot.row, value)?;
-                take_multiple(costs, value, row.as_slice())?;
+                costs.add_multiple(value.negated(), row.as_slice())?;
                 work.count(row.len());
             }
         }
@@ -119,7 +107,11 @@ impl Triangles {
     }
 
     /// Takes from the weight of each pivot's row what the rows have from which it was taken.
-    fn gather_back(&self, weights: &mut Scattered, work: &mut Work) -> Result<(), AllocError> {
+    fn gather_back(
+        &self,
+        weights: &mut Scattered<Fixed>,
+        work: &mut Work,
+    ) -> Result<(), AllocError> {
         let count = self.pivots.len();
         for step in 0..count {
             let place = from_end(count, step);
@@ -139,8 +131,8 @@ impl Triangles {
 fn solve_pivot(
     pivot: Pivot,
     column: &[Entry],
-    right: &mut Scattered,
-    solution: &mut Scattered,
+    right: &mut Scattered<Fixed>,
+    solution: &mut Scattered<Fixed>,
     work: &mut Work,
 ) -> Result<(), AllocError> {
     let wanted = right.value(pivot.row);
@@ -149,14 +141,14 @@ fn solve_pivot(
     }
     let value = wanted.over(pivot.value);
     solution.set(pivot.variable, value)?;
-    take_multiple(right, value, column)?;
+    right.add_multiple(value.negated(), column)?;
     work.count(column.len());
     Ok(())
 }
 
 /// Takes the weights of other rows, each times its entry, from the weight of a row.
 fn take_from_weight(
-    weights: &mut Scattered,
+    weights: &mut Scattered<Fixed>,
     row: usize,
     others: &[Entry],
 ) -> Result<(), AllocError> {

@@ -6,9 +6,10 @@
 
 use std::alloc::{AllocError, Global};
 
-/// Tight rows and basic variables, and where each row and each variable stands among them.
+/// Tight rows and basic variables, as many of the ones as of the others, and where each row and each variable stands among them. Rows,
+/// variables and places are counted from 0.
 #[derive(Debug, Drop)]
-pub(crate) struct Basis {
+pub struct Basis {
     tight: Vec<usize>,
     basic: Vec<usize>,
     place_of_row: Vec<Option<usize>>,
@@ -64,7 +65,7 @@ fn place_in(places: &[Option<usize>], item: usize) -> Option<usize> {
 
 impl Basis {
     /// The empty basis: all rows have slack, all variables stand at bounds.
-    pub(crate) fn new(alloc: Global) -> Self {
+    pub fn new(alloc: Global) -> Self {
         Basis {
             tight: Vec::new(alloc),
             basic: Vec::new(alloc),
@@ -73,8 +74,10 @@ impl Basis {
         }
     }
 
-    /// Makes room for so many rows and variables, where there are fewer.
-    pub(crate) fn widen(&mut self, rows: usize, variables: usize) -> Result<(), AllocError> {
+    /// Makes room for so many rows and variables, where there are fewer: of others it is not noted where they stand.
+    ///
+    /// `AllocError` comes where a growth was refused; the basis is as it was then, and some of the room may be there.
+    pub fn widen(&mut self, rows: usize, variables: usize) -> Result<(), AllocError> {
         for _ in self.place_of_row.len()..rows {
             self.place_of_row.push(None)?;
         }
@@ -85,7 +88,7 @@ impl Basis {
     }
 
     /// Makes it the empty basis.
-    pub(crate) fn clear(&mut self) {
+    pub fn clear(&mut self) {
         self.tight.clear();
         self.basic.clear();
         for place in self.place_of_row.iter_mut() {
@@ -97,55 +100,61 @@ impl Basis {
     }
 
     /// How many rows are tight, which is how many variables are basic.
-    pub(crate) fn len(&self) -> usize {
+    pub fn len(&self) -> usize {
         self.basic.len()
     }
 
     /// The tight rows, place by place.
-    pub(crate) fn tight(&self) -> &[usize] {
+    pub fn tight(&self) -> &[usize] {
         self.tight.as_slice()
     }
 
     /// The basic variables, place by place.
-    pub(crate) fn basic(&self) -> &[usize] {
+    pub fn basic(&self) -> &[usize] {
         self.basic.as_slice()
     }
 
     /// The place of a row among the tight ones, if it is tight.
-    pub(crate) fn place_of_row(&self, row: usize) -> Option<usize> {
+    pub fn place_of_row(&self, row: usize) -> Option<usize> {
         place_in(self.place_of_row.as_slice(), row)
     }
 
     /// The place of a variable among the basic ones, if it is basic.
-    pub(crate) fn place_of_variable(&self, variable: usize) -> Option<usize> {
+    pub fn place_of_variable(&self, variable: usize) -> Option<usize> {
         place_in(self.place_of_variable.as_slice(), variable)
     }
 
-    pub(crate) fn is_tight(&self, row: usize) -> bool {
+    /// Whether a row is tight.
+    pub fn is_tight(&self, row: usize) -> bool {
         self.place_of_row(row).is_some()
     }
 
-    pub(crate) fn is_basic(&self, variable: usize) -> bool {
+    /// Whether a variable is basic.
+    pub fn is_basic(&self, variable: usize) -> bool {
         self.place_of_variable(variable).is_some()
     }
 
     /// Makes another row tight, at the end.
-    pub(crate) fn append_row(&mut self, row: usize) -> Result<(), AllocError> {
+    ///
+    /// `AllocError` comes where a growth was refused, and then nothing changes.
+    pub fn append_row(&mut self, row: usize) -> Result<(), AllocError> {
         append(&mut self.tight, &mut self.place_of_row, row)
     }
 
     /// Makes another variable basic, at the end.
-    pub(crate) fn append_variable(&mut self, variable: usize) -> Result<(), AllocError> {
+    ///
+    /// `AllocError` comes where a growth was refused, and then nothing changes.
+    pub fn append_variable(&mut self, variable: usize) -> Result<(), AllocError> {
         append(&mut self.basic, &mut self.place_of_variable, variable)
     }
 
-    /// Makes a row tight in the stead of the one at a place.
-    pub(crate) fn exchange_row(&mut self, place: usize, row: usize) {
+    /// Makes a row tight in the stead of the one at a place, if there is such a place.
+    pub fn exchange_row(&mut self, place: usize, row: usize) {
         exchange(&mut self.tight, &mut self.place_of_row, place, row);
     }
 
-    /// Makes a variable basic in the stead of the one at a place.
-    pub(crate) fn exchange_variable(&mut self, place: usize, variable: usize) {
+    /// Makes a variable basic in the stead of the one at a place, if there is such a place.
+    pub fn exchange_variable(&mut self, place: usize, variable: usize) {
         exchange(
             &mut self.basic,
             &mut self.place_of_variable,
@@ -154,13 +163,13 @@ impl Basis {
         );
     }
 
-    /// Gives the row at a place slack, and puts the last tight row there.
-    pub(crate) fn take_out_row(&mut self, place: usize) {
+    /// Gives the row at a place slack, if there is such a place, and puts the last tight row there.
+    pub fn take_out_row(&mut self, place: usize) {
         take_out(&mut self.tight, &mut self.place_of_row, place);
     }
 
-    /// Puts the variable at a place to a bound, and the last basic variable there.
-    pub(crate) fn take_out_variable(&mut self, place: usize) {
+    /// Puts the variable at a place to a bound, if there is such a place, and the last basic variable there.
+    pub fn take_out_variable(&mut self, place: usize) {
         take_out(&mut self.basic, &mut self.place_of_variable, place);
     }
 }
