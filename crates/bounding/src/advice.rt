@@ -45,3 +45,37 @@ pub struct Figures {
     /// How often multipliers summed up to nothing that says anything.
     pub failed: u64,
 }
+
+impl Figures {
+    /// No call yet.
+    pub(crate) fn new() -> Self {
+        Figures {
+            calls: 0,
+            conflicts: 0,
+            forcings: 0,
+            cuts: 0,
+            failed: 0,
+        }
+    }
+
+    /// Counts a call, and what it came to.
+    pub(crate) fn count_call(&mut self, advice: &Advice) {
+        self.calls = self.calls.saturating_add(1);
+        match advice {
+            Advice::Conflict(_) => self.conflicts = self.conflicts.saturating_add(1),
+            Advice::Forcing(_) => self.forcings = self.forcings.saturating_add(1),
+            Advice::Cut(_) => self.count_cut(),
+            Advice::Values | Advice::Nothing => {}
+        }
+    }
+
+    /// Counts a cut, as one that is handed out without a call.
+    pub(crate) fn count_cut(&mut self) {
+        self.cuts = self.cuts.saturating_add(1);
+    }
+
+    /// Counts multipliers that summed up to nothing.
+    pub(crate) fn count_failure(&mut self) {
+        self.failed = self.failed.saturating_add(1);
+    }
+}

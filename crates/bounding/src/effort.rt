@@ -1,4 +1,4 @@
-//! When the relaxation is asked, and how much it may do.
+//! The share of the work that the relaxation has, and how much a call may do.
 //!
 //! One call costs as much as thousands of propagations, and on many problems it says nothing that propagation does not. So it has a
 //! share of the work, which rises where it ends a descent and falls where it does not. At the root, where a bound serves the whole search,

@@ -10,10 +10,13 @@
 //! that it was asked about: that is the contract of `Adviser::ask`. How much it may do is counted beside what the search does, with no clock, so
 //! that runs repeat exactly.
 //!
-//! `adviser` has the calls, `effort` says when they are due, and `judgement` looks at a sum under the literals of `standing`.
+//! `adviser` makes the calls. What is called is `relaxed_problem`, of a problem that is not too large for it (`size`); when a call is due, and
+//! what it may do, is said by `schedule`: it has a share of the work (`effort`), and stands before each decision of a descent to a first solution
+//! (`dives`). It ends with multipliers, of which `sums` makes a line and `judgement` says what that says under the literals of `standing`, or with
+//! a point, which leads the search (`leanings`).
 //!
-//! At the root it also hands out cuts: constraints that follow in whole numbers, and that the best point of the relaxation violates. `rounds` says
-//! how long. The lines of sums and of cuts are made by the crate `cuts`.
+//! At the root it also hands out cuts (`root_cuts`): constraints that follow in whole numbers, and that the best point of the relaxation violates.
+//! `rounds` says how long. The lines of sums and of cuts are made by the crate `cuts`.
 #![tactic(auto)]
 
 mod advice;
@@ -21,8 +24,14 @@ mod adviser;
 mod dives;
 mod effort;
 mod judgement;
+mod leanings;
+mod relaxed_problem;
+mod root_cuts;
 mod rounds;
+mod schedule;
+mod size;
 mod standing;
+mod sums;
 
 pub use advice::{Advice, Figures, Node};
 pub use adviser::Adviser;

@@ -6,7 +6,7 @@
 ghost use Rattle.std.specs.Prelude.{◌≡◌, true, slice_set};
 ghost use Rattle.linear.specs.Literal.{code};
 
-use linear::Lit;
+use linear::{Lit, Var};
 use propagate::literal_count;
 use std::alloc::{AllocError, Global};
 use std::marker::Model;
@@ -66,5 +66,14 @@ impl<'a> Standing<'a> {
         } else {
             false
         }
+    }
+
+    /// Whether neither literal of a variable stands.
+    pub(crate) fn leaves_free(&self, variable: Var) -> bool {
+        let literal = Lit {
+            var: variable,
+            negated: false,
+        };
+        !self.has(literal) && !self.has(literal.opposite())
     }
 }

@@ -5,15 +5,13 @@
 //! literals is looked up.
 
 use super::conflict_graph::ConflictGraph;
-use super::violation::literal_value;
+use super::valued_graph::{Valued, ValuedGraph};
 use kernel::Kernel;
-use linear::{Lit, Var};
-use propagate::{Id, Propagator};
+use linear::Lit;
+use normal_form::Normal;
+use propagate::Propagator;
 use relaxation::{Fixed, Relaxation};
 use std::alloc::{AllocError, Global};
-
-/// A clique begins with a literal of this value at least: a fifth, in units of `2^-32`.
-const LEAST_START: i64 = 858_993_459;
 
 /// What the values of a clique are above 1 at least: a fiftieth, in units of `2^-32`.
 const LEAST_EXCESS: i64 = 85_899_346;
@@ -29,13 +27,6 @@ const MOST_USES: u8 = 2;
 
 /// How many terms of sets are looked at.
 const MOST_TERMS: usize = 1_000_000;
-
-/// A literal, and its value at the point in units of `2^-32`.
-#[derive(Clone, Copy, Debug)]
-struct Valued {
-    literal: Lit,
-    value: i64,
-}
 
 /// What the search keeps.
 #[derive(Debug, Drop)]
@@ -70,14 +61,19 @@ impl CliqueSearch {
     pub(crate) fn run<'a, P: Propagator>(
         &mut self,
         kernel: &Kernel<'a, P>,
-        graph: &ConflictGraph,
+        conflicts: &ConflictGraph,
         relaxation: &Relaxation,
     ) -> Result<Vec<Vec<Lit>>, AllocError> {
+        let graph = ValuedGraph {
+            kernel,
+            conflicts,
+            relaxation,
+        };
         let mut found = Vec::new(self.alloc);
         self.looked_at = 0;
-        for start in &starts(self.alloc, graph, relaxation, self.adjacent.len() / 2)? {
+        for start in &graph.starts(self.alloc, self.adjacent.len() / 2)? {
             if found.len() < MOST_CLIQUES && self.may_begin(start.literal) {
-                let excess = self.grow(kernel, graph, relaxation, *start)?;
+                let excess = self.grow(&graph, *start)?;
                 if excess >= LEAST_EXCESS && self.members.len() > 2 {
                     found.push(self.members.clone()?)?;
                     self.count_uses();
@@ -114,23 +110,21 @@ impl CliqueSearch {
     }
 
     /// Makes a clique that begins with a literal; what the values of its members are above 1.
-    fn grow<'a, P: Propagator>(
+    fn grow<'g, 'a, P: Propagator>(
         &mut self,
-        kernel: &Kernel<'a, P>,
-        graph: &ConflictGraph,
-        relaxation: &Relaxation,
+        graph: &ValuedGraph<'g, 'a, P>,
         start: Valued,
     ) -> Result<i64, AllocError> {
         self.members.clear();
         self.neighbours.clear();
-        self.take(kernel, graph, relaxation, start.literal)?;
+        self.take(graph, start.literal)?;
         self.neighbours
             .sort_by_key(|valued| Fixed::ONE.units().saturating_sub(valued.value))?;
         let mut sum = start.value;
         for place in 0..self.neighbours.len() {
             if let Some(valued) = self.neighbours.get(place).copied() {
                 if self.fits(valued.literal) {
-                    self.take(kernel, graph, relaxation, valued.literal)?;
+                    self.take(graph, valued.literal)?;
                     sum = sum.saturating_add(valued.value);
                 }
             }
@@ -146,37 +140,31 @@ impl CliqueSearch {
     }
 
     /// Takes a literal into the clique, and raises the numbers of its neighbours.
-    fn take<'a, P: Propagator>(
+    fn take<'g, 'a, P: Propagator>(
         &mut self,
-        kernel: &Kernel<'a, P>,
-        graph: &ConflictGraph,
-        relaxation: &Relaxation,
+        graph: &ValuedGraph<'g, 'a, P>,
         literal: Lit,
     ) -> Result<(), AllocError> {
         self.members.push(literal)?;
         for set in graph.sets_of(literal) {
-            if let Some(id) = graph.constraint_of(*set) {
-                self.raise_set(kernel, relaxation, id, literal)?;
+            if let Some(constraint) = graph.constraint_of(*set) {
+                self.raise_set(graph, constraint, literal)?;
             }
         }
         Ok(())
     }
 
     /// Raises the numbers of the literals of a set, but of one.
-    fn raise_set<'a, P: Propagator>(
+    fn raise_set<'g, 'a, P: Propagator>(
         &mut self,
-        kernel: &Kernel<'a, P>,
-        relaxation: &Relaxation,
-        id: Id,
+        graph: &ValuedGraph<'g, 'a, P>,
+        constraint: &Normal,
         taken: Lit,
     ) -> Result<(), AllocError> {
-        let Some(constraint) = kernel.constraint(id) else {
-            return Ok(());
-        };
         for place in 0..constraint.len() {
             let literal = constraint.term(place).literal().opposite();
             if literal != taken {
-                self.raise(relaxation, literal)?;
+                self.raise(graph, literal)?;
             }
         }
         self.looked_at = self.looked_at.saturating_add(constraint.len());
@@ -184,7 +172,11 @@ impl CliqueSearch {
     }
 
     /// Raises the number of a literal that was adjacent to all members before the last one.
-    fn raise(&mut self, relaxation: &Relaxation, literal: Lit) -> Result<(), AllocError> {
+    fn raise<'g, 'a, P: Propagator>(
+        &mut self,
+        graph: &ValuedGraph<'g, 'a, P>,
+        literal: Lit,
+    ) -> Result<(), AllocError> {
         let count = self.members.len();
         let Some(number) = self.adjacent.get_mut(literal.code()) else {
             return Ok(());
@@ -192,8 +184,7 @@ impl CliqueSearch {
         if number.saturating_add(1) == count {
             *number = count;
             if count == 1 {
-                let value = literal_value(relaxation, literal);
-                self.neighbours.push(Valued { literal, value })?;
+                self.neighbours.push(graph.valued(literal))?;
             }
         }
         Ok(())
@@ -207,38 +198,4 @@ impl CliqueSearch {
             }
         }
     }
-}
-
-/// The literals with which a clique may begin, the one of the greatest value first.
-fn starts(
-    alloc: Global,
-    graph: &ConflictGraph,
-    relaxation: &Relaxation,
-    variables: usize,
-) -> Result<Vec<Valued>, AllocError> {
-    let mut found = Vec::new(alloc);
-    for number in 0..variables {
-        if let Ok(number) = u32::try_from(number) {
-            add_start(&mut found, graph, relaxation, Var(number), false)?;
-            add_start(&mut found, graph, relaxation, Var(number), true)?;
-        }
-    }
-    found.sort_by_key(|valued| Fixed::ONE.units().saturating_sub(valued.value))?;
-    Ok(found)
-}
-
-/// Adds a literal, if a clique may begin with it.
-fn add_start(
-    found: &mut Vec<Valued>,
-    graph: &ConflictGraph,
-    relaxation: &Relaxation,
-    var: Var,
-    negated: bool,
-) -> Result<(), AllocError> {
-    let literal = Lit { var, negated };
-    let value = literal_value(relaxation, literal);
-    if value >= LEAST_START && !graph.sets_of(literal).is_empty() {
-        found.push(Valued { literal, value })?;
-    }
-    Ok(())
 }

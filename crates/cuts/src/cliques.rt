@@ -53,10 +53,7 @@ fn cite_weakened<'k, 'a, P: Propagator>(
     requires { LeavesStack (constraint_of kernel.now.state) line.old.items.items line.old.stack }
     ensures { OnOk result (LeavesStack (constraint_of kernel.now.state) line.new.items.items line.new.stack) }
 {
-    let Some(constraint) = kernel.constraint(id) else {
-        return Err(StepFault::DeadId);
-    };
-    line.cite(id, constraint)?;
+    let constraint = line.cite_live(kernel, id)?;
     for place in 0..constraint.len() {
         let literal = constraint.term(place).literal();
         weaken_other(alloc, line, literal, left, right)?;

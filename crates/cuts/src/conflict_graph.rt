@@ -49,19 +49,19 @@ fn is_at_most_one(constraint: &Normal) -> bool {
 
 /// The first number that two rising lists have in common.
 fn first_common(left: &[usize], right: &[usize]) -> Option<usize> {
-    let mut i: usize = 0;
-    let mut j: usize = 0;
+    let mut left_place: usize = 0;
+    let mut right_place: usize = 0;
     for _ in 0..left.len().saturating_add(right.len()) {
-        let (Some(a), Some(b)) = (left.get(i), right.get(j)) else {
+        let (Some(ours), Some(theirs)) = (left.get(left_place), right.get(right_place)) else {
             return None;
         };
-        if *a == *b {
-            return Some(*a);
+        if *ours == *theirs {
+            return Some(*ours);
         }
-        if *a < *b {
-            i = i.saturating_add(1);
+        if *ours < *theirs {
+            left_place = left_place.saturating_add(1);
         } else {
-            j = j.saturating_add(1);
+            right_place = right_place.saturating_add(1);
         }
     }
     None

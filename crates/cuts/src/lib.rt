@@ -8,8 +8,8 @@
 //! `sources` keeps which constraint is which row, and `summing` writes the line of some multipliers over `line`, which writes and runs it at once.
 //!
 //! `cuts` has the cuts of a round, which `gomory` makes of rows of the tableau, `single_rows` of one row alone, and `cliques` of pairs of
-//! literals that exclude each other (`conflict_graph`, `clique_search`); `violation` says what one is worth, and `cut_rows` keeps those that
-//! became rows.
+//! literals that exclude each other (`conflict_graph`, with their values `valued_graph`, which `clique_search` goes through); `violation` says
+//! what one is worth, and `cut_rows` keeps those that became rows.
 #![tactic(auto)]
 
 mod clique_search;
@@ -22,6 +22,7 @@ mod line;
 mod single_rows;
 mod sources;
 mod summing;
+mod valued_graph;
 mod violation;
 
 pub use cut_rows::CutRows;

@@ -1,18 +1,20 @@
 //! A `pol` line that is written and run at once.
 //!
 //! Each operation puts its item at the end of the line and does what the item says to a stack as a kernel has it. So whatever is on the stack
-//! is what the items write, and no order of operations has to be believed in.
+//! is what the items write, and no order of operations has to be believed in. What an id stands for is told by a kernel, so citing is an
+//! operation by itself; all others are an item that is appended.
 
 ghost use Rattle.std.specs.Prelude.{◌≡◌, [], pos, Some, IfOk, OnOk};
 ghost use Rattle.proof_rules.specs.Expression.{Given, IsPostfixOf};
-ghost use Rattle.proof_rules.specs.Running.{LeavesStack};
+ghost use Rattle.proof_rules.specs.Running.{AppliesItem, LeavesStack};
 
+use kernel::Kernel;
 use linear::{Lit, Seq, Var};
 use normal_form::Normal;
 use pol_stack::{Accumulator, Operand, Stack};
 use proof_rules::StepFault;
 use proof_steps::Item;
-use propagate::Id;
+use propagate::{Id, Propagator};
 use std::alloc::Global;
 
 /// The items so far, and the stack to which they lead.
@@ -22,6 +24,21 @@ pub(crate) struct Line<'k> {
     pub(crate) stack: Stack<'k>,
     /// How many constraints are on the stack.
     depth: usize,
+}
+
+/// Does to a stack what an item says that is no id; what an id stands for a stack does not know.
+fn run_item(alloc: Global, stack: &mut Stack<'_>, item: Item) -> Result<(), StepFault>
+    ensures { (given : Given) → OnOk result (AppliesItem given item stack.old stack.new) }
+{
+    match item {
+        Item::Id(_) => Err(StepFault::DeadId),
+        Item::Axiom(literal) => stack.push_axiom(alloc, literal),
+        Item::Add => stack.add_top_two(alloc),
+        Item::Multiply(factor) => stack.multiply_top(alloc, factor),
+        Item::Divide(divisor) => stack.divide_top(alloc, divisor),
+        Item::Saturate => stack.saturate_top(alloc),
+        Item::Weaken(variable) => stack.weaken_top(alloc, variable),
+    }
 }
 
 /// A number as a line has it.
@@ -36,6 +53,7 @@ impl<'k> Line<'k> {
     ghost use Rattle.std.specs.Prelude.{◌≡◌, [], pos, Some, IfOk, OnOk};
     ghost use Rattle.proof_rules.specs.Expression.{Given, IsPostfixOf};
     ghost use Rattle.proof_rules.specs.Running.{LeavesStack};
+    ghost use Rattle.proof_rules.specs.State.{constraint_of};
 
     /// No item yet.
     pub(crate) fn new(alloc: Global) -> Self
@@ -72,8 +90,24 @@ impl<'k> Line<'k> {
         self.items.is_empty()
     }
 
+    /// Puts the constraint on top that a kernel has under an id, and hands it out. `DeadId` comes where there is none.
+    pub(crate) fn cite_live<'a, P: Propagator>(
+        &mut self,
+        kernel: &'k Kernel<'a, P>,
+        id: Id,
+    ) -> Result<&'k Normal, StepFault>
+        requires { LeavesStack (constraint_of kernel.now.state) self.old.items.items self.old.stack }
+        ensures { OnOk result (LeavesStack (constraint_of kernel.now.state) self.new.items.items self.new.stack) }
+    {
+        let Some(constraint) = kernel.constraint(id) else {
+            return Err(StepFault::DeadId);
+        };
+        self.cite(id, constraint)?;
+        Ok(constraint)
+    }
+
     /// Puts the constraint of an id on top.
-    pub(crate) fn cite(&mut self, id: Id, constraint: &'k Normal) -> Result<(), StepFault>
+    fn cite(&mut self, id: Id, constraint: &'k Normal) -> Result<(), StepFault>
         ensures { (given : Given) → given (pos id) ≡ Some constraint.entry.now → LeavesStack given self.old.items.items self.old.stack
             → OnOk result (LeavesStack given self.new.items.items self.new.stack) }
     {
@@ -83,13 +117,22 @@ impl<'k> Line<'k> {
         Ok(())
     }
 
+    /// Puts an item at the end that is no id, and does what it says.
+    fn append(&mut self, alloc: Global, item: Item) -> Result<(), StepFault>
+        ensures { (given : Given) → LeavesStack given self.old.items.items self.old.stack
+            → OnOk result (LeavesStack given self.new.items.items self.new.stack) }
+    {
+        self.items.push(item)?;
+        run_item(alloc, &mut self.stack, item)?;
+        Ok(())
+    }
+
     /// Puts the axiom of a literal on top.
     pub(crate) fn axiom(&mut self, alloc: Global, literal: Lit) -> Result<(), StepFault>
         ensures { (given : Given) → LeavesStack given self.old.items.items self.old.stack
             → OnOk result (LeavesStack given self.new.items.items self.new.stack) }
     {
-        self.items.push(Item::Axiom(literal))?;
-        self.stack.push_axiom(alloc, literal)?;
+        self.append(alloc, Item::Axiom(literal))?;
         self.depth = self.depth.saturating_add(1);
         Ok(())
     }
@@ -99,9 +142,7 @@ impl<'k> Line<'k> {
         ensures { (given : Given) → LeavesStack given self.old.items.items self.old.stack
             → OnOk result (LeavesStack given self.new.items.items self.new.stack) }
     {
-        self.items.push(Item::Weaken(variable))?;
-        self.stack.weaken_top(alloc, variable)?;
-        Ok(())
+        self.append(alloc, Item::Weaken(variable))
     }
 
     /// Adds the two on top.
@@ -109,8 +150,7 @@ impl<'k> Line<'k> {
         ensures { (given : Given) → LeavesStack given self.old.items.items self.old.stack
             → OnOk result (LeavesStack given self.new.items.items self.new.stack) }
     {
-        self.items.push(Item::Add)?;
-        self.stack.add_top_two(alloc)?;
+        self.append(alloc, Item::Add)?;
         self.depth = self.depth.saturating_sub(1);
         Ok(())
     }
@@ -131,9 +171,7 @@ impl<'k> Line<'k> {
         ensures { (given : Given) → LeavesStack given self.old.items.items self.old.stack
             → OnOk result (LeavesStack given self.new.items.items self.new.stack) }
     {
-        self.items.push(Item::Saturate)?;
-        self.stack.saturate_top(alloc)?;
-        Ok(())
+        self.append(alloc, Item::Saturate)
     }
 
     /// Multiplies the one on top; nothing is written for the factor 1.
@@ -144,10 +182,7 @@ impl<'k> Line<'k> {
         if factor == 1 {
             return Ok(());
         }
-        let number = written(factor)?;
-        self.items.push(Item::Multiply(number))?;
-        self.stack.multiply_top(alloc, number)?;
-        Ok(())
+        self.append(alloc, Item::Multiply(written(factor)?))
     }
 
     /// Divides the one on top, rounding up; nothing is written for the divisor 1.
@@ -158,10 +193,7 @@ impl<'k> Line<'k> {
         if divisor == 1 {
             return Ok(());
         }
-        let number = written(divisor)?;
-        self.items.push(Item::Divide(number))?;
-        self.stack.divide_top(alloc, number)?;
-        Ok(())
+        self.append(alloc, Item::Divide(written(divisor)?))
     }
 
     /// Takes the one constraint that is left at the end, and the items that write it.

@@ -45,10 +45,7 @@ fn put<'k, 'a, P: Propagator>(
     let Some(cited) = sources.cited(source) else {
         return Err(StepFault::DeadId);
     };
-    let Some(constraint) = kernel.constraint(cited.id) else {
-        return Err(StepFault::DeadId);
-    };
-    line.cite(cited.id, constraint)?;
+    let constraint = line.cite_live(kernel, cited.id)?;
     if source != Source::Improving && exceeds_degree(constraint) {
         line.saturate(alloc)?;
     }
