@@ -1,4 +1,4 @@
-//! What a run does at a conflict under open decisions: it learns, goes back, and counts.
+//! What a run does at a conflict: unless it ends there, it learns, goes back, and counts.
 //!
 //! What the analysis derives is asked for first, since it bites sooner and says more; the clause of the decisions is always at hand. Either undoes
 //! decisions, so that what was learned says something new there. That a conflict taught something is noted behind that, since what is due then
@@ -6,21 +6,49 @@
 
 use super::clause::learn_clause;
 use super::cutting::learn_constraint;
+use super::endings::{end_exhausted, end_stopped, may_stop};
+use super::found::Found;
 use super::run::Run;
 use propagate::{Id, Propagator};
 use std::alloc::AllocError;
 
 impl<'a, P: Propagator> Run<'a, P> {
-    ghost use Rattle.std.specs.Prelude.{◌≡◌, ◌≢◌, ◌+◌, [], OnOk};
+    ghost use Rattle.std.specs.Prelude.{◌≡◌, ◌≢◌, ◌<◌, ◌+◌, [], IfOk, IfSome, IsNone, OnOk};
     ghost use Rattle.proof_rules.specs.State.{HasRoom, constraints};
     ghost use Rattle.search.specs.Conflicts.{LeadsAtLast};
     ghost use Rattle.proof_log.specs.Log.{GoesOn};
     ghost use Rattle.search.specs.Decisions.{AreDecisions};
-    ghost use Rattle.search.specs.Solving.{TakesId};
+    ghost use Rattle.search.specs.Solving.{BearsOut, TakesId};
     ghost use Rattle.search.specs.Undoing.{IsUndone};
 
+    /// Learns from a conflict under the decisions, unless the search is at its end there, or may stop.
+    pub(crate) fn meet_conflict(
+        &mut self,
+        conflict: Id,
+        limit: u64,
+    ) -> Result<Option<Found>, AllocError>
+        requires decisions { AreDecisions self.old.log self.old.decisions.items }
+        requires within { self.old.log.biting < limit }
+        requires conflict { LeadsAtLast (constraints self.old.log.state) self.old.decisions.items }
+        ensures goes_on { GoesOn self.old.log self.new.log }
+        ensures found { IfOk result (λ end. IfSome end (BearsOut limit self.new.log)) }
+        ensures within { OnOk result (self.new.log.biting < limit) }
+        ensures learned { IfOk result (λ end. IsNone end → TakesId self.old.log.state self.new.log.state) }
+        ensures decisions { OnOk result (AreDecisions self.new.log self.new.decisions.items) }
+    {
+        if self.decisions.is_empty() {
+            return Ok(Some(end_exhausted(&mut self.log)?));
+        }
+        if may_stop(&self.log, limit) {
+            return Ok(Some(end_stopped(&mut self.log, limit)?));
+        }
+        self.resolve(conflict)?;
+        self.count_analysed()?;
+        Ok(None)
+    }
+
     /// Learns from a conflict under the decisions, as long as an id is left.
-    pub(crate) fn resolve(&mut self, conflict: Id) -> Result<(), AllocError>
+    fn resolve(&mut self, conflict: Id) -> Result<(), AllocError>
         requires some { self.old.decisions.items ≢ [] }
         requires decisions { AreDecisions self.old.log self.old.decisions.items }
         requires conflict { LeadsAtLast (constraints self.old.log.state) self.old.decisions.items }
@@ -53,7 +81,7 @@ impl<'a, P: Propagator> Run<'a, P> {
     }
 
     /// Notes what an analysis came by, and counts its conflict.
-    pub(crate) fn count_analysed(&mut self) -> Result<(), AllocError>
+    fn count_analysed(&mut self) -> Result<(), AllocError>
         requires { AreDecisions self.old.log self.old.decisions.items }
         ensures goes_on { GoesOn self.old.log self.new.log }
         ensures next { OnOk result (self.new.log.state.next ≡ self.old.log.state.next) }

@@ -15,7 +15,7 @@
 
 use super::advisers::Advisers;
 use super::descent::{Descent, descend};
-use super::endings::{end_exhausted, end_stopped, may_stop};
+use super::endings::end_stopped;
 use super::found::Found;
 use super::learned::LearnedConstraints;
 use super::outdone::Outdone;
@@ -119,15 +119,8 @@ impl<'a, P: Propagator> Run<'a, P> {
         )?;
         match end {
             Descent::Conflict(conflict) => {
-                if self.decisions.is_empty() {
-                    return Ok(Some(end_exhausted(&mut self.log)?));
-                }
-                if may_stop(&self.log, limit) {
-                    return Ok(Some(end_stopped(&mut self.log, limit)?));
-                }
-                self.resolve(conflict)?;
-                self.count_analysed()?;
-                Ok(None)
+                let ended = self.meet_conflict(conflict, limit)?;
+                Ok(ended)
             }
             Descent::Undone => {
                 self.go_back();
@@ -141,13 +134,8 @@ impl<'a, P: Propagator> Run<'a, P> {
                 Ok(None)
             }
             Descent::Fixpoint(assigned) => {
-                // The decisions stay: with the constraint that asks for a better solution they lead to a conflict, which teaches more than
-                // to begin anew.
-                self.advisers.brancher.solution(assigned.as_slice());
-                let end = self.accept(assigned, limit)?;
-                self.begin_anew_if_near_bound();
-                self.tell_progress();
-                Ok(end)
+                let ended = self.meet_solution(assigned, limit)?;
+                Ok(ended)
             }
         }
     }
