@@ -3,7 +3,7 @@ pub mod Forgetting
 pub mod Improving
 pub mod Worth
 pub mod Growing
-pub mod Learning
+pub mod Taking
 pub mod Naming
 pub mod Refusals
 pub mod StaysLive

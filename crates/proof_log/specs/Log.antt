@@ -10,8 +10,9 @@ use Rattle.proof_rules.specs.Fault.{OrMemory, IsStepFault}
 use Rattle.proof_rules.specs.Forms.{problem_ids}
 use Rattle.proof_rules.specs.Justified.{IsJustified}
 use Rattle.proof_rules.specs.Legal.{Legal, Leads, worth_of}
-use Rattle.proof_rules.specs.State.{State, constraints, constraint_of, IsStart}
+use Rattle.proof_rules.specs.State.{State, constraints, constraint_of, HasRoom, IsStart}
 use Rattle.proof_steps.specs.declared.conclusion.Conclusion.{Conclusion}
+use Rattle.proof_steps.specs.declared.conclusion.Conclusion.TheVariants as conclusions
 use Rattle.proof_steps.specs.declared.step.Item.{Item}
 use Rattle.proof_steps.specs.declared.step.Step.{Step}
 use Rattle.proof_steps.specs.declared.step.Step.TheVariants as kinds
@@ -39,6 +40,10 @@ pub record Logbook : Type 0 where
 -- a `pol` step, whose items write an expression over the live constraints of this value
 abbrev pub IsValueOf : State → Step → NormalConstraint → Type 0
 IsValueOf s step n = (items : List Item) × (step ≡ kinds.Pol items) × IsPostfixOf (constraint_of s) items n
+
+-- the value of a step is at hand, and an id is left for it
+abbrev pub IsAtHand : State → Step → NormalConstraint → Type 0
+IsAtHand s step n = IsValueOf s step n × HasRoom s
 
 -- a `pol` or `rup` step, whose constraint bites on the live ones before it
 abbrev pub StepBites : State → Step → Type 0
@@ -165,6 +170,12 @@ CanBeWritten l step = IsStepWritable (length l.problem.names) step
 -- the text of a log has one line more, that of a step
 abbrev pub Keeps : Logbook → Step → Logbook → Type 0
 Keeps old step new = new.text ≡ old.text ++ step_line old.problem.names step
+
+-- A log has taken a step: it is legal, its line stands behind the others, and nothing is concluded from the new state yet.
+pub record HasTaken (old : Logbook) (step : Step) (new : Logbook) : Type 0 where
+  pub legal : Legal old.problem old.state step new.state
+  pub kept : Keeps old step new
+  pub conclusion : new.conclusion ≡ conclusions.Nothing
 
 -- A log goes on from another one: it is of the same problem, and its text begins with that one's.
 pub record GoesOn (old new : Logbook) : Type 0 where

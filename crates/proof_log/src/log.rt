@@ -19,13 +19,13 @@
 //! Any constraint may be deleted by a legal step. That those which a search needs are not, the file's and the one that asks for a better
 //! solution, is a fact of this type too: the call that deletes asks for it.
 
-ghost use Rattle.std.specs.Prelude.{◌≡◌, length, IfOk, IfErr, OnOk, OnErr, Some};
+ghost use Rattle.std.specs.Prelude.{◌≡◌, length, IfOk, IfErr, IfSome, OnOk, OnErr};
 ghost use Rattle.kernel.specs.Held.{HasAtLeast, given_id};
 ghost use Rattle.proof_rules.specs.Fault.{OrMemory, IsStepFault};
 ghost use Rattle.proof_rules.specs.Legal.{Legal};
-ghost use Rattle.proof_rules.specs.State.{HasRoom, State};
+ghost use Rattle.proof_rules.specs.State.{State};
 ghost use Rattle.proof_text.specs.Writable.{IsStepWritable};
-ghost use Rattle.proof_log.specs.Log.{AreAsBefore, IsValueOf, Records};
+ghost use Rattle.proof_log.specs.Log.{AreAsBefore, IsAtHand, Records};
 
 use super::fault::want_of_memory;
 use kernel::{Applied, Kernel};
@@ -73,15 +73,38 @@ impl<'a, P: Propagator> Model for Log<'a, P> {
         × LiveIsNamed l.source.now l.kernel.state };
 }
 
-/// Applies a step that can be written to a kernel and keeps its line behind the others, or does neither.
+/// Has the kernel apply a step, or take its value where that is at hand: then nothing is run a second time. Either way the answer is the one
+/// to the step.
+fn judge<'a, P: Propagator>(
+    kernel: &mut Kernel<'a, P>,
+    step: &Step,
+    value: Option<Normal>,
+) -> Result<Applied, StepFault>
+    requires relation { HasAtLeast step.now }
+    requires value { IfSome value (IsAtHand kernel.old.state step.now) }
+    ensures problem { kernel.new.problem ≡ kernel.old.problem }
+    ensures ok { OnOk result (Legal kernel.old.problem kernel.old.state step.now kernel.new.state) }
+    ensures id { IfOk result (λ applied. applied.id ≡ given_id step.now kernel.old.state) }
+    ensures fault { IfErr result (λ f. OrMemory f (IsStepFault kernel.old.problem kernel.old.state step.now f)) }
+    ensures err { OnErr result (kernel.new ≡ kernel.old) }
+{
+    match value {
+        None => kernel.apply(step),
+        Some(value) => kernel.add_derived(value),
+    }
+}
+
+/// Keeps the line of a step that can be written behind the others, and has the kernel judge the step, or does neither.
 fn keep<'a, P: Propagator>(
     text: &mut Vec<u8>,
     names: &Names,
     kernel: &mut Kernel<'a, P>,
     step: &Step,
+    value: Option<Normal>,
 ) -> Result<Applied, StepFault>
     requires relation { HasAtLeast step.now }
     requires writable { IsStepWritable (length names.now) step.now }
+    requires value { IfSome value (IsAtHand kernel.old.state step.now) }
     ensures ok { OnOk result (Records names.now step.now text.old.items kernel.old text.new.items kernel.new) }
     ensures id { IfOk result (λ applied. applied.id ≡ given_id step.now kernel.old.state) }
     ensures fault { IfErr result (λ f. OrMemory f (IsStepFault kernel.old.problem kernel.old.state step.now f)) }
@@ -90,7 +113,7 @@ fn keep<'a, P: Propagator>(
     // The line is written before the kernel is asked, so that no step is applied and not kept.
     let before = text.len();
     write_step(step, names, text)?;
-    match kernel.apply(step) {
+    match judge(kernel, step, value) {
         Ok(applied) => Ok(applied),
         Err(fault) => {
             text.truncate(before);
@@ -105,44 +128,19 @@ fn keep_legal<'a, P: Propagator>(
     names: &Names,
     kernel: &mut Kernel<'a, P>,
     step: &Step,
+    value: Option<Normal>,
 ) -> Result<Applied, AllocError>
     requires relation { HasAtLeast step.now }
     requires writable { IsStepWritable (length names.now) step.now }
+    requires value { IfSome value (IsAtHand kernel.old.state step.now) }
     requires legal { (t : State) × Legal kernel.old.problem kernel.old.state step.now t }
     ensures ok { OnOk result (Records names.now step.now text.old.items kernel.old text.new.items kernel.new) }
     ensures id { IfOk result (λ applied. applied.id ≡ given_id step.now kernel.old.state) }
     ensures err { OnErr result (AreAsBefore text.old.items kernel.old text.new.items kernel.new) }
 {
-    match keep(text, names, kernel, step) {
+    match keep(text, names, kernel, step, value) {
         Ok(applied) => Ok(applied),
         Err(fault) => Err(want_of_memory(fault)),
-    }
-}
-
-/// Keeps the line of a `pol` step and its value, which is at hand, or neither: nothing is run a second time. Running out of memory is the only
-/// fault.
-fn keep_derived<'a, P: Propagator>(
-    text: &mut Vec<u8>,
-    names: &Names,
-    kernel: &mut Kernel<'a, P>,
-    step: &Step,
-    value: Normal,
-) -> Result<Applied, AllocError>
-    requires writable { IsStepWritable (length names.now) step.now }
-    requires value { IsValueOf kernel.old.state step.now value }
-    requires room { HasRoom kernel.old.state }
-    ensures ok { OnOk result (Records names.now step.now text.old.items kernel.old text.new.items kernel.new) }
-    ensures id { IfOk result (λ applied. applied.id ≡ Some kernel.old.state.next) }
-    ensures err { OnErr result (AreAsBefore text.old.items kernel.old text.new.items kernel.new) }
-{
-    let length = text.len();
-    write_step(step, names, text)?;
-    match kernel.add_derived(value) {
-        Ok(applied) => Ok(applied),
-        Err(fault) => {
-            text.truncate(length);
-            Err(want_of_memory(fault))
-        }
     }
 }
 
@@ -160,13 +158,12 @@ impl<'a, P: Propagator> Log<'a, P> {
     ghost use Rattle.proof_rules.specs.Fault.{OrMemory, IsConclusionFault};
     ghost use Rattle.proof_rules.specs.Forms.{problem_ids};
     ghost use Rattle.proof_rules.specs.Justified.{IsBest};
-    ghost use Rattle.proof_rules.specs.Legal.{Legal};
     ghost use Rattle.proof_rules.specs.State.{HasRoom, IsStart, constraints};
     ghost use Rattle.proof_text.specs.Writable.{IsConclusionWritable};
     ghost use Rattle.proof_write.specs.Whole.{first_lines, last_lines};
     ghost use Rattle.proof_log.specs.Deleting.{AreNoted};
     ghost use Rattle.proof_log.specs.Kept.{IsSpare, KeepsLive, Spares};
-    ghost use Rattle.proof_log.specs.Log.{CanBeWritten, GoesOn, ImprovesIfAsked, ImprovesNothing, IsEntitled, IsFalling, IsLegal, IsProof, IsRefused, IsSpelledBy, IsValueOf, IsWorthLeast, Keeps, StandsAlone, StepBites, improvement, last_of, with_conclusion};
+    ghost use Rattle.proof_log.specs.Log.{CanBeWritten, GoesOn, HasTaken, ImprovesIfAsked, ImprovesNothing, IsAtHand, IsEntitled, IsFalling, IsLegal, IsProof, IsRefused, IsSpelledBy, IsValueOf, IsWorthLeast, StandsAlone, StepBites, improvement, last_of, with_conclusion};
     ghost use Rattle.proof_log.specs.Named.{LiveIsNamed};
 
     /// The log of a problem's file, with no step.
@@ -208,17 +205,21 @@ impl<'a, P: Propagator> Log<'a, P> {
         requires asked { ImprovesIfAsked self.old.problem step }
         requires spares { Spares self.old step }
         ensures goes_on { GoesOn self.old self.new }
-        ensures ok { OnOk result (Legal self.old.problem self.old.state step self.new.state) }
-        ensures kept { OnOk result (Keeps self.old step self.new) }
+        ensures taken { OnOk result (HasTaken self.old step self.new) }
         ensures improved { OnOk result (self.new.improved ≡ self.old.improved) }
         ensures biting { OnOk result (self.new.biting ≡ self.old.biting) }
         ensures asking { OnOk result (self.new.asking ≡ self.old.asking) }
-        ensures conclusion { OnOk result (self.new.conclusion ≡ Conclusion.Nothing) }
         ensures id { IfOk result (λ applied. applied.id ≡ given_id step self.old.state) }
         ensures fault { IfErr result (IsRefused self.old step) }
         ensures err { OnErr result (self.new ≡ self.old) }
     {
-        let applied = keep(&mut self.text, self.source.names(), &mut self.kernel, &step)?;
+        let applied = keep(
+            &mut self.text,
+            self.source.names(),
+            &mut self.kernel,
+            &step,
+            None,
+        )?;
         drop(mem::replace(&mut self.conclusion, Conclusion::Nothing));
         Ok(applied)
     }
@@ -233,12 +234,10 @@ impl<'a, P: Propagator> Log<'a, P> {
         requires spares { Spares self.old step }
         requires legal { IsLegal self.old step }
         ensures goes_on { GoesOn self.old self.new }
-        ensures ok { OnOk result (Legal self.old.problem self.old.state step self.new.state) }
-        ensures kept { OnOk result (Keeps self.old step self.new) }
+        ensures taken { OnOk result (HasTaken self.old step self.new) }
         ensures improved { OnOk result (self.new.improved ≡ self.old.improved) }
         ensures biting { OnOk result (self.new.biting ≡ self.old.biting) }
         ensures asking { OnOk result (self.new.asking ≡ self.old.asking) }
-        ensures conclusion { OnOk result (self.new.conclusion ≡ Conclusion.Nothing) }
         ensures id { IfOk result (λ applied. applied.id ≡ given_id step self.old.state) }
         ensures err { OnErr result (self.new ≡ self.old) }
     {
@@ -248,46 +247,22 @@ impl<'a, P: Propagator> Log<'a, P> {
         }
     }
 
-    /// Applies a legal step that can be written, whose constraint bites on the live ones, and counts it. Running out of memory is the only
-    /// fault, and leaves the log as before.
-    pub fn learn(&mut self, step: Step) -> Result<Applied, AllocError>
+    /// Keeps a legal step that can be written, whose constraint bites on the live ones, with its value where that is at hand, and counts it.
+    fn keep_lesson(&mut self, step: Step, value: Option<Normal>) -> Result<Applied, AllocError>
         requires writable { CanBeWritten self.old step }
         requires relation { HasAtLeast step }
+        requires value { IfSome value (IsAtHand self.old.state step) }
         requires legal { IsLegal self.old step }
         requires bites { StepBites self.old.state step }
         ensures goes_on { GoesOn self.old self.new }
-        ensures ok { OnOk result (Legal self.old.problem self.old.state step self.new.state) }
-        ensures kept { OnOk result (Keeps self.old step self.new) }
+        ensures taken { OnOk result (HasTaken self.old step self.new) }
         ensures improved { OnOk result (self.new.improved ≡ self.old.improved) }
         ensures biting { OnOk result (self.new.biting ≡ self.old.biting + 1) }
         ensures asking { OnOk result (self.new.asking ≡ self.old.asking) }
-        ensures conclusion { OnOk result (self.new.conclusion ≡ Conclusion.Nothing) }
         ensures id { IfOk result (λ applied. applied.id ≡ given_id step self.old.state) }
         ensures err { OnErr result (self.new ≡ self.old) }
     {
-        let applied = keep_legal(&mut self.text, self.source.names(), &mut self.kernel, &step)?;
-        self.biting += 1;
-        drop(mem::replace(&mut self.conclusion, Conclusion::Nothing));
-        Ok(applied)
-    }
-
-    /// The same for a `pol` step whose value is at hand, as long as an id is left. The kernel takes the value, and runs nothing.
-    pub fn learn_derived(&mut self, step: Step, value: Normal) -> Result<Applied, AllocError>
-        requires writable { CanBeWritten self.old step }
-        requires value { IsValueOf self.old.state step value }
-        requires bites { Bites (constraints self.old.state) value }
-        requires room { HasRoom self.old.state }
-        ensures goes_on { GoesOn self.old self.new }
-        ensures ok { OnOk result (Legal self.old.problem self.old.state step self.new.state) }
-        ensures kept { OnOk result (Keeps self.old step self.new) }
-        ensures improved { OnOk result (self.new.improved ≡ self.old.improved) }
-        ensures biting { OnOk result (self.new.biting ≡ self.old.biting + 1) }
-        ensures asking { OnOk result (self.new.asking ≡ self.old.asking) }
-        ensures conclusion { OnOk result (self.new.conclusion ≡ Conclusion.Nothing) }
-        ensures id { IfOk result (λ applied. applied.id ≡ Some self.old.state.next) }
-        ensures err { OnErr result (self.new ≡ self.old) }
-    {
-        let applied = keep_derived(
+        let applied = keep_legal(
             &mut self.text,
             self.source.names(),
             &mut self.kernel,
@@ -299,6 +274,41 @@ impl<'a, P: Propagator> Log<'a, P> {
         Ok(applied)
     }
 
+    /// Applies a legal step that can be written, whose constraint bites on the live ones, and counts it. Running out of memory is the only
+    /// fault, and leaves the log as before.
+    pub fn learn(&mut self, step: Step) -> Result<Applied, AllocError>
+        requires writable { CanBeWritten self.old step }
+        requires relation { HasAtLeast step }
+        requires legal { IsLegal self.old step }
+        requires bites { StepBites self.old.state step }
+        ensures goes_on { GoesOn self.old self.new }
+        ensures taken { OnOk result (HasTaken self.old step self.new) }
+        ensures improved { OnOk result (self.new.improved ≡ self.old.improved) }
+        ensures biting { OnOk result (self.new.biting ≡ self.old.biting + 1) }
+        ensures asking { OnOk result (self.new.asking ≡ self.old.asking) }
+        ensures id { IfOk result (λ applied. applied.id ≡ given_id step self.old.state) }
+        ensures err { OnErr result (self.new ≡ self.old) }
+    {
+        self.keep_lesson(step, None)
+    }
+
+    /// The same for a `pol` step whose value is at hand, as long as an id is left. The kernel takes the value, and runs nothing.
+    pub fn learn_derived(&mut self, step: Step, value: Normal) -> Result<Applied, AllocError>
+        requires writable { CanBeWritten self.old step }
+        requires value { IsValueOf self.old.state step value }
+        requires bites { Bites (constraints self.old.state) value }
+        requires room { HasRoom self.old.state }
+        ensures goes_on { GoesOn self.old self.new }
+        ensures taken { OnOk result (HasTaken self.old step self.new) }
+        ensures improved { OnOk result (self.new.improved ≡ self.old.improved) }
+        ensures biting { OnOk result (self.new.biting ≡ self.old.biting + 1) }
+        ensures asking { OnOk result (self.new.asking ≡ self.old.asking) }
+        ensures id { IfOk result (λ applied. applied.id ≡ Some self.old.state.next) }
+        ensures err { OnErr result (self.new ≡ self.old) }
+    {
+        self.keep_lesson(step, Some(value))
+    }
+
     /// Logs a solution that is better than all improving ones before, and keeps its value. From now on the constraint that it adds is the
     /// one that asks for a better solution. The step is legal and can be written; running out of memory is the only fault, and leaves the log
     /// as before.
@@ -306,12 +316,10 @@ impl<'a, P: Propagator> Log<'a, P> {
         requires writable { CanBeWritten self.old (Step.Soli assigned) }
         requires legal { IsLegal self.old (Step.Soli assigned) }
         ensures goes_on { GoesOn self.old self.new }
-        ensures ok { OnOk result (Legal self.old.problem self.old.state (Step.Soli assigned) self.new.state) }
-        ensures kept { OnOk result (Keeps self.old (Step.Soli assigned) self.new) }
+        ensures taken { OnOk result (HasTaken self.old (Step.Soli assigned) self.new) }
         ensures improved { OnOk result (self.new.improved ≡ self.old.improved ++ improvement (Step.Soli assigned) self.new.state) }
         ensures biting { OnOk result (self.new.biting ≡ self.old.biting) }
         ensures asking { OnOk result (self.new.asking ≡ Some self.old.state.next) }
-        ensures conclusion { OnOk result (self.new.conclusion ≡ Conclusion.Nothing) }
         ensures err { OnErr result (self.new ≡ self.old) }
     {
         // That the objective is over the problem's names is known by its type; this makes it known here.
@@ -324,6 +332,7 @@ impl<'a, P: Propagator> Log<'a, P> {
             self.source.names(),
             &mut self.kernel,
             &step,
+            None,
         ) {
             Ok(applied) => applied,
             Err(fault) => {

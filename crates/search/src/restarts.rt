@@ -2,7 +2,11 @@
 //!
 //! A search that began with a bad choice can stay under it for long. So from time to time all decisions are undone. How many
 //! conflicts come between two restarts follows the sequence 1, 1, 2, 1, 1, 2, 4, 1, 1, 2, 1, 1, 2, 4, 8, .., which is within a
-//! factor of the best one whatever the problem (Luby, Sinclair and Zuckerman, 1993).
+//! factor of the best one whatever the problem (Luby, Sinclair and Zuckerman, 1993). Beside that it begins anew where a solution is worth about
+//! as much as the bound of the relaxation.
+
+use super::run::Run;
+use propagate::Propagator;
 
 /// So many conflicts come before the first restart; later numbers are multiples of it.
 const CONFLICTS: u64 = 100;
@@ -55,5 +59,44 @@ impl Restarts {
         self.count = self.count.saturating_add(1);
         self.left = CONFLICTS.saturating_mul(self.multiple);
         true
+    }
+}
+
+impl<'a, P: Propagator> Run<'a, P> {
+    ghost use Rattle.std.specs.Prelude.{◌≡◌};
+    ghost use Rattle.search.specs.Decisions.{AreDecisions};
+
+    /// Whether the best solution is worth about as much as the bound: then there is likely none that is better, which the relaxation shows at
+    /// the root.
+    fn is_near_bound(&self) -> bool {
+        match (self.bound(), self.log.least_value()) {
+            (Some(bound), Some(value)) => value <= bound.saturating_add(1),
+            _ => false,
+        }
+    }
+
+    /// Undoes all decisions, where the best solution is worth about as much as the bound.
+    pub(crate) fn begin_anew_if_near_bound(&mut self)
+        requires { AreDecisions self.old.log self.old.decisions.items }
+        ensures log { self.new.log ≡ self.old.log }
+        ensures decisions { AreDecisions self.new.log self.new.decisions.items }
+    {
+        if self.is_near_bound() {
+            self.decisions.clear();
+            self.go_back();
+        }
+    }
+
+    /// Undoes all decisions, where that is due.
+    pub(crate) fn begin_anew_if_due(&mut self)
+        requires { AreDecisions self.old.log self.old.decisions.items }
+        ensures log { self.new.log ≡ self.old.log }
+        ensures decisions { AreDecisions self.new.log self.new.decisions.items }
+    {
+        if self.restarts.is_due() {
+            self.decisions.clear();
+            self.go_back();
+            self.advisers.brancher.restarted();
+        }
     }
 }

@@ -18,4 +18,4 @@ take-requires-clause-writable g c = subst (All IsWritable) (sym c.from_vec.ensur
 
 pub returns-clause-next : goal.returns-clause-next
 returns-clause-next g c =
-    next_stays c.args.self.now.problem c.args.self.now.state c.take.new.self.state c.from_vec.result c.in_ok-take.ensures.ok.1
+    next_stays c.args.self.now.problem c.args.self.now.state c.take.new.self.state c.from_vec.result c.in_ok-take.ensures.taken.legal.1

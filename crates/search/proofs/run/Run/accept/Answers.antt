@@ -16,7 +16,7 @@ take-requires-clause-legal g c =
 
 pub end_solved-requires-clause-logged : goal.end_solved-requires-clause-logged
 end_solved-requires-clause-logged g c =
-    let l : Logbook = c.args.self.now.log in sol_logs l.problem l.state c.take.new.self.state c.args.assigned c.in_ok-take.ensures.ok.1
+    let l : Logbook = c.args.self.now.log in sol_logs l.problem l.state c.take.new.self.state c.args.assigned c.in_ok-take.ensures.taken.legal.1
 
 pub improve-requires-clause-legal : goal.improve-requires-clause-legal
 improve-requires-clause-legal g c =
