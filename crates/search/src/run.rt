@@ -48,7 +48,7 @@ pub(crate) struct Run<'a, P: Propagator> {
 }
 
 impl<'a, P: Propagator> Run<'a, P> {
-    ghost use Rattle.std.specs.Prelude.{◌≡◌, ◌<◌, IfOk, IfSome, IsNone, OnOk, length};
+    ghost use Rattle.std.specs.Prelude.{◌≡◌, ◌<◌, [], IfOk, IfSome, IsNone, OnOk, length};
     ghost use Rattle.proof_log.specs.Log.{GoesOn};
     ghost use Rattle.search.specs.Decisions.{AreDecisions};
     ghost use Rattle.search.specs.Solving.{BearsOut};
