@@ -50,6 +50,8 @@ pub(crate) fn stand<'a, P: Propagator>(
     ensures count { length standing.new.1 ≡ length standing.old.1 }
     ensures reach { IfOk result (λ extent. IsReach (constraints log.old.state) decisions.now (reach_told standing.new.0 extent)) }
 {
+    // What came with more decisions goes by its level, since a literal that comes sooner now is to have its new reason.
+    standing.go_back(decisions.len(), brancher);
     standing.make_whole(alloc, brancher)?;
     let retrace = log.retrace(decisions, standing.assigned())?;
     standing.keep(retrace.kept, brancher);

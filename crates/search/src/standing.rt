@@ -251,7 +251,9 @@ impl Standing {
     }
 
     /// Takes off what came with more decisions than so many, as far as the trail tells. A brancher is told, from the last literal on.
-    pub(crate) fn go_back(&mut self, decisions: usize, brancher: &mut Box<dyn Brancher>) {
+    pub(crate) fn go_back(&mut self, decisions: usize, brancher: &mut Box<dyn Brancher>)
+        ensures { length self.new.1 ≡ length self.old.1 }
+    {
         if self.is_whole {
             let count = count_up_to(self.trail.entries(), level_of(decisions));
             self.keep(count, brancher);
@@ -271,7 +273,10 @@ impl Standing {
     pub(crate) fn bites(&self, constraint: &Normal) -> bool
         ensures { IsTrue result ↔ ((self.now.2 ≡ true) × Bites self.now.0 constraint.now) }
     {
-        self.is_whole && bites_under(constraint, &self.trail)
+        if !self.is_whole {
+            return false;
+        }
+        bites_under(constraint, &self.trail)
     }
 
     /// The value of each of the first variables.
