@@ -8,7 +8,6 @@ ghost use Rattle.linear.specs.declared.term.Lit.{Lit};
 ghost use Rattle.propagate.specs.Biting.{Bites};
 ghost use Rattle.propagate.specs.Reach.{IsReach, reach_told};
 ghost use Rattle.propagate.specs.declared.reach.Reach.{Reach};
-ghost use Rattle.propagate.specs.declared.retrace.Extent.{Extent};
 ghost use Rattle.proof_rules.specs.State.{constraints};
 
 use super::standing::Standing;
