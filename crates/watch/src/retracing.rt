@@ -2,7 +2,7 @@
 //!
 //! To see how much of the trail is known takes a look at each literal of it, but nothing is copied or named for those that stay.
 
-ghost use Rattle.std.specs.Prelude.{◌≡◌, ◌≤◌, IfOk, List, drop, length, map, take};
+ghost use Rattle.std.specs.Prelude.{◌≡◌, ◌≤◌, ◌++◌, IfOk, List, length, map, take};
 ghost use Rattle.linear.specs.declared.term.Lit.{Lit};
 ghost use Rattle.propagate.specs.declared.reach.Reach.{Reach};
 ghost use Rattle.propagate.specs.Reach.{IsRetrace, reach_told};
@@ -39,7 +39,7 @@ fn tell_from(
     ids: &[Id],
 ) -> Result<Vec<(Lit, Option<Id>)>, AllocError>
     requires { first ≤ length ledger.now.assigned }
-    ensures { IfOk result (λ v. map (λ p. p.0) v.items ≡ drop first ledger.now.assigned) }
+    ensures { IfOk result (λ v. take first ledger.now.assigned ++ map (λ p. p.0) v.items ≡ ledger.now.assigned) }
 {
     let literals = ledger.literals();
     let mut told = Vec::with_capacity(alloc, ledger.len() - first)?;
