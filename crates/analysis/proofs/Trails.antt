@@ -1,7 +1,8 @@
 -- One entry more on a trail, and one less.
-use Rattle.std.proofs.Common.{◌≡◌, ◌≤◌, ℕ, Bool, true, false, nat_lt, if◌then◌else◌, ◌||◌, List, [], ◌∷◌, ◌++◌, Option, None, Some, get_or, map, refl, sym, ap, subst, ◌∙◌, append-nil, append_assoc, arith}
+use Rattle.std.proofs.Common.{◌≡◌, ◌≤◌, ◌+◌, ◌-◌, ℕ, Bool, true, false, nat_lt, if◌then◌else◌, ◌||◌, List, [], ◌∷◌, ◌++◌, Option, None, Some, is_some, get_or, length, map, take, refl, sym, ap, subst, ◌∙◌, append-nil, append_assoc, arith}
 use Rattle.std.proofs.lemmas.Bool.{false≢true}
 use Rattle.std.proofs.lemmas.Bool.Decides.{nat_tests}
+use Rattle.std.proofs.lemmas.List.{take_all, take_more}
 use Rattle.std.proofs.lemmas.List.Recursion.{max_push}
 use Rattle.linear.specs.declared.term.Lit.{Lit}
 use Rattle.normal_form.specs.Normal.{only}
@@ -38,6 +39,14 @@ behind_all es x t = last_behind [] es x t
 -- the greatest level is that of the last entry
 pub level_of_last : (es : List Entry) (x : Entry) → IsTrail (es ++ x ∷ []) → greatest_level (es ++ x ∷ []) ≡ x.level
 level_of_last es x t = omega (arith, max_push greatest_level (λ e. e.level) refl (λ _ _. refl) es x, (behind_all es x t).1)
+
+pub level_at_end : (es : List Entry) (n : ℕ) (d : Entry) → IsTrail es → n ≡ length es → (n ≡ 0 → ⊥) → (get_or es (n - 1) d).level ≡ greatest_level es
+level_at_end es n d t is some =
+    let x : Entry = get_or es (n - 1) d in
+    let before : List Entry = take (n - 1) es in
+    let split : es ≡ before ++ x ∷ [] =
+    sym (take_all (n - 1 + 1) es (omega (arith, is, some))) ∙ take_more es (n - 1) d (omega (arith, is, some)) in
+    sym (ap greatest_level split ∙ level_of_last before x (subst IsTrail split t))
 
 listed_unless : (b : Bool) (l : Lit) (xs ys : List Lit) → b ≡ false → xs ≡ ys → (if b then xs else l ∷ xs) ≡ l ∷ ys
 listed_unless true l xs ys off is = absurd (false≢true (sym off))
@@ -78,3 +87,11 @@ may_stand es spots e are free high = (
 pub may_not_stand : (es : List Entry) (spots : List (Option Spot)) (e : Entry) (spot : Spot) → AreSpotsOf es spots → get_or spots (e.literal.var.0) None ≡ Some spot → StandsBehind es e → ⊥
 may_not_stand es spots e spot are taken h =
     false≢true (sym (fewer_listed spot.level es (e.literal.var.0) spot.negated (h.0 spot.negated)) ∙ listed_with es spots (e.literal.var.0) spot are taken)
+
+pub stands_already : (es : List Entry) (spots : List (Option Spot)) (e : Entry) (found : Option Spot) → AreSpotsOf es spots → get_or spots (e.literal.var.0) None ≡ found → is_some found ≡ true → StandsBehind es e → ⊥
+stands_already es spots e None are is some h = false≢true some
+stands_already es spots e (Some spot) are is some h = may_not_stand es spots e spot are is h
+
+pub no_spot : (found : Option Spot) → is_some found ≡ false → found ≡ None
+no_spot None h = refl
+no_spot (Some spot) h = absurd (false≢true (sym h))

@@ -1,5 +1,5 @@
 -- What stands on a trail: each variable once, and levels rise.
-use Rattle.std.specs.Prelude.{◌≡◌, ◌≤◌, ℕ, Bool, false, List, [], ◌∷◌, ◌++◌, map}
+use Rattle.std.specs.Prelude.{◌≡◌, ◌≤◌, Bool, false, List, [], ◌∷◌, ◌++◌, map}
 use Rattle.propagate.specs.Literals.{among}
 use Rattle.analysis.specs.declared.entry.Entry.{Entry}
 use Rattle.analysis.specs.Biting.{greatest_level}

@@ -3,7 +3,6 @@ use Rattle.std.proofs.Common.{◌≡◌, ℕ, ◌+◌, ◌<◌, Option, List, []
 use Rattle.std.proofs.lemmas.List.{map_push, take_more}
 use Rattle.linear.specs.declared.term.Lit.{Lit}
 use Rattle.normal_form.specs.Normal.{NormalConstraint}
-use Rattle.propagate.specs.declared.reach.Reach.{Reach}
 use Rattle.propagate.specs.declared.reach.Reach.TheVariants as reaches
 use Rattle.propagate.specs.declared.retrace.Extent.{Extent}
 use Rattle.propagate.specs.declared.retrace.Extent.TheVariants as extents

@@ -6,4 +6,4 @@ abbrev pub invariant-loop-spots : goal.invariant-loop-spots
 invariant-loop-spots l = (v : ℕ) → get_or l.spots.items v None ≡ get_or l.fn.spots.items v None
 
 abbrev pub decreases-loop-spots : goal.decreases-loop-spots
-decreases-loop-spots l = (l.variable.0 + 1) - length l.spots.items
+decreases-loop-spots l = (l.fn.variable.0 + 1) - length l.spots.items
