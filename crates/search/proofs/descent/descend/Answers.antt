@@ -1,5 +1,5 @@
 -- What is chosen is free in the table of what stands, so it is one more, and a conflict takes it.
-use Rattle.std.proofs.Common.{List, MatchOption, refl, sym, subst, ◌∙◌}
+use Rattle.std.proofs.Common.{List, IfOk, MatchOption, refl, sym, subst, ◌∙◌}
 use Rattle.linear.specs.declared.term.Lit.{Lit}
 use Rattle.propagate.specs.Chain.{LeadsToConflict}
 use Rattle.propagate.specs.Content.{IsEnd}
@@ -8,7 +8,7 @@ use Rattle.propagate.specs.declared.reach.Reach.TheVariants as reaches
 use Rattle.proof_rules.specs.State.{constraints}
 use Rattle.branching.specs.declared.brancher.Value.{Value}
 use Rattle.search.specs.Conflicts.{LeadsAtLast}
-use Rattle.search.specs.Descents.{IsSettled}
+use Rattle.search.specs.Descents.{IfConflict, IsSettled}
 use Rattle.proof_log.specs.Log.{Logbook}
 use Rattle.search.specs.Decisions.{AreDecisions}
 use Rattle.search.specs.Values.{NoneIsFree}
@@ -31,6 +31,11 @@ end_in_conflict-requires-clause-conflict g c =
     subst (λ (xs : List Lit). IsReach live xs (reach_told c.stand.new.standing.0 c.in_ok-extent.extent)) c.as_slice.ensures.value c.in_ok-extent.ensures.reach in
     subst (λ (x : Logbook). LeadsToConflict (constraints x.state) given) (sym c.stand.ensures.same)
     (led live given c.requires.decisions.consistent (subst (λ r. IsReach live given r) (c.is_closed.ensures.conflict c.if-not-is_closed.true c.stand.new.standing.0) reach))
+
+pub returns-then-not-is_closed-clause-conflict : goal.returns-then-not-is_closed-clause-conflict
+returns-then-not-is_closed-clause-conflict g c =
+    subst (λ (x : Logbook). IfOk c.end_in_conflict.result (λ end. IfConflict end (LeadsAtLast (constraints x.state) c.end_in_conflict.new.decisions.items))) c.stand.ensures.same
+    c.end_in_conflict.ensures.conflict
 
 -- what the decisions extend to is all that stands
 pub decisions-init : goal.decisions-init
