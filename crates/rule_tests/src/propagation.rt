@@ -186,13 +186,18 @@ fn retraced(rt: HostRuntime) {
     assert!(&rt; retraces::<WatchPropagator>(alloc).expect(&rt, "memory"));
 }
 
-/// A propagator that keeps a trail names its reasons, and tells of what is known no more than how much stays.
+/// Whether a propagator names its reasons, and tells no more than what is new: one that keeps a trail does.
+fn tells_what_is_new<P: Propagator>(alloc: Global) -> Result<bool, CutFault> {
+    let mut live: P = three_clauses(alloc)?;
+    let chain = [(x(1), Some(8)), (x(2), Some(3)), (x(3), Some(1))];
+    let whole = live.retrace(&[], &[])?;
+    let end = live.retrace(&[], &[x(1), x(2)])?;
+    let is_named = whole.kept == 0 && whole.rest.as_slice() == chain.as_slice();
+    Ok(is_named && end.kept == 2 && end.rest.as_slice() == &chain[2..])
+}
+
 #[test]
 fn retraced_with_reasons(rt: HostRuntime) {
-    let mut live: WatchPropagator = three_clauses(rt.alloc()).expect(&rt, "a propagator");
-    let chain = [(x(1), Some(8)), (x(2), Some(3)), (x(3), Some(1))];
-    let whole = live.retrace(&[], &[]).expect(&rt, "memory");
-    assert!(&rt; whole.kept == 0 && whole.rest.as_slice() == chain.as_slice());
-    let end = live.retrace(&[], &[x(1), x(2)]).expect(&rt, "memory");
-    assert!(&rt; end.kept == 2 && end.rest.as_slice() == &chain[2..]);
+    let told = tells_what_is_new::<WatchPropagator>(rt.alloc());
+    assert!(&rt; told.expect(&rt, "memory"));
 }
