@@ -1,5 +1,5 @@
 -- The table of spots has what is on the trail.
-use Rattle.std.proofs.Common.{◌≡◌, ℕ, ◌<◌, Bool, true, false, not, nat_lt, if◌then◌else◌, ◌||◌, ◌&&◌, List, [], ◌∷◌, ◌++◌, Option, Some, None, length, get_or, set, refl, sym, ap, ◌∙◌, inl, inr, arith}
+use Rattle.std.proofs.Common.{◌≡◌, ℕ, zero, suc, ◌<◌, Bool, true, false, not, nat_lt, if◌then◌else◌, ◌||◌, ◌&&◌, List, [], ◌∷◌, ◌++◌, Option, Some, None, length, get_or, set, refl, sym, ap, ◌∙◌, inl, inr, arith}
 use Rattle.std.proofs.lemmas.Bool.{cases_eq}
 use Rattle.std.proofs.lemmas.Bool.Decides.{nat_tests}
 use Rattle.std.proofs.lemmas.List.{get_or-set_same, get_or-set_other}
@@ -67,3 +67,58 @@ spots_more before spots e place h free are level v s =
           (one ∙ other_variable x v e.literal.negated s (not (nat_lt level e.level)) other)
           (are level v s ∙ sym (ap (λ (o : Option Spot). makes_true o s level) (get_or-set_other spots x v here None other)))
     ]
+
+or_nothing_back : (b d e : Bool) → d ≡ false → (b || d) ≡ e → b ≡ e
+or_nothing_back true d e h k = k
+or_nothing_back false d e h k = sym h ∙ k
+
+cleared : (spots : List (Option Spot)) (x : ℕ) → get_or (set spots x None) x None ≡ None
+cleared [] x = refl
+cleared (y ∷ ys) zero = refl
+cleared (y ∷ ys) (suc x) = cleared ys x
+
+-- one entry less, whose variable stands nowhere else
+pub spots_less : (before : List Entry) (spots : List (Option Spot)) (e : Entry) → ((level : ℕ) (s : Bool) → among (literals_up_to level before) (e.literal.var.0) s ≡ false) → AreSpotsOf (before ++ e ∷ []) spots
+    → AreSpotsOf before (set spots (e.literal.var.0) None)
+spots_less before spots e apart are level v s =
+    let x = e.literal.var.0 in
+    let none : Option Spot = None in
+    let both : (among (literals_up_to level before) v s || among (literals_up_to level (e ∷ [])) v s) ≡ makes_true (get_or spots v None) s level =
+    sym (ap (λ (ls : List Lit). among ls v s) (up_to_push level before e) ∙ among_append (literals_up_to level before) (literals_up_to level (e ∷ [])) v s) ∙ are level v s in
+    elim (cases_eq v x) as (λ _. among (literals_up_to level before) v s ≡ makes_true (get_or (set spots x none) v None) s level) [
+      | inl same ↦
+          ap (λ (y : ℕ). among (literals_up_to level before) y s) same ∙ apart level s
+          ∙ sym (ap (λ (o : Option Spot). makes_true o s level) (ap (λ (y : ℕ). get_or (set spots x none) y None) same ∙ cleared spots x))
+      | inr other ↦
+          or_nothing_back (among (literals_up_to level before) v s) (among (literals_up_to level (e ∷ [])) v s) (makes_true (get_or (set spots x none) v None) s level)
+          (one_listed (nat_lt level e.level) e.literal v s ∙ other_variable x v e.literal.negated s (not (nat_lt level e.level)) other)
+          (both ∙ sym (ap (λ (o : Option Spot). makes_true o s level) (get_or-set_other spots x v none None other)))
+    ]
+
+-- no spot means that the variable is not listed at any level
+pub unlisted_without : (es : List Entry) (spots : List (Option Spot)) (v : ℕ) → AreSpotsOf es spots → get_or spots v None ≡ None → (level : ℕ) (s : Bool) → among (literals_up_to level es) v s ≡ false
+unlisted_without es spots v are free level s = are level v s ∙ ap (λ (o : Option Spot). makes_true o s level) free
+
+-- a spot means that it is, at the level of the spot
+own_sign : (b : Bool) → same_sign b b ≡ true
+own_sign true = refl
+own_sign false = refl
+
+not_below_itself : (n : ℕ) → nat_lt n n ≡ false
+not_below_itself n = grind (arith, nat_tests)
+
+pub listed_with : (es : List Entry) (spots : List (Option Spot)) (v : ℕ) (spot : Spot) → AreSpotsOf es spots → get_or spots v None ≡ Some spot → among (literals_up_to spot.level es) v spot.negated ≡ true
+listed_with es spots v spot are taken =
+    are spot.level v spot.negated ∙ ap (λ (o : Option Spot). makes_true o spot.negated spot.level) taken
+    ∙ ap (λ b. same_sign spot.negated spot.negated && not b) (not_below_itself spot.level) ∙ ap (λ b. b && true) (own_sign spot.negated)
+
+-- the same spots in a table with more room
+pub same_spots : (es : List Entry) (spots wider : List (Option Spot)) → ((v : ℕ) → get_or wider v None ≡ get_or spots v None) → AreSpotsOf es spots → AreSpotsOf es wider
+same_spots es spots wider same are level v s = are level v s ∙ sym (ap (λ (o : Option Spot). makes_true o s level) (same v))
+
+-- room for one variable more
+pub roomier : (spots : List (Option Spot)) (v : ℕ) → get_or (spots ++ None ∷ []) v None ≡ get_or spots v None
+roomier [] zero = refl
+roomier [] (suc v) = refl
+roomier (x ∷ xs) zero = refl
+roomier (x ∷ xs) (suc v) = roomier xs v

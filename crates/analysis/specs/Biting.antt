@@ -1,5 +1,5 @@
 -- A trail of a search, and the constraints that would have said something sooner on it.
-use Rattle.std.specs.Prelude.{◌≡◌, ◌<◌, ℕ, max, ◌⊎◌, List, [], ◌∷◌, length, map, nat_lt, slice_index_or, if◌then◌else◌}
+use Rattle.std.specs.Prelude.{ℕ, max, ◌⊎◌, List, [], ◌∷◌, nat_lt, if◌then◌else◌}
 use Rattle.linear.specs.declared.term.Lit.{Lit}
 use Rattle.normal_form.specs.Normal.{NormalConstraint}
 use Rattle.propagate.specs.Slack.{IsFalsified, IsForced}
@@ -22,11 +22,3 @@ Bites assigned n = IsFalsified assigned n ⊎ ((l : Lit) × IsForced assigned l 
 -- under the literals up to the level the constraint has negative slack or forces a literal
 abbrev pub BitesAt : List Entry → ℕ → NormalConstraint → Type 0
 BitesAt trail level n = Bites (literals_up_to level trail) n
-
-abbrev pub variables_of : List Lit → List ℕ
-variables_of assigned = map (λ l. l.var.0) assigned
-
--- some variable stands at two places
-abbrev pub RepeatsVariable : List Lit → Type 0
-RepeatsVariable assigned =
-    (i j : ℕ) × (i < j) × (j < length assigned) × (slice_index_or (variables_of assigned) i 0 ≡ slice_index_or (variables_of assigned) j 0)

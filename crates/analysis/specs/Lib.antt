@@ -2,3 +2,4 @@ pub mod Biting
 pub mod Cases
 pub mod Lines
 pub mod Spots
+pub mod Trails

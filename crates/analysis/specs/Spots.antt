@@ -1,10 +1,10 @@
 -- Where each variable stands on a trail. The private functions that look literals up speak of this.
-use Rattle.std.specs.Prelude.{◌≡◌, ◌<◌, ℕ, Bool, false, not, ◌&&◌, List, Option, None, Some, IsSome, map, nat_lt, slice_index_or}
+use Rattle.std.specs.Prelude.{◌≡◌, ℕ, Bool, false, not, ◌&&◌, List, Option, None, Some, nat_lt, slice_index_or}
 use Rattle.normal_form.specs.Normal.{same_sign}
 use Rattle.propagate.specs.Literals.{among}
 use Rattle.analysis.specs.declared.entry.Entry.{Entry}
 use Rattle.analysis.specs.declared.spot.Spot.{Spot}
-use Rattle.analysis.specs.Biting.{literals_up_to, variables_of}
+use Rattle.analysis.specs.Biting.{literals_up_to}
 
 -- whether a variable that stands here makes the literal of this sign true at a level
 abbrev pub makes_true : Option Spot → Bool → ℕ → Bool
@@ -15,19 +15,3 @@ makes_true (Some spot) negated level = same_sign spot.negated negated && not (na
 abbrev pub AreSpotsOf : List Entry → List (Option Spot) → Type 0
 AreSpotsOf trail spots =
     (level v : ℕ) (negated : Bool) → among (literals_up_to level trail) v negated ≡ makes_true (slice_index_or spots v None) negated level
-
--- a spot that is taken is that of an entry that stands before the place
-abbrev pub AreSpotsBefore : List Entry → ℕ → List (Option Spot) → Type 0
-AreSpotsBefore trail place spots =
-    (v : ℕ) → IsSome (slice_index_or spots v None) → (k : ℕ) × (k < place) × (slice_index_or (variables_of (map (λ e. e.literal) trail)) k 0 ≡ v)
-
--- the first entries are of different variables
-abbrev pub AreApartBefore : List Entry → ℕ → Type 0
-AreApartBefore trail place =
-    let variables : List ℕ = variables_of (map (λ e. e.literal) trail) in
-    (i j : ℕ) → i < j → j < place → slice_index_or variables i 0 ≡ slice_index_or variables j 0 → ⊥
-
--- the spots of the first entries are taken
-abbrev pub AreTakenBefore : List Entry → ℕ → List (Option Spot) → Type 0
-AreTakenBefore trail place spots =
-    (k : ℕ) → k < place → IsSome (slice_index_or spots (slice_index_or (variables_of (map (λ e. e.literal) trail)) k 0) None)

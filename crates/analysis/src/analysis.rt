@@ -10,13 +10,12 @@ ghost use Rattle.proof_rules.specs.State.{constraint_of};
 ghost use Rattle.analysis.specs.Biting.{BitesAt, greatest_level};
 ghost use Rattle.analysis.specs.Lines.{BeginsWith};
 
-use super::entry::Entry;
 use super::learned::Learned;
 use super::met::Met;
 use super::resolvent::Resolvent;
 use super::seen::Seen;
-use super::standing::Standing;
 use super::stop::Stop;
+use super::trail::Trail;
 use super::walk::walk;
 use accumulate::Accumulator;
 use kernel::Kernel;
@@ -53,7 +52,7 @@ impl Analyser {
         &mut self,
         alloc: Global,
         kernel: &Kernel<'a, P>,
-        trail: &[Entry],
+        trail: &Trail,
         conflict: Id,
     ) -> Result<Option<Learned>, AllocError>
         ensures begins { IfOk result (λ found. IfSome found (λ l. BeginsWith conflict l.items)) }
@@ -62,10 +61,7 @@ impl Analyser {
         ensures lower { IfOk result (λ found. IfSome found (λ l. l.level < greatest_level trail.now)) }
     {
         self.met.clear();
-        let Some(standing) = Standing::of(alloc, trail)? else {
-            return Ok(None);
-        };
-        match walk(alloc, kernel, &standing, conflict, self) {
+        match walk(alloc, kernel, trail, conflict, self) {
             Ok(learned) => Ok(Some(learned)),
             Err(Stop::NothingLearned) => Ok(None),
             Err(Stop::OutOfMemory) => Err(AllocError),

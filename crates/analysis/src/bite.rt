@@ -6,10 +6,9 @@
 ghost use Rattle.std.specs.Prelude.{IfOk, IfSome};
 ghost use Rattle.analysis.specs.Biting.{BitesAt};
 
-use super::entry::Entry;
-use super::level::{least_level, level_count, open_decisions};
+use super::level::{least_level, level_count};
 use super::slack::slack;
-use super::standing::Standing;
+use super::trail::Trail;
 use normal_form::Normal;
 use std::alloc::{AllocError, Global};
 
@@ -22,24 +21,21 @@ pub struct Bite {
     pub levels: u32,
 }
 
-/// Where a constraint bites on a trail; none where it does not, or where a variable stands on the trail twice.
+/// Where a constraint bites on a trail, if it does.
 pub fn bite_on(
     alloc: Global,
     constraint: &Normal,
-    trail: &[Entry],
+    trail: &Trail,
 ) -> Result<Option<Bite>, AllocError>
     ensures { IfOk result (λ found. IfSome found (λ bite. BitesAt trail.now bite.level constraint.now)) }
 {
-    let Some(standing) = Standing::of(alloc, trail)? else {
-        return Ok(None);
-    };
-    let levels = open_decisions(trail).saturating_add(1);
-    let Some(level) = least_level(alloc, constraint, &standing, levels)? else {
+    let levels = trail.open_decisions().saturating_add(1);
+    let Some(level) = least_level(alloc, constraint, trail, levels)? else {
         return Ok(None);
     };
     Ok(Some(Bite {
         level,
-        is_falsified: slack(constraint, &standing, level).is_none(),
-        levels: level_count(alloc, constraint, &standing)?,
+        is_falsified: slack(constraint, trail, level).is_none(),
+        levels: level_count(alloc, constraint, trail)?,
     }))
 }

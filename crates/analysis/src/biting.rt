@@ -8,27 +8,27 @@ ghost use Rattle.propagate.specs.Walk.{CanForce};
 ghost use Rattle.analysis.specs.Biting.{BitesAt, literals_up_to};
 
 use super::slack::slack;
-use super::standing::Standing;
+use super::trail::Trail;
 use linear::Lit;
 use normal_form::Normal;
 
 /// Whether a literal with this coefficient is forced where the slack is this.
-fn is_forced(standing: &Standing<'_>, level: u32, literal: Lit, coef: u128, slack: u128) -> bool
-    ensures { IsTrue result ↔ CanForce (literals_up_to level standing.now) slack coef literal }
+fn is_forced(trail: &Trail, level: u32, literal: Lit, coef: u128, slack: u128) -> bool
+    ensures { IsTrue result ↔ CanForce (literals_up_to level trail.now) slack coef literal }
 {
     coef > slack
-        && !standing.is_true_at(literal, level)
-        && !standing.is_true_at(literal.opposite(), level)
+        && !trail.is_true_at(literal, level)
+        && !trail.is_true_at(literal.opposite(), level)
 }
 
 /// Whether a constraint forces a literal where its slack is this.
-fn forces(constraint: &Normal, standing: &Standing<'_>, level: u32, slack: u128) -> bool
-    requires { sum_over (not_false (literals_up_to level standing.now)) constraint.now.terms ≡ constraint.now.degree + slack }
-    ensures { IsTrue result ↔ (l : Lit) × IsForced (literals_up_to level standing.now) l constraint.now }
+fn forces(constraint: &Normal, trail: &Trail, level: u32, slack: u128) -> bool
+    requires { sum_over (not_false (literals_up_to level trail.now)) constraint.now.terms ≡ constraint.now.degree + slack }
+    ensures { IsTrue result ↔ (l : Lit) × IsForced (literals_up_to level trail.now) l constraint.now }
 {
     for place in 0..constraint.len() {
         let term = constraint.term(place);
-        if is_forced(standing, level, term.literal(), term.coef, slack) {
+        if is_forced(trail, level, term.literal(), term.coef, slack) {
             return true;
         }
     }
@@ -36,11 +36,11 @@ fn forces(constraint: &Normal, standing: &Standing<'_>, level: u32, slack: u128)
 }
 
 /// Whether a constraint has negative slack or forces a literal under the literals up to a level.
-pub(crate) fn bites(constraint: &Normal, standing: &Standing<'_>, level: u32) -> bool
-    ensures { IsTrue result ↔ BitesAt standing.now level constraint.now }
+pub(crate) fn bites(constraint: &Normal, trail: &Trail, level: u32) -> bool
+    ensures { IsTrue result ↔ BitesAt trail.now level constraint.now }
 {
-    match slack(constraint, standing, level) {
-        Some(slack) => forces(constraint, standing, level, slack),
+    match slack(constraint, trail, level) {
+        Some(slack) => forces(constraint, trail, level, slack),
         None => true,
     }
 }

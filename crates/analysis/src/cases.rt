@@ -1,11 +1,12 @@
 //! The definitions computed on a small trail, each the contract of a function that does nothing.
 
-ghost use Rattle.std.specs.Prelude.{◌≡◌, [], ◌∷◌, pos};
+ghost use Rattle.std.specs.Prelude.{◌≡◌, [], ◌∷◌, None, pos};
 ghost use Rattle.propagate.specs.Cases.{one_of_two, x, not_x};
 ghost use Rattle.proof_steps.specs.declared.step.Item.TheVariants.{Add, Id, Saturate};
-ghost use Rattle.analysis.specs.Biting.{BitesAt, RepeatsVariable, greatest_level, literals_up_to};
-ghost use Rattle.analysis.specs.Cases.{falsified_since_one, forces_since_one, forces_since_two, two_decisions};
+ghost use Rattle.analysis.specs.Biting.{BitesAt, greatest_level, literals_up_to};
+ghost use Rattle.analysis.specs.Cases.{entry, falsified_since_one, forces_since_one, forces_since_two, two_decisions};
 ghost use Rattle.analysis.specs.Lines.{BeginsWith, GoesOnFrom};
+ghost use Rattle.analysis.specs.Trails.{IsTrail, StandsBehind};
 
 /// x1 was decided, ~x2 forced, and x3 decided next: two decisions are open, and the first two literals stand since the first.
 pub fn two_decisions_open()
@@ -28,11 +29,13 @@ pub fn bites_since()
     ensures satisfied { BitesAt two_decisions 2 one_of_two → ⊥ }
 {}
 
-/// A variable stands twice where both its literals do, and not beside another.
-pub fn variable_twice()
-    ensures both { RepeatsVariable (x 1 ∷ x 2 ∷ not_x 1 ∷ []) }
-    ensures apart { RepeatsVariable (x 1 ∷ x 2 ∷ []) → ⊥ }
-    ensures alone { RepeatsVariable (x 1 ∷ []) → ⊥ }
+/// On a trail a variable stands once, and levels rise: behind two decisions there is room for x4 at level 2, and not for ~x1, nor for x4 at
+/// level 1.
+pub fn stands_behind()
+    ensures trail { IsTrail two_decisions }
+    ensures other { StandsBehind two_decisions (entry (x 4) None 2) }
+    ensures same { StandsBehind two_decisions (entry (not_x 1) None 2) → ⊥ }
+    ensures lower { StandsBehind two_decisions (entry (x 4) None 1) → ⊥ }
 {}
 
 /// The line `3 4 + s` begins with the constraint of id 3, and goes on from `3 4 +`; it neither begins with that of 4 nor goes on

@@ -4,35 +4,16 @@
 //! false counts again, and what was set can be forced again. One pass over the constraint's literals in the order of their levels
 //! comes by every level there is. It only finds the level; that the constraint bites there is then computed from the definition.
 
-ghost use Rattle.std.specs.Prelude.{◌≡◌, ◌<◌, ◌≤◌, max, IfOk, IfSome, length};
-ghost use Rattle.analysis.specs.Biting.{BitesAt, greatest_level};
+ghost use Rattle.std.specs.Prelude.{◌<◌, ◌≤◌, IfOk, IfSome, length};
+ghost use Rattle.analysis.specs.Biting.{BitesAt};
 
 use super::biting::bites;
-use super::entry::Entry;
 use super::seen::Seen;
-use super::standing::Standing;
+use super::trail::Trail;
 use accumulate::Accumulator;
 use linear::{Integer, Var};
 use normal_form::{Normal, NormalTerm};
 use std::alloc::{AllocError, Global};
-
-/// The greater of two levels.
-fn greater(one: u32, other: u32) -> u32
-    ensures { result ≡ max one other }
-{
-    one.max(other)
-}
-
-/// So many decisions are open: the greatest level on a trail.
-pub(crate) fn open_decisions(trail: &[Entry]) -> u32
-    ensures { result ≡ greatest_level trail.now }
-{
-    let mut greatest = 0;
-    for entry in trail {
-        greatest = greater(greatest, entry.level);
-    }
-    greatest
-}
 
 /// What a literal of a constraint has to do with the trail: the level since which it is set, `u32::MAX` where it is unset, and
 /// whether it is false since then.
@@ -43,8 +24,8 @@ struct Turn {
     is_false: bool,
 }
 
-fn turn_of(term: NormalTerm, standing: &Standing<'_>) -> Turn {
-    match standing.spot(term.var) {
+fn turn_of(term: NormalTerm, trail: &Trail) -> Turn {
+    match trail.spot(term.var) {
         Some(spot) => Turn {
             level: spot.level,
             coef: term.coef,
@@ -59,14 +40,10 @@ fn turn_of(term: NormalTerm, standing: &Standing<'_>) -> Turn {
 }
 
 /// The turns of a constraint's literals, the one of the greatest level last.
-fn turns(
-    alloc: Global,
-    constraint: &Normal,
-    standing: &Standing<'_>,
-) -> Result<Vec<Turn>, AllocError> {
+fn turns(alloc: Global, constraint: &Normal, trail: &Trail) -> Result<Vec<Turn>, AllocError> {
     let mut turns = Vec::with_capacity(alloc, constraint.len())?;
     for place in 0..constraint.len() {
-        turns.push(turn_of(constraint.term(place), standing))?;
+        turns.push(turn_of(constraint.term(place), trail))?;
     }
     turns.sort_by_key(|turn: &Turn| turn.level)?;
     Ok(turns)
@@ -103,9 +80,9 @@ impl Sweep {
     }
 
     /// With the literal of a variable's net coefficient, under the literals up to a level.
-    fn with(self, var: Var, net: Integer, standing: &Standing<'_>, level: u32) -> Sweep {
+    fn with(self, var: Var, net: Integer, trail: &Trail, level: u32) -> Sweep {
         let coef = net.unsigned_abs();
-        match standing.spot(var) {
+        match trail.spot(var) {
             Some(spot) if spot.level <= level => Sweep {
                 sum: if spot.negated == (net < 0) {
                     self.sum.saturating_add(coef)
@@ -161,17 +138,17 @@ fn least_biting(turns: &[Turn], degree: u128) -> Option<u32> {
 pub(crate) fn least_level(
     alloc: Global,
     constraint: &Normal,
-    standing: &Standing<'_>,
+    trail: &Trail,
     decisions: u32,
 ) -> Result<Option<u32>, AllocError>
-    ensures biting { IfOk result (λ found. IfSome found (λ level. BitesAt standing.now level constraint.now)) }
+    ensures biting { IfOk result (λ found. IfSome found (λ level. BitesAt trail.now level constraint.now)) }
     ensures lower { IfOk result (λ found. IfSome found (λ level. level < decisions)) }
 {
-    let turns = turns(alloc, constraint, standing)?;
+    let turns = turns(alloc, constraint, trail)?;
     let Some(level) = least_biting(&turns, constraint.degree()) else {
         return Ok(None);
     };
-    if level < decisions && bites(constraint, standing, level) {
+    if level < decisions && bites(constraint, trail, level) {
         return Ok(Some(level));
     }
     Ok(None)
@@ -181,7 +158,7 @@ pub(crate) fn least_level(
 /// order.
 pub(crate) fn bites_before_last(
     sum: &Accumulator,
-    standing: &Standing<'_>,
+    trail: &Trail,
     decisions: u32,
     seen: &mut Seen,
 ) -> Result<bool, AllocError> {
@@ -193,7 +170,7 @@ pub(crate) fn bites_before_last(
     for number in sum.marks() {
         let variable = Var(*number);
         if seen.is_first(variable)? {
-            sweep = sweep.with(variable, sum.net(variable), standing, level);
+            sweep = sweep.with(variable, sum.net(variable), trail, level);
         }
     }
     Ok(sweep.bites(sum.degree()))
@@ -203,9 +180,9 @@ pub(crate) fn bites_before_last(
 pub(crate) fn level_count(
     alloc: Global,
     constraint: &Normal,
-    standing: &Standing<'_>,
+    trail: &Trail,
 ) -> Result<u32, AllocError> {
-    let turns = turns(alloc, constraint, standing)?;
+    let turns = turns(alloc, constraint, trail)?;
     let mut count: u32 = 0;
     let mut last = u32::MAX;
     for turn in &turns {

@@ -25,8 +25,8 @@ mod seen;
 mod shrinking;
 mod slack;
 mod spot;
-mod standing;
 mod stop;
+mod trail;
 mod under;
 mod walk;
 
@@ -35,4 +35,5 @@ pub use bite::{Bite, bite_on};
 pub use entry::Entry;
 pub use learned::Learned;
 pub use met::Met;
+pub use trail::Trail;
 pub use under::bites_under;

@@ -31,7 +31,7 @@ impl Met {
     }
 
     /// Nothing any more.
-    pub(crate) fn clear(&mut self) {
+    pub fn clear(&mut self) {
         self.variables.clear();
         self.ids.clear();
         self.literals = usize::MAX;

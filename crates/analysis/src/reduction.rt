@@ -10,8 +10,8 @@ ghost use Rattle.normal_form.specs.Normal.{coefficient, only, sum_over};
 ghost use Rattle.proof_rules.specs.Expression.{Given, IsPostfixOf};
 
 use super::derivation::Derivation;
-use super::standing::Standing;
 use super::stop::Stop;
+use super::trail::Trail;
 use accumulate::Accumulator;
 use linear::{Lit, Var};
 use normal_form::{Normal, NormalTerm};
@@ -52,7 +52,7 @@ fn uneven(
     reason: &Normal,
     literal: Lit,
     divisor: u128,
-    standing: &Standing<'_>,
+    trail: &Trail,
     place: usize,
 ) -> Result<Vec<Var>, AllocError>
     requires { 0 < divisor }
@@ -63,7 +63,7 @@ fn uneven(
         let term = reason.term(index);
         if term.var != literal.var
             && term.coef % divisor != 0
-            && !standing.is_false_before(term.literal(), place)
+            && !trail.is_false_before(term.literal(), place)
         {
             uneven.push(term.var)?;
         }
@@ -76,7 +76,7 @@ pub(crate) fn reduced(
     alloc: Global,
     reason: Derivation,
     literal: Lit,
-    standing: &Standing<'_>,
+    trail: &Trail,
     place: usize,
     sum: &mut Accumulator,
 ) -> Result<Derivation, Stop>
@@ -91,7 +91,7 @@ pub(crate) fn reduced(
     if divisor == 1 {
         return Ok(reason);
     }
-    let variables = uneven(alloc, &reason.constraint, literal, divisor, standing, place)?;
+    let variables = uneven(alloc, &reason.constraint, literal, divisor, trail, place)?;
     let even = reason.without(alloc, sum, &variables)?;
     Ok(even.divided(divisor)?)
 }

@@ -10,8 +10,8 @@ ghost use Rattle.std.specs.Prelude.{◌<◌};
 
 use super::derivation::{Derivation, written};
 use super::resolvent::Resolvent;
-use super::standing::Standing;
 use super::stop::Stop;
+use super::trail::Trail;
 use accumulate::Accumulator;
 use cut_rules::divide_in_place;
 use linear::{Integer, Lit, Var};
@@ -52,13 +52,13 @@ fn divisor_of(sum: &Accumulator) -> u128
 fn open_variables(
     alloc: Global,
     sum: &Accumulator,
-    standing: &Standing<'_>,
+    trail: &Trail,
     place: usize,
 ) -> Result<Vec<Var>, AllocError> {
     let mut variables = Vec::new(alloc);
     for number in sum.marks() {
         let variable = Var(*number);
-        if !standing.is_false_before(literal_of(variable, sum.net(variable)), place) {
+        if !trail.is_false_before(literal_of(variable, sum.net(variable)), place) {
             variables.push(variable)?;
         }
     }
@@ -114,12 +114,7 @@ impl Resolvent {
     }
 
     /// Makes the numbers of a sum smaller where they are large. Where its slack was negative under the literals before a place it stays so.
-    pub(crate) fn shrink(
-        &mut self,
-        alloc: Global,
-        standing: &Standing<'_>,
-        place: usize,
-    ) -> Result<(), Stop>
+    pub(crate) fn shrink(&mut self, alloc: Global, trail: &Trail, place: usize) -> Result<(), Stop>
         ensures more { OnOk result (GoesOnFrom self.old.items.items self.new.items.items) }
         ensures derived { (given : Given) → IsPostfixOf given self.old.items.items self.old.sum → OnOk result (IsPostfixOf given self.new.items.items self.new.sum) }
     {
@@ -127,7 +122,7 @@ impl Resolvent {
             return Ok(());
         }
         let divisor = divisor_of(&self.sum);
-        let open = open_variables(alloc, &self.sum, standing, place)?;
+        let open = open_variables(alloc, &self.sum, trail, place)?;
         self.give_up_all(alloc, open.as_slice(), divisor)?;
         self.divide(alloc, divisor)
     }

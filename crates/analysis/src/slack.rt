@@ -8,17 +8,17 @@ ghost use Rattle.normal_form.specs.Normal.{sum_over};
 ghost use Rattle.propagate.specs.Slack.{IsFalsified, not_false};
 ghost use Rattle.analysis.specs.Biting.{literals_up_to};
 
-use super::standing::Standing;
+use super::trail::Trail;
 use normal_form::Normal;
 
 /// What the term at a place adds to the sum of the literals that are not made false.
-fn counted(constraint: &Normal, standing: &Standing<'_>, level: u32, place: usize) -> u128
+fn counted(constraint: &Normal, trail: &Trail, level: u32, place: usize) -> u128
     requires { place < length constraint.now.terms }
-    ensures { sum_over (not_false (literals_up_to level standing.now)) (take (place + 1) constraint.now.terms)
-        ≡ sum_over (not_false (literals_up_to level standing.now)) (take place constraint.now.terms) + result }
+    ensures { sum_over (not_false (literals_up_to level trail.now)) (take (place + 1) constraint.now.terms)
+        ≡ sum_over (not_false (literals_up_to level trail.now)) (take place constraint.now.terms) + result }
 {
     let term = constraint.term(place);
-    if standing.is_true_at(term.literal().opposite(), level) {
+    if trail.is_true_at(term.literal().opposite(), level) {
         0
     } else {
         term.coef
@@ -26,20 +26,20 @@ fn counted(constraint: &Normal, standing: &Standing<'_>, level: u32, place: usiz
 }
 
 /// The sum of the coefficients of the literals that are not made false.
-fn open_sum(constraint: &Normal, standing: &Standing<'_>, level: u32) -> u128
-    ensures { result ≡ sum_over (not_false (literals_up_to level standing.now)) constraint.now.terms }
+fn open_sum(constraint: &Normal, trail: &Trail, level: u32) -> u128
+    ensures { result ≡ sum_over (not_false (literals_up_to level trail.now)) constraint.now.terms }
 {
     let mut sum: u128 = 0;
     for place in 0..constraint.len() {
-        sum += counted(constraint, standing, level, place);
+        sum += counted(constraint, trail, level, place);
     }
     sum
 }
 
 /// The slack of a constraint under the literals up to a level, or `None` where it is negative.
-pub(crate) fn slack(constraint: &Normal, standing: &Standing<'_>, level: u32) -> Option<u128>
-    ensures { MatchOption result (IsFalsified (literals_up_to level standing.now) constraint.now)
-        (λ slack. sum_over (not_false (literals_up_to level standing.now)) constraint.now.terms ≡ constraint.now.degree + slack) }
+pub(crate) fn slack(constraint: &Normal, trail: &Trail, level: u32) -> Option<u128>
+    ensures { MatchOption result (IsFalsified (literals_up_to level trail.now) constraint.now)
+        (λ slack. sum_over (not_false (literals_up_to level trail.now)) constraint.now.terms ≡ constraint.now.degree + slack) }
 {
-    open_sum(constraint, standing, level).checked_sub(constraint.degree())
+    open_sum(constraint, trail, level).checked_sub(constraint.degree())
 }

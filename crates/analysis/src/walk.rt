@@ -14,10 +14,10 @@ ghost use Rattle.analysis.specs.Lines.{BeginsWith, GoesOnFrom};
 use super::analysis::Analyser;
 use super::derivation::Derivation;
 use super::learned::Learned;
-use super::level::{bites_before_last, least_level, level_count, open_decisions};
+use super::level::{bites_before_last, least_level, level_count};
 use super::reduction::{coefficient_of, reduced};
-use super::standing::Standing;
 use super::stop::Stop;
+use super::trail::Trail;
 use accumulate::Accumulator;
 use kernel::Kernel;
 use linear::{Lit, Seq};
@@ -44,14 +44,14 @@ fn coefficient_in(sum: &Accumulator, literal: Lit) -> u128 {
 }
 
 /// The literal of a sum that became false last before a place.
-fn latest_false(sum: &Accumulator, standing: &Standing<'_>, before: usize) -> Option<Falsified>
-    requires { before ≤ length standing.now }
+fn latest_false(sum: &Accumulator, trail: &Trail, before: usize) -> Option<Falsified>
+    requires { before ≤ length trail.now }
     ensures { IfSome result (λ at. at.place < before) }
 {
     let mut place = before;
     while place > 0 {
         place -= 1;
-        let coef = coefficient_in(sum, standing.entries()[place].literal.opposite());
+        let coef = coefficient_in(sum, trail.entries()[place].literal.opposite());
         if coef > 0 {
             return Some(Falsified { place, coef });
         }
@@ -81,29 +81,22 @@ fn add_reason(
     alloc: Global,
     id: Id,
     reason: &Normal,
-    standing: &Standing<'_>,
+    trail: &Trail,
     at: Falsified,
     analyser: &mut Analyser,
 ) -> Result<(), Stop>
-    requires place { at.place < length standing.now }
+    requires place { at.place < length trail.now }
     ensures more { OnOk result (GoesOnFrom analyser.old.resolvent.items.items analyser.new.resolvent.items.items) }
     ensures derived { (given : Given) → IsPostfixOf given analyser.old.resolvent.items.items analyser.old.resolvent.sum → given (pos id) ≡ Some reason.now
         → OnOk result (IsPostfixOf given analyser.new.resolvent.items.items analyser.new.resolvent.sum) }
 {
-    let literal = standing.entries()[at.place].literal;
+    let literal = trail.entries()[at.place].literal;
     if at.coef == 1 && coefficient_of(reason, literal) == 1 {
         analyser.met.note(id, reason)?;
         return Ok(analyser.resolvent.add_cited(id, reason)?);
     }
     let cited = Derivation::cited(alloc, id, reason)?;
-    let even = reduced(
-        alloc,
-        cited,
-        literal,
-        standing,
-        at.place,
-        &mut analyser.aside,
-    )?;
+    let even = reduced(alloc, cited, literal, trail, at.place, &mut analyser.aside)?;
     analyser.met.note(id, &even.constraint)?;
     let cancelling = even.multiplied(alloc, at.coef)?;
     Ok(analyser.resolvent.add(cancelling)?)
@@ -113,31 +106,31 @@ fn add_reason(
 fn resolve<'a, P: Propagator>(
     alloc: Global,
     kernel: &Kernel<'a, P>,
-    standing: &Standing<'_>,
+    trail: &Trail,
     at: Falsified,
     analyser: &mut Analyser,
 ) -> Result<(), Stop>
-    requires place { at.place < length standing.now }
+    requires place { at.place < length trail.now }
     requires derived { IsPostfixOf (constraint_of kernel.now.state) analyser.old.resolvent.items.items analyser.old.resolvent.sum }
     ensures more { OnOk result (GoesOnFrom analyser.old.resolvent.items.items analyser.new.resolvent.items.items) }
     ensures derived { OnOk result (IsPostfixOf (constraint_of kernel.now.state) analyser.new.resolvent.items.items analyser.new.resolvent.sum) }
 {
-    let Some(id) = standing.entries()[at.place].reason else {
+    let Some(id) = trail.entries()[at.place].reason else {
         return Err(Stop::NothingLearned);
     };
     let Some(reason) = kernel.constraint(id) else {
         return Err(Stop::NothingLearned);
     };
-    add_reason(alloc, id, reason, standing, at, analyser)?;
+    add_reason(alloc, id, reason, trail, at, analyser)?;
     analyser.resolvent.saturate()?;
-    analyser.resolvent.shrink(alloc, standing, at.place)?;
+    analyser.resolvent.shrink(alloc, trail, at.place)?;
     Ok(())
 }
 
 /// What the walk has, where it bites under fewer decisions than are open.
 fn learn(
     alloc: Global,
-    standing: &Standing<'_>,
+    trail: &Trail,
     decisions: u32,
     analyser: &mut Analyser,
 ) -> Result<Option<Learned>, Stop>
@@ -145,19 +138,19 @@ fn learn(
         → IfOk result (λ found. MatchOption found (BeginsWith id analyser.new.resolvent.items.items) (λ l. BeginsWith id l.items)) }
     ensures derived { (given : Given) → IsPostfixOf given analyser.old.resolvent.items.items analyser.old.resolvent.sum
         → IfOk result (λ found. MatchOption found (IsPostfixOf given analyser.new.resolvent.items.items analyser.new.resolvent.sum) (λ l. IsPostfixOf given l.items l.constraint)) }
-    ensures biting { IfOk result (λ found. IfSome found (λ l. BitesAt standing.now l.level l.constraint)) }
+    ensures biting { IfOk result (λ found. IfSome found (λ l. BitesAt trail.now l.level l.constraint)) }
     ensures lower { IfOk result (λ found. IfSome found (λ l. l.level < decisions)) }
 {
     let sum = &analyser.resolvent.sum;
-    if !bites_before_last(sum, standing, decisions, &mut analyser.seen)? {
+    if !bites_before_last(sum, trail, decisions, &mut analyser.seen)? {
         return Ok(None);
     }
     let constraint = analyser.resolvent.sum.take(alloc)?;
-    let Some(level) = least_level(alloc, &constraint, standing, decisions)? else {
+    let Some(level) = least_level(alloc, &constraint, trail, decisions)? else {
         analyser.resolvent.sum.load(&constraint)?;
         return Ok(None);
     };
-    let levels = level_count(alloc, &constraint, standing)?;
+    let levels = level_count(alloc, &constraint, trail)?;
     analyser.met.note_learned(constraint.len(), levels);
     let items = mem::replace(&mut analyser.resolvent.items, Vec::new(alloc));
     Ok(Some(Learned {
@@ -171,26 +164,26 @@ fn learn(
 pub(crate) fn walk<'a, P: Propagator>(
     alloc: Global,
     kernel: &Kernel<'a, P>,
-    standing: &Standing<'_>,
+    trail: &Trail,
     conflict: Id,
     analyser: &mut Analyser,
 ) -> Result<Learned, Stop>
     ensures begins { IfOk result (λ l. BeginsWith conflict l.items) }
     ensures derived { IfOk result (λ l. IsPostfixOf (constraint_of kernel.now.state) l.items l.constraint) }
-    ensures biting { IfOk result (λ l. BitesAt standing.now l.level l.constraint) }
-    ensures lower { IfOk result (λ l. l.level < greatest_level standing.now) }
+    ensures biting { IfOk result (λ l. BitesAt trail.now l.level l.constraint) }
+    ensures lower { IfOk result (λ l. l.level < greatest_level trail.now) }
 {
-    let decisions = open_decisions(standing.entries());
+    let decisions = trail.open_decisions();
     begin(kernel, conflict, analyser)?;
-    let mut before = standing.entries().len();
+    let mut before = trail.entries().len();
     loop {
-        if let Some(learned) = learn(alloc, standing, decisions, analyser)? {
+        if let Some(learned) = learn(alloc, trail, decisions, analyser)? {
             return Ok(learned);
         }
-        let Some(at) = latest_false(&analyser.resolvent.sum, standing, before) else {
+        let Some(at) = latest_false(&analyser.resolvent.sum, trail, before) else {
             return Err(Stop::NothingLearned);
         };
         before = at.place;
-        resolve(alloc, kernel, standing, at, analyser)?;
+        resolve(alloc, kernel, trail, at, analyser)?;
     }
 }

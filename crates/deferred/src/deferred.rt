@@ -14,7 +14,7 @@ use super::settling::settle;
 use super::waiting::Waiting;
 use linear::Lit;
 use normal_form::Normal;
-use propagate::{Decided, Id, Ids, Propagator, Reach, Trace};
+use propagate::{Decided, Id, Ids, Propagator, Reach, Retrace, Trace};
 use std::alloc::{AllocError, Global};
 use std::marker::Model;
 
@@ -108,6 +108,12 @@ impl<P: Propagator> Propagator for Deferred<P> {
         settle(self.alloc, &mut self.waiting, &mut self.settled)?;
         self.asked = true;
         self.settled.extend(given)
+    }
+
+    fn retrace(&mut self, given: &[Lit], known: &[Lit]) -> Result<Retrace, AllocError> {
+        settle(self.alloc, &mut self.waiting, &mut self.settled)?;
+        self.asked = true;
+        self.settled.retrace(given, known)
     }
 
     fn trace(&mut self, given: &[Lit]) -> Result<Trace, AllocError> {

@@ -6,7 +6,7 @@ ghost use Rattle.proof_rules.specs.State.{id_limit, id_of};
 
 use linear::{Integer, Lit, Var};
 use normal_form::Normal;
-use propagate::{Decided, Id, Ids, Propagator, Reach, Trace};
+use propagate::{Decided, Id, Ids, Propagator, Reach, Retrace, Trace};
 use std::alloc::{AllocError, Global};
 use std::marker::Model;
 use substitution::{Substitution, apply, becomes_beyond, covers};
@@ -43,7 +43,7 @@ impl<P: Propagator> Database<P> {
     ghost use Rattle.propagate.specs.Content.{AreDecided, AreTaken, HasLiteral, IsTrace};
     ghost use Rattle.propagate.specs.Ids.{HasId};
     ghost use Rattle.propagate.specs.Literals.{IsConsistent};
-    ghost use Rattle.propagate.specs.Reach.{IsReach};
+    ghost use Rattle.propagate.specs.Reach.{IsReach, IsRetrace};
     ghost use Rattle.substitution.specs.Beyond.{BecomesBeyond};
     ghost use Rattle.substitution.specs.Covering.{Covers};
     ghost use Rattle.substitution.specs.Under.{IsUnder};
@@ -225,6 +225,14 @@ impl<P: Propagator> Database<P> {
         ensures reach { IfOk result (IsReach (map.values self.old.live) assigned.now) }
     {
         self.constraints.extend(assigned)
+    }
+
+    /// The same, told beside literals that are known.
+    pub(crate) fn retrace(&mut self, assigned: &[Lit], known: &[Lit]) -> Result<Retrace, AllocError>
+        ensures same { self.new ≡ self.old }
+        ensures value { IfOk result (IsRetrace (map.values self.old.live) assigned.now known.now) }
+    {
+        self.constraints.retrace(assigned, known)
     }
 
     /// A chain from an assignment without opposites over the live constraints, with its reasons.

@@ -9,13 +9,13 @@ ghost use Rattle.std.specs.FinMap as map;
 ghost use Rattle.std.specs.Option.{option_copied};
 ghost use Rattle.propagate.specs.Content.{AreDecided, AreTaken, IsTrace};
 ghost use Rattle.propagate.specs.Literals.{IsConsistent};
-ghost use Rattle.propagate.specs.Reach.{IsReach};
+ghost use Rattle.propagate.specs.Reach.{IsReach, IsRetrace};
 ghost use Rattle.proof_rules.specs.State.{constraints};
 
 use super::kernel::Kernel;
 use linear::Lit;
 use normal_form::Normal;
-use propagate::{Decided, Id, Propagator, Reach, Trace};
+use propagate::{Decided, Id, Propagator, Reach, Retrace, Trace};
 use std::alloc::AllocError;
 
 impl<'a, P: Propagator> Kernel<'a, P> {
@@ -33,6 +33,15 @@ impl<'a, P: Propagator> Kernel<'a, P> {
         ensures value { IfOk result (IsReach (constraints self.old.state) given.now) }
     {
         self.database.extend(given)
+    }
+
+    /// The same, told by what is new: how many of the literals that are known stay, the first ones, and those that stand behind them, each with the
+    /// id of a constraint that forces it, as far as one is named. What is told of a conflict is the way to it.
+    pub fn retrace(&mut self, given: &[Lit], known: &[Lit]) -> Result<Retrace, AllocError>
+        ensures same { self.new ≡ self.old }
+        ensures value { IfOk result (IsRetrace (constraints self.old.state) given.now known.now) }
+    {
+        self.database.retrace(given, known)
     }
 
     /// A chain from an assignment without opposites over the live constraints, with its reasons, to a constraint with negative

@@ -34,7 +34,7 @@ use normal_form::Normal;
 use proof_rules::StepFault;
 use proof_steps::{Conclusion, Step};
 use proof_write::{is_step_writable, write_end, write_start, write_step};
-use propagate::{Decided, Id, Ids, Propagator, Reach, Trace};
+use propagate::{Decided, Id, Ids, Propagator, Reach, Retrace, Trace};
 use std::alloc::{AllocError, Global};
 use std::marker::Model;
 use std::mem;
@@ -152,7 +152,7 @@ impl<'a, P: Propagator> Log<'a, P> {
     ghost use Rattle.propagate.specs.Biting.{Bites};
     ghost use Rattle.propagate.specs.Content.{AreDecided, AreTaken, IsTrace};
     ghost use Rattle.propagate.specs.Literals.{IsConsistent};
-    ghost use Rattle.propagate.specs.Reach.{IsReach};
+    ghost use Rattle.propagate.specs.Reach.{IsReach, IsRetrace};
     ghost use Rattle.proof_rules.specs.Claim.{IsSolution};
     ghost use Rattle.proof_rules.specs.Deletion.{AreDeletableAtOnce};
     ghost use Rattle.proof_rules.specs.Fault.{OrMemory, IsConclusionFault};
@@ -558,6 +558,14 @@ impl<'a, P: Propagator> Log<'a, P> {
         ensures value { IfOk result (IsReach (constraints self.old.state) given.now) }
     {
         self.kernel.extend(given)
+    }
+
+    /// The same, told by what is new beside literals that are known.
+    pub fn retrace(&mut self, given: &[Lit], known: &[Lit]) -> Result<Retrace, AllocError>
+        ensures same { self.new ≡ self.old }
+        ensures value { IfOk result (IsRetrace (constraints self.old.state) given.now known.now) }
+    {
+        self.kernel.retrace(given, known)
     }
 
     /// A chain from an assignment without opposites over the live constraints, with its reasons.

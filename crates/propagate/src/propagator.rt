@@ -16,10 +16,11 @@ ghost use Rattle.normal_form.specs.Normal.{NormalConstraint};
 ghost use Rattle.propagate.specs.Chain.{IsRefuted};
 ghost use Rattle.propagate.specs.Content.{AddsOccurrences, IsLeastAbove, AreDecided, AreTaken, IsTrace};
 ghost use Rattle.propagate.specs.Literals.{IsConsistent};
-ghost use Rattle.propagate.specs.Reach.{IsReach};
+ghost use Rattle.propagate.specs.Reach.{IsReach, IsRetrace};
 
 use super::ids::Ids;
 use super::reach::Reach;
+use super::retrace::Retrace;
 use super::trace::{Decided, Trace};
 use linear::Lit;
 use normal_form::Normal;
@@ -72,6 +73,12 @@ pub trait Propagator: Drop {
     fn extend(&mut self, given: &[Lit]) -> Result<Reach, AllocError>
         ensures content { content self.new ≡ content self.old }
         ensures value { IfOk result (IsReach (map.values (content self.old)) given.now) };
+
+    /// The same, told by what is new: how many of the literals that are known stay, the first ones, and those that stand behind them, with
+    /// reasons as far as they are named. What is told of a conflict is the way to it.
+    fn retrace(&mut self, given: &[Lit], known: &[Lit]) -> Result<Retrace, AllocError>
+        ensures content { content self.new ≡ content self.old }
+        ensures value { IfOk result (IsRetrace (map.values (content self.old)) given.now known.now) };
 
     /// A chain from an assignment without opposites, with its reasons, to a constraint with negative slack or to the end:
     /// a conflict is named exactly where `extend` answers one.

@@ -16,6 +16,7 @@ use super::ids::Ids;
 use super::propagator::{Id, Propagator};
 use super::reach::Reach;
 use super::refutation::refuted;
+use super::retrace::Retrace;
 use super::trace::{Decided, Trace, decided_alone};
 use linear::Lit;
 use normal_form::Normal;
@@ -139,6 +140,12 @@ impl Propagator for ScanPropagator {
     fn extend(&mut self, given: &[Lit]) -> Result<Reach, AllocError> {
         let constraints = lent(self.alloc, &self.all)?;
         Reach::of(self.alloc, constraints.as_slice(), given)
+    }
+
+    /// It keeps nothing, so nothing stays.
+    fn retrace(&mut self, given: &[Lit], _known: &[Lit]) -> Result<Retrace, AllocError> {
+        let reach = self.extend(given)?;
+        Retrace::of_reach(self.alloc, reach)
     }
 
     fn trace(&mut self, given: &[Lit]) -> Result<Trace, AllocError> {

@@ -203,26 +203,46 @@ fn dives<'a, P: Propagator>(
     )
 }
 
-/// The corners lean to half, and a dive prefers them, until a cut comes.
+/// The cut that comes after a conflict, if one does.
+fn cut_of<'a, P: Propagator>(
+    kernel: &Kernel<'a, P>,
+    adviser: &mut Adviser,
+) -> Result<Option<Seq<Item>>, AllocError> {
+    match adviser.ask(kernel, after_conflict())? {
+        Advice::Cut(items) => Ok(Some(items)),
+        _ => Ok(None),
+    }
+}
+
+/// Whether the corners lean to half once a cut is taken, and below one that is decided the two others; nothing is said where nothing has
+/// changed.
+fn leans<'a, P: Propagator>(
+    kernel: &Kernel<'a, P>,
+    adviser: &mut Adviser,
+) -> Result<bool, AllocError> {
+    adviser.take_cut(kernel)?;
+    let at_root = adviser.ask(kernel, after_conflict())?;
+    let all = adviser.leanings().len();
+    let unchanged = adviser.ask(kernel, quiet(100))?;
+    let first = [literal(0, false)];
+    let below = adviser.ask(kernel, below_root(&first))?;
+    let leans = matches!(at_root, Advice::Values) && matches!(below, Advice::Values);
+    let others = adviser.leanings().len();
+    Ok(leans && matches!(unchanged, Advice::Nothing) && all == 3 && others == 2)
+}
+
+/// The corners lean to half, and a dive prefers them, until a cut comes. What is asked stands in helpers, since each exit here drops kernel and
+/// adviser.
 fn lean<'a, P: Propagator>(rt: &impl Abort, alloc: Global, problem: &'a Problem) {
     let (mut kernel, mut adviser) = adviser_of::<P>(rt, alloc, problem).expect(rt, "memory");
     assert!(rt; matches!(dives(&kernel, &mut adviser), Ok(true)));
-    let asked = adviser.ask(&kernel, after_conflict());
-    let Ok(Advice::Cut(items)) = asked else {
-        panic!(rt; "no cut");
-    };
+    let cut = cut_of(&kernel, &mut adviser).expect(rt, "memory");
+    let items = cut.expect(rt, "a cut");
     assert_eq!(rt; adviser.bound(), Some(4));
     apply(&mut kernel, items, &[]).expect(rt, "a legal line");
-    adviser.take_cut(&kernel).expect(rt, "memory");
-    assert!(rt; matches!(adviser.ask(&kernel, after_conflict()), Ok(Advice::Values)));
-    assert_eq!(rt; adviser.leanings().len(), 3);
-    assert!(rt; matches!(adviser.ask(&kernel, quiet(100)), Ok(Advice::Nothing)));
-    let first = [literal(0, false)];
-    let asked = adviser.ask(&kernel, below_root(&first));
-    assert!(rt; matches!(asked, Ok(Advice::Values)));
-    assert_eq!(rt; adviser.leanings().len(), 2);
-    assert_eq!(rt; adviser.figures().calls, 5);
-    assert_eq!(rt; adviser.figures().cuts, 1);
+    assert!(rt; matches!(leans(&kernel, &mut adviser), Ok(true)));
+    let figures = adviser.figures();
+    assert!(rt; figures.calls == 5 && figures.cuts == 1);
 }
 
 #[test]

@@ -3,13 +3,14 @@
 use super::support::{NOT, Written, X, at_least, not_x, x};
 use linear::Lit;
 use normal_form::CutFault;
-use propagate::{Id, Propagator, Reach, ScanPropagator, Trace};
-use std::alloc::Global;
+use propagate::{Extent, Id, Propagator, Reach, Retrace, ScanPropagator, Trace};
+use std::alloc::{AllocError, Global};
+use watch::WatchPropagator;
 
 /// Puts in a constraint, where none is.
-fn put(
+fn put<P: Propagator>(
     alloc: Global,
-    live: &mut ScanPropagator,
+    live: &mut P,
     id: Id,
     terms: &[Written],
     right: i128,
@@ -23,8 +24,8 @@ fn put(
 
 /// 1 ~x2 1 x3 >= 1 ; 1 ~x1 1 x2 >= 1 ; 1 x1 >= 1, under 1, 3 and 8: the first two force something only after the third,
 /// so one pass over them in order does not do.
-fn three_clauses(alloc: Global) -> Result<ScanPropagator, CutFault> {
-    let mut live = ScanPropagator::empty(alloc);
+fn three_clauses<P: Propagator>(alloc: Global) -> Result<P, CutFault> {
+    let mut live = P::empty(alloc);
     put(alloc, &mut live, 3, &[(1, NOT, 1), (1, X, 2)], 1)?;
     put(alloc, &mut live, 1, &[(1, NOT, 2), (1, X, 3)], 1)?;
     put(alloc, &mut live, 8, &[(1, X, 1)], 1)?;
@@ -38,7 +39,7 @@ fn is_trace(trace: &Trace, forced: &[(Lit, Id)], conflict: Option<Id>) -> bool {
 
 #[test]
 fn content(rt: HostRuntime) {
-    let mut live = three_clauses(rt.alloc()).expect(&rt, "a propagator");
+    let mut live: ScanPropagator = three_clauses(rt.alloc()).expect(&rt, "a propagator");
     let steps = [
         (0, Some(1)),
         (1, Some(3)),
@@ -59,7 +60,7 @@ fn content(rt: HostRuntime) {
 #[test]
 fn refutations(rt: HostRuntime) {
     let alloc = rt.alloc();
-    let mut live = three_clauses(alloc).expect(&rt, "a propagator");
+    let mut live: ScanPropagator = three_clauses(alloc).expect(&rt, "a propagator");
     let last = at_least(alloc, &[(1, NOT, 3)], 1).expect(&rt, "a constraint");
     let extras = [last];
     assert!(&rt; !live.refute(&[]).expect(&rt, "memory"));
@@ -110,7 +111,7 @@ fn assignments(rt: HostRuntime) {
 #[test]
 fn traces(rt: HostRuntime) {
     let alloc = rt.alloc();
-    let mut live = three_clauses(alloc).expect(&rt, "a propagator");
+    let mut live: ScanPropagator = three_clauses(alloc).expect(&rt, "a propagator");
     let chain = [(x(1), 8), (x(2), 3), (x(3), 1)];
     let trace = live.trace(&[]).expect(&rt, "memory");
     assert!(&rt; is_trace(&trace, chain.as_slice(), None));
@@ -126,4 +127,77 @@ fn traces(rt: HostRuntime) {
     let at_once = [(x(1), 2), (x(2), 2), (x(3), 2), (not_x(4), 1)];
     let trace = weighted.trace(&[]).expect(&rt, "memory");
     assert!(&rt; is_trace(&trace, at_once.as_slice(), None));
+}
+
+/// Whether a literal is told: by what stays of what is known, or by the rest.
+fn is_listed(literal: Lit, stay: &[Lit], rest: &[(Lit, Option<Id>)]) -> bool {
+    for (told, _) in rest {
+        if *told == literal {
+            return true;
+        }
+    }
+    stay.contains(&literal)
+}
+
+/// Whether exactly these literals are told beside what is known, and no conflict.
+fn is_told(retrace: &Retrace, known: &[Lit], told: &[Lit]) -> bool {
+    let stay = &known[..retrace.kept.min(known.len())];
+    let rest = retrace.rest.as_slice();
+    for literal in told {
+        if !is_listed(*literal, stay, rest) {
+            return false;
+        }
+    }
+    matches!(retrace.extent, Extent::Closed) && stay.len() + rest.len() == told.len()
+}
+
+/// Whether three clauses and what is given, under which they extend to these literals, are told rightly.
+fn tells<P: Propagator>(
+    live: &mut P,
+    given: &[Lit],
+    known: &[Lit],
+    told: &[Lit],
+) -> Result<bool, AllocError> {
+    let retrace = live.retrace(given, known)?;
+    Ok(is_told(&retrace, known, told))
+}
+
+/// Whether a propagator tells rightly what assignments extend to: asked one after another, beside what is known, part of it, what
+/// stands no longer and what never did.
+fn retraces<P: Propagator>(alloc: Global) -> Result<bool, CutFault> {
+    let mut live: P = three_clauses(alloc)?;
+    let forced = [x(1), x(2), x(3)];
+    let fourth = [x(1), x(2), x(3), not_x(4)];
+    let fifth = [x(1), x(2), x(3), x(5)];
+    let at_first = tells(&mut live, &[], &[], &forced)?;
+    let beside_some = tells(&mut live, &[], &[x(1), x(2)], &forced)?;
+    let one_more = tells(&mut live, &[not_x(4)], &forced, &fourth)?;
+    let another = tells(&mut live, &[x(5)], &fourth, &fifth)?;
+    let beside_wrong = tells(&mut live, &[], &[not_x(1), x(2)], &forced)?;
+    let conflict = live.retrace(&[not_x(3)], &forced)?;
+    let ends = !matches!(conflict.extent, Extent::Closed);
+    Ok(at_first && beside_some && one_more && another && beside_wrong && ends)
+}
+
+#[test]
+fn retraced(rt: HostRuntime) {
+    let alloc = rt.alloc();
+    assert!(&rt; retraces::<ScanPropagator>(alloc).expect(&rt, "memory"));
+    assert!(&rt; retraces::<WatchPropagator>(alloc).expect(&rt, "memory"));
+}
+
+/// Whether a propagator names its reasons, and tells no more than what is new: one that keeps a trail does.
+fn tells_what_is_new<P: Propagator>(alloc: Global) -> Result<bool, CutFault> {
+    let mut live: P = three_clauses(alloc)?;
+    let chain = [(x(1), Some(8)), (x(2), Some(3)), (x(3), Some(1))];
+    let whole = live.retrace(&[], &[])?;
+    let end = live.retrace(&[], &[x(1), x(2)])?;
+    let is_named = whole.kept == 0 && whole.rest.as_slice() == chain.as_slice();
+    Ok(is_named && end.kept == 2 && end.rest.as_slice() == &chain[2..])
+}
+
+#[test]
+fn retraced_with_reasons(rt: HostRuntime) {
+    let told = tells_what_is_new::<WatchPropagator>(rt.alloc());
+    assert!(&rt; told.expect(&rt, "memory"));
 }

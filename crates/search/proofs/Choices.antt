@@ -71,6 +71,36 @@ values_more assigned l values are v within =
           subst (IsValueUnder (assigned ++ l ∷ []) v) (sym (get_or-set_other values x v (value_given l) Free other)) (kept (get_or values v Free) assigned l v other (are v inside))
     ]
 
+-- by those before the last literal, where that one is of another variable
+still_given : (value : Value) (before : List Lit) (l : Lit) (v : ℕ) → v ≢ l.var.0 → IsValueUnder (before ++ l ∷ []) v value → IsValueUnder before v value
+still_given value before l v other h = by value h
+  where
+    listed : (s : Bool) → among (before ++ l ∷ []) v s ≡ true → among before v s ≡ true
+    listed s e = elim (among_cases before (l ∷ []) v s e) [
+      | inl a ↦ a
+      | inr a ↦ absurd (other (only_here l v s a).0)
+    ]
+
+    absent : (s : Bool) → among (before ++ l ∷ []) v s ≡ false → among before v s ≡ false
+    absent s e = is_none (among before v s) (λ a. false≢true (sym e ∙ among_left before (l ∷ []) v s a))
+
+    by : (value : Value) → IsValueUnder (before ++ l ∷ []) v value → IsValueUnder before v value
+    by True h = listed false h
+    by False h = listed true h
+    by Free h = (absent false h.0, absent true h.1)
+
+-- one literal less, whose variable stands nowhere else
+pub values_less : (before : List Lit) (l : Lit) (values : List Value) → AreValuesUnder (before ++ l ∷ []) values → ((s : Bool) → among before (l.var.0) s ≡ false) → AreValuesUnder before (set values (l.var.0) Free)
+values_less before l values are apart v within =
+    let x : ℕ = l.var.0 in
+    let inside : v < length values = subst (λ n. v < n) (length-set values x Free) within in
+    elim (cases_eq v x) as (λ _. IsValueUnder before v (get_or (set values x Free) v Free)) [
+      | inl same ↦
+          subst (IsValueUnder before v) (sym (ap (λ n. get_or (set values x Free) n Free) same ∙ get_or-set_same values x Free Free (subst (λ n. n < length values) same inside)))
+          (ap (λ n. among before n false) same ∙ apart false, ap (λ n. among before n true) same ∙ apart true)
+      | inr other ↦ subst (IsValueUnder before v) (sym (get_or-set_other values x v Free Free other)) (still_given (get_or values v Free) before l v other (are v inside))
+    ]
+
 -- what a table of what is listed has as free is not listed
 pub values_leave_free : (assigned : List Lit) (values : List Value) → AreValuesUnder assigned values → LeavesFree assigned values
 values_leave_free assigned values are v free s = elim (cases_lt v (length values)) as (λ _. among assigned v s ≡ false) [

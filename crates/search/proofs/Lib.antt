@@ -9,9 +9,11 @@ pub mod Taking
 pub mod Decisions
 pub mod Deciding
 pub mod Descending
+pub mod Extending
 pub mod Written
 pub mod GoingOn
 pub mod BegunLogs
 pub mod Entitling
 pub mod Settling
 pub mod Stepping
+pub mod TakenOff

@@ -1,6 +1,7 @@
 -- What a search knows of each variable.
-use Rattle.std.specs.Prelude.{◌≡◌, ℕ, zero, suc, ◌+◌, ◌<◌, ◌||◌, true, false, List, length, slice_index_or, if◌then◌else◌}
+use Rattle.std.specs.Prelude.{◌≡◌, ℕ, zero, suc, ◌+◌, ◌<◌, ◌||◌, Bool, true, false, List, length, map, slice_index_or, if◌then◌else◌}
 use Rattle.linear.specs.declared.term.Lit.{Lit}
+use Rattle.analysis.specs.declared.entry.Entry.{Entry}
 use Rattle.propagate.specs.Literals.{among}
 use Rattle.branching.specs.declared.brancher.Value.{Value}
 use Rattle.branching.specs.declared.brancher.Value.TheVariants.{True, False, Free}
@@ -31,6 +32,10 @@ IsValueUnder assigned v Free = (among assigned v false ≡ false) × (among assi
 -- the table has of each of its variables what an assignment says
 abbrev pub AreValuesUnder : List Lit → List Value → Type 0
 AreValuesUnder assigned values = (v : ℕ) → v < length values → IsValueUnder assigned v (slice_index_or values v Free)
+
+-- a trail that is whole has these literals
+abbrev pub AreOfTrail : Bool → List Entry → List Lit → Type 0
+AreOfTrail whole trail assigned = whole ≡ true → map (λ e. e.literal) trail ≡ assigned
 
 -- how many of the first variables are not listed
 abbrev pub unlisted_below : ℕ → List Lit → ℕ

@@ -47,7 +47,7 @@ impl<'a, P: Propagator> Run<'a, P> {
         Ok(Some(Advised {
             id,
             variables: variables_of(self.alloc, constraint)?,
-            bite: bite_on(self.alloc, constraint, self.trail.entries())?,
+            bite: bite_on(self.alloc, constraint, self.standing.trail())?,
         }))
     }
 

@@ -24,7 +24,7 @@ impl<'a, P: Propagator> Run<'a, P> {
     /// Learns from a conflict under the decisions, unless the search is at its end there, or may stop.
     pub(crate) fn meet_conflict(
         &mut self,
-        conflict: Id,
+        conflict: Option<Id>,
         limit: u64,
     ) -> Result<Option<Found>, AllocError>
         requires decisions { AreDecisions self.old.log self.old.decisions.items }
@@ -48,7 +48,7 @@ impl<'a, P: Propagator> Run<'a, P> {
     }
 
     /// Learns from a conflict under the decisions, as long as an id is left.
-    fn resolve(&mut self, conflict: Id) -> Result<(), AllocError>
+    fn resolve(&mut self, conflict: Option<Id>) -> Result<(), AllocError>
         requires some { self.old.decisions.items ≢ [] }
         requires decisions { AreDecisions self.old.log self.old.decisions.items }
         requires conflict { LeadsAtLast (constraints self.old.log.state) self.old.decisions.items }
@@ -63,7 +63,7 @@ impl<'a, P: Propagator> Run<'a, P> {
             self.alloc,
             &mut self.log,
             &mut self.decisions,
-            self.trail.entries(),
+            &mut self.standing,
             conflict,
             &mut self.analyser,
             &mut self.advisers.brancher,

@@ -1,8 +1,8 @@
 //! What the analysis of a conflict comes to, logged as one `pol` line.
 //!
 //! The derivation comes with the analysis, and so does what it derives: the log takes that as it is, and nothing is run a second time. That it bites
-//! is asked of the constraints as they are now: the closure of the decisions that are left is computed once more, and the constraint is looked
-//! at under it. So a trail that is out of date costs a weaker step, and never a wrong count. Whether the line can be written is asked as
+//! is asked of the constraints as they are now: what stands becomes what the decisions that are left extend to, and the constraint is looked at
+//! under it (`retracing`). So a trail that is out of date costs a weaker step, and never a wrong count. Whether the line can be written is asked as
 //! well, since no contract of an analysis says which factors its items have.
 
 ghost use Rattle.std.specs.Prelude.{◌≡◌, ◌+◌, IfOk, IsTrue, OnOk, false};
@@ -12,13 +12,15 @@ ghost use Rattle.search.specs.Decisions.{AreDecisions};
 ghost use Rattle.search.specs.Solving.{TakesId};
 ghost use Rattle.search.specs.Undoing.{IsUndone};
 
-use analysis::{Analyser, Entry, Learned, bites_under};
+use super::retracing::is_new_under;
+use super::standing::Standing;
+use analysis::{Analyser, Learned};
 use branching::Brancher;
 use linear::{Lit, Var};
 use normal_form::Normal;
 use proof_log::Log;
 use proof_steps::Step;
-use propagate::{Id, Propagator, Reach};
+use propagate::{Id, Propagator};
 use std::alloc::{AllocError, Global};
 
 /// The variables of a constraint.
@@ -30,14 +32,14 @@ pub(crate) fn variables_of(alloc: Global, constraint: &Normal) -> Result<Vec<Var
     Ok(variables)
 }
 
-/// Learns what the analysis of a conflict comes to, and undoes decisions down to the level at which it bites. False where it
-/// comes to nothing that bites and can be written.
+/// Learns what the analysis of a conflict comes to, and undoes decisions down to the level at which it bites. False where no constraint is named
+/// to begin with, and where it comes to nothing that bites and can be written.
 pub(crate) fn learn_constraint<'a, P: Propagator>(
     alloc: Global,
     log: &mut Log<'a, P>,
     decisions: &mut Vec<Lit>,
-    trail: &[Entry],
-    conflict: Id,
+    standing: &mut Standing,
+    conflict: Option<Id>,
     analyser: &mut Analyser,
     brancher: &mut Box<dyn Brancher>,
 ) -> Result<bool, AllocError>
@@ -51,7 +53,11 @@ pub(crate) fn learn_constraint<'a, P: Propagator>(
     ensures undone { IfOk result (λ yes. IsTrue yes → IsUndone decisions.old.items decisions.new.items) }
     ensures kept { IfOk result (λ yes. yes ≡ false → decisions.new.items ≡ decisions.old.items) }
 {
-    let found = analyser.analyse(alloc, log.kernel(), trail, conflict)?;
+    let Some(conflict) = conflict else {
+        analyser.met.clear();
+        return Ok(false);
+    };
+    let found = analyser.analyse(alloc, log.kernel(), standing.trail(), conflict)?;
     brancher.met(analyser.met.variables.as_slice());
     let Some(learned) = found else {
         return Ok(false);
@@ -65,10 +71,8 @@ pub(crate) fn learn_constraint<'a, P: Propagator>(
     if kept >= decisions.len() {
         return Ok(false);
     }
-    let Reach::Closed(closed) = log.extend(&decisions.as_slice()[..kept])? else {
-        return Ok(false);
-    };
-    if !bites_under(alloc, &constraint, closed.as_slice())? {
+    let left = &decisions.as_slice()[..kept];
+    if !is_new_under(alloc, log, left, &constraint, standing, brancher)? {
         return Ok(false);
     }
     let step = Step::Pol(items);

@@ -1,6 +1,6 @@
 //! Deciding one literal after another, until there is a conflict, or an adviser comes to a line, or every variable has a value.
 //!
-//! What the open decisions force is asked once. From there on each question is about literals behind those that are decided, and its answer, and
+//! What the open decisions extend to is asked once (`retracing`). From there on each question is about literals behind those that are decided, and its answer, and
 //! what is noted of it, are as long as what these force. A question is about one literal at first, and about ever more at a time where many were
 //! decided without a conflict: that what was decided before is what was decided last time takes a look at each of those literals, and to look at
 //! all of them for each one more would take the square of their number. Where the open decisions lead to a conflict that does not take all of
@@ -20,8 +20,8 @@ ghost use Rattle.search.specs.Values.{IsFree, unlisted_below};
 use super::advisers::{Advisers, Line};
 use super::choice::{choose, is_free, pick_more};
 use super::overtaken::undo_overtaken;
+use super::retracing::{falsified, is_closed, stand};
 use super::standing::Standing;
-use super::trail::{Trail, level_of};
 use linear::{Lit, Seq};
 use proof_log::Log;
 use propagate::{Decided, Id, Propagator};
@@ -33,8 +33,8 @@ const DECISIONS_FOR_ONE_MORE: usize = 64;
 /// Where decisions end.
 #[derive(Drop)]
 pub(crate) enum Descent {
-    /// The constraint of this id has negative slack, and it takes the last decision for that.
-    Conflict(Id),
+    /// There is a conflict, and it takes the last decision for that. The constraint of this id has negative slack, where one is named.
+    Conflict(Option<Id>),
     /// Decisions that a conflict does not take were undone.
     Undone,
     /// This line derives a constraint that says something under what stands.
@@ -43,34 +43,31 @@ pub(crate) enum Descent {
     Fixpoint(Seq<Lit>),
 }
 
-/// Notes what the open decisions force; the id of a constraint with negative slack, if they lead to one.
-fn stand<'a, P: Propagator>(
+/// What decisions end in that lead to a conflict: those that it does not take are undone, where there are any.
+fn end_in_conflict<'a, P: Propagator>(
     log: &mut Log<'a, P>,
-    decisions: &[Lit],
-    standing: &mut Standing,
-    trail: &mut Trail,
-) -> Result<Option<Id>, AllocError>
-    requires consistent { IsConsistent decisions.now }
-    requires nothing { standing.old.0 ≡ [] }
+    decisions: &mut Vec<Lit>,
+    conflict: Option<Id>,
+) -> Result<Descent, AllocError>
+    requires decisions { AreDecisions log.old decisions.old.items }
+    requires conflict { LeadsToConflict (constraints log.old.state) decisions.old.items }
     ensures same { log.new ≡ log.old }
-    ensures count { length standing.new.1 ≡ length standing.old.1 }
-    ensures end { IfOk result (λ falsified. MatchOption falsified (IsEnd log.old.state.live decisions.now standing.new.0)
-        (λ id. LeadsToConflict (constraints log.old.state) decisions.now)) }
+    ensures decisions { OnOk result (AreDecisions log.new decisions.new.items) }
+    ensures conflict { IfOk result (λ end. IfConflict end (LeadsAtLast (constraints log.old.state) decisions.new.items)) }
+    ensures undone { IfOk result (λ end. IfUndone end (length decisions.new.items < length decisions.old.items)) }
+    ensures advised { IfOk result (λ end. IfAdvised end (IsAdvisedUnder log.old decisions.new.items)) }
+    ensures settled { IfOk result (λ end. IfFixpoint end (IsSettled log.old)) }
 {
-    let trace = log.trace(decisions)?;
-    trail.force(trace.forced.as_slice(), level_of(decisions))?;
-    if trace.conflict.is_none() {
-        standing.add_all(decisions)?;
-        standing.add_forced(trace.forced.as_slice())?;
+    if undo_overtaken(log, decisions)? {
+        return Ok(Descent::Undone);
     }
-    Ok(trace.conflict)
+    Ok(Descent::Conflict(conflict))
 }
 
 /// Notes a decision, and what it forces; the id of a constraint with negative slack, if there is one then.
 fn note(
     decisions: &mut Vec<Lit>,
     standing: &mut Standing,
-    trail: &mut Trail,
     decided: &Decided,
 ) -> Result<Option<Id>, AllocError>
     ensures count { length standing.new.1 ≡ length standing.old.1 }
@@ -79,13 +76,9 @@ fn note(
         → MatchOption falsified (IsEnd live decisions.new.items standing.new.0) (λ id. LeadsToConflict (map.values live) decisions.new.items)) }
 {
     decisions.push(decided.literal)?;
-    let level = level_of(decisions.as_slice());
-    trail.decide(decided.literal, level)?;
-    trail.force(decided.trace.forced.as_slice(), level)?;
-    if decided.trace.conflict.is_none() {
-        standing.add(decided.literal)?;
-        standing.add_forced(decided.trace.forced.as_slice())?;
-    }
+    let count = decisions.len();
+    standing.decide(decided.literal, count)?;
+    standing.force(decided.trace.forced.as_slice(), count)?;
     Ok(decided.trace.conflict)
 }
 
@@ -95,7 +88,6 @@ fn decide<'a, P: Propagator>(
     log: &mut Log<'a, P>,
     decisions: &mut Vec<Lit>,
     standing: &mut Standing,
-    trail: &mut Trail,
     first: Lit,
     more: &[Lit],
 ) -> Result<Option<Id>, AllocError>
@@ -118,7 +110,7 @@ fn decide<'a, P: Propagator>(
         if !is_free(standing.values(), one.literal.var) {
             return Ok(None);
         }
-        let conflict = note(decisions, standing, trail, one)?;
+        let conflict = note(decisions, standing, one)?;
         if conflict.is_some() {
             return Ok(conflict);
         }
@@ -132,7 +124,7 @@ pub(crate) fn descend<'a, P: Propagator>(
     alloc: Global,
     log: &mut Log<'a, P>,
     decisions: &mut Vec<Lit>,
-    trail: &mut Trail,
+    standing: &mut Standing,
     count: u32,
     advisers: &mut Advisers,
 ) -> Result<Descent, AllocError>
@@ -148,28 +140,33 @@ pub(crate) fn descend<'a, P: Propagator>(
     // That what is live is over the file's variables is known by the log's type; this makes it known here.
     log.reveal();
     let begun = decisions.len();
-    let mut standing = Standing::new(alloc, count)?;
-    if let Some(conflict) = stand(log, decisions.as_slice(), &mut standing, trail)? {
-        if undo_overtaken(log, decisions)? {
-            return Ok(Descent::Undone);
-        }
-        return Ok(Descent::Conflict(conflict));
+    standing.fit(alloc, count as usize)?;
+    let extent = stand(
+        alloc,
+        log,
+        decisions.as_slice(),
+        standing,
+        &mut advisers.brancher,
+    )?;
+    if !is_closed(extent) {
+        return end_in_conflict(log, decisions, falsified(extent));
     }
-    loop {
-        let found = advisers.ask(log, standing.assigned(), decisions.len(), trail.pushed())?;
+    'decisions: loop {
+        let pushed = standing.pushed();
+        let found = advisers.ask(log, standing.assigned(), decisions.len(), pushed)?;
         if let Some(line) = found {
             return Ok(Descent::Advised(line));
         }
         let picked = advisers.brancher.pick(standing.values());
         let Some(first) = choose(standing.values(), count, picked) else {
-            return Ok(Descent::Fixpoint(standing.into_assigned()));
+            return Ok(Descent::Fixpoint(standing.to_assigned(alloc)?));
         };
         let further = decisions.len().saturating_sub(begun) / DECISIONS_FOR_ONE_MORE;
         let more = pick_more(alloc, &mut advisers.brancher, standing.values(), further)?;
-        let end = decide(log, decisions, &mut standing, trail, first, more.as_slice())?;
-        trail.give_back(more.as_slice(), &mut advisers.brancher);
+        let end = decide(log, decisions, standing, first, more.as_slice())?;
+        standing.give_back(more.as_slice(), &mut advisers.brancher);
         if let Some(conflict) = end {
-            return Ok(Descent::Conflict(conflict));
+            return Ok(Descent::Conflict(Some(conflict)));
         }
     }
 }

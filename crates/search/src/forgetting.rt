@@ -20,7 +20,8 @@ impl<'a, P: Propagator> Run<'a, P> {
         if !self.learned.is_due() {
             return Ok(());
         }
-        let gone = self.learned.take_half(self.alloc, self.trail.entries())?;
+        let trail = self.standing.trail().entries();
+        let gone = self.learned.take_half(self.alloc, trail)?;
         self.log.forget(self.alloc, gone.as_slice())?;
         self.forget_outdone()
     }
@@ -46,7 +47,8 @@ impl<'a, P: Propagator> Run<'a, P> {
         ensures biting { OnOk result (self.new.log.biting ≡ self.old.log.biting) }
         ensures decisions { self.new.decisions.items ≡ self.old.decisions.items }
     {
-        let gone = self.outdone.take(self.alloc, self.trail.entries())?;
+        let trail = self.standing.trail().entries();
+        let gone = self.outdone.take(self.alloc, trail)?;
         self.log.forget(self.alloc, gone.as_slice())
     }
 }

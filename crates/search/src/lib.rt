@@ -24,12 +24,12 @@ mod overtaken;
 mod presolving;
 mod progress;
 mod restarts;
+mod retracing;
 mod run;
 mod searched;
 mod solution;
 mod solver;
 mod standing;
-mod trail;
 
 pub use branching::{Activity, Brancher, First, Progress, Value};
 pub use found::{Found, Unfinished};

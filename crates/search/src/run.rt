@@ -3,11 +3,11 @@
 //! A turn decides until there is a conflict, a line of an adviser or a solution, or undoes decisions that a conflict does not take (`descent`).
 //! From a decision to what its conflict teaches it goes in this order:
 //!
-//! 1. `descent` decides a literal, and notes what it forces (`standing`, `trail`), up to the conflict. Where decisions that stood before lead
-//!    to it, `overtaken` undoes those that it does not take, and that is the turn.
+//! 1. `descent` brings what stands in step with the open decisions (`retracing`), decides a literal, and notes what it forces (`standing`), up to
+//!    the conflict. Where decisions that stood before lead to it, `overtaken` undoes those that it does not take, and that is the turn.
 //! 2. `endings`: with no decision open the search is at its end, and at the last conflict that it may meet it stops.
 //! 3. `conflict` has `cutting` learn what the analysis derives, or else `clause` that the decisions do not all hold: either writes a line, and
-//!    undoes decisions. What came with these goes off the trail (`go_back`).
+//!    undoes decisions. What came with these is taken off (`go_back`).
 //! 4. `conflict` counts it. As far as that is due it is told how far the search has come (`progress`), half of what was learned is forgotten
 //!    (`forgetting`, over `learned`), all decisions are undone (`restarts`), and what is outdone goes (`forgetting`, over `outdone`).
 //!
@@ -20,7 +20,7 @@ use super::found::Found;
 use super::learned::LearnedConstraints;
 use super::outdone::Outdone;
 use super::restarts::Restarts;
-use super::trail::{Trail, level_of};
+use super::standing::Standing;
 use analysis::Analyser;
 use linear::Lit;
 use proof_log::Log;
@@ -35,8 +35,8 @@ pub(crate) struct Run<'a, P: Propagator> {
     pub(crate) log: Log<'a, P>,
     /// The literals that are decided, the first one first.
     pub(crate) decisions: Vec<Lit>,
-    /// What stands by them, for the analysis alone.
-    pub(crate) trail: Trail,
+    /// What they extended to when that was last asked, with what was decided since.
+    pub(crate) standing: Standing,
     pub(crate) restarts: Restarts,
     pub(crate) learned: LearnedConstraints,
     pub(crate) outdone: Outdone,
@@ -63,12 +63,12 @@ impl<'a, P: Propagator> Run<'a, P> {
         ensures log { IfOk result (λ run. run.log ≡ log.entry) }
         ensures decisions { IfOk result (λ run. run.decisions.items ≡ []) }
     {
-        let count = log.names().len() as u32;
+        let count = log.names().len();
         Ok(Run {
             alloc,
             log,
             decisions: Vec::new(alloc),
-            trail: Trail::new(alloc, count)?,
+            standing: Standing::new(alloc, count)?,
             restarts: Restarts::new(),
             learned: LearnedConstraints::new(alloc),
             outdone: Outdone::new(alloc),
@@ -78,13 +78,13 @@ impl<'a, P: Propagator> Run<'a, P> {
         })
     }
 
-    /// Takes off the trail what came with decisions that are undone.
+    /// Takes off what came with decisions that are undone.
     pub(crate) fn go_back(&mut self)
         ensures log { self.new.log ≡ self.old.log }
         ensures decisions { self.new.decisions.items ≡ self.old.decisions.items }
     {
-        let level = level_of(self.decisions.as_slice());
-        self.trail.go_back(level, &mut self.advisers.brancher);
+        let count = self.decisions.len();
+        self.standing.go_back(count, &mut self.advisers.brancher);
     }
 
     /// How many variables the file has.
@@ -113,7 +113,7 @@ impl<'a, P: Propagator> Run<'a, P> {
             self.alloc,
             &mut self.log,
             &mut self.decisions,
-            &mut self.trail,
+            &mut self.standing,
             count,
             &mut self.advisers,
         )?;

@@ -24,3 +24,4 @@ pub mod ToldTrail
 pub mod Underlying
 pub mod Walking
 pub mod WideEnough
+pub mod Retraced

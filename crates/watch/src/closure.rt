@@ -14,7 +14,7 @@ ghost use Rattle.std.specs.Option.{option_copied};
 ghost use Rattle.propagate.specs.Chain.{IsRefuted};
 ghost use Rattle.propagate.specs.Content.{AreDecided, AreTaken};
 ghost use Rattle.propagate.specs.Literals.{IsConsistent};
-ghost use Rattle.propagate.specs.Reach.{IsReach};
+ghost use Rattle.propagate.specs.Reach.{IsReach, IsRetrace};
 ghost use Rattle.ledger.specs.Ledgers.{constraint_at, shown};
 ghost use Rattle.ledger.specs.Entered.{AreEntriesOf, all_of};
 ghost use Rattle.watch.specs.Named.{AreNamed, content_at};
@@ -28,11 +28,12 @@ use super::following::go_back;
 use super::levels::Levels;
 use super::refutation::refute_anew;
 use super::release::release;
+use super::retracing::retrace_over;
 use super::tracing::chain_over;
 use ledger::{Entries, Ledger, Queue};
 use linear::Lit;
 use normal_form::Normal;
-use propagate::{Decided, Id, Reach};
+use propagate::{Decided, Id, Reach, Retrace};
 use std::alloc::{AllocError, Global};
 use std::marker::Model;
 
@@ -131,6 +132,27 @@ impl Closure {
             &mut self.queue,
             &mut self.levels,
             given,
+        )
+    }
+
+    /// The same, told by what is new beside literals that are known, and with the ids of places.
+    pub(crate) fn retrace(
+        &mut self,
+        given: &[Lit],
+        known: &[Lit],
+        ids: &[Id],
+    ) -> Result<Retrace, AllocError>
+        ensures slots { self.new ≡ self.old }
+        ensures value { IfOk result (IsRetrace (shown self.old) given.now known.now) }
+    {
+        retrace_over(
+            self.alloc,
+            &mut self.ledger,
+            &mut self.queue,
+            &mut self.levels,
+            given,
+            known,
+            ids,
         )
     }
 

@@ -10,7 +10,7 @@ ghost use Rattle.std.specs.Option.{option_copied};
 ghost use Rattle.propagate.specs.Chain.{IsRefuted};
 ghost use Rattle.propagate.specs.Content.{AreDecided, AreTaken, HasLiteral, IsLeastAbove, IsTrace};
 ghost use Rattle.propagate.specs.Literals.{IsConsistent};
-ghost use Rattle.propagate.specs.Reach.{IsReach};
+ghost use Rattle.propagate.specs.Reach.{IsReach, IsRetrace};
 ghost use Rattle.watch.specs.Lent.{IsEachOnce};
 
 use super::closure::Closure;
@@ -19,7 +19,7 @@ use super::naming::trace_of;
 use super::places::Places;
 use linear::Lit;
 use normal_form::Normal;
-use propagate::{Decided, Id, Reach, Trace};
+use propagate::{Decided, Id, Reach, Retrace, Trace};
 use std::alloc::{AllocError, Global};
 use std::marker::Model;
 
@@ -184,6 +184,14 @@ impl Database {
         ensures value { IfOk result (IsReach (map.values self.old) given.now) }
     {
         self.closure.extend(given)
+    }
+
+    /// The same, told by what is new beside literals that are known.
+    pub(crate) fn retrace(&mut self, given: &[Lit], known: &[Lit]) -> Result<Retrace, AllocError>
+        ensures content { self.new ≡ self.old }
+        ensures value { IfOk result (IsRetrace (map.values self.old) given.now known.now) }
+    {
+        self.closure.retrace(given, known, self.ids.as_slice())
     }
 
     /// A chain from an assignment without opposites, with the ids of its reasons, to a falsified constraint or to the end.

@@ -8,7 +8,7 @@ use super::database::Database;
 use super::lending::Occurrences;
 use linear::Lit;
 use normal_form::Normal;
-use propagate::{Decided, Id, Ids, Propagator, Reach, Trace};
+use propagate::{Decided, Id, Ids, Propagator, Reach, Retrace, Trace};
 use std::alloc::{AllocError, Global};
 use std::marker::Model;
 
@@ -85,6 +85,10 @@ impl Propagator for WatchPropagator {
 
     fn extend(&mut self, given: &[Lit]) -> Result<Reach, AllocError> {
         self.database.extend(given)
+    }
+
+    fn retrace(&mut self, given: &[Lit], known: &[Lit]) -> Result<Retrace, AllocError> {
+        self.database.retrace(given, known)
     }
 
     fn trace(&mut self, given: &[Lit]) -> Result<Trace, AllocError> {

@@ -4,10 +4,10 @@ use Rattle.search.specs.Decisions.{AreDecisions}
 use Rattle.search.specs.Values.{unlisted_below}
 use Rattle.search.proofs.descent.descend.Given as goal
 
-abbrev pub invariant-loop-standing : goal.invariant-loop-standing
-invariant-loop-standing g l =
+abbrev pub invariant-decisions : goal.invariant-decisions
+invariant-decisions g l =
     (l.log ≡ l.initial.log) × AreDecisions l.log l.decisions.items × (length l.standing.1 ≡ l.count)
     × IsEnd l.log.state.live l.decisions.items l.standing.0
 
-abbrev pub decreases-loop-standing : goal.decreases-loop-standing
-decreases-loop-standing g l = unlisted_below l.count l.decisions.items
+abbrev pub decreases-decisions : goal.decreases-decisions
+decreases-decisions g l = unlisted_below l.count l.decisions.items
