@@ -45,7 +45,7 @@ enum Concluded {
 }
 
 /// Whether the kernel of a file answers to each line as its row says, and then to this conclusion with this fault, or with none.
-fn answers_are(
+fn answers_are<P: Propagator>(
     alloc: Global,
     file: &str,
     rows: &[Row],
@@ -56,7 +56,7 @@ fn answers_are(
         return Err(StepFault::OutOfMemory);
     };
     let mut names = problem.names().copy(alloc)?;
-    let mut kernel: Kernel<'_, ScanPropagator> = Kernel::new(alloc, &problem)?;
+    let mut kernel: Kernel<'_, P> = Kernel::new(alloc, &problem)?;
     for (line, wanted) in rows {
         if answer(alloc, &mut kernel, &mut names, line) != *wanted {
             return Ok(false);
@@ -146,8 +146,14 @@ const LEFT_OPEN_IN_A_GOAL: [Row; 2] = [
 #[test]
 fn answers_to_steps_of_blocks(rt: HostRuntime) {
     let alloc = rt.alloc();
-    assert!(&rt; answers_are(alloc, PIGEONS_IN_HOLES, &PLACES, Concluded::Unsat, None) == Ok(true));
-    assert!(&rt; answers_are(alloc, PIGEONS_IN_HOLES, &GOALS, Concluded::Unsat, None) == Ok(true));
+    assert!(&rt;
+        answers_are::<ScanPropagator>(alloc, PIGEONS_IN_HOLES, &PLACES, Concluded::Unsat, None)
+            == Ok(true)
+    );
+    assert!(&rt;
+        answers_are::<ScanPropagator>(alloc, PIGEONS_IN_HOLES, &GOALS, Concluded::Unsat, None)
+            == Ok(true)
+    );
 }
 
 /// Conclusions in a block and in a goal of one, on files without and with an objective.
@@ -163,6 +169,8 @@ const IN_BLOCKS: [(&str, &[Row], Concluded); 5] = [
 fn nothing_is_concluded_in_blocks(rt: HostRuntime) {
     let fault = Some(StepFault::BlockOpen);
     for (file, rows, concluded) in &IN_BLOCKS {
-        assert!(&rt; answers_are(rt.alloc(), file, rows, *concluded, fault) == Ok(true));
+        assert!(&rt;
+            answers_are::<ScanPropagator>(rt.alloc(), file, rows, *concluded, fault) == Ok(true)
+        );
     }
 }

@@ -12,7 +12,7 @@ use opb_read::read;
 use proof_rules::StepFault;
 use proof_steps::{Conclusion, Item, Step};
 use proof_text::read_step;
-use propagate::ScanPropagator;
+use propagate::{Propagator, ScanPropagator};
 use std::alloc::{AllocError, Global};
 use std::process::Abort;
 
@@ -64,9 +64,9 @@ fn step(alloc: Global, line: Line) -> Result<Step, AllocError>
 }
 
 /// What the kernel answers to a step.
-fn applied(
+fn applied<P: Propagator>(
     alloc: Global,
-    kernel: &mut Kernel<'_, ScanPropagator>,
+    kernel: &mut Kernel<'_, P>,
     line: Line,
 ) -> Result<Option<u32>, StepFault> {
     let step = step(alloc, line)?;
@@ -75,9 +75,9 @@ fn applied(
 }
 
 /// Whether the kernel of the file answers to each step as its row says.
-fn answers_are(alloc: Global, least: i8, rows: &[Row]) -> Result<bool, StepFault> {
+fn answers_are<P: Propagator>(alloc: Global, least: i8, rows: &[Row]) -> Result<bool, StepFault> {
     let problem = problem(alloc, least)?;
-    let mut kernel: Kernel<'_, ScanPropagator> = Kernel::new(alloc, &problem)?;
+    let mut kernel: Kernel<'_, P> = Kernel::new(alloc, &problem)?;
     for row in rows {
         if applied(alloc, &mut kernel, row.line) != row.answer || kernel.last_id() != row.last_id {
             return Ok(false);
@@ -197,15 +197,19 @@ const NO_SOLUTION: [Row; 1] = [Row {
 
 #[test]
 fn answers_to_steps(rt: HostRuntime) {
-    assert!(&rt; answers_are(rt.alloc(), 0, &NUMBERS) == Ok(true));
-    assert!(&rt; answers_are(rt.alloc(), 0, &REFUSED_IN_THE_MIDDLE) == Ok(true));
-    assert!(&rt; answers_are(rt.alloc(), 0, &DELETED) == Ok(true));
-    assert!(&rt; answers_are(rt.alloc(), 0, &SOLUTION) == Ok(true));
-    assert!(&rt; answers_are(rt.alloc(), 1, &NO_SOLUTION) == Ok(true));
+    assert!(&rt; answers_are::<ScanPropagator>(rt.alloc(), 0, &NUMBERS) == Ok(true));
+    assert!(&rt; answers_are::<ScanPropagator>(rt.alloc(), 0, &REFUSED_IN_THE_MIDDLE) == Ok(true));
+    assert!(&rt; answers_are::<ScanPropagator>(rt.alloc(), 0, &DELETED) == Ok(true));
+    assert!(&rt; answers_are::<ScanPropagator>(rt.alloc(), 0, &SOLUTION) == Ok(true));
+    assert!(&rt; answers_are::<ScanPropagator>(rt.alloc(), 1, &NO_SOLUTION) == Ok(true));
 }
 
 /// What the kernel of a file answers to its first step. A text that is not read counts as out of memory.
-fn answer_to_first(alloc: Global, file: &str, line: &str) -> Result<Option<u32>, StepFault> {
+fn answer_to_first<P: Propagator>(
+    alloc: Global,
+    file: &str,
+    line: &str,
+) -> Result<Option<u32>, StepFault> {
     let Ok(problem) = read(alloc, file.as_bytes()) else {
         return Err(StepFault::OutOfMemory);
     };
@@ -213,7 +217,7 @@ fn answer_to_first(alloc: Global, file: &str, line: &str) -> Result<Option<u32>,
     let Ok(step) = read_step(alloc, line.as_bytes(), &mut names) else {
         return Err(StepFault::OutOfMemory);
     };
-    let mut kernel: Kernel<'_, ScanPropagator> = Kernel::new(alloc, &problem)?;
+    let mut kernel: Kernel<'_, P> = Kernel::new(alloc, &problem)?;
     Ok(kernel.apply(&step)?.id)
 }
 
@@ -242,7 +246,7 @@ const REDUNDANT: [(&str, Result<Option<u32>, StepFault>); 5] = [
 #[test]
 fn answers_to_redundance(rt: HostRuntime) {
     for (line, answer) in &REDUNDANT {
-        assert!(&rt; answer_to_first(rt.alloc(), TRIANGLE, line) == *answer);
+        assert!(&rt; answer_to_first::<ScanPropagator>(rt.alloc(), TRIANGLE, line) == *answer);
     }
 }
 
@@ -255,14 +259,14 @@ enum Concluded {
 }
 
 /// Whether a conclusion is handed out behind these steps with a best solution.
-fn has_best(
+fn has_best<P: Propagator>(
     alloc: Global,
     least: i8,
     steps: &[Row],
     concluded: Concluded,
 ) -> Result<bool, StepFault> {
     let problem = problem(alloc, least)?;
-    let mut kernel: Kernel<'_, ScanPropagator> = Kernel::new(alloc, &problem)?;
+    let mut kernel: Kernel<'_, P> = Kernel::new(alloc, &problem)?;
     for row in steps {
         let _answer = applied(alloc, &mut kernel, row.line);
     }
@@ -278,12 +282,19 @@ fn has_best(
 #[test]
 fn answers_to_conclusions(rt: HostRuntime) {
     let alloc = rt.alloc();
-    assert!(&rt; has_best(alloc, 0, &NUMBERS, Concluded::Nothing) == Ok(false));
-    assert!(&rt; has_best(alloc, 0, &SOLUTION, Concluded::Sat) == Ok(true));
+    assert!(&rt; has_best::<ScanPropagator>(alloc, 0, &NUMBERS, Concluded::Nothing) == Ok(false));
+    assert!(&rt; has_best::<ScanPropagator>(alloc, 0, &SOLUTION, Concluded::Sat) == Ok(true));
     assert!(&rt;
-        has_best(alloc, 1, &NO_SOLUTION, Concluded::Sat) == Err(StepFault::UpperNotLogged)
+        has_best::<ScanPropagator>(alloc, 1, &NO_SOLUTION, Concluded::Sat)
+            == Err(StepFault::UpperNotLogged)
     );
-    assert!(&rt; has_best(alloc, 1, &NO_SOLUTION, Concluded::Unsat) == Ok(false));
-    assert!(&rt; has_best(alloc, 0, &SOLUTION, Concluded::Unsat) == Err(StepFault::SolutionLogged));
-    assert!(&rt; has_best(alloc, 0, &NUMBERS, Concluded::Unsat) == Err(StepFault::LowerNotShown));
+    assert!(&rt; has_best::<ScanPropagator>(alloc, 1, &NO_SOLUTION, Concluded::Unsat) == Ok(false));
+    assert!(&rt;
+        has_best::<ScanPropagator>(alloc, 0, &SOLUTION, Concluded::Unsat)
+            == Err(StepFault::SolutionLogged)
+    );
+    assert!(&rt;
+        has_best::<ScanPropagator>(alloc, 0, &NUMBERS, Concluded::Unsat)
+            == Err(StepFault::LowerNotShown)
+    );
 }
