@@ -204,21 +204,41 @@ fn answers_to_steps(rt: HostRuntime) {
     assert!(&rt; answers_are::<ScanPropagator>(rt.alloc(), 1, &NO_SOLUTION) == Ok(true));
 }
 
-/// What the kernel of a file answers to its first step. A text that is not read counts as out of memory.
+/// What the kernel of a problem answers to its first step.
+fn applied_first<P: Propagator>(
+    alloc: Global,
+    problem: &Problem,
+    step: &Step,
+) -> Result<Option<u32>, StepFault>
+    requires { HasAtLeast step.now }
+{
+    let mut kernel: Kernel<'_, P> = Kernel::new(alloc, problem)?;
+    Ok(kernel.apply(step)?.id)
+}
+
+/// What it answers to the step that a line says. A text that is not read counts as out of memory.
+fn answer_to_line<P: Propagator>(
+    alloc: Global,
+    problem: &Problem,
+    line: &str,
+) -> Result<Option<u32>, StepFault> {
+    let mut names = problem.names().copy(alloc)?;
+    match read_step(alloc, line.as_bytes(), &mut names) {
+        Ok(step) => applied_first::<P>(alloc, problem, &step),
+        Err(_) => Err(StepFault::OutOfMemory),
+    }
+}
+
+/// What the kernel of a file answers to its first step.
 fn answer_to_first<P: Propagator>(
     alloc: Global,
     file: &str,
     line: &str,
 ) -> Result<Option<u32>, StepFault> {
-    let Ok(problem) = read(alloc, file.as_bytes()) else {
-        return Err(StepFault::OutOfMemory);
-    };
-    let mut names = problem.names().copy(alloc)?;
-    let Ok(step) = read_step(alloc, line.as_bytes(), &mut names) else {
-        return Err(StepFault::OutOfMemory);
-    };
-    let mut kernel: Kernel<'_, P> = Kernel::new(alloc, &problem)?;
-    Ok(kernel.apply(&step)?.id)
+    match read(alloc, file.as_bytes()) {
+        Ok(problem) => answer_to_line::<P>(alloc, &problem, line),
+        Err(_) => Err(StepFault::OutOfMemory),
+    }
 }
 
 const TRIANGLE: &str = "min: 2 x1 3 x2 4 x3 ; 1 x1 1 x2 >= 1 ; 1 x2 1 x3 >= 1 ; 1 x1 1 x3 >= 1 ;";
@@ -258,7 +278,40 @@ enum Concluded {
     Unsat,
 }
 
-/// Whether a conclusion is handed out behind these steps with a best solution.
+/// The conclusion that a kernel is asked for.
+fn conclusion_of(concluded: Concluded) -> Conclusion {
+    match concluded {
+        Concluded::Nothing => Conclusion::Nothing,
+        Concluded::Sat => Conclusion::Sat(None),
+        Concluded::Unsat => Conclusion::Unsat,
+    }
+}
+
+/// Whether a conclusion is handed out with a best solution.
+fn concludes_with_best<P: Propagator>(
+    kernel: &mut Kernel<'_, P>,
+    concluded: Concluded,
+) -> Result<bool, StepFault> {
+    let conclusion = conclusion_of(concluded);
+    let accepted = kernel.conclude(&conclusion)?;
+    Ok(accepted.best().is_some())
+}
+
+/// The same behind some steps of a problem.
+fn has_best_behind<P: Propagator>(
+    alloc: Global,
+    problem: &Problem,
+    steps: &[Row],
+    concluded: Concluded,
+) -> Result<bool, StepFault> {
+    let mut kernel: Kernel<'_, P> = Kernel::new(alloc, problem)?;
+    for row in steps {
+        let _answer = applied(alloc, &mut kernel, row.line);
+    }
+    concludes_with_best(&mut kernel, concluded)
+}
+
+/// The same of the file `>= LEAST ; = 0 ;`.
 fn has_best<P: Propagator>(
     alloc: Global,
     least: i8,
@@ -266,17 +319,7 @@ fn has_best<P: Propagator>(
     concluded: Concluded,
 ) -> Result<bool, StepFault> {
     let problem = problem(alloc, least)?;
-    let mut kernel: Kernel<'_, P> = Kernel::new(alloc, &problem)?;
-    for row in steps {
-        let _answer = applied(alloc, &mut kernel, row.line);
-    }
-    let conclusion = match concluded {
-        Concluded::Nothing => Conclusion::Nothing,
-        Concluded::Sat => Conclusion::Sat(None),
-        Concluded::Unsat => Conclusion::Unsat,
-    };
-    let accepted = kernel.conclude(&conclusion)?;
-    Ok(accepted.best().is_some())
+    has_best_behind::<P>(alloc, &problem, steps, concluded)
 }
 
 #[test]
