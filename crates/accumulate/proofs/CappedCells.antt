@@ -1,13 +1,16 @@
 -- What capping does to a net coefficient, to an array of them, and to the constraint that it stands for.
-use Rattle.std.proofs.Common.{◌≡◌, ℕ, zero, suc, ◌+◌, ◌-◌, ◌<◌, ◌≤◌, min, Bool, true, false, List, length, get_or, refl, ap, sym, subst, ◌∙◌, arith, to_z, of_z}
+use Rattle.std.proofs.Common.{◌≡◌, ℕ, zero, suc, ◌+◌, ◌-◌, ◌<◌, ◌≤◌, min, Bool, true, false, List, length, get_or, ◌⊎◌, inl, inr, refl, ap, sym, subst, ◌∙◌, arith, to_z, of_z}
 use mir.Syntax.{w128}
 use Rattle.std.specs.Prelude.{ℤ, pos, negsuc, neg_ℤ, unsigned_abs}
 use Rattle.std.proofs.lemmas.Int.{ints}
 use Rattle.std.proofs.Math.ListN.{set}
+use Rattle.std.proofs.lemmas.Bool.{cases_eq}
+use Rattle.std.proofs.lemmas.Grind.{get_or_default_zero}
+use Rattle.std.proofs.lemmas.List.{get_or-set_same, get_or-set_other}
 use Rattle.normal_form.specs.Normal.{NormalConstraint, coefficient, largest_sum}
 use Rattle.normal_form.specs.NormalOf.{at_least_zero}
 use Rattle.cut_rules.specs.Rules.{IsSaturation}
-use Rattle.accumulate.specs.Nets.{AreCapped, capped, constraint_of, sizes}
+use Rattle.accumulate.specs.Nets.{AreCapped, IsAhead, capped, constraint_of, sizes}
 use Rattle.accumulate.proofs.NetTerms.{set_sizes, size_below, terms_rise}
 use Rattle.accumulate.proofs.Coefficients.{coefficients_at}
 
@@ -39,6 +42,10 @@ pub capped_size : (m : ℕ) (z : ℤ) → unsigned_abs (capped m z) ≤ unsigned
 capped_size m (pos n) = omega arith
 capped_size m (negsuc n) = omega (arith, size_of_turned (min (suc n) m))
 
+pub capped_low : (m : ℕ) (z : ℤ) → unsigned_abs (capped m z) ≤ m
+capped_low m (pos n) = omega arith
+capped_low m (negsuc n) = omega (arith, size_of_turned (min (suc n) m))
+
 plain : (m : ℕ) (z : ℤ) → at_least_zero (capped m z) ≡ min (at_least_zero z) m
 plain m (pos n) = refl
 plain m (negsuc n) = omega (arith, none_above (min (suc n) m))
@@ -61,6 +68,40 @@ saturated d ns new degree is all = subst (λ (x : NormalConstraint). IsSaturatio
   degree = refl;
   rises = terms_rise 0 new;
 })
+
+-- a cell that is marked next is capped; the others are as they were
+pub one_capped : (most : ℕ) (marks : List ℕ) (ns now : List ℤ) (i place : ℕ) → i < length marks → place ≡ get_or marks i 0 → place < length now
+    → ((v : ℕ) → (get_or now v (pos 0) ≡ capped most (get_or ns v (pos 0))) ⊎ ((get_or now v (pos 0) ≡ get_or ns v (pos 0)) × IsAhead i marks v))
+    → (v : ℕ) → (get_or (set now place (capped most (get_or now place (pos 0)))) v (pos 0) ≡ capped most (get_or ns v (pos 0)))
+    ⊎ ((get_or (set now place (capped most (get_or now place (pos 0)))) v (pos 0) ≡ get_or ns v (pos 0)) × IsAhead (i + 1) marks v)
+one_capped most marks ns now i place h e l so v = elim (cases_eq v place) [
+  | inl is ↦
+      let here : get_or (set now place (capped most (get_or now place (pos 0)))) v (pos 0) ≡ capped most (get_or now v (pos 0)) =
+      ap (λ (x : ℕ). get_or (set now place (capped most (get_or now place (pos 0)))) x (pos 0)) is ∙ get_or-set_same now place (capped most (get_or now place (pos 0))) (pos 0) l ∙ ap (λ (x : ℕ). capped most (get_or now x (pos 0))) (sym is) in
+      inl (elim (so v) [
+        | inl done ↦ here ∙ ap (capped most) done ∙ again most (get_or ns v (pos 0))
+        | inr same ↦ here ∙ ap (capped most) same.0
+      ])
+  | inr apart ↦
+      let kept : get_or (set now place (capped most (get_or now place (pos 0)))) v (pos 0) ≡ get_or now v (pos 0) = get_or-set_other now place v (capped most (get_or now place (pos 0))) (pos 0) apart in
+      elim (so v) [
+        | inl done ↦ inl (kept ∙ done)
+        | inr same ↦
+            let a : IsAhead i marks v = same.1 in
+            inr (
+              kept ∙ same.0,
+              (
+                a.0,
+                elim (cases_eq a.0 i) [
+                  | inl at ↦ absurd (apart (sym a.3 ∙ get_or_default_zero marks a.0 v a.2 ∙ ap (λ (x : ℕ). get_or marks x 0) at ∙ sym e))
+                  | inr other ↦ omega (arith, a.1, other)
+                ],
+                a.2,
+                a.3,
+              ),
+            )
+      ]
+]
 
 -- a number of this size is read back as it is
 pub whole : (z : ℤ) → unsigned_abs z ≤ largest_sum → to_z w128 (of_z w128 z) ≡ z

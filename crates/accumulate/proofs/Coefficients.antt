@@ -14,7 +14,7 @@ use Rattle.cut_rules.proofs.Sum.{sum_total}
 use Rattle.std.proofs.Math.ListN.{set}
 use Rattle.std.proofs.lemmas.List.{get_or-set_same, get_or-set_other, length-set}
 use Rattle.std.proofs.lemmas.List.Elements.{All-weaker}
-use Rattle.accumulate.specs.Nets.{terms_from, nets_of, sizes, constraint_of, IsMarked}
+use Rattle.accumulate.specs.Nets.{terms_from, nets_of, sizes, constraint_of, IsMarkedAbove}
 use Rattle.accumulate.proofs.NetTerms.{terms_give, terms_rise, size_below, set_sizes}
 
 passed : (k v : ℕ) (n : ℤ) → k ≢ v → cond (k == v) n (pos 0) ≡ pos 0
@@ -118,8 +118,8 @@ pub weakened_cell : (ns : List ℤ) (x degree result : ℕ) (net : ℤ) → x < 
 weakened_cell ns x degree result net h e d = weakened ns (set ns x (pos 0)) x degree result (get_or-set_same ns x (pos 0) (pos 0) h) (λ v n. get_or-set_other ns x v (pos 0) (pos 0) n) (omega (arith, d, ap unsigned_abs (e ∙ defaulted ns x net (pos 0) h)))
 
 -- a cell that is set to 0 needs no mark
-pub marked_zero : (marks : List ℕ) (ns : List ℤ) (i : ℕ) → i < length ns → IsMarked marks ns → IsMarked marks (set ns i (pos 0))
-marked_zero marks ns i h m = record {
+pub marked_zero : (level : ℕ) (marks : List ℕ) (ns : List ℤ) (i : ℕ) → i < length ns → IsMarkedAbove level marks ns → IsMarkedAbove level marks (set ns i (pos 0))
+marked_zero level marks ns i h m = record {
   covers = λ v p. elim (cases_eq v i) [
     | inl e ↦ absurd (omega (arith, p, ap (λ (j : ℕ). unsigned_abs (get_or (set ns i (pos 0)) j (pos 0))) e, ap unsigned_abs (get_or-set_same ns i (pos 0) (pos 0) h)))
     | inr e ↦ m.covers v (omega (arith, p, ap unsigned_abs (get_or-set_other ns i v (pos 0) (pos 0) e)))

@@ -7,11 +7,11 @@ use Rattle.std.proofs.lemmas.List.Elements.{All-get_or, All-weaker, All-push, Co
 use Rattle.std.proofs.lemmas.Bool.{cases_eq}
 use Rattle.std.proofs.lemmas.List.{take_more}
 use Rattle.normal_form.specs.declared.term.NormalTerm.{NormalTerm}
-use Rattle.accumulate.specs.Nets.{IsMarked, NamesAll}
+use Rattle.accumulate.specs.Nets.{IsMarked, IsMarkedAbove, NamesAll}
 
 -- a cell of a marked variable may be set
-pub marked_set : (marks : List ℕ) (ns : List ℤ) (i : ℕ) (new : ℤ) → Contains marks i → IsMarked marks ns → IsMarked marks (set ns i new)
-marked_set marks ns i new h m = record {
+pub marked_set : (level : ℕ) (marks : List ℕ) (ns : List ℤ) (i : ℕ) (new : ℤ) → Contains marks i → IsMarkedAbove level marks ns → IsMarkedAbove level marks (set ns i new)
+marked_set level marks ns i new h m = record {
   covers = λ v p. elim (cases_eq v i) [
     | inl e ↦ subst (λ (x : ℕ). Contains marks x) (sym e) h
     | inr e ↦ m.covers v (omega (arith, p, ap unsigned_abs (get_or-set_other ns i v new (pos 0) e)))
@@ -26,8 +26,8 @@ beyond [] (suc v) = refl
 beyond (n ∷ ns) zero = refl
 beyond (n ∷ ns) (suc v) = beyond ns v
 
-pub marked_longer : (marks : List ℕ) (ns : List ℤ) → IsMarked marks ns → IsMarked marks (ns ++ pos 0 ∷ [])
-marked_longer marks ns m = record {
+pub marked_longer : (level : ℕ) (marks : List ℕ) (ns : List ℤ) → IsMarkedAbove level marks ns → IsMarkedAbove level marks (ns ++ pos 0 ∷ [])
+marked_longer level marks ns m = record {
   covers = λ v p. m.covers v (omega (arith, p, ap unsigned_abs (beyond ns v)));
   room = All-weaker (λ v. v < length ns) (λ v. v < length (ns ++ pos 0 ∷ [])) (λ v p. omega (arith, p, length-append ns (pos 0 ∷ []))) marks m.room;
 }

@@ -26,10 +26,14 @@ abbrev pub turned : Change → ℤ → ℤ
 turned changes.Add z = z
 turned changes.TakeBack z = neg_ℤ z
 
--- the marks name every variable with a net coefficient, and none past the array
-pub record IsMarked (marks : List ℕ) (nets : List ℤ) : Type 0 where
-  pub covers : (v : ℕ) → 0 < unsigned_abs (slice_index_or nets v (pos 0)) → Contains marks v
+-- the marks name every variable whose net coefficient is greater than a number, and none past the array
+pub record IsMarkedAbove (level : ℕ) (marks : List ℕ) (nets : List ℤ) : Type 0 where
+  pub covers : (v : ℕ) → level < unsigned_abs (slice_index_or nets v (pos 0)) → Contains marks v
   pub room : All (λ v. v < length nets) marks
+
+-- the marks name every variable with a net coefficient, and none past the array
+abbrev pub IsMarked : List ℕ → List ℤ → Type 0
+IsMarked marks nets = IsMarkedAbove 0 marks nets
 
 -- the marks name every variable of the terms
 abbrev pub NamesAll : List ℕ → List NormalTerm → Type 0

@@ -16,11 +16,11 @@ ghost use Rattle.normal_form.specs.NormalOf.{at_least_zero};
 ghost use Rattle.cut_rules.specs.Rules.{IsSaturation, IsSum, IsTooLarge, IsWeakening};
 ghost use Rattle.accumulate.specs.Nets.{nothing};
 
-use super::capping::cap;
-use super::cells::{Change, apply, degree_after, fits, make_room, mark_reserved, prepare};
+use super::capping::cap_all;
+use super::cells::{Change, apply, degree_after, fits, make_room, mark_reserved, note, prepare};
 use super::reading::{clear, collect, finished};
 use linear::Var;
-use normal_form::{CutFault, Normal};
+use normal_form::{CutFault, LARGEST_SUM, Normal};
 use std::alloc::{AllocError, Global};
 use std::marker::Model;
 
@@ -33,17 +33,20 @@ pub struct Accumulator {
     touched: Vec<u32>,
     sum: u128,
     degree: u128,
+    /// No net coefficient is greater, but for variables that were added since it was saturated.
+    level: u128,
+    recent: Vec<u32>,
 }
 
 impl Model for Accumulator {
     ghost use Rattle.normal_form.specs.Normal.{NormalConstraint};
-    ghost use Rattle.accumulate.specs.Nets.{constraint_of, IsKept};
+    ghost use Rattle.accumulate.specs.Nets.{constraint_of, IsKept, IsMarkedAbove};
 
     ghost Value = { NormalConstraint };
 
     ghost view = { λ a. constraint_of a.nets.items a.degree };
 
-    ghost invariant = { λ a. IsKept a.nets.items a.touched.items a.sum a.degree };
+    ghost invariant = { λ a. IsKept a.nets.items a.touched.items a.sum a.degree × IsMarkedAbove a.level a.recent.items a.nets.items };
 }
 
 impl Accumulator {
@@ -56,6 +59,8 @@ impl Accumulator {
             touched: Vec::new(alloc),
             sum: 0,
             degree: 0,
+            level: LARGEST_SUM,
+            recent: Vec::new(alloc),
         }
     }
 
@@ -100,6 +105,7 @@ impl Accumulator {
         ensures factor { IsErrOf result CutFault.BadFactor → ⊥ }
     {
         prepare(&mut self.nets, &mut self.touched, other)?;
+        note(&mut self.recent, self.level, other)?;
         let sum = apply(&mut self.nets, self.sum, other, Change::Add);
         let degree = degree_after(self.sum, self.degree, other, sum);
         if !fits(sum, degree) {
@@ -122,6 +128,8 @@ impl Accumulator {
         mark_reserved(&mut self.touched, other);
         self.sum = apply(&mut self.nets, 0, other, Change::Add);
         self.degree = other.degree();
+        self.level = LARGEST_SUM;
+        self.recent.clear();
         Ok(())
     }
 
@@ -141,12 +149,22 @@ impl Accumulator {
         self.degree = self.degree.saturating_sub(size);
     }
 
-    /// No coefficient is above the degree any more.
+    /// No coefficient is above the degree any more. Where the degree has not fallen since the last time, only what was added since is
+    /// looked at.
     pub fn saturate(&mut self)
         ensures saturation { IsSaturation self.old self.new }
         ensures keeps { (a : Valuation) → Holds a self.old → Holds a self.new }
     {
-        self.sum = cap(&mut self.nets, &self.touched, self.sum, self.degree);
+        self.sum = cap_all(
+            &mut self.nets,
+            &self.touched,
+            &self.recent,
+            self.level,
+            self.sum,
+            self.degree,
+        );
+        self.level = self.degree;
+        self.recent.clear();
     }
 
     /// Hands over the constraint, and is empty then: without terms, of degree 0. After an error, which is that memory
@@ -170,6 +188,8 @@ impl Accumulator {
     {
         clear(&mut self.nets, &self.touched);
         self.touched.clear();
+        self.recent.clear();
+        self.level = LARGEST_SUM;
         self.sum = 0;
         self.degree = 0;
     }

@@ -8,7 +8,7 @@
 ghost use Rattle.std.specs.Prelude.{◌≡◌, ℕ, List, Bool, ◌+◌, ◌<◌, ◌≤◌, ◌^◌, ◌-◌, ◌/◌, ◌↔◌, IsTrue, pos, ◌+ℤ◌, unsigned_abs, All, Contains, OnOk, length, vec_len, vec_capacity, if◌then◌else◌};
 ghost use Rattle.normal_form.specs.Normal.{total, variable_bound, largest_sum, IsNormal};
 ghost use Rattle.normal_form.specs.Balance.{rise_of, rises_of};
-ghost use Rattle.accumulate.specs.Nets.{terms_from, nets_of, sizes, turned, IsMarked, NamesAll};
+ghost use Rattle.accumulate.specs.Nets.{terms_from, nets_of, sizes, turned, IsMarked, IsMarkedAbove, NamesAll};
 
 use linear::Var;
 use normal_form::{LARGEST_SUM, Normal, NormalTerm};
@@ -49,7 +49,7 @@ fn change_of(term: NormalTerm, change: Change) -> i128
 /// Makes the array as long as the variables of a constraint want.
 pub(crate) fn lengthen(nets: &mut Vec<i128>, wanted: usize) -> Result<(), AllocError>
     ensures terms { terms_from 0 nets.new.items ≡ terms_from 0 nets.old.items }
-    ensures marks { (marks : List ℕ) → IsMarked marks nets.old.items → IsMarked marks nets.new.items }
+    ensures marks { (level : ℕ) (marks : List ℕ) → IsMarkedAbove level marks nets.old.items → IsMarkedAbove level marks nets.new.items }
     ensures longer { OnOk result (wanted ≤ length nets.new.items) }
 {
     while nets.len() < wanted {
@@ -68,7 +68,7 @@ fn add_net(nets: &mut Vec<i128>, sum: u128, var: Var, net: i128) -> u128
     ensures gives { (set : ℕ → Bool) → nets_of set 0 nets.new.items ≡ nets_of set 0 nets.old.items +ℤ (if set (var.0) then net else pos 0) }
     ensures sum { result ≡ sizes nets.new.items }
     ensures small { result ≤ sum + unsigned_abs net }
-    ensures marks { (marks : List ℕ) → Contains marks (var.0) → IsMarked marks nets.old.items → IsMarked marks nets.new.items }
+    ensures marks { (level : ℕ) (marks : List ℕ) → Contains marks (var.0) → IsMarkedAbove level marks nets.old.items → IsMarkedAbove level marks nets.new.items }
 {
     let place = var.0 as usize;
     let before = nets[place];
@@ -86,7 +86,7 @@ pub(crate) fn apply(nets: &mut Vec<i128>, sum: u128, other: &Normal, change: Cha
     ensures same_length { length nets.new.items ≡ length nets.old.items }
     ensures sum { result ≡ sizes nets.new.items }
     ensures small { result ≤ sum + total other.now.terms }
-    ensures marks { (marks : List ℕ) → NamesAll marks other.now.terms → IsMarked marks nets.old.items → IsMarked marks nets.new.items }
+    ensures marks { (level : ℕ) (marks : List ℕ) → NamesAll marks other.now.terms → IsMarkedAbove level marks nets.old.items → IsMarkedAbove level marks nets.new.items }
 {
     let mut all = sum;
     for place in 0..other.len() {
@@ -138,6 +138,7 @@ pub(crate) fn prepare(
     requires marks { IsMarked touched.old.items nets.old.items }
     ensures terms { terms_from 0 nets.new.items ≡ terms_from 0 nets.old.items }
     ensures marks { IsMarked touched.new.items nets.new.items }
+    ensures above { (level : ℕ) (marks : List ℕ) → IsMarkedAbove level marks nets.old.items → IsMarkedAbove level marks nets.new.items }
     ensures room { OnOk result (variable_bound other.now.terms ≤ length nets.new.items) }
     ensures names { OnOk result (NamesAll touched.new.items other.now.terms) }
 {
@@ -152,7 +153,7 @@ pub(crate) fn make_room(
     other: &Normal,
 ) -> Result<(), AllocError>
     ensures terms { terms_from 0 nets.new.items ≡ terms_from 0 nets.old.items }
-    ensures marks { (marks : List ℕ) → IsMarked marks nets.old.items → IsMarked marks nets.new.items }
+    ensures marks { (level : ℕ) (marks : List ℕ) → IsMarkedAbove level marks nets.old.items → IsMarkedAbove level marks nets.new.items }
     ensures touched { touched.new.items ≡ touched.old.items }
     ensures room { OnOk result (variable_bound other.now.terms ≤ length nets.new.items) }
     ensures reserved { OnOk result (vec_len touched.new + length other.now.terms ≤ vec_capacity touched.new) }
@@ -165,11 +166,26 @@ pub(crate) fn make_room(
 pub(crate) fn mark_reserved(touched: &mut Vec<u32>, other: &Normal)
     requires { vec_len touched.old + length other.now.terms ≤ vec_capacity touched.old }
     ensures names { NamesAll touched.new.items other.now.terms }
+    ensures kept { (v : ℕ) → Contains touched.old.items v → Contains touched.new.items v }
     ensures below { (n : ℕ) → variable_bound other.now.terms ≤ n → All (λ v. v < n) touched.old.items → All (λ v. v < n) touched.new.items }
 {
     for place in 0..other.len() {
         touched.push_reserved(other.term(place).var.0);
     }
+}
+
+/// Notes the variables of a constraint that is added, unless no coefficient can be above the level.
+pub(crate) fn note(recent: &mut Vec<u32>, level: u128, other: &Normal) -> Result<(), AllocError>
+    ensures names { OnOk result (level < largest_sum → NamesAll recent.new.items other.now.terms) }
+    ensures kept { (v : ℕ) → Contains recent.old.items v → Contains recent.new.items v }
+    ensures below { (n : ℕ) → variable_bound other.now.terms ≤ n → All (λ v. v < n) recent.old.items → All (λ v. v < n) recent.new.items }
+{
+    if level >= LARGEST_SUM {
+        return Ok(());
+    }
+    recent.reserve(other.len())?;
+    mark_reserved(recent, other);
+    Ok(())
 }
 
 /// The degree of a sum, of the coefficient sums before and after: what cancels goes from two coefficients at once.

@@ -21,11 +21,18 @@ pub struct Fixed {
     units: i64,
 }
 
+/// The lower 64 bits of a number: the number itself where it fits.
+fn lower_half(number: i128) -> i64 {
+    let lower = (number.cast_unsigned() & u128::from(u64::MAX)) as u64;
+    lower.cast_signed()
+}
+
 impl Number for Fixed {
     fn plus_product(self, left: Fixed, right: Fixed) -> Self {
+        // Neither factor is above 2^47 units, so that the product, rounded to units, is at most 2^62.
         let product = i128::from(left.units).wrapping_mul(i128::from(right.units));
-        let rounded = product.wrapping_add(1 << 31) >> 32;
-        Fixed::nearest(rounded.wrapping_add(i128::from(self.units)))
+        let rounded = lower_half(product.wrapping_add(1 << 31) >> 32);
+        Fixed::of_units(rounded.wrapping_add(self.units))
     }
 }
 

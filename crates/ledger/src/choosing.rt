@@ -73,7 +73,7 @@ pub(crate) fn open_beside(
     for step in 0..count {
         let index = index_after(count, start, step);
         if let Some(literal) = open_at(constraint, trail, index, others) {
-            starts.set(place, index);
+            starts.set(place, index + 1);
             if !trail.assigns(literal.opposite()) {
                 return Some(literal);
             }

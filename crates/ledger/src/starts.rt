@@ -1,7 +1,7 @@
 //! Where the search for a literal that is to watch a clause goes on.
 //!
-//! The terms of a clause are gone through round about: from where the last search in it ended to the last one, and then from the
-//! first one on. So where its literals fall one after another each is passed once or twice, and not by each later search anew
+//! The terms of a clause are gone through round about: from behind the literal at which the last search in it ended, which watches the clause
+//! since, to the last one, and then from the first one on. So where its literals fall one after another each is passed once or twice, and not by each later search anew
 //! (Gent, Optimal implementation of watched literals and more general techniques, 2013). Where literals are backtracked nothing is taken back.
 //! That is a matter of time alone, so no clause speaks of it: wherever a search begins, it finds a literal where there is one.
 
@@ -10,7 +10,7 @@ ghost use Rattle.ledger.specs.Rounds.{index_after};
 
 use std::alloc::{AllocError, Global};
 
-/// For the clause of each place the index at which the last search in it ended.
+/// For the clause of each place the index at which the next search in it begins.
 #[derive(Drop)]
 pub(crate) struct Starts {
     indices: Vec<u32>,
@@ -32,7 +32,7 @@ impl Starts {
         }
     }
 
-    /// A search in the clause of a place ended at an index.
+    /// The next search in the clause of a place begins at an index.
     pub(crate) fn set(&mut self, place: usize, index: usize) {
         if place < self.indices.len() {
             self.indices[place] = u32::try_from(index).unwrap_or(0);

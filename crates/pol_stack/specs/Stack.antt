@@ -1,7 +1,7 @@
 -- The stack of a `pol` step, its top first.
 use Rattle.std.specs.Prelude.{◌≡◌, ℕ, List, [], ◌∷◌, ◌++◌, map, reverse, Option, None, Some}
 use Rattle.normal_form.specs.Normal.{NormalConstraint, Fits}
-use Rattle.cut_rules.specs.Rules.{IsSum, IsTooLarge, IsWeakening}
+use Rattle.cut_rules.specs.Rules.{IsSaturation, IsSum, IsTooLarge, IsWeakening}
 use Rattle.proof_rules.specs.declared.fault.StepFault.{StepFault}
 use Rattle.proof_rules.specs.declared.fault.StepFault.TheVariants as faults
 use Rattle.pol_stack.specs.declared.pile.Held.{Held}
@@ -65,3 +65,9 @@ abbrev pub IsTopWeakened : ℕ → List NormalConstraint → List NormalConstrai
 IsTopWeakened v old new =
     (d : NormalConstraint) × (n : NormalConstraint) × (rest : List NormalConstraint)
     × (old ≡ d ∷ rest) × IsWeakening v d n × (new ≡ n ∷ rest)
+
+-- the one on top is saturated
+abbrev pub IsTopSaturated : List NormalConstraint → List NormalConstraint → Type 0
+IsTopSaturated old new =
+    (d : NormalConstraint) × (n : NormalConstraint) × (rest : List NormalConstraint)
+    × (old ≡ d ∷ rest) × IsSaturation d n × (new ≡ n ∷ rest)

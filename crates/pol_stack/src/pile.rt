@@ -3,7 +3,8 @@
 //! A sum to which more is added stands in an accumulator: so an addition costs what is added, and not what was summed
 //! up before. There is one accumulator, and it holds the sum that is nearest to the top; the other operands stand above
 //! and below it. Where two operands above it are to become such a sum themselves, it is read off first. A constraint that is
-//! weakened again and again stands in it too, so that each time costs one look and not the whole constraint. Which of its
+//! weakened again and again stands in it too, so that each time costs one look and not the whole constraint. A sum that is saturated
+//! stays there, so that where that comes after each addition, each time costs what was added. Which of its
 //! ways an addition or a weakening takes says nothing of what it gives, and is chosen by what it costs.
 
 ghost use Rattle.std.specs.Prelude.{◌≡◌, ◌∷◌, [], IfErr, OnOk, OnErr, IsErrOf};
@@ -98,7 +99,7 @@ impl<'a> Pile<'a> {
     ghost use Rattle.proof_rules.specs.Running.{AppliesItem};
     ghost use Rattle.proof_rules.specs.Fault.{OrMemory, IsAddFault};
     ghost use Rattle.proof_steps.specs.declared.step.Item.TheVariants as items;
-    ghost use Rattle.pol_stack.specs.Stack.{operand_value, IsSumOnTop, IsSumFault, IsWeakeningOnTop, IsAddedOnTop, IsTopSumFault, IsTopWeakened};
+    ghost use Rattle.pol_stack.specs.Stack.{operand_value, IsSumOnTop, IsSumFault, IsWeakeningOnTop, IsAddedOnTop, IsTopSaturated, IsTopSumFault, IsTopWeakened};
 
     /// No operand, with an accumulator to add up in, whatever that holds.
     pub(crate) fn new(alloc: Global, sum: Accumulator) -> Self
@@ -252,6 +253,23 @@ impl<'a> Pile<'a> {
             Held::Nothing => false,
             Held::RunningSum => {
                 self.sum.weaken(var);
+                true
+            }
+        }
+    }
+
+    /// Saturates the running sum, where that is on top; whether it is.
+    pub(crate) fn saturate_sum(&mut self) -> bool
+        ensures saturated { IsTrue result → IsTopSaturated self.old self.new }
+        ensures left { result ≡ false → self.new ≡ self.old }
+    {
+        if !self.above.is_empty() {
+            return false;
+        }
+        match self.held {
+            Held::Nothing => false,
+            Held::RunningSum => {
+                self.sum.saturate();
                 true
             }
         }

@@ -304,11 +304,14 @@ impl<'a> Stack<'a> {
         ensures err { OnErr result (self.new ≡ self.old) }
         ensures fault { IfErr result (λ f. OrMemory f (IsShapeFault self.old f)) }
     {
+        if self.top.is_none() && self.under.is_none() && self.pile.saturate_sum() {
+            return Ok(());
+        }
         let Some(mut top) = take_top(alloc, &mut self.top, &mut self.under, &mut self.pile)? else {
             return Err(StepFault::StackShape);
         };
         let saturated = top.saturate(alloc);
-        self.top = Some(top.settled());
+        self.top = Some(top);
         Ok(saturated?)
     }
 

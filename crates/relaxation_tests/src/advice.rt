@@ -151,40 +151,66 @@ fn adviser_of<'a, P: Propagator>(
     Ok((kernel, adviser))
 }
 
-/// The relaxation of the pigeons is infeasible, and the sum of its multipliers says so.
-fn contradict<'a, P: Propagator>(rt: &impl Abort, alloc: Global, problem: &'a Problem) {
-    let (mut kernel, mut adviser) = adviser_of::<P>(rt, alloc, problem).expect(rt, "memory");
-    let advice = adviser.ask(&kernel, root()).expect(rt, "memory");
-    let Advice::Conflict(items) = advice else {
-        panic!(rt; "no conflict");
+/// Whether the relaxation is infeasible at the root, and the sum of its multipliers says so, by one.
+fn contradicts<'a, P: Propagator>(
+    kernel: &mut Kernel<'a, P>,
+    adviser: &mut Adviser,
+) -> Result<bool, StepFault> {
+    let Advice::Conflict(items) = adviser.ask(kernel, root())? else {
+        return Ok(false);
     };
-    let (slack, _) = apply(&mut kernel, items, &[]).expect(rt, "a legal line");
-    assert_eq!(rt; slack, -1);
-    assert_eq!(rt; adviser.figures().conflicts, 1);
-    assert_eq!(rt; adviser.figures().failed, 0);
+    let (slack, _) = apply(kernel, items, &[])?;
+    let figures = adviser.figures();
+    Ok(slack == -1 && figures.conflicts == 1 && figures.failed == 0)
 }
 
-/// Prices force literals at the root, and below it.
+/// Whether a literal is forced at the root, where no solution is worth less than 4.
+fn forces_at_root<'a, P: Propagator>(
+    kernel: &mut Kernel<'a, P>,
+    adviser: &mut Adviser,
+) -> Result<bool, StepFault> {
+    let Advice::Forcing(items) = adviser.ask(kernel, root())? else {
+        return Ok(false);
+    };
+    let (slack, greatest) = apply(kernel, items, &[])?;
+    Ok(slack >= 0 && greatest > slack && adviser.bound() == Some(4))
+}
+
+/// Whether a literal is forced, or all is contradicted, below the root.
+fn speaks_below<'a, P: Propagator>(
+    kernel: &mut Kernel<'a, P>,
+    adviser: &mut Adviser,
+) -> Result<bool, StepFault> {
+    let turned = [literal(0, true)];
+    let advice = adviser.ask(kernel, below_root(&turned))?;
+    let (Advice::Conflict(items) | Advice::Forcing(items)) = advice else {
+        return Ok(false);
+    };
+    let (slack, greatest) = apply(kernel, items, &turned)?;
+    Ok(greatest > slack)
+}
+
+/// Whether prices force literals at the root and below it, once the second is known for a solution.
+fn forces<'a, P: Propagator>(
+    alloc: Global,
+    kernel: &mut Kernel<'a, P>,
+    adviser: &mut Adviser,
+) -> Result<bool, StepFault> {
+    let solution = [literal(0, true), literal(1, false), literal(2, true)];
+    improve(alloc, kernel, adviser, &solution)?;
+    Ok(forces_at_root(kernel, adviser)? && speaks_below(kernel, adviser)?)
+}
+
+/// The relaxation of the pigeons is infeasible.
+fn contradict<'a, P: Propagator>(rt: &impl Abort, alloc: Global, problem: &'a Problem) {
+    let (mut kernel, mut adviser) = adviser_of::<P>(rt, alloc, problem).expect(rt, "memory");
+    assert!(rt; matches!(contradicts(&mut kernel, &mut adviser), Ok(true)));
+}
+
+/// Prices force literals.
 fn force<'a, P: Propagator>(rt: &impl Abort, alloc: Global, problem: &'a Problem) {
     let (mut kernel, mut adviser) = adviser_of::<P>(rt, alloc, problem).expect(rt, "memory");
-    let solution = [literal(0, true), literal(1, false), literal(2, true)];
-    improve(alloc, &mut kernel, &mut adviser, &solution).expect(rt, "a solution");
-    let advice = adviser.ask(&kernel, root()).expect(rt, "memory");
-    let Advice::Forcing(items) = advice else {
-        panic!(rt; "nothing is forced");
-    };
-    let (slack, greatest) = apply(&mut kernel, items, &[]).expect(rt, "a legal line");
-    assert!(rt; slack >= 0 && greatest > slack);
-    assert_eq!(rt; adviser.bound(), Some(4));
-    let turned = [literal(0, true)];
-    let advice = adviser
-        .ask(&kernel, below_root(&turned))
-        .expect(rt, "memory");
-    let (Advice::Conflict(items) | Advice::Forcing(items)) = advice else {
-        panic!(rt; "nothing is said");
-    };
-    let (slack, greatest) = apply(&mut kernel, items, &turned).expect(rt, "a legal line");
-    assert!(rt; greatest > slack);
+    assert!(rt; matches!(forces(alloc, &mut kernel, &mut adviser), Ok(true)));
 }
 
 /// Whether a dive goes on below the root, before a conflict and so before a cut: a call is due at a node that has done nothing, and all three

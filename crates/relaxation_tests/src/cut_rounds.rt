@@ -168,20 +168,29 @@ fn leaning(adviser: &Adviser) -> usize {
         .count()
 }
 
-/// Whether the first cut of a problem is as expected, and then values come, which lead to as many variables as expected.
+/// Whether the first cut is as expected, and then values come, which lead to as many variables as expected.
+fn is_known<'a, P: Propagator>(
+    kernel: &mut Kernel<'a, P>,
+    adviser: &mut Adviser,
+    expected: Expected,
+) -> Result<bool, StepFault> {
+    let advice = adviser.ask(kernel, root())?;
+    let is_first = take(kernel, adviser, advice, expected)?;
+    let ends = take_all(kernel, adviser, expected)?;
+    Ok(is_first && ends && leaning(adviser) == expected.leaning)
+}
+
+/// The same of a problem. What is asked stands in a helper, since each exit here drops kernel and adviser.
 fn is_cut<'a, P: Propagator>(
     alloc: Global,
     problem: &'a Problem,
     expected: Expected,
 ) -> Result<bool, StepFault> {
     let mut kernel: Kernel<'a, P> = Kernel::new(alloc, problem)?;
-    let Some(mut adviser) = Adviser::new(alloc, problem, &kernel)? else {
-        return Ok(false);
-    };
-    let advice = adviser.ask(&kernel, root())?;
-    let is_first = take(&mut kernel, &mut adviser, advice, expected)?;
-    let ends = take_all(&mut kernel, &mut adviser, expected)?;
-    Ok(is_first && ends && leaning(&adviser) == expected.leaning)
+    match Adviser::new(alloc, problem, &kernel)? {
+        Some(mut adviser) => is_known(&mut kernel, &mut adviser, expected),
+        None => Ok(false),
+    }
 }
 
 /// The first problem of the table whose cut is not as expected, or that cannot be read; none where there is no such problem.

@@ -30,6 +30,7 @@ mod searched;
 mod solution;
 mod solver;
 mod standing;
+mod values;
 
 pub use branching::{Activity, Brancher, First, Progress, Value};
 pub use found::{Found, Unfinished};

@@ -10,14 +10,11 @@
 //! literal in fact, so nobody has to prove that none does. Of reasons and levels nothing is promised. They are for the analysis alone: what that comes
 //! to is a derivation whatever they are, and whether it bites is asked under the literals.
 
-ghost use Rattle.std.specs.Prelude.{◌≡◌, slice_set};
-ghost use Rattle.branching.specs.declared.brancher.Value.TheVariants.{Free};
-ghost use Rattle.search.specs.Values.{value_given};
-
 use super::choice::is_free;
+use super::values::{free, note};
 use analysis::{Entry, Trail, bites_under};
 use branching::{Brancher, Value};
-use linear::{Lit, Seq, Var};
+use linear::{Lit, Seq};
 use normal_form::Normal;
 use propagate::Id;
 use std::alloc::{AllocError, Global};
@@ -26,37 +23,6 @@ use std::marker::Model;
 /// The number of so many decisions, as a level.
 fn level_of(decisions: usize) -> u32 {
     u32::try_from(decisions).unwrap_or(u32::MAX)
-}
-
-/// The value that a literal gives its variable.
-fn value_given(literal: Lit) -> Value
-    ensures { result ≡ value_given literal }
-{
-    if literal.negated {
-        Value::False
-    } else {
-        Value::True
-    }
-}
-
-/// Notes the value that a literal gives its variable, where the table has that variable.
-fn note(values: &mut Vec<Value>, literal: Lit)
-    ensures { values.new.items ≡ slice_set values.old.items (literal.var.0) (value_given literal) }
-{
-    let place = literal.var.0 as usize;
-    if place < values.len() {
-        values[place] = value_given(literal);
-    }
-}
-
-/// Makes a variable free, where the table has it.
-fn free(values: &mut Vec<Value>, variable: Var)
-    ensures { values.new.items ≡ slice_set values.old.items (variable.0) Free }
-{
-    let place = variable.0 as usize;
-    if place < values.len() {
-        values[place] = Value::Free;
-    }
 }
 
 /// How many entries come before the last ones that are above a level.

@@ -3,7 +3,7 @@
 
 use super::rows::PIGEONS_IN_HOLES;
 use kernel::Kernel;
-use linear::Names;
+use linear::{Names, Problem};
 use opb_read::read;
 use proof_rules::StepFault;
 use proof_steps::{Conclusion, Lower, Upper};
@@ -44,35 +44,63 @@ enum Concluded {
     Bounds,
 }
 
-/// Whether the kernel of a file answers to each line as its row says, and then to this conclusion with this fault, or with none.
-fn answers_are(
+/// Whether a kernel answers to each line as its row says.
+fn all_answer<P: Propagator>(
     alloc: Global,
-    file: &str,
+    kernel: &mut Kernel<'_, P>,
+    names: &mut Names,
     rows: &[Row],
-    concluded: Concluded,
-    fault: Option<StepFault>,
-) -> Result<bool, StepFault> {
-    let Ok(problem) = read(alloc, file.as_bytes()) else {
-        return Err(StepFault::OutOfMemory);
-    };
-    let mut names = problem.names().copy(alloc)?;
-    let mut kernel: Kernel<'_, ScanPropagator> = Kernel::new(alloc, &problem)?;
+) -> bool {
     for (line, wanted) in rows {
-        if answer(alloc, &mut kernel, &mut names, line) != *wanted {
-            return Ok(false);
+        if answer(alloc, kernel, names, line) != *wanted {
+            return false;
         }
     }
+    true
+}
+
+/// The fault of a conclusion, if it has one.
+fn fault_of<P: Propagator>(kernel: &mut Kernel<'_, P>, concluded: Concluded) -> Option<StepFault> {
     let conclusion = match concluded {
         Concluded::Nothing => Conclusion::Nothing,
         Concluded::Sat => Conclusion::Sat(None),
         Concluded::Unsat => Conclusion::Unsat,
         Concluded::Bounds => Conclusion::Bounds(Lower::At(0), Upper::Inf, None),
     };
-    let answered = match kernel.conclude(&conclusion) {
+    match kernel.conclude(&conclusion) {
         Ok(_) => None,
         Err(fault) => Some(fault),
-    };
-    Ok(answered == fault)
+    }
+}
+
+/// Whether the kernel of a problem answers to each line as its row says, and then to this conclusion with this fault, or with none.
+fn kernel_answers<P: Propagator>(
+    alloc: Global,
+    problem: &Problem,
+    rows: &[Row],
+    concluded: Concluded,
+    fault: Option<StepFault>,
+) -> Result<bool, StepFault> {
+    let mut names = problem.names().copy(alloc)?;
+    let mut kernel: Kernel<'_, P> = Kernel::new(alloc, problem)?;
+    Ok(
+        all_answer(alloc, &mut kernel, &mut names, rows)
+            && fault_of(&mut kernel, concluded) == fault,
+    )
+}
+
+/// The same of the kernel of a file.
+fn answers_are<P: Propagator>(
+    alloc: Global,
+    file: &str,
+    rows: &[Row],
+    concluded: Concluded,
+    fault: Option<StepFault>,
+) -> Result<bool, StepFault> {
+    match read(alloc, file.as_bytes()) {
+        Ok(problem) => kernel_answers::<P>(alloc, &problem, rows, concluded, fault),
+        Err(_) => Err(StepFault::OutOfMemory),
+    }
 }
 
 /// A whole block, and at each place the steps that may not stand there, with other faults too.
@@ -146,8 +174,14 @@ const LEFT_OPEN_IN_A_GOAL: [Row; 2] = [
 #[test]
 fn answers_to_steps_of_blocks(rt: HostRuntime) {
     let alloc = rt.alloc();
-    assert!(&rt; answers_are(alloc, PIGEONS_IN_HOLES, &PLACES, Concluded::Unsat, None) == Ok(true));
-    assert!(&rt; answers_are(alloc, PIGEONS_IN_HOLES, &GOALS, Concluded::Unsat, None) == Ok(true));
+    assert!(&rt;
+        answers_are::<ScanPropagator>(alloc, PIGEONS_IN_HOLES, &PLACES, Concluded::Unsat, None)
+            == Ok(true)
+    );
+    assert!(&rt;
+        answers_are::<ScanPropagator>(alloc, PIGEONS_IN_HOLES, &GOALS, Concluded::Unsat, None)
+            == Ok(true)
+    );
 }
 
 /// Conclusions in a block and in a goal of one, on files without and with an objective.
@@ -163,6 +197,8 @@ const IN_BLOCKS: [(&str, &[Row], Concluded); 5] = [
 fn nothing_is_concluded_in_blocks(rt: HostRuntime) {
     let fault = Some(StepFault::BlockOpen);
     for (file, rows, concluded) in &IN_BLOCKS {
-        assert!(&rt; answers_are(rt.alloc(), file, rows, *concluded, fault) == Ok(true));
+        assert!(&rt;
+            answers_are::<ScanPropagator>(rt.alloc(), file, rows, *concluded, fault) == Ok(true)
+        );
     }
 }

@@ -12,7 +12,7 @@ use opb_read::read;
 use proof_rules::StepFault;
 use proof_steps::{Conclusion, Item, Step};
 use proof_text::read_step;
-use propagate::ScanPropagator;
+use propagate::{Propagator, ScanPropagator};
 use std::alloc::{AllocError, Global};
 use std::process::Abort;
 
@@ -64,9 +64,9 @@ fn step(alloc: Global, line: Line) -> Result<Step, AllocError>
 }
 
 /// What the kernel answers to a step.
-fn applied(
+fn applied<P: Propagator>(
     alloc: Global,
-    kernel: &mut Kernel<'_, ScanPropagator>,
+    kernel: &mut Kernel<'_, P>,
     line: Line,
 ) -> Result<Option<u32>, StepFault> {
     let step = step(alloc, line)?;
@@ -75,9 +75,9 @@ fn applied(
 }
 
 /// Whether the kernel of the file answers to each step as its row says.
-fn answers_are(alloc: Global, least: i8, rows: &[Row]) -> Result<bool, StepFault> {
+fn answers_are<P: Propagator>(alloc: Global, least: i8, rows: &[Row]) -> Result<bool, StepFault> {
     let problem = problem(alloc, least)?;
-    let mut kernel: Kernel<'_, ScanPropagator> = Kernel::new(alloc, &problem)?;
+    let mut kernel: Kernel<'_, P> = Kernel::new(alloc, &problem)?;
     for row in rows {
         if applied(alloc, &mut kernel, row.line) != row.answer || kernel.last_id() != row.last_id {
             return Ok(false);
@@ -197,24 +197,48 @@ const NO_SOLUTION: [Row; 1] = [Row {
 
 #[test]
 fn answers_to_steps(rt: HostRuntime) {
-    assert!(&rt; answers_are(rt.alloc(), 0, &NUMBERS) == Ok(true));
-    assert!(&rt; answers_are(rt.alloc(), 0, &REFUSED_IN_THE_MIDDLE) == Ok(true));
-    assert!(&rt; answers_are(rt.alloc(), 0, &DELETED) == Ok(true));
-    assert!(&rt; answers_are(rt.alloc(), 0, &SOLUTION) == Ok(true));
-    assert!(&rt; answers_are(rt.alloc(), 1, &NO_SOLUTION) == Ok(true));
+    assert!(&rt; answers_are::<ScanPropagator>(rt.alloc(), 0, &NUMBERS) == Ok(true));
+    assert!(&rt; answers_are::<ScanPropagator>(rt.alloc(), 0, &REFUSED_IN_THE_MIDDLE) == Ok(true));
+    assert!(&rt; answers_are::<ScanPropagator>(rt.alloc(), 0, &DELETED) == Ok(true));
+    assert!(&rt; answers_are::<ScanPropagator>(rt.alloc(), 0, &SOLUTION) == Ok(true));
+    assert!(&rt; answers_are::<ScanPropagator>(rt.alloc(), 1, &NO_SOLUTION) == Ok(true));
 }
 
-/// What the kernel of a file answers to its first step. A text that is not read counts as out of memory.
-fn answer_to_first(alloc: Global, file: &str, line: &str) -> Result<Option<u32>, StepFault> {
-    let Ok(problem) = read(alloc, file.as_bytes()) else {
-        return Err(StepFault::OutOfMemory);
-    };
+/// What the kernel of a problem answers to its first step.
+fn applied_first<P: Propagator>(
+    alloc: Global,
+    problem: &Problem,
+    step: &Step,
+) -> Result<Option<u32>, StepFault>
+    requires { HasAtLeast step.now }
+{
+    let mut kernel: Kernel<'_, P> = Kernel::new(alloc, problem)?;
+    Ok(kernel.apply(step)?.id)
+}
+
+/// What it answers to the step that a line says. A text that is not read counts as out of memory.
+fn answer_to_line<P: Propagator>(
+    alloc: Global,
+    problem: &Problem,
+    line: &str,
+) -> Result<Option<u32>, StepFault> {
     let mut names = problem.names().copy(alloc)?;
-    let Ok(step) = read_step(alloc, line.as_bytes(), &mut names) else {
-        return Err(StepFault::OutOfMemory);
-    };
-    let mut kernel: Kernel<'_, ScanPropagator> = Kernel::new(alloc, &problem)?;
-    Ok(kernel.apply(&step)?.id)
+    match read_step(alloc, line.as_bytes(), &mut names) {
+        Ok(step) => applied_first::<P>(alloc, problem, &step),
+        Err(_) => Err(StepFault::OutOfMemory),
+    }
+}
+
+/// What the kernel of a file answers to its first step.
+fn answer_to_first<P: Propagator>(
+    alloc: Global,
+    file: &str,
+    line: &str,
+) -> Result<Option<u32>, StepFault> {
+    match read(alloc, file.as_bytes()) {
+        Ok(problem) => answer_to_line::<P>(alloc, &problem, line),
+        Err(_) => Err(StepFault::OutOfMemory),
+    }
 }
 
 const TRIANGLE: &str = "min: 2 x1 3 x2 4 x3 ; 1 x1 1 x2 >= 1 ; 1 x2 1 x3 >= 1 ; 1 x1 1 x3 >= 1 ;";
@@ -242,7 +266,7 @@ const REDUNDANT: [(&str, Result<Option<u32>, StepFault>); 5] = [
 #[test]
 fn answers_to_redundance(rt: HostRuntime) {
     for (line, answer) in &REDUNDANT {
-        assert!(&rt; answer_to_first(rt.alloc(), TRIANGLE, line) == *answer);
+        assert!(&rt; answer_to_first::<ScanPropagator>(rt.alloc(), TRIANGLE, line) == *answer);
     }
 }
 
@@ -254,36 +278,66 @@ enum Concluded {
     Unsat,
 }
 
-/// Whether a conclusion is handed out behind these steps with a best solution.
-fn has_best(
+/// The conclusion that a kernel is asked for.
+fn conclusion_of(concluded: Concluded) -> Conclusion {
+    match concluded {
+        Concluded::Nothing => Conclusion::Nothing,
+        Concluded::Sat => Conclusion::Sat(None),
+        Concluded::Unsat => Conclusion::Unsat,
+    }
+}
+
+/// Whether a conclusion is handed out with a best solution.
+fn concludes_with_best<P: Propagator>(
+    kernel: &mut Kernel<'_, P>,
+    concluded: Concluded,
+) -> Result<bool, StepFault> {
+    let conclusion = conclusion_of(concluded);
+    let accepted = kernel.conclude(&conclusion)?;
+    Ok(accepted.best().is_some())
+}
+
+/// The same behind some steps of a problem.
+fn has_best_behind<P: Propagator>(
+    alloc: Global,
+    problem: &Problem,
+    steps: &[Row],
+    concluded: Concluded,
+) -> Result<bool, StepFault> {
+    let mut kernel: Kernel<'_, P> = Kernel::new(alloc, problem)?;
+    for row in steps {
+        let _answer = applied(alloc, &mut kernel, row.line);
+    }
+    concludes_with_best(&mut kernel, concluded)
+}
+
+/// The same of the file `>= LEAST ; = 0 ;`.
+fn has_best<P: Propagator>(
     alloc: Global,
     least: i8,
     steps: &[Row],
     concluded: Concluded,
 ) -> Result<bool, StepFault> {
     let problem = problem(alloc, least)?;
-    let mut kernel: Kernel<'_, ScanPropagator> = Kernel::new(alloc, &problem)?;
-    for row in steps {
-        let _answer = applied(alloc, &mut kernel, row.line);
-    }
-    let conclusion = match concluded {
-        Concluded::Nothing => Conclusion::Nothing,
-        Concluded::Sat => Conclusion::Sat(None),
-        Concluded::Unsat => Conclusion::Unsat,
-    };
-    let accepted = kernel.conclude(&conclusion)?;
-    Ok(accepted.best().is_some())
+    has_best_behind::<P>(alloc, &problem, steps, concluded)
 }
 
 #[test]
 fn answers_to_conclusions(rt: HostRuntime) {
     let alloc = rt.alloc();
-    assert!(&rt; has_best(alloc, 0, &NUMBERS, Concluded::Nothing) == Ok(false));
-    assert!(&rt; has_best(alloc, 0, &SOLUTION, Concluded::Sat) == Ok(true));
+    assert!(&rt; has_best::<ScanPropagator>(alloc, 0, &NUMBERS, Concluded::Nothing) == Ok(false));
+    assert!(&rt; has_best::<ScanPropagator>(alloc, 0, &SOLUTION, Concluded::Sat) == Ok(true));
     assert!(&rt;
-        has_best(alloc, 1, &NO_SOLUTION, Concluded::Sat) == Err(StepFault::UpperNotLogged)
+        has_best::<ScanPropagator>(alloc, 1, &NO_SOLUTION, Concluded::Sat)
+            == Err(StepFault::UpperNotLogged)
     );
-    assert!(&rt; has_best(alloc, 1, &NO_SOLUTION, Concluded::Unsat) == Ok(false));
-    assert!(&rt; has_best(alloc, 0, &SOLUTION, Concluded::Unsat) == Err(StepFault::SolutionLogged));
-    assert!(&rt; has_best(alloc, 0, &NUMBERS, Concluded::Unsat) == Err(StepFault::LowerNotShown));
+    assert!(&rt; has_best::<ScanPropagator>(alloc, 1, &NO_SOLUTION, Concluded::Unsat) == Ok(false));
+    assert!(&rt;
+        has_best::<ScanPropagator>(alloc, 0, &SOLUTION, Concluded::Unsat)
+            == Err(StepFault::SolutionLogged)
+    );
+    assert!(&rt;
+        has_best::<ScanPropagator>(alloc, 0, &NUMBERS, Concluded::Unsat)
+            == Err(StepFault::LowerNotShown)
+    );
 }

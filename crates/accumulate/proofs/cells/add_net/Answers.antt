@@ -63,4 +63,4 @@ pub returns-clause-small : goal.returns-clause-small
 returns-clause-small c = (both c).1
 
 pub returns-clause-marks : goal.returns-clause-marks
-returns-clause-marks c marks h m = marked_set marks c.args.nets.now.items (c.args.var.0) (after_of c.index-before.result.now c.args.net) h m
+returns-clause-marks c level marks h m = marked_set level marks c.args.nets.now.items (c.args.var.0) (after_of c.index-before.result.now c.args.net) h m

@@ -41,5 +41,5 @@ loop-place-preserved c =
       sum = c.add_net-all.ensures.sum;
       small = total_more c.loop-place.all c.add_net-all.result (unsigned_abs (to_z w128 (of_z w128 c.change_of-net.result))) c.args.sum c.args.other.now.terms c.loop-place.place c.term-term.result here c.term-term.ensures.value c.loop-place.invariant.small c.add_net-all.ensures.small (ap unsigned_abs b ∙ c.change_of-net.ensures.size);
       gives = λ set. gives_more c.args.change set (nets_of set 0 c.args.nets.now.items) (nets_of set 0 c.loop-place.nets.items) (nets_of set 0 c.add_net-all.new.nets.items) (to_z w128 (of_z w128 c.change_of-net.result)) c.args.other.now.terms c.loop-place.place c.term-term.result here c.term-term.ensures.value (c.loop-place.invariant.gives set) (c.add_net-all.ensures.gives set) (b ∙ c.change_of-net.ensures.value);
-      marks = λ marks named m. c.add_net-all.ensures.marks marks (name_at marks c.args.other.now.terms c.loop-place.place c.term-term.result here c.term-term.ensures.value named) (c.loop-place.invariant.marks marks named m);
+      marks = λ level marks named m. c.add_net-all.ensures.marks level marks (name_at marks c.args.other.now.terms c.loop-place.place c.term-term.result here c.term-term.ensures.value named) (c.loop-place.invariant.marks level marks named m);
     }

@@ -29,6 +29,7 @@ loop-place-preserved c =
     let here : c.loop-place.place < length c.args.other.now.terms = omega (arith, c.loop-place-test.true, c.len-place-end.ensures.value) in
     record {
       names = one_more at.touched.items c.push_reserved.new.self.items ts at.place c.term.result here c.term.ensures.value c.push_reserved.ensures.items at.invariant.names;
+      kept = λ v p. subst (λ (xs : List ℕ). Contains xs v) (sym c.push_reserved.ensures.items) (more_contains at.touched.items (c.term.result.var.0) v (at.invariant.kept v p));
       below = λ n b all. still_below at.touched.items c.push_reserved.new.self.items (c.term.result.var.0) n c.push_reserved.ensures.items (room_at ts at.place n c.term.result here c.term.ensures.value b) (at.invariant.below n b all);
       longer = omega (arith, c.push_reserved.ensures.len, c.loop-place.invariant.longer);
       room = c.push_reserved.ensures.capacity ∙ c.loop-place.invariant.room;

@@ -23,7 +23,7 @@ kept_without : (ns : List ℤ) (marks : List ℕ) (sum degree i r low : ℕ) (ne
 kept_without ns marks sum degree i r low net k h e s d =
     let both : (unsigned_abs net ≤ sum) × (sum - unsigned_abs net ≡ sizes (slice_set ns i (pos 0))) = gone_at sum ns i net h e k.summed in
     record {
-      marked = marked_zero marks ns i h k.marked;
+      marked = marked_zero 0 marks ns i h k.marked;
       summed = ap (λ (x : ℕ). sum - x) s ∙ both.1;
       small = omega (arith, k.small);
       low = omega (arith, k.low, d);
@@ -33,13 +33,16 @@ pub returns-then-place-len-clause-weakening : goal.returns-then-place-len-clause
 returns-then-place-len-clause-weakening c = subst (λ (d : NormalConstraint). IsWeakening (c.args.var.0) d d) c.self.view_is (weakened_none c.self.inside.nets.items (c.args.var.0) c.self.inside.degree (omega (arith, c.if-place-len.true, c.len.ensures)))
 
 pub overflow_sub-self : goal.overflow_sub-self
-overflow_sub-self c = (size_is c.self.inside.nets.items c.self.inside.touched.items c.self.inside.sum c.self.inside.degree (c.args.var.0) c.unsigned_abs-size.result c.index.result.now c.self.invariant (omega (arith, c.if-place-len.false, c.len.ensures)) c.index.ensures c.unsigned_abs-size.ensures.value).1
+overflow_sub-self c = (size_is c.self.inside.nets.items c.self.inside.touched.items c.self.inside.sum c.self.inside.degree (c.args.var.0) c.unsigned_abs-size.result c.index.result.now c.self.invariant.0 (omega (arith, c.if-place-len.false, c.len.ensures)) c.index.ensures c.unsigned_abs-size.ensures.value).1
 
 pub invariant_of-self : goal.invariant_of-self
-invariant_of-self c = kept_without c.self.inside.nets.items c.self.inside.touched.items c.self.inside.sum c.self.inside.degree (c.args.var.0) c.unsigned_abs-size.result c.saturating_sub-self-inside.result c.index.result.now c.self.invariant (omega (arith, c.if-place-len.false, c.len.ensures)) c.index.ensures (size_is c.self.inside.nets.items c.self.inside.touched.items c.self.inside.sum c.self.inside.degree (c.args.var.0) c.unsigned_abs-size.result c.index.result.now c.self.invariant (omega (arith, c.if-place-len.false, c.len.ensures)) c.index.ensures c.unsigned_abs-size.ensures.value).0 (omega (arith, c.saturating_sub-self-inside.ensures))
+invariant_of-self c = (
+  kept_without c.self.inside.nets.items c.self.inside.touched.items c.self.inside.sum c.self.inside.degree (c.args.var.0) c.unsigned_abs-size.result c.saturating_sub-self-inside.result c.index.result.now c.self.invariant.0 (omega (arith, c.if-place-len.false, c.len.ensures)) c.index.ensures (size_is c.self.inside.nets.items c.self.inside.touched.items c.self.inside.sum c.self.inside.degree (c.args.var.0) c.unsigned_abs-size.result c.index.result.now c.self.invariant.0 (omega (arith, c.if-place-len.false, c.len.ensures)) c.index.ensures c.unsigned_abs-size.ensures.value).0 (omega (arith, c.saturating_sub-self-inside.ensures)),
+  marked_zero c.self.inside.level c.self.inside.recent.items c.self.inside.nets.items (c.args.var.0) (omega (arith, c.if-place-len.false, c.len.ensures)) c.self.invariant.1,
+)
 
 pub returns-clause-weakening : goal.returns-clause-weakening
-returns-clause-weakening c = subst (λ (d : NormalConstraint). IsWeakening (c.args.var.0) d (constraint_of (slice_set c.self.inside.nets.items (c.args.var.0) (pos 0)) c.saturating_sub-self-inside.result)) c.self.view_is (weakened_cell c.self.inside.nets.items (c.args.var.0) c.self.inside.degree c.saturating_sub-self-inside.result c.index.result.now (omega (arith, c.if-place-len.false, c.len.ensures)) c.index.ensures (omega (arith, c.saturating_sub-self-inside.ensures, (size_is c.self.inside.nets.items c.self.inside.touched.items c.self.inside.sum c.self.inside.degree (c.args.var.0) c.unsigned_abs-size.result c.index.result.now c.self.invariant (omega (arith, c.if-place-len.false, c.len.ensures)) c.index.ensures c.unsigned_abs-size.ensures.value).0)))
+returns-clause-weakening c = subst (λ (d : NormalConstraint). IsWeakening (c.args.var.0) d (constraint_of (slice_set c.self.inside.nets.items (c.args.var.0) (pos 0)) c.saturating_sub-self-inside.result)) c.self.view_is (weakened_cell c.self.inside.nets.items (c.args.var.0) c.self.inside.degree c.saturating_sub-self-inside.result c.index.result.now (omega (arith, c.if-place-len.false, c.len.ensures)) c.index.ensures (omega (arith, c.saturating_sub-self-inside.ensures, (size_is c.self.inside.nets.items c.self.inside.touched.items c.self.inside.sum c.self.inside.degree (c.args.var.0) c.unsigned_abs-size.result c.index.result.now c.self.invariant.0 (omega (arith, c.if-place-len.false, c.len.ensures)) c.index.ensures c.unsigned_abs-size.ensures.value).0)))
 
 pub returns-clause-keeps : goal.returns-clause-keeps
 returns-clause-keeps c = weakening_law (c.args.var.0) c.args.self.now (constraint_of (slice_set c.self.inside.nets.items (c.args.var.0) (pos 0)) c.saturating_sub-self-inside.result) (returns-clause-weakening c)
