@@ -113,3 +113,11 @@ cell_size ns i sum z h e s = omega (arith, size_below ns i z h, ap unsigned_abs 
 -- what a cell that is set changes in the sum of the sizes
 pub set_sum : (ns : List ℤ) (i sum before after : ℕ) (old new : ℤ) → i < length ns → old ≡ get_or ns i old → sum ≡ sizes ns → before ≡ unsigned_abs old → after ≡ unsigned_abs new → sum - before + after ≡ sizes (set ns i new)
 set_sum ns i sum before after old new h e s b a = omega (arith, set_sizes ns i new old h, size_below ns i old h, ap unsigned_abs e, s, b, a)
+
+-- what is read of a cell that is within a sum, before it is capped and after
+pub smaller_cell : (most sum : ℕ) (old after : ℤ) → unsigned_abs old ≤ sum → sum ≤ largest_sum → after ≡ capped most (to_z w128 (of_z w128 old))
+    → (unsigned_abs (to_z w128 (of_z w128 old)) ≡ unsigned_abs old) × (unsigned_abs (to_z w128 (of_z w128 after)) ≤ unsigned_abs old)
+smaller_cell most sum old after small fits is =
+    let read : unsigned_abs (to_z w128 (of_z w128 old)) ≡ unsigned_abs old = ap unsigned_abs (whole old (omega (arith, small, fits))) in
+    let smaller : unsigned_abs after ≤ unsigned_abs old = omega (arith, capped_size most (to_z w128 (of_z w128 old)), ap unsigned_abs is, read) in
+    (read, omega (arith, smaller, ap unsigned_abs (whole after (omega (arith, smaller, small, fits)))))

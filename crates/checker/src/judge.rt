@@ -8,6 +8,7 @@ ghost use Rattle.checker.specs.Verdicts.{IsProved};
 ghost use Rattle.checker.specs.Stopped.{IsStopped};
 ghost use Rattle.checker.specs.StopsBy.{StopsBy};
 
+use super::afterwards::Afterwards;
 use super::stop::Stop;
 use super::walk::Walk;
 use kernel::Accepted;
@@ -30,5 +31,5 @@ pub(crate) fn judge<'a, P: Propagator>(
     while let Some(line) = lines.next() {
         walk.take(line)?;
     }
-    walk.finish(lines.end_number())
+    walk.finish(lines.end_number(), Afterwards::GiveBack)
 }

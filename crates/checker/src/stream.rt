@@ -5,6 +5,7 @@ ghost use Rattle.std.specs.Prelude.{◌≡◌, ◌<◌, IfErr, IfOk};
 ghost use Rattle.checker.specs.Streamed.{OfStream, StreamStopsBy};
 ghost use Rattle.checker.specs.Verdicts.{IsProved};
 
+use super::afterwards::Afterwards;
 use super::stop::Stop;
 use super::walk::Walk;
 use kernel::Accepted;
@@ -51,6 +52,7 @@ pub(crate) fn judge_stream<'a, P: Propagator, S: Source>(
     alloc: Global,
     problem: &'a Problem,
     source: &mut S,
+    afterwards: Afterwards,
 ) -> Result<Accepted, StreamStop>
     requires { (S.state source.old).failures < u64.MAX }
     ensures proved { IfOk result (λ accepted. OfStream (S.state source.old) (S.state source.new) (λ proof. IsProved problem.now proof accepted)) }
@@ -63,5 +65,5 @@ pub(crate) fn judge_stream<'a, P: Propagator, S: Source>(
     while lines.advance(source)? {
         walk.take(lines.line())?;
     }
-    Ok(walk.finish(lines.number())?)
+    Ok(walk.finish(lines.number(), afterwards)?)
 }

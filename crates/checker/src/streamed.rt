@@ -3,6 +3,7 @@
 ghost use Rattle.std.specs.Prelude.{◌<◌};
 ghost use Rattle.checker.specs.Streamed.{IsStreamVerdictOf};
 
+use super::afterwards::Afterwards;
 use super::checking::{LiveConstraints, bad_problem, stopped};
 use super::stream::{StreamStop, judge_stream};
 use super::stream_verdict::StreamVerdict;
@@ -21,9 +22,27 @@ pub fn check_stream<S: Source>(alloc: Global, opb: &[u8], source: &mut S) -> Str
     requires { (S.state source.old).failures < u64.MAX }
     ensures { IsStreamVerdictOf opb.now (S.state source.old) (S.state source.new) result }
 {
+    check_stream_then(alloc, opb, source, Afterwards::GiveBack)
+}
+
+/// The same, where it is said what becomes of the memory that the check took.
+pub fn check_stream_then<S: Source>(
+    alloc: Global,
+    opb: &[u8],
+    source: &mut S,
+    afterwards: Afterwards,
+) -> StreamVerdict
+    requires { (S.state source.old).failures < u64.MAX }
+    ensures { IsStreamVerdictOf opb.now (S.state source.old) (S.state source.new) result }
+{
     match read(alloc, opb) {
-        Ok(problem) => match judge_stream::<LiveConstraints, S>(alloc, &problem, source) {
-            Ok(accepted) => StreamVerdict::Judged(Verdict::Accepted(accepted)),
+        Ok(problem) => match judge_stream::<LiveConstraints, S>(
+            alloc, &problem, source, afterwards,
+        ) {
+            Ok(accepted) => {
+                afterwards.end(problem);
+                StreamVerdict::Judged(Verdict::Accepted(accepted))
+            }
             Err(StreamStop::Judging(stop)) => StreamVerdict::Judged(stopped(stop)),
             Err(StreamStop::ReadFailed) => StreamVerdict::ReadFailed,
         },

@@ -13,6 +13,7 @@ ghost use Rattle.checker.specs.StopsBy.{StopsBy};
 ghost use Rattle.checker.specs.Walk.{IsOver, Reaches};
 ghost use Rattle.checker.specs.WalkOf.{position_of, AcceptsOn, AdvancesOn, IsRefusal, IsStopOf, Reads};
 
+use super::afterwards::Afterwards;
 use super::stop::{Stop, judging, reading};
 use kernel::{Accepted, Kernel};
 use linear::{Names, Problem};
@@ -140,7 +141,7 @@ impl<'a, P: Propagator> Walk<'a, P> {
 
     /// What was concluded, where no line is left; `last` is the number of the line on which the text ends. The text is
     /// too short where a section is still due.
-    pub(crate) fn finish(self, last: u64) -> Result<Accepted, Stop>
+    pub(crate) fn finish(self, last: u64, afterwards: Afterwards) -> Result<Accepted, Stop>
         requires reached { (read : List Numbered) × Reaches self.kernel.problem read (position_of self) }
         ensures finished { IfOk result (λ accepted. IsOver (position_of self.entry) × (self.entry.concluded ≡ Some accepted)) }
         ensures stop { IfErr result (StopsBy (IsTruncated (position_of self.entry) last)) }
@@ -148,8 +149,12 @@ impl<'a, P: Propagator> Walk<'a, P> {
         let Walk {
             section,
             concluded,
+            names,
+            kernel,
             ..
         } = self;
+        afterwards.end(names);
+        afterwards.end(kernel);
         match section {
             Section::After => match concluded {
                 Some(accepted) => Ok(accepted),

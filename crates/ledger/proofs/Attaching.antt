@@ -329,23 +329,23 @@ none_there slots place k low e = ap (λ (j : ℕ). get_or (set slots place None)
 same_there : (slots : List (Option NormalConstraint)) (place k : ℕ) → (k ≡ place → ⊥) → constraint_at (shown (set slots place None)) k ≡ constraint_at (shown slots) k
 same_there slots place k other = shown_at (set slots place None) k ∙ ap constraint_in (get_or-set_other slots place k None None other) ∙ sym (shown_at slots k)
 
-parted_without : (slots : List (Option NormalConstraint)) (place : ℕ) (ns ws : List NormalConstraint) (pairs : List (Option Pair)) → place < length slots → AreParted slots ns ws pairs → AreParted (set slots place None) ns ws pairs
+parted_without : (slots : List (Option NormalConstraint)) (place : ℕ) (ns ws : List NormalConstraint) (pairs : List (Option Pair)) → place < length slots → AreParted slots ns ws pairs → AreParted (set slots place None) ns ws (set pairs place None)
 parted_without slots place ns ws pairs low x = record {
   count = length-set slots place None ∙ x.count;
   watched_count = length-set slots place None ∙ x.watched_count;
-  pair_count = length-set slots place None ∙ x.pair_count;
+  pair_count = length-set slots place None ∙ x.pair_count ∙ sym (length-set pairs place None);
   counts = λ k n e o. elim (cases_eq k place) [
     | inl here ↦ absurd (none_is_not_some n (sym (none_there slots place k low here) ∙ e))
-    | inr other ↦ x.counts k n (sym (get_or-set_other slots place k None None other) ∙ e) o
+    | inr other ↦ x.counts k n (sym (get_or-set_other slots place k None None other) ∙ e) (sym (get_or-set_other pairs place k None None other) ∙ o)
   ];
   watches = λ k n p e o. elim (cases_eq k place) [
     | inl here ↦ absurd (none_is_not_some n (sym (none_there slots place k low here) ∙ e))
-    | inr other ↦ x.watches k n p (sym (get_or-set_other slots place k None None other) ∙ e) o
+    | inr other ↦ x.watches k n p (sym (get_or-set_other slots place k None None other) ∙ e) (sym (get_or-set_other pairs place k None None other) ∙ o)
   ];
 }
 
 pub taken_out : (slots : List (Option NormalConstraint)) (place : ℕ) (assigned : List Lit) (variables : ℕ) (table clauses : List (List Occurrence)) (counters limits : List ℕ) (pairs : List (Option Pair)) → IsLedger slots assigned variables table clauses counters limits pairs → place < length slots
-    → IsLedger (set slots place None) assigned variables table clauses counters (set limits place 0) pairs
+    → IsLedger (set slots place None) assigned variables table clauses counters (set limits place 0) (set pairs place None)
 taken_out slots place assigned variables table clauses counters limits pairs i low =
     let many : length limits ≡ length slots = i.limits_are.limited ∙ length-map slots constraint_in in
     record {

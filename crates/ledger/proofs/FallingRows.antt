@@ -10,9 +10,11 @@ use Rattle.linear.specs.Literal.{opposite}
 use Rattle.propagate.specs.Literals.{coefficient_of, lists}
 use Rattle.propagate.proofs.Occurrences.{same_literal}
 use Rattle.ledger.specs.declared.pair.Pair.{Pair}
-use Rattle.ledger.specs.Falls.{IsAhead, IsAt, IsFalling, IsHandled, IsMoved, IsOneOf}
+use Rattle.ledger.specs.declared.finding.Move.{Move}
+use Rattle.ledger.specs.Falls.{IsAhead, IsAt, IsBeside, IsFalling, IsHandled, IsMoveIn, IsMoved, IsOneOf}
 use Rattle.linear.specs.Literal.{code}
-use Rattle.ledger.specs.Watched.{AreSameKinds, AreWatched, IsOpen, IsPairWithin, IsWatched, StandsIn, Watching}
+use Rattle.ledger.specs.Watched.{AreLiteralsOf, AreSameKinds, AreWatched, IsOpen, IsPairOf, IsPairWithin, IsWatched, StandsIn, Watching, exchanged}
+use Rattle.ledger.proofs.ClauseLists.{list_there, still_listed}
 use Rattle.ledger.proofs.Entering.{code_below, same_code}
 use Rattle.ledger.proofs.Opening.{fewer}
 use Rattle.ledger.proofs.RowPlaces.{IsPut, ahead_first, ahead_next, ahead_still, put_length, put_still, put_there, row_other, row_set, stands_beside}
@@ -56,12 +58,13 @@ stays slots assigned variables fallen w q q' index place n p f low is kept at ha
 
 -- the rows without the entry
 pub record IsDropped (w new : Watching) (fallen : Lit) (index place : ℕ) : Type 0 where
+  pub literals : new.literals ≡ w.literals
   pub rows : new.rows ≡ set w.rows (code fallen) (swap_remove (row_of w fallen) index place)
   pub pairs : new.pairs ≡ w.pairs
 
 watched_without : (slots : Slots) (assigned : List Lit) (variables : ℕ) (fallen : Lit) (w : Watching) (index place : ℕ) → AreWatched slots assigned variables w → code fallen < length w.rows
     → index < length (row_of w fallen) → place ≡ get_or (row_of w fallen) index place → ((n : NormalConstraint) (p : Pair) → IsAt slots w.pairs place n p → IsOneOf p fallen → ⊥)
-    → AreWatched slots assigned variables (record { rows = set w.rows (code fallen) (swap_remove (row_of w fallen) index place); pairs = w.pairs })
+    → AreWatched slots assigned variables (record { rows = set w.rows (code fallen) (swap_remove (row_of w fallen) index place); pairs = w.pairs; literals = w.literals })
 watched_without slots assigned variables fallen w index place a number low is elsewhere = record {
   size = omega (arith, a.size, length-set w.rows (code fallen) (swap_remove (row_of w fallen) index place));
   within = a.within;
@@ -74,6 +77,7 @@ watched_without slots assigned variables fallen w index place a number low is el
         second = stands_beside w.rows (code fallen) index place number low is p.second k (λ c e. let same = same_code p.second fallen c in gone e (inr (same_literal p.second fallen same.0 same.1))) i.second;
         tell = i.tell;
       };
+  listed = a.listed;
 }
 
 pub dropped : (slots : Slots) (assigned : List Lit) (variables : ℕ) (fallen : Lit) (w new : Watching) (q : List ℕ) (index place : ℕ) → IsFalling slots assigned variables fallen w q index → code fallen < length w.rows
@@ -81,8 +85,9 @@ pub dropped : (slots : Slots) (assigned : List Lit) (variables : ℕ) (fallen : 
     → IsFalling slots assigned variables fallen new q index
 dropped slots assigned variables fallen w new q index place f number low is elsewhere d =
     let row : List ℕ = swap_remove (row_of w fallen) index place in
-    let after : Watching = record { rows = set w.rows (code fallen) row; pairs = w.pairs } in
-    let same : after ≡ new = ap (λ (rows : List (List ℕ)). record { rows = rows; pairs = w.pairs }) (sym d.rows) ∙ ap {B = Watching} (λ (pairs : List (Option Pair)). record { rows = new.rows; pairs = pairs }) (sym d.pairs) in
+    let after : Watching = record { rows = set w.rows (code fallen) row; pairs = w.pairs; literals = w.literals } in
+    let same : after ≡ new = ap (λ (rows : List (List ℕ)). record { rows = rows; pairs = w.pairs; literals = w.literals }) (sym d.rows) ∙ ap {B = Watching} (λ (pairs : List (Option Pair)). record { rows = new.rows; pairs = pairs; literals = w.literals }) (sym d.pairs)
+    ∙ ap {B = Watching} (λ (literals : List (List Lit)). record { rows = new.rows; pairs = new.pairs; literals = literals }) (sym d.literals) in
     subst (λ (x : Watching). IsFalling slots assigned variables fallen x q index) same (record {
       watched = watched_without slots assigned variables fallen w index place f.watched number low is elsewhere;
       handled = λ k n p there pair one. elim (f.handled k n p there pair one) [
@@ -117,19 +122,21 @@ some_there {X = X} xs k x e = elim (cases_lt k (length xs)) [
 same_some : {X : Type 0} (x y : X) (o : Option X) → o ≡ Some x → o ≡ Some y → x ≡ y
 same_some x y o e f = cc
 
--- rows and pairs where another literal watches the clause of a place
-pub record IsRewatched (w new : Watching) (place : ℕ) (q : Pair) : Type 0 where
-  pub rows : IsPut w.rows q.first place new.rows
-  pub pairs : new.pairs ≡ set w.pairs place (Some q)
+-- rows, pairs and lists where another literal watches the clause of a place
+pub record IsRewatched (w new : Watching) (place : ℕ) (fallen : Lit) (m : Move) : Type 0 where
+  pub rows : IsPut w.rows m.pair.first place new.rows
+  pub pairs : new.pairs ≡ set w.pairs place (Some m.pair)
+  pub literals : new.literals ≡ set w.literals place (exchanged (get_or w.literals place []) m.index fallen m.pair)
 
 either : (p : Pair) (l : Lit) (A : Lit → Type 0) → IsOneOf p l → A p.first → A p.second → A l
 either p l A (inl e) a b = subst A e a
 either p l A (inr e) a b = subst A e b
 
-pub rewatched : (slots : Slots) (assigned : List Lit) (variables : ℕ) (fallen : Lit) (w new : Watching) (queue : List ℕ) (index place : ℕ) (n : NormalConstraint) (p q : Pair) → IsFalling slots assigned variables fallen w queue index
-    → variable_bound n.terms ≤ variables → IsAt slots w.pairs place n p → IsMoved assigned n p fallen q → IsRewatched w new place q
+pub rewatched : (slots : Slots) (assigned : List Lit) (variables : ℕ) (fallen : Lit) (w new : Watching) (queue : List ℕ) (index place : ℕ) (n : NormalConstraint) (p : Pair) (to : Move) → IsFalling slots assigned variables fallen w queue index
+    → variable_bound n.terms ≤ variables → IsAt slots w.pairs place n p → IsMoved assigned n p fallen to.pair → IsMoveIn (get_or w.literals place []) p fallen to → IsRewatched w new place fallen to
     → IsFalling slots assigned variables fallen new queue index
-rewatched slots assigned variables fallen w new queue index place n p q f within at moves r =
+rewatched slots assigned variables fallen w new queue index place n p to f within at moves move r =
+    let q : Pair = to.pair in
     let low : place < length w.pairs = some_there w.pairs place p at.1 in
     let first_below : q.first.var.0 < variables = variable_below n q.first variables moves.of_it.first within in
     let second_below : q.second.var.0 < variables = variable_below n q.second variables moves.of_it.second within in
@@ -163,6 +170,17 @@ rewatched slots assigned variables fallen w new queue index place n p q f within
               let i = f.watched.each k m s slot (there k s other pair) in
               record { of_it = i.of_it; first = kept s.first k i.first; second = kept s.second k i.second; tell = i.tell }
         ];
+        listed = λ k m s slot pair. elim (cases_eq k place) [
+          | inl e ↦
+              let same : n ≡ m = same_some n m (get_or slots place None) at.0 (ap (λ (j : ℕ). get_or slots j None) (sym e) ∙ slot) in
+              let ls : List Lit = get_or w.literals place [] in
+              let it = still_listed n ls p q fallen to.index (f.watched.listed place n p at.0 at.1) move.pair move.rest move.below move.there move.beside moves.of_it.first moves.of_it.second (fallen_occurs was.of_it move.beside) in
+              let is : get_or new.literals k [] ≡ exchanged ls to.index fallen q =
+              ap (λ (xs : List (List Lit)). get_or xs k []) r.literals ∙ ap (λ (j : ℕ). get_or (set w.literals place (exchanged ls to.index fallen q)) j []) e ∙ get_or-set_same w.literals place (exchanged ls to.index fallen q) [] (list_there w.literals place p move.pair) in
+              subst (λ (x : NormalConstraint). AreLiteralsOf x (get_or new.literals k [])) same (subst (AreLiteralsOf n) (sym is) it)
+          | inr other ↦
+              subst (AreLiteralsOf m) (sym (ap (λ (xs : List (List Lit)). get_or xs k []) r.literals ∙ get_or-set_other w.literals place k (exchanged (get_or w.literals place []) to.index fallen q) [] other)) (f.watched.listed k m s slot (there k s other pair))
+        ];
       };
       handled = λ k m s slot pair one. elim (cases_eq k place) [
         | inl e ↦ absurd (not_one (subst (λ (x : Pair). IsOneOf x fallen) (here k s e pair) one))
@@ -173,9 +191,13 @@ rewatched slots assigned variables fallen w new queue index place n p q f within
       ];
     }
   where
-    not_one : IsOneOf q fallen → ⊥
+    not_one : IsOneOf to.pair fallen → ⊥
     not_one (inl e) = moves.not_first e
     not_one (inr e) = moves.not_second e
+
+    fallen_occurs : IsPairOf n p → IsBeside (Some p) fallen to.pair.second → 0 < coefficient_of n fallen
+    fallen_occurs of_it (inl b) = subst (λ (l : Lit). 0 < coefficient_of n l) b.0 of_it.first
+    fallen_occurs of_it (inr b) = subst (λ (l : Lit). 0 < coefficient_of n l) b.0 of_it.second
 
 -- the same places are watched then
 pub same_kinds : (pairs new : List (Option Pair)) (place : ℕ) (p q : Pair) → get_or pairs place None ≡ Some p → new ≡ set pairs place (Some q) → AreSameKinds pairs new
@@ -209,32 +231,34 @@ entry_is rows inside seen fallen number index is named same =
     sym (ap (λ (xs : List ℕ). get_or xs index 0) (is ∙ ap (λ (k : ℕ). get_or inside k []) named ∙ ap (λ (xs : List (List ℕ)). get_or xs (code fallen) []) same))
 
 -- the rows without an entry, which is what stands there
-pub dropped_by : (w new : Watching) (fallen : Lit) (index place : ℕ) → new.rows ≡ set w.rows (code fallen) (swap_remove (row_of w fallen) index (get_or (row_of w fallen) index 0)) → new.pairs ≡ w.pairs → get_or (row_of w fallen) index 0 ≡ place
+pub dropped_by : (w new : Watching) (fallen : Lit) (index place : ℕ) → new.rows ≡ set w.rows (code fallen) (swap_remove (row_of w fallen) index (get_or (row_of w fallen) index 0)) → new.pairs ≡ w.pairs → new.literals ≡ w.literals → get_or (row_of w fallen) index 0 ≡ place
     → IsDropped w new fallen index place
-dropped_by w new fallen index place rows pairs is = record {
+dropped_by w new fallen index place rows pairs literals is = record {
+  literals = literals;
   rows = rows ∙ ap (λ (x : ℕ). set w.rows (code fallen) (swap_remove (row_of w fallen) index x)) is;
   pairs = pairs;
 }
 
 -- another literal watches the clause of an entry, and the entry is dropped
-pub moved_on : (slots : Slots) (assigned : List Lit) (variables : ℕ) (fallen : Lit) (w mid new : Watching) (queue : List ℕ) (index place : ℕ) (n : NormalConstraint) (p q : Pair) → IsFalling slots assigned variables fallen w queue index
-    → variable_bound n.terms ≤ variables → IsAt slots w.pairs place n p → IsMoved assigned n p fallen q → IsRewatched w mid place q
+pub moved_on : (slots : Slots) (assigned : List Lit) (variables : ℕ) (fallen : Lit) (w mid new : Watching) (queue : List ℕ) (index place : ℕ) (n : NormalConstraint) (p : Pair) (to : Move) → IsFalling slots assigned variables fallen w queue index
+    → variable_bound n.terms ≤ variables → IsAt slots w.pairs place n p → IsMoved assigned n p fallen to.pair → IsMoveIn (get_or w.literals place []) p fallen to → IsRewatched w mid place fallen to
     → code fallen < length w.rows → index < length (row_of w fallen) → place ≡ get_or (row_of w fallen) index place
-    → new.rows ≡ set mid.rows (code fallen) (swap_remove (row_of mid fallen) index (get_or (row_of mid fallen) index 0)) → new.pairs ≡ mid.pairs
+    → new.rows ≡ set mid.rows (code fallen) (swap_remove (row_of mid fallen) index (get_or (row_of mid fallen) index 0)) → new.pairs ≡ mid.pairs → new.literals ≡ mid.literals
     → IsFalling slots assigned variables fallen new queue index
-moved_on slots assigned variables fallen w mid new queue index place n p q f within at moves r number low is rows pairs =
+moved_on slots assigned variables fallen w mid new queue index place n p to f within at moves move r number low is rows pairs literals =
+    let q : Pair = to.pair in
     let same_row : row_of mid fallen ≡ row_of w fallen =
     ap (λ (xs : List (List ℕ)). get_or xs (code fallen) []) r.rows ∙ row_other w.rows (code q.first) (get_or w.rows (code q.first) [] ++ place ∷ []) fallen (λ e. code_apart q.first fallen moves.not_first (sym e)) in
     let low_mid : index < length (row_of mid fallen) = omega (arith, low, ap (length {A = ℕ}) same_row) in
     let is_mid : place ≡ get_or (row_of mid fallen) index place = is ∙ ap (λ (xs : List ℕ). get_or xs index place) (sym same_row) in
     let entry : get_or (row_of mid fallen) index 0 ≡ place = get_or_default (row_of mid fallen) index 0 place low_mid ∙ sym is_mid in
-    dropped slots assigned variables fallen mid new queue index place (rewatched slots assigned variables fallen w mid queue index place n p q f within at moves r) (omega (arith, number, put_length w.rows mid.rows q.first place r.rows)) low_mid is_mid
+    dropped slots assigned variables fallen mid new queue index place (rewatched slots assigned variables fallen w mid queue index place n p to f within at moves move r) (omega (arith, number, put_length w.rows mid.rows q.first place r.rows)) low_mid is_mid
     (λ m s found one.
     let now : get_or mid.pairs place None ≡ Some q = ap (λ (xs : List (Option Pair)). get_or xs place None) r.pairs ∙ get_or-set_same w.pairs place (Some q) None (some_there w.pairs place p at.1) in
     not_one (subst (λ (x : Pair). IsOneOf x fallen) (same_some s q (get_or mid.pairs place None) found.1 now) one))
-    (dropped_by mid new fallen index place rows pairs entry)
+    (dropped_by mid new fallen index place rows pairs literals entry)
   where
-    not_one : IsOneOf q fallen → ⊥
+    not_one : IsOneOf to.pair fallen → ⊥
     not_one (inl e) = moves.not_first e
     not_one (inr e) = moves.not_second e
 

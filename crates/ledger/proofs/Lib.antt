@@ -6,11 +6,13 @@ pub mod AssignedLiterals
 pub mod Opening
 pub mod QueuedRows
 pub mod RowPlaces
+pub mod Spans
 pub mod Rows
 pub mod JoinedRows
 pub mod EntrySums
 pub mod Entering
 pub mod ChosenLiterals
+pub mod ClauseLists
 pub mod RoundAbout
 pub mod Coefficients
 pub mod Standing
@@ -25,6 +27,7 @@ pub mod LastLiteral
 pub mod Latest
 pub mod TrailLiterals
 pub mod FalsifiedClauses
+pub mod ListedClauses
 pub mod PlacedOrders
 pub mod DecreasingTerms
 pub mod ForcedLiterals

@@ -1,5 +1,5 @@
 -- Rows of places: a place more at the end of a row, and one taken off.
-use Rattle.std.proofs.Common.{◌≡◌, ℕ, ◌+◌, ◌-◌, ◌<◌, ◌≤◌, ◌⊎◌, inl, inr, Contains, List, [], ◌∷◌, ◌++◌, length, length-append, get_or, set, Result, Ok, Err, OnOk, refl, ap, sym, subst, ◌∙◌, arith}
+use Rattle.std.proofs.Common.{◌≡◌, ℕ, ◌+◌, ◌-◌, ◌<◌, ◌≤◌, ◌⊎◌, inl, inr, Contains, List, [], ◌∷◌, ◌++◌, length, length-append, get_or, set, Result, Ok, Err, OnErr, OnOk, refl, ap, sym, subst, ◌∙◌, arith}
 use Rattle.std.proofs.lemmas.Bool.{cases_eq, cases_lt}
 use Rattle.std.proofs.lemmas.List.{get_or_push, get_or_append_left, get_or-set_same, get_or-set_other, length-set, get_or-take, length-take-le, get_or_default}
 use Rattle.std.specs.List.{swap_remove}
@@ -146,3 +146,7 @@ two_put rows mid new p place a b e f =
 pub on_ok_anyway : {T E P : Type 0} → (r : Result T E) → P → OnOk r P
 on_ok_anyway (Ok x) p = p
 on_ok_anyway (Err e) p = tt
+
+pub on_err_anyway : {T E P : Type 0} → (r : Result T E) → P → OnErr r P
+on_err_anyway (Ok x) p = tt
+on_err_anyway (Err e) p = p

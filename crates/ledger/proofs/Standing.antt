@@ -237,8 +237,8 @@ nowhere = record {
   limits_are = record { limited = refl; enough = λ k l h. absurd (omega (arith, h)) };
 }
 
-nobody : AreWatched [] [] 0 (record { rows = []; pairs = [] })
-nobody = record { size = omega arith; within = λ k p e. absurd (cc); each = λ k n p e f. absurd (cc) }
+nobody : AreWatched [] [] 0 (record { rows = []; pairs = []; literals = [] })
+nobody = record { size = omega arith; within = λ k p e. absurd (cc); each = λ k n p e f. absurd (cc); listed = λ k n p e f. absurd (cc) }
 
 no_constraint : (n : NormalConstraint) → None ≡ Some n → ⊥
 no_constraint n e = cc
@@ -249,7 +249,7 @@ no_orders xs orders k n e = absurd (no_constraint n e)
 no_reasons : AreReasons [] [] []
 no_reasons = record { as_many = refl; forced = λ k d h. absurd (omega (arith, h)) }
 
-pub empty : (slots : Slots) (trail : List Lit × ℕ × List Lit) (table clauses : List (List Occurrence)) (counters limits : List ℕ) (watchers : Watching) (reasons : List (Option ℕ)) (capacity : ℕ) (orders : Ordering) → slots ≡ [] → trail ≡ ([], 0, []) → table ≡ [] → clauses ≡ [] → counters ≡ [] → limits ≡ [] → watchers ≡ record { rows = []; pairs = [] } → reasons ≡ []
+pub empty : (slots : Slots) (trail : List Lit × ℕ × List Lit) (table clauses : List (List Occurrence)) (counters limits : List ℕ) (watchers : Watching) (reasons : List (Option ℕ)) (capacity : ℕ) (orders : Ordering) → slots ≡ [] → trail ≡ ([], 0, []) → table ≡ [] → clauses ≡ [] → counters ≡ [] → limits ≡ [] → watchers ≡ record { rows = []; pairs = []; literals = [] } → reasons ≡ []
     → IsLedger slots trail.0 trail.1 table clauses counters limits watchers.pairs × AreReasons (shown slots) (on_trail trail) reasons × (trail.1 ≤ capacity) × AreWatched slots trail.0 trail.1 watchers × AreOrders slots (on_trail trail) orders
 empty slots trail table clauses counters limits watchers reasons capacity orders s t b d c l w r = rw (s, t, b, d, c, l, w, r) (nowhere, no_reasons, omega arith, nobody, no_orders (on_trail ([], 0, [])) orders)
 

@@ -149,6 +149,7 @@ fallen_watched slots assigned variables w new fallen queue a is handled = record
           | inr high ↦ subst (λ (xs : List Lit). Tell xs n p) (sym (take_long h (assigned ++ new ∷ []) (omega (arith, high, length-append assigned (new ∷ []))))) (now k n p there pair i)
         ];
       };
+  listed = a.listed;
 }
   where
     now : (k : ℕ) (n : NormalConstraint) (p : Pair) → get_or slots k None ≡ Some n → get_or w.pairs k None ≡ Some p → IsWatched w.rows assigned k n p → Tell (assigned ++ new ∷ []) n p
@@ -202,6 +203,7 @@ watched_back slots longer assigned variables w l e a = record {
           | inr high ↦ subst (λ (xs : List Lit). Tell xs n p) (ap (take (length assigned)) e ∙ take-append-le (length assigned) assigned (l ∷ []) (omega arith) ∙ take-length assigned ∙ sym (take_long h assigned (omega (arith, high)))) (i.tell (length assigned))
         ];
       };
+  listed = a.listed;
 }
 
 -- each clause with a literal that is open is quiet, or waits, where what that one watches was queued

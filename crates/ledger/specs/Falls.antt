@@ -6,12 +6,13 @@ use Rattle.propagate.specs.Literals.{lists}
 use Rattle.propagate.specs.Slack.{IsFalsified}
 use Rattle.ledger.specs.declared.finding.Finding.{Finding}
 use Rattle.ledger.specs.declared.finding.Finding.TheVariants as findings
+use Rattle.ledger.specs.declared.finding.Move.{Move}
 use Rattle.ledger.specs.declared.finding.Progress.{Progress}
 use Rattle.ledger.specs.declared.finding.Progress.TheVariants as progresses
 use Rattle.ledger.specs.declared.pair.Pair.{Pair}
 use Rattle.linear.specs.Literal.{code}
 use Rattle.ledger.specs.Trails.{on_trail}
-use Rattle.ledger.specs.Watched.{AreOthersFalse, AreWatched, IsOpen, IsPairOf, Watching}
+use Rattle.ledger.specs.Watched.{AreOthersFalse, AreWatched, IsOpen, IsPairOf, Watching, pair_of}
 
 abbrev pub IsOneTrue : List Lit → Pair → Type 0
 IsOneTrue assigned p = (lists assigned p.first ≡ true) ⊎ (lists assigned p.second ≡ true)
@@ -34,6 +35,14 @@ pub record IsMoved (assigned : List Lit) (n : NormalConstraint) (p : Pair) (fall
   pub first : IsOpen assigned q.first
   pub second : IsOpen assigned q.second
 
+-- two literals come first in a list, and of two others the first stands behind them, and the second beside the one that falls
+pub record IsMoveIn (ls : List Lit) (p : Pair) (fallen : Lit) (m : Move) : Type 0 where
+  pub pair : pair_of ls ≡ Some p
+  pub rest : 2 ≤ m.index
+  pub below : m.index < length ls
+  pub there : (d : Lit) → slice_index_or ls m.index d ≡ m.pair.first
+  pub beside : IsBeside (Some p) fallen m.pair.second
+
 -- the clause at a place, and the two literals that watch it
 abbrev pub IsAt : List (Option NormalConstraint) → List (Option Pair) → ℕ → NormalConstraint → Pair → Type 0
 IsAt slots pairs k n p = (slice_index_or slots k None ≡ Some n) × (slice_index_or pairs k None ≡ Some p)
@@ -43,14 +52,14 @@ abbrev pub IsFalsifiedThere : List (Option NormalConstraint) → List Lit × ℕ
 IsFalsifiedThere slots trail k = (n : NormalConstraint) × (slice_index_or slots k None ≡ Some n) × IsFalsified (on_trail trail) n
 
 -- what is found of the clause at a place when a literal falls
-abbrev pub IsFound : List (Option NormalConstraint) → List Lit × ℕ × List Lit → List (Option Pair) → ℕ → Lit → Finding → Type 0
-IsFound slots trail pairs k fallen findings.Elsewhere = (n : NormalConstraint) (p : Pair) → IsAt slots pairs k n p → IsOneOf p fallen → ⊥
-IsFound slots trail pairs k fallen findings.Satisfied = (n : NormalConstraint) × (p : Pair) × IsAt slots pairs k n p × IsOneTrue trail.0 p
-IsFound slots trail pairs k fallen findings.Falsified = IsFalsifiedThere slots trail k
-IsFound slots trail pairs k fallen findings.Last =
-    (n : NormalConstraint) × (p : Pair) × IsAt slots pairs k n p × AreOthersFalse trail.0 n p × ((l : Lit) → IsBeside (Some p) fallen l → IsOpen (on_trail trail) l)
-IsFound slots trail pairs k fallen (findings.Moved q) =
-    (n : NormalConstraint) × (p : Pair) × IsAt slots pairs k n p × IsMoved trail.0 n p fallen q
+abbrev pub IsFound : List (Option NormalConstraint) → List Lit × ℕ × List Lit → Watching → ℕ → Lit → Finding → Type 0
+IsFound slots trail w k fallen findings.Elsewhere = (n : NormalConstraint) (p : Pair) → IsAt slots w.pairs k n p → IsOneOf p fallen → ⊥
+IsFound slots trail w k fallen findings.Satisfied = (n : NormalConstraint) × (p : Pair) × IsAt slots w.pairs k n p × IsOneTrue trail.0 p
+IsFound slots trail w k fallen findings.Falsified = IsFalsifiedThere slots trail k
+IsFound slots trail w k fallen findings.Last =
+    (n : NormalConstraint) × (p : Pair) × IsAt slots w.pairs k n p × AreOthersFalse trail.0 n p × ((l : Lit) → IsBeside (Some p) fallen l → IsOpen (on_trail trail) l)
+IsFound slots trail w k fallen (findings.Moved m) =
+    (n : NormalConstraint) × (p : Pair) × IsAt slots w.pairs k n p × IsMoved trail.0 n p fallen m.pair × IsMoveIn (slice_index_or w.literals k []) p fallen m
 
 -- nothing more is to be done for a clause that a falling literal watches
 abbrev pub IsHandled : List Lit → NormalConstraint → Pair → List ℕ → ℕ → Type 0

@@ -8,6 +8,7 @@ pub mod Orders
 pub mod Passed
 pub mod Rounds
 pub mod Rows
+pub mod Spans
 pub mod Trails
 pub mod Waiting
 pub mod Watched

@@ -1,5 +1,5 @@
 -- Clauses that are watched by two of their literals.
-use Rattle.std.specs.Prelude.{◌≡◌, ◌⊎◌, ℕ, ◌*◌, ◌<◌, ◌≤◌, true, false, List, [], Option, Some, None, Contains, length, take, is_some, slice_index_or}
+use Rattle.std.specs.Prelude.{◌≡◌, ◌⊎◌, ℕ, ◌*◌, ◌<◌, ◌≤◌, true, false, List, [], ◌∷◌, Option, Some, None, Contains, length, take, is_some, slice_index_or, slice_set}
 use Rattle.linear.specs.declared.term.Lit.{Lit}
 use Rattle.normal_form.specs.declared.term.NormalTerm.{NormalTerm}
 use Rattle.normal_form.specs.Normal.{NormalConstraint}
@@ -29,9 +29,28 @@ IsOpen assigned l = lists assigned (opposite l) ≡ false
 abbrev pub IsFalseBeside : List Lit → Pair → Lit → Type 0
 IsFalseBeside assigned p l = (l ≡ p.first → ⊥) → (l ≡ p.second → ⊥) → lists assigned (opposite l) ≡ true
 
+-- a literal is none of two
+abbrev pub IsApart : Pair → Lit → Type 0
+IsApart p l = (l ≡ p.first → ⊥) × (l ≡ p.second → ⊥)
+
+-- the literals of a list are of the variables
+abbrev pub AreWithin : ℕ → List Lit → Type 0
+AreWithin variables ls = (k : ℕ) (d : Lit) → k < length ls → (slice_index_or ls k d).var.0 < variables
+
 -- all literals of a constraint but two are made false
 abbrev pub AreOthersFalse : List Lit → NormalConstraint → Pair → Type 0
 AreOthersFalse assigned n p = (l : Lit) → 0 < coefficient_of n l → IsFalseBeside assigned p l
+
+-- the literals of a list behind the first two are made false, or one of two
+abbrev pub AreRestFalse : List Lit → List Lit → Pair → Type 0
+AreRestFalse assigned ls p = (i : ℕ) (d : Lit) → 2 ≤ i → i < length ls → IsFalseBeside assigned p (slice_index_or ls i d)
+
+-- an index behind the first two of a list, at which there is an open literal beside two
+pub record IsOpenAt (assigned : List Lit) (ls : List Lit) (p : Pair) (index : ℕ) : Type 0 where
+  pub rest : 2 ≤ index
+  pub below : index < length ls
+  pub unset : (d : Lit) → IsOpen assigned (slice_index_or ls index d)
+  pub apart : (d : Lit) → IsApart p (slice_index_or ls index d)
 
 -- an open literal of a constraint beside two
 pub record IsOpenBeside (assigned : List Lit) (n : NormalConstraint) (p : Pair) (l : Lit) : Type 0 where
@@ -65,10 +84,27 @@ pub record IsWatched (rows : List (List ℕ)) (assigned : List Lit) (place : ℕ
   pub second : StandsIn rows p.second place
   pub tell : (h : ℕ) → Tell (take h assigned) n p
 
--- rows of places by literal, among them places that are not watched any more, and the two literals of each place
+-- the first two of a list
+abbrev pub pair_of : List Lit → Option Pair
+pair_of [] = None
+pair_of (l ∷ []) = None
+pair_of (l ∷ m ∷ ls) = Some (record { first = l; second = m })
+
+-- the literals of a constraint, all of them and no others
+pub record AreLiteralsOf (n : NormalConstraint) (ls : List Lit) : Type 0 where
+  pub all : (l : Lit) → 0 < coefficient_of n l → Contains ls l
+  pub own : (i : ℕ) (d : Lit) → i < length ls → 0 < coefficient_of n (slice_index_or ls i d)
+
+-- a list in which two literals come first, and the one that fell stands where the first of them stood
+abbrev pub exchanged : List Lit → ℕ → Lit → Pair → List Lit
+exchanged ls index fallen p = slice_set (slice_set (slice_set ls index fallen) 0 p.first) 1 p.second
+
+-- rows of places by literal, among them places that are not watched any more; the two literals of each place; and all literals of its
+-- clause, those two first
 pub record Watching : Type 0 where
   pub rows : List (List ℕ)
   pub pairs : List (Option Pair)
+  pub literals : List (List Lit)
 
 -- both literals are of the variables
 abbrev pub IsPairWithin : ℕ → Pair → Type 0
@@ -80,6 +116,8 @@ pub record AreWatched (slots : List (Option NormalConstraint)) (assigned : List 
   pub within : (k : ℕ) (p : Pair) → slice_index_or w.pairs k None ≡ Some p → IsPairWithin variables p
   pub each : (k : ℕ) (n : NormalConstraint) (p : Pair) → slice_index_or slots k None ≡ Some n → slice_index_or w.pairs k None ≡ Some p
       → IsWatched w.rows assigned k n p
+  pub listed : (k : ℕ) (n : NormalConstraint) (p : Pair) → slice_index_or slots k None ≡ Some n → slice_index_or w.pairs k None ≡ Some p
+      → AreLiteralsOf n (slice_index_or w.literals k [])
 
 -- the same places have two literals
 pub record AreSameKinds (before after : List (Option Pair)) : Type 0 where

@@ -1,15 +1,12 @@
-//! Literals of a constraint for a clause to be watched by: those that are still open, and of those that fell the last ones.
+//! Two literals for a clause to be watched by as it comes: those that are still open, and of those that fell the last ones.
 
-ghost use Rattle.std.specs.Prelude.{◌≡◌, ◌<◌, ◌≤◌, ◌⊎◌, ℕ, false, IfSome, IsTrue, MatchOption, length, slice_index_or, take};
+ghost use Rattle.std.specs.Prelude.{◌≡◌, ◌<◌, ◌≤◌, ◌⊎◌, ℕ, false, IfSome, IsTrue, length, slice_index_or, take};
 ghost use Rattle.normal_form.specs.declared.term.NormalTerm.{NormalTerm};
-ghost use Rattle.normal_form.specs.Normal.{Rises, variable_bound};
-ghost use Rattle.propagate.specs.Passes.{literal_of};
-ghost use Rattle.ledger.specs.Trails.{on_trail};
-ghost use Rattle.ledger.specs.Watched.{AreOthersFalse, IsClause, IsFalseBeside, IsOpen, IsOpenBeside, IsPairOf, Outlasts, OutlastsTerm, Tell};
+ghost use Rattle.normal_form.specs.Normal.{variable_bound};
+ghost use Rattle.ledger.specs.Watched.{IsClause, IsPairOf, Outlasts, OutlastsTerm, Tell};
 
 use super::assignment::Assignment;
 use super::pair::Pair;
-use super::starts::{Starts, index_after};
 use linear::Lit;
 use normal_form::Normal;
 
@@ -26,61 +23,6 @@ fn is_clause(constraint: &Normal) -> bool
         }
     }
     true
-}
-
-/// The literal of a term, where it is open and none of two others.
-fn open_at(constraint: &Normal, trail: &Assignment, index: usize, others: Pair) -> Option<Lit>
-    requires index { index < length constraint.now.terms }
-    requires rises { Rises 0 constraint.now.terms }
-    requires variables { variable_bound constraint.now.terms ≤ trail.now.1 }
-    ensures value { MatchOption result ((d : NormalTerm)
-        → IsFalseBeside trail.now.0 others (literal_of (slice_index_or constraint.now.terms index d)))
-        (IsOpenBeside trail.now.0 constraint.now others) }
-    ensures own { IfSome result (λ l. (d : NormalTerm) → l ≡ literal_of (slice_index_or constraint.now.terms index d)) }
-{
-    let literal = constraint.term(index).literal();
-    if literal == others.first {
-        return None;
-    }
-    if literal == others.second {
-        return None;
-    }
-    if trail.has(literal.opposite()) {
-        return None;
-    }
-    Some(literal)
-}
-
-/// A literal of the constraint at a place that is open and none of two others, if there is one: best one that no literal makes false
-/// which is still to be propagated, since it would soon be sought anew. It is sought from where the last search ended.
-pub(crate) fn open_beside(
-    constraint: &Normal,
-    trail: &Assignment,
-    others: Pair,
-    starts: &mut Starts,
-    place: usize,
-) -> Option<Lit>
-    requires { variable_bound constraint.now.terms ≤ trail.now.1 }
-    ensures rises { Rises 0 constraint.now.terms }
-    ensures value { MatchOption result (AreOthersFalse trail.now.0 constraint.now others)
-        (IsOpenBeside trail.now.0 constraint.now others) }
-    ensures last { IfSome result (λ l. IsOpen (on_trail trail.now) l
-        ⊎ AreOthersFalse (on_trail trail.now) constraint.now others) }
-{
-    let count = constraint.len();
-    let start = starts.get(place).min(count);
-    let mut chosen = None;
-    for step in 0..count {
-        let index = index_after(count, start, step);
-        if let Some(literal) = open_at(constraint, trail, index, others) {
-            starts.set(place, index + 1);
-            if !trail.assigns(literal.opposite()) {
-                return Some(literal);
-            }
-            chosen = Some(literal);
-        }
-    }
-    chosen
 }
 
 /// Whether a literal stays open as long as another one, while the literals that were propagated came.

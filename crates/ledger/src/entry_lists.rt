@@ -5,13 +5,13 @@
 //! and taking it off looks at nothing else. Where memory ends midway, the entries so far are taken off by the same
 //! way.
 
-ghost use Rattle.std.specs.Prelude.{◌≡◌, ◌*◌, ◌<◌, ◌≤◌, ◌++◌, ◌∷◌, ℕ, List, [], None, Some, OnOk, OnErr, length, take};
+ghost use Rattle.std.specs.Prelude.{◌≡◌, ◌*◌, ◌<◌, ◌≤◌, ◌++◌, ◌∷◌, ℕ, List, [], None, Some, OnOk, OnErr, length, slice_index_or, take};
 ghost use Rattle.linear.specs.declared.term.Lit.{Lit};
 ghost use Rattle.normal_form.specs.Normal.{IsNormal, variable_bound};
 ghost use Rattle.ledger.specs.declared.occurrence.Occurrence.{Occurrence};
 ghost use Rattle.linear.specs.Literal.{code};
 ghost use Rattle.ledger.specs.Occurrences.{HasMore, entries_of};
-ghost use Rattle.ledger.specs.Watched.{StandsIn};
+ghost use Rattle.ledger.specs.Watched.{AreLiteralsOf, IsPairOf, StandsIn};
 
 use super::entry_table::EntryTable;
 use super::occurrence::Occurrence;
@@ -84,6 +84,8 @@ pub(crate) fn enter_counted(
     ensures err { OnErr result (HasMore (entries_of table.old) table.new (length watchers.old.pairs) []) }
     ensures pairs { OnOk result (watchers.new.pairs ≡ watchers.old.pairs ++ None ∷ []) }
     ensures no_pairs { OnErr result (watchers.new.pairs ≡ watchers.old.pairs) }
+    ensures others { (k : ℕ) → k < length watchers.old.pairs
+        → slice_index_or watchers.new.literals k [] ≡ slice_index_or watchers.old.literals k [] }
     ensures rows { watchers.new.rows ≡ watchers.old.rows }
 {
     let place = watchers.len();
@@ -105,6 +107,7 @@ pub(crate) fn enter_watched(
     pair: Pair,
 ) -> Result<(), AllocError>
     requires table { 2 * variable_bound constraint.now.terms ≤ length table.old }
+    requires pair { IsPairOf constraint.now pair }
     requires first { code pair.first < length watchers.old.rows }
     requires second { code pair.second < length watchers.old.rows }
     ensures length { length table.new ≡ length table.old }
@@ -112,13 +115,16 @@ pub(crate) fn enter_watched(
     ensures err { OnErr result (HasMore (entries_of table.old) table.new (length watchers.old.pairs) []) }
     ensures pairs { OnOk result (watchers.new.pairs ≡ watchers.old.pairs ++ Some pair ∷ []) }
     ensures no_pairs { OnErr result (watchers.new.pairs ≡ watchers.old.pairs) }
+    ensures listed { OnOk result (AreLiteralsOf constraint.now (slice_index_or watchers.new.literals (length watchers.old.pairs) [])) }
+    ensures others { (k : ℕ) → k < length watchers.old.pairs
+        → slice_index_or watchers.new.literals k [] ≡ slice_index_or watchers.old.literals k [] }
     ensures row_count { length watchers.new.rows ≡ length watchers.old.rows }
     ensures kept { (l : Lit) (k : ℕ) → StandsIn watchers.old.rows l k → StandsIn watchers.new.rows l k }
     ensures first_there { OnOk result (StandsIn watchers.new.rows pair.first (length watchers.old.pairs)) }
     ensures second_there { OnOk result (StandsIn watchers.new.rows pair.second (length watchers.old.pairs)) }
 {
     let place = watchers.len();
-    watchers.watch(pair)?;
+    watchers.watch(constraint, pair)?;
     match enter(table, place, constraint) {
         Err(_) => {
             watchers.detach();

@@ -14,7 +14,14 @@ pub(crate) enum Finding {
     /// All its other literals are false but the second one that watches it, which is forced.
     Last,
     /// Another literal that is open watches it from now on, beside the one that stays.
-    Moved(Pair),
+    Moved(Move),
+}
+
+/// The two literals that watch a clause from now on, and the index at which the first of them stands in its list until then.
+#[derive(Clone, Copy, Debug)]
+pub(crate) struct Move {
+    pub(crate) index: usize,
+    pub(crate) pair: Pair,
 }
 
 /// How a row is gone on with.

@@ -399,6 +399,7 @@ impl Ledger {
     {
         self.limits[place] = 0;
         self.orders.take_out(place);
+        self.watchers.forget(place);
         self.slots[place].take()
     }
 
@@ -419,6 +420,9 @@ impl Ledger {
         ensures more { self.old.variables ≤ self.new.variables }
         ensures ok { OnOk result (variables ≤ self.new.variables) }
     {
+        if variables <= self.trail.count() {
+            return Ok(());
+        }
         self.table.widen(variables * 2)?;
         self.clauses.widen(variables * 2)?;
         self.watchers.widen(alloc, variables * 2)?;

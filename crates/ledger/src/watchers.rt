@@ -4,13 +4,13 @@
 //! literals falls, and then another open one is sought to watch it (Moskewicz, Madigan, Zhao, Zhang and Malik: Chaff, 2001), from
 //! where the last search in the clause ended (`starts`): a literal that stands in many clauses costs those that it watches. Where
 //! literals are backtracked nothing is mended. A row may have places that its literal does not watch any more: they are dropped when
-//! it falls.
+//! it falls. The literals of each clause stand in a list of their own, those that watch it first (`listing`).
 //!
 //! A row is gone through only as far as to the first clause that is falsified, since a walk ends there: the literal then counts as one that
 //! was not propagated, and what its row would tell is not asked for before it is propagated anew. For that all literals
 //! that are assigned are asked, also those behind it: so of many copies of a clause whose literals all fall at once one is looked at.
 
-ghost use Rattle.std.specs.Prelude.{◌≡◌, ◌-◌, ◌<◌, ◌≤◌, ◌⊎◌, ◌++◌, ◌∷◌, [], ℕ, false, true, Contains, IfOk};
+ghost use Rattle.std.specs.Prelude.{◌≡◌, ◌+◌, ◌-◌, ◌<◌, ◌≤◌, ◌⊎◌, ◌++◌, ◌∷◌, [], ℕ, false, true, Contains, IfOk};
 ghost use Rattle.std.specs.Prelude.{MatchOption, None, OnErr, OnOk, Some, length, slice_index_or, slice_set, take};
 ghost use Rattle.std.specs.List.{swap_remove};
 ghost use Rattle.linear.specs.declared.term.Lit.{Lit};
@@ -21,13 +21,14 @@ ghost use Rattle.ledger.specs.Trails.{on_trail};
 ghost use Rattle.ledger.specs.declared.pair.Pair.{Pair};
 ghost use Rattle.ledger.specs.Falls.{IsBeside, IsFalling, IsFound, IsNearer, IsOneOf, IsPassed, IsRowEnd};
 ghost use Rattle.linear.specs.Literal.{code};
-ghost use Rattle.ledger.specs.Watched.{AreSameKinds, AreWatched, IsOpen, IsPairWithin, StandsIn};
+ghost use Rattle.ledger.specs.Watched.{AreLiteralsOf, AreSameKinds, AreWatched, IsOpen, IsPairOf, IsPairWithin, StandsIn, exchanged};
 
 use super::assignment::Assignment;
-use super::choosing::open_beside;
-use super::finding::{Finding, Progress};
+use super::finding::{Finding, Move, Progress};
+use super::lists::Lists;
 use super::pair::Pair;
 use super::queue::Queue;
+use super::replacing::open_beside;
 use super::starts::Starts;
 use super::table::Table;
 use linear::Lit;
@@ -35,35 +36,37 @@ use normal_form::Normal;
 use std::alloc::{AllocError, Global};
 use std::marker::Model;
 
-/// Rows of places by literal, and the two literals that watch the clause of each place, where it is watched.
+/// Rows of places by literal, and the literals of the clause of each place, where it is watched: the two that watch it first.
 #[derive(Drop)]
 pub(crate) struct Watchers {
     rows: Table<usize>,
-    pairs: Vec<Option<Pair>>,
+    literals: Lists,
 }
 
 impl Model for Watchers {
-    ghost use Rattle.ledger.specs.Watched.{Watching};
+    ghost use Rattle.std.specs.Prelude.{map};
+    ghost use Rattle.ledger.specs.Watched.{Watching, pair_of};
 
     ghost Value = { Watching };
 
-    ghost view = { λ w. record { rows = w.rows; pairs = w.pairs.items } };
+    ghost view = { λ w. record { rows = w.rows; pairs = map pair_of w.literals; literals = w.literals } };
 }
 
 impl Watchers {
     /// No place, and no rows.
     pub(crate) fn new(alloc: Global) -> Self
-        ensures { result ≡ record { rows = []; pairs = [] } }
+        ensures { result ≡ record { rows = []; pairs = []; literals = [] } }
     {
         Watchers {
             rows: Table::new(alloc),
-            pairs: Vec::new(alloc),
+            literals: Lists::new(alloc),
         }
     }
 
     /// Empty rows for the numbers below a bound that have none.
     pub(crate) fn widen(&mut self, alloc: Global, bound: usize) -> Result<(), AllocError>
         ensures pairs { self.new.pairs ≡ self.old.pairs }
+        ensures literals { self.new.literals ≡ self.old.literals }
         ensures kept { (k : ℕ) → slice_index_or self.new.rows k [] ≡ slice_index_or self.old.rows k [] }
         ensures longer { length self.old.rows ≤ length self.new.rows }
         ensures ok { OnOk result (bound ≤ length self.new.rows) }
@@ -75,23 +78,21 @@ impl Watchers {
     pub(crate) fn len(&self) -> usize
         ensures { result ≡ length self.now.pairs }
     {
-        self.pairs.len()
+        self.literals.len()
     }
 
     /// The literals that watch the clause of a place, if it is watched.
     pub(crate) fn pair(&self, place: usize) -> Option<Pair>
         ensures { result ≡ slice_index_or self.now.pairs place None }
     {
-        match self.pairs.get(place) {
-            Some(pair) => *pair,
-            None => None,
-        }
+        Pair::of(self.literals.row(place))
     }
 
     /// Puts a place into the row of a literal.
     fn put(&mut self, literal: Lit, place: usize) -> Result<(), AllocError>
         requires { code literal < length self.old.rows }
         ensures pairs { self.new.pairs ≡ self.old.pairs }
+        ensures literals { self.new.literals ≡ self.old.literals }
         ensures ok { OnOk result (self.new.rows ≡ slice_set self.old.rows (code literal)
             (slice_index_or self.old.rows (code literal) [] ++ place ∷ [])) }
         ensures err { OnErr result (self.new.rows ≡ self.old.rows) }
@@ -99,44 +100,56 @@ impl Watchers {
         self.rows.push(literal.code(), place)
     }
 
-    /// Has the clause of the next place watched by two literals.
-    pub(crate) fn watch(&mut self, pair: Pair) -> Result<(), AllocError>
+    /// Has a clause watched by two of its literals, at the next place.
+    pub(crate) fn watch(&mut self, clause: &Normal, pair: Pair) -> Result<(), AllocError>
+        requires pair { IsPairOf clause.now pair }
         requires first { code pair.first < length self.old.rows }
         requires second { code pair.second < length self.old.rows }
         ensures ok { OnOk result (self.new.pairs ≡ self.old.pairs ++ Some pair ∷ []) }
         ensures err { OnErr result (self.new.pairs ≡ self.old.pairs) }
+        ensures listed { OnOk result (AreLiteralsOf clause.now (slice_index_or self.new.literals (length self.old.pairs) [])) }
+        ensures others { (k : ℕ) → k < length self.old.pairs
+            → slice_index_or self.new.literals k [] ≡ slice_index_or self.old.literals k [] }
         ensures length { length self.new.rows ≡ length self.old.rows }
         ensures kept { (l : Lit) (k : ℕ) → StandsIn self.old.rows l k → StandsIn self.new.rows l k }
         ensures first_there { OnOk result (StandsIn self.new.rows pair.first (length self.old.pairs)) }
         ensures second_there { OnOk result (StandsIn self.new.rows pair.second (length self.old.pairs)) }
     {
-        let place = self.pairs.len();
+        let place = self.literals.len();
         self.put(pair.first, place)?;
         self.put(pair.second, place)?;
-        match self.pairs.push(Some(pair)) {
-            Err(_) => Err(AllocError),
-            Ok(()) => Ok(()),
-        }
+        self.literals.push(clause, pair)
     }
 
     /// Leaves the next place unwatched.
     pub(crate) fn skip(&mut self) -> Result<(), AllocError>
         ensures ok { OnOk result (self.new.pairs ≡ self.old.pairs ++ None ∷ []) }
         ensures err { OnErr result (self.new.pairs ≡ self.old.pairs) }
+        ensures others { (k : ℕ) → slice_index_or self.new.literals k [] ≡ slice_index_or self.old.literals k [] }
         ensures rows { self.new.rows ≡ self.old.rows }
     {
-        match self.pairs.push(None) {
-            Err(_) => Err(AllocError),
-            Ok(()) => Ok(()),
-        }
+        self.literals.push_none()
     }
 
     /// Takes the last place off. What stands in rows stays there.
     pub(crate) fn detach(&mut self)
         ensures pairs { self.new.pairs ≡ take (length self.old.pairs - 1) self.old.pairs }
+        ensures others { (k : ℕ) → k + 1 < length self.old.pairs
+            → slice_index_or self.new.literals k [] ≡ slice_index_or self.old.literals k [] }
         ensures rows { self.new.rows ≡ self.old.rows }
     {
-        self.pairs.pop();
+        self.literals.pop();
+    }
+
+    /// The clause of a place is not watched any more. What stands in rows stays there.
+    pub(crate) fn forget(&mut self, place: usize)
+        requires { place < length self.old.pairs }
+        ensures pairs { self.new.pairs ≡ slice_set self.old.pairs place None }
+        ensures others { (k : ℕ) → (k ≡ place → ⊥)
+            → slice_index_or self.new.literals k [] ≡ slice_index_or self.old.literals k [] }
+        ensures rows { self.new.rows ≡ self.old.rows }
+    {
+        self.literals.clear(place);
     }
 
     /// The literal that watches the clause of a place beside one that falls, where that one does.
@@ -162,12 +175,12 @@ impl Watchers {
         requires unset { lists trail.now.0 fallen ≡ false }
         requires unfallen { IsOpen trail.now.0 fallen }
         requires falls { lists (on_trail trail.now) (opposite fallen) ≡ true }
-        ensures { IsFound slots.now trail.now self.now.pairs place fallen result }
+        ensures { IsFound slots.now trail.now self.now place fallen result }
     {
         let Some(other) = self.beside(place, fallen) else {
             return Finding::Elsewhere;
         };
-        let Some(Some(clause)) = slots.get(place) else {
+        let Some(Some(_)) = slots.get(place) else {
             return Finding::Elsewhere;
         };
         if trail.has(other) {
@@ -178,14 +191,19 @@ impl Watchers {
             second: other,
         };
         let fell = trail.assigns(other.opposite());
-        match open_beside(clause, trail, others, starts, place) {
-            Some(literal) => {
+        let literals = self.literals.row(place);
+        match open_beside(literals, trail, others, starts, place) {
+            Some(index) => {
+                let literal = literals[index];
                 if fell && trail.assigns(literal.opposite()) {
                     return Finding::Falsified;
                 }
-                Finding::Moved(Pair {
-                    first: literal,
-                    second: other,
+                Finding::Moved(Move {
+                    index,
+                    pair: Pair {
+                        first: literal,
+                        second: other,
+                    },
                 })
             }
             None if fell => Finding::Falsified,
@@ -198,11 +216,27 @@ impl Watchers {
         requires row { code literal < length self.old.rows }
         requires index { index < length (slice_index_or self.old.rows (code literal) []) }
         ensures pairs { self.new.pairs ≡ self.old.pairs }
+        ensures literals { self.new.literals ≡ self.old.literals }
         ensures rows { self.new.rows ≡ slice_set self.old.rows (code literal) (swap_remove
             (slice_index_or self.old.rows (code literal) []) index
             (slice_index_or (slice_index_or self.old.rows (code literal) []) index 0)) }
     {
         self.rows.swap_remove(literal.code(), index);
+    }
+
+    /// Has the clause of a place watched by two of its literals, the first of which changes places with one that fell.
+    fn rewatch(&mut self, place: usize, to: Move, fallen: Lit)
+        requires place { place < length self.old.literals }
+        requires rest { 2 ≤ to.index }
+        requires below { to.index < length (slice_index_or self.old.literals place []) }
+        ensures pairs { self.new.pairs ≡ slice_set self.old.pairs place (Some to.pair) }
+        ensures literals { self.new.literals ≡ slice_set self.old.literals place
+            (exchanged (slice_index_or self.old.literals place []) to.index fallen to.pair) }
+        ensures rows { self.new.rows ≡ self.old.rows }
+    {
+        self.literals.set(place, to.index, fallen);
+        self.literals.set(place, 0, to.pair.first);
+        self.literals.set(place, 1, to.pair.second);
     }
 
     /// Looks at the clause of an entry of a literal that falls.
@@ -244,9 +278,9 @@ impl Watchers {
                 self.drop_entry(fallen, index);
                 Ok(Progress::At(index))
             }
-            Finding::Moved(pair) => {
-                self.put(pair.first, place)?;
-                self.pairs[place] = Some(pair);
+            Finding::Moved(to) => {
+                self.put(to.pair.first, place)?;
+                self.rewatch(place, to, fallen);
                 self.drop_entry(fallen, index);
                 Ok(Progress::At(index))
             }

@@ -2,7 +2,9 @@
 //! read piece by piece, from a file or from standard input, and never held as a whole.
 #![tactic(auto)]
 
-use checker::{StreamVerdict, Verdict, check_stream, verdict_status, verdict_text};
+use checker::{
+    Afterwards, StreamVerdict, Verdict, check_stream_then, verdict_status, verdict_text,
+};
 use clap::{Arg, ArgAction, Command, Error};
 use command_line::{DeviceFailed, STANDARD_OUTPUT, VERSION, ended, given_by, refused, words};
 use devices::ReaderSource;
@@ -65,7 +67,7 @@ fn command<'a>(alloc: Global) -> Result<Command<'a>, Error> {
 /// The verdict about a proof that a reader gives, or how reading it failed.
 fn judged<P: Read + Drop>(alloc: Global, opb: &[u8], proof: P) -> io::Result<Verdict> {
     let mut source = ReaderSource::new(proof);
-    match check_stream(alloc, opb, &mut source) {
+    match check_stream_then(alloc, opb, &mut source, Afterwards::Leave) {
         StreamVerdict::Judged(verdict) => Ok(verdict),
         StreamVerdict::ReadFailed => match source.into_error() {
             Some(error) => Err(error),

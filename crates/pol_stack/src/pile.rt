@@ -7,7 +7,7 @@
 //! stays there, so that where that comes after each addition, each time costs what was added. Which of its
 //! ways an addition or a weakening takes says nothing of what it gives, and is chosen by what it costs.
 
-ghost use Rattle.std.specs.Prelude.{◌≡◌, ◌∷◌, [], IfErr, OnOk, OnErr, IsErrOf};
+ghost use Rattle.std.specs.Prelude.{◌≡◌, ◌∷◌, [], IsTrue, IfErr, OnOk, OnErr, IsErrOf};
 ghost use Rattle.proof_rules.specs.Expression.{Given};
 ghost use Rattle.proof_rules.specs.Running.{AppliesItem};
 ghost use Rattle.proof_rules.specs.Fault.{OrMemory, IsAddFault};
@@ -50,6 +50,13 @@ impl<'a> Model for Pile<'a> {
     ghost Value = { List NormalConstraint };
 
     ghost view = { λ p. stacked p.above.items p.held p.sum p.below.items };
+}
+
+/// Whether a running sum stands on top.
+fn is_on_top(held: &Held, above: &Vec<Operand<'_>>) -> bool
+    ensures yes { IsTrue result → (held.now ≡ Held.RunningSum) × (above.now.items ≡ []) }
+{
+    above.is_empty() && matches!(held, Held::RunningSum)
 }
 
 /// Reads a running sum off, and puts it on the operands below.
@@ -157,17 +164,12 @@ impl<'a> Pile<'a> {
         ensures err { OnErr result (self.new ≡ self.old) }
         ensures fault { IfErr result (λ f. OrMemory f (IsTopSumFault (operand_value operand.now) self.old f)) }
     {
-        if !self.above.is_empty() {
+        if !is_on_top(&self.held, &self.above) {
             return Ok(false);
         }
-        match self.held {
-            Held::Nothing => Ok(false),
-            Held::RunningSum => {
-                self.sum.add(operand.constraint())?;
-                self.added = self.added.saturating_add(operand.constraint().len());
-                Ok(true)
-            }
-        }
+        self.sum.add(operand.constraint())?;
+        self.added = self.added.saturating_add(operand.constraint().len());
+        Ok(true)
     }
 
     /// Adds what stands under the running sum to it, where that is on top; whether it is. `StackShape` where nothing stands there.
@@ -177,17 +179,12 @@ impl<'a> Pile<'a> {
         ensures err { OnErr result (self.new ≡ self.old) }
         ensures fault { IfErr result (λ f. OrMemory f (IsAddFault self.old f)) }
     {
-        if !self.above.is_empty() {
+        if !is_on_top(&self.held, &self.above) {
             return Ok(false);
         }
-        match self.held {
-            Held::Nothing => Ok(false),
-            Held::RunningSum => {
-                let count = add_last(&mut self.sum, &mut self.below)?;
-                self.added = self.added.saturating_add(count);
-                Ok(true)
-            }
-        }
+        let count = add_last(&mut self.sum, &mut self.below)?;
+        self.added = self.added.saturating_add(count);
+        Ok(true)
     }
 
     /// Puts the sum of two constraints on top, as the running one. If there was one, it is read off.
@@ -246,16 +243,11 @@ impl<'a> Pile<'a> {
         ensures weakened { IsTrue result → IsTopWeakened (var.0) self.old self.new }
         ensures left { result ≡ false → self.new ≡ self.old }
     {
-        if !self.above.is_empty() {
-            return false;
+        let is_there = is_on_top(&self.held, &self.above);
+        if is_there {
+            self.sum.weaken(var);
         }
-        match self.held {
-            Held::Nothing => false,
-            Held::RunningSum => {
-                self.sum.weaken(var);
-                true
-            }
-        }
+        is_there
     }
 
     /// Saturates the running sum, where that is on top; whether it is.
@@ -263,16 +255,11 @@ impl<'a> Pile<'a> {
         ensures saturated { IsTrue result → IsTopSaturated self.old self.new }
         ensures left { result ≡ false → self.new ≡ self.old }
     {
-        if !self.above.is_empty() {
-            return false;
+        let is_there = is_on_top(&self.held, &self.above);
+        if is_there {
+            self.sum.saturate();
         }
-        match self.held {
-            Held::Nothing => false,
-            Held::RunningSum => {
-                self.sum.saturate();
-                true
-            }
-        }
+        is_there
     }
 
     /// Whether the sum of two operands is made as a constraint of its own. Two that are no sums themselves may be all

@@ -12,6 +12,9 @@
 //!    (`forgetting`, over `learned`), all decisions are undone (`restarts`), and what is outdone goes (`forgetting`, over `outdone`).
 //!
 //! What a solution does is told in `solution`, and what a line of an adviser does in `advice`.
+//!
+//! Each turn takes an id of the log or leaves fewer decisions open with all else as it was, and ids are numbered below a limit; so a run ends,
+//! whatever its advisers say.
 
 use super::advisers::Advisers;
 use super::descent::{Descent, descend};
@@ -96,9 +99,24 @@ impl<'a, P: Propagator> Run<'a, P> {
         self.log.names().len() as u32
     }
 
+    /// Takes turns until something is found.
+    pub(crate) fn finish(&mut self, limit: u64) -> Result<Found, AllocError>
+        requires decisions { AreDecisions self.old.log self.old.decisions.items }
+        requires within { self.old.log.biting < limit }
+        ensures goes_on { OnOk result (GoesOn self.old.log self.new.log) }
+        ensures found { IfOk result (BearsOut limit self.new.log) }
+        ensures within { OnOk result (self.new.log.biting < limit) }
+    {
+        'turns: loop {
+            if let Some(found) = self.turn(limit)? {
+                return Ok(found);
+            }
+        }
+    }
+
     /// Decides until there is a conflict, a line of an adviser or a solution, and learns from that; or undoes decisions that a conflict does
     /// not take.
-    pub(crate) fn turn(&mut self, limit: u64) -> Result<Option<Found>, AllocError>
+    fn turn(&mut self, limit: u64) -> Result<Option<Found>, AllocError>
         requires decisions { AreDecisions self.old.log self.old.decisions.items }
         requires within { self.old.log.biting < limit }
         ensures goes_on { GoesOn self.old.log self.new.log }

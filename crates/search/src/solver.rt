@@ -1,8 +1,7 @@
-//! The search: turn by turn, until something is found.
+//! The search: the log of a problem is presolved, and a run goes on from there until something is found.
 //!
 //! All that is known stands in one log, which is a legal proof by its type, so that nothing here can make a false answer: a
-//! turn may choose badly, and costs time alone. Each turn takes an id of the log or leaves fewer decisions open with all
-//! else as it was, and ids are numbered below a limit; so a search ends, whatever its advisers say.
+//! turn may choose badly, and costs time alone.
 
 ghost use Rattle.std.specs.Prelude.{◌≤◌, IfOk};
 ghost use Rattle.search.specs.Solving.{IsSolved};
@@ -39,14 +38,11 @@ fn search<'a, P: Propagator>(
     presolve(alloc, &mut log)?;
     let advisers = Advisers::new(alloc, &log, brancher)?;
     let mut run = Run::new(alloc, log, advisers)?;
-    'turns: loop {
-        if let Some(found) = run.turn(limit)? {
-            return Ok(Solved {
-                found,
-                log: Some(run.log),
-            });
-        }
-    }
+    let found = run.finish(limit)?;
+    Ok(Solved {
+        found,
+        log: Some(run.log),
+    })
 }
 
 /// Searches problems.

@@ -2,7 +2,7 @@
 //! source fails before a line that is refused has come.
 
 use super::rows::PIGEONS_IN_HOLES;
-use checker::{StreamVerdict, check_stream, verdict_text};
+use checker::{Afterwards, StreamVerdict, check_stream, check_stream_then, verdict_text};
 use pb_text::{MemSource, Portion, Source};
 use std::alloc::Global;
 use std::process::Abort;
@@ -127,6 +127,27 @@ fn a_source_fails_in_mid_stream(rt: HostRuntime) -> Result<(), Fail> {
     for case in &FAILING {
         assert!(rt; fails_as_wanted(rt.alloc(), *case)?, "pull {}", case.pull);
     }
+    Ok(())
+}
+
+/// Whether this is printed about a proof where the check leaves its memory to the system.
+fn prints_and_leaves(alloc: Global, opb: &[u8], proof: &[u8], wanted: &[u8]) -> Result<bool, Fail> {
+    let mut source = MemSource::new(proof, Portion::All, None);
+    if source.failures() >= u64::MAX {
+        return Ok(false);
+    }
+    match check_stream_then(alloc, opb, &mut source, Afterwards::Leave) {
+        StreamVerdict::Judged(verdict) => {
+            Ok(verdict_text(alloc, opb, &verdict)?.as_slice() == wanted)
+        }
+        StreamVerdict::ReadFailed => Ok(false),
+    }
+}
+
+#[test]
+fn memory_is_left_where_that_is_asked_for(rt: HostRuntime) -> Result<(), Fail> {
+    let printed = OPTIMUM_PRINTED.as_bytes();
+    assert!(rt; prints_and_leaves(rt.alloc(), EQUAL.as_bytes(), OPTIMUM.as_bytes(), printed)?);
     Ok(())
 }
 

@@ -9,7 +9,6 @@ use Rattle.normal_form.specs.Normal.{NormalConstraint}
 use Rattle.propagate.specs.Content.{HasLiteral}
 use Rattle.propagate.specs.Literals.{coefficient_of}
 use Rattle.ledger.specs.declared.occurrence.Occurrence.{Occurrence}
-use Rattle.ledger.specs.declared.pair.Pair.{Pair}
 use Rattle.ledger.specs.Ledgers.{AreParted, constraint_at}
 use Rattle.ledger.specs.Entered.{AreEntriesOf}
 use Rattle.watch.specs.Lent.{IsEachOnce, ids_at, live_places}
@@ -178,17 +177,17 @@ once_append (x ∷ xs) ys a b apart = (
 abbrev Counts : List NormalConstraint → Lit → ℕ → Type 0
 Counts ns l k = 0 < coefficient_of (constraint_at ns k) l
 
-of_slot : (slots : Slots) (ns ws : List NormalConstraint) (pairs : List (Option Pair)) (l : Lit) (k : ℕ) (n : NormalConstraint) (o : Option Pair) → AreParted slots ns ws pairs → get_or slots k None ≡ Some n → get_or pairs k None ≡ o → Counts ns l k ⊎ Counts ws l k → 0 < coefficient_of n l
+of_slot : (slots : Slots) (ns ws : List NormalConstraint) (pairs : _) (l : Lit) (k : ℕ) (n : NormalConstraint) (o : _) → AreParted slots ns ws pairs → get_or slots k None ≡ Some n → get_or pairs k None ≡ o → Counts ns l k ⊎ Counts ws l k → 0 < coefficient_of n l
 of_slot slots ns ws pairs l k n None x e f (inl some) = subst (λ (c : NormalConstraint). 0 < coefficient_of c l) (x.counts k n e f).0 some
 of_slot slots ns ws pairs l k n None x e f (inr some) = absurd (omega (arith, subst (λ (c : NormalConstraint). 0 < coefficient_of c l) (x.counts k n e f).1 some))
 of_slot slots ns ws pairs l k n (Some p) x e f (inl some) = absurd (omega (arith, subst (λ (c : NormalConstraint). 0 < coefficient_of c l) (x.watches k n p e f).0 some))
 of_slot slots ns ws pairs l k n (Some p) x e f (inr some) = subst (λ (c : NormalConstraint). 0 < coefficient_of c l) (x.watches k n p e f).1 some
 
-in_one : (slots : Slots) (ns ws : List NormalConstraint) (pairs : List (Option Pair)) (l : Lit) (k : ℕ) (n : NormalConstraint) (o : Option Pair) → AreParted slots ns ws pairs → get_or slots k None ≡ Some n → get_or pairs k None ≡ o → 0 < coefficient_of n l → Counts ns l k ⊎ Counts ws l k
+in_one : (slots : Slots) (ns ws : List NormalConstraint) (pairs : _) (l : Lit) (k : ℕ) (n : NormalConstraint) (o : _) → AreParted slots ns ws pairs → get_or slots k None ≡ Some n → get_or pairs k None ≡ o → 0 < coefficient_of n l → Counts ns l k ⊎ Counts ws l k
 in_one slots ns ws pairs l k n None x e f some = inl (subst (λ (c : NormalConstraint). 0 < coefficient_of c l) (sym (x.counts k n e f).0) some)
 in_one slots ns ws pairs l k n (Some p) x e f some = inr (subst (λ (c : NormalConstraint). 0 < coefficient_of c l) (sym (x.watches k n p e f).1) some)
 
-not_in_both : (slots : Slots) (ns ws : List NormalConstraint) (pairs : List (Option Pair)) (l : Lit) (k : ℕ) (n : NormalConstraint) (o : Option Pair) → AreParted slots ns ws pairs → get_or slots k None ≡ Some n → get_or pairs k None ≡ o → Counts ns l k → Counts ws l k → ⊥
+not_in_both : (slots : Slots) (ns ws : List NormalConstraint) (pairs : _) (l : Lit) (k : ℕ) (n : NormalConstraint) (o : _) → AreParted slots ns ws pairs → get_or slots k None ≡ Some n → get_or pairs k None ≡ o → Counts ns l k → Counts ws l k → ⊥
 not_in_both slots ns ws pairs l k n None x e f a b = omega (arith, subst (λ (c : NormalConstraint). 0 < coefficient_of c l) (x.counts k n e f).1 b)
 not_in_both slots ns ws pairs l k n (Some p) x e f a b = omega (arith, subst (λ (c : NormalConstraint). 0 < coefficient_of c l) (x.watches k n p e f).0 a)
 
@@ -249,7 +248,7 @@ pub lent_exactly : (slots : Slots) (es : Places) (ids : List ℕ) (l : Lit) (os 
 lent_exactly slots es ids l os a x id = (lent_has slots es ids l os a x id, λ h. lent_at slots es ids l os a x id h (place_of es id) refl)
 
 -- no id comes of both parts
-apart_ids : (slots : Slots) (es : Places) (ids : List ℕ) (l : Lit) (ns ws : List NormalConstraint) (pairs : List (Option Pair)) → AreNamed es ids slots → AreParted slots ns ws pairs → (id : ℕ) → Contains (ids_at ids (places_in slots l ns)) id → Contains (ids_at ids (places_in slots l ws)) id → ⊥
+apart_ids : (slots : Slots) (es : Places) (ids : List ℕ) (l : Lit) (ns ws : List NormalConstraint) (pairs : _) → AreNamed es ids slots → AreParted slots ns ws pairs → (id : ℕ) → Contains (ids_at ids (places_in slots l ns)) id → Contains (ids_at ids (places_in slots l ws)) id → ⊥
 apart_ids slots es ids l ns ws pairs a x id c d =
     let m = contains_mapped (λ k. get_or ids k 0) (places_in slots l ns) id c in
     let r = contains_mapped (λ k. get_or ids k 0) (places_in slots l ws) id d in

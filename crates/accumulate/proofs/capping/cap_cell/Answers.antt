@@ -4,7 +4,7 @@ use mir.Syntax.{w128}
 use Rattle.std.specs.Prelude.{ℤ, pos, unsigned_abs}
 use Rattle.accumulate.proofs.Coefficients.{defaulted}
 use Rattle.accumulate.proofs.Levels.{marked_smaller}
-use Rattle.accumulate.proofs.CappedCells.{capped_size, cell_size, set_sum, whole}
+use Rattle.accumulate.proofs.CappedCells.{cell_size, set_sum, smaller_cell, whole}
 use Rattle.accumulate.proofs.capping.cap_cell.Goals as goal
 
 pub capped-after-requires : goal.capped-after-requires
@@ -27,20 +27,15 @@ returns-clause-sum c =
 pub returns-clause-less : goal.returns-clause-less
 returns-clause-less c =
     let old : ℤ = c.index-before.result.now in
-    let after : ℤ = c.capped-after.result in
     let small : unsigned_abs old ≤ c.args.sum = cell_size c.args.nets.now.items c.args.place c.args.sum old c.requires.place c.index-before.ensures c.requires.sum in
-    let read : unsigned_abs (to_z w128 (of_z w128 old)) ≡ unsigned_abs old = ap unsigned_abs (whole old (omega (arith, small, c.requires.small))) in
-    let smaller : unsigned_abs after ≤ unsigned_abs old = omega (arith, capped_size c.args.most (to_z w128 (of_z w128 old)), ap unsigned_abs c.capped-after.ensures, read) in
-    let kept : unsigned_abs (to_z w128 (of_z w128 after)) ≡ unsigned_abs after = ap unsigned_abs (whole after (omega (arith, smaller, small, c.requires.small))) in
-    omega (arith, small, smaller, read, kept, c.unsigned_abs.ensures.value, c.unsigned_abs-2.ensures.value)
+    let smaller = smaller_cell c.args.most c.args.sum old c.capped-after.result small c.requires.small c.capped-after.ensures in
+    omega (arith, small, smaller.0, smaller.1, c.unsigned_abs.ensures.value, c.unsigned_abs-2.ensures.value)
 
 pub returns-clause-marks : goal.returns-clause-marks
 returns-clause-marks c level marks m =
     let old : ℤ = c.index-before.result.now in
     let after : ℤ = c.capped-after.result in
     let small : unsigned_abs old ≤ c.args.sum = cell_size c.args.nets.now.items c.args.place c.args.sum old c.requires.place c.index-before.ensures c.requires.sum in
-    let read : unsigned_abs (to_z w128 (of_z w128 old)) ≡ unsigned_abs old = ap unsigned_abs (whole old (omega (arith, small, c.requires.small))) in
-    let smaller : unsigned_abs after ≤ unsigned_abs old = omega (arith, capped_size c.args.most (to_z w128 (of_z w128 old)), ap unsigned_abs c.capped-after.ensures, read) in
-    let kept : unsigned_abs (to_z w128 (of_z w128 after)) ≡ unsigned_abs after = ap unsigned_abs (whole after (omega (arith, smaller, small, c.requires.small))) in
+    let smaller = smaller_cell c.args.most c.args.sum old after small c.requires.small c.capped-after.ensures in
     let here : unsigned_abs old ≡ unsigned_abs (get_or c.args.nets.now.items c.args.place (pos 0)) = ap unsigned_abs (c.index-before.ensures ∙ defaulted c.args.nets.now.items c.args.place old (pos 0) c.requires.place) in
-    marked_smaller level marks c.args.nets.now.items c.args.place (to_z w128 (of_z w128 after)) c.requires.place (omega (arith, kept, smaller, here)) m
+    marked_smaller level marks c.args.nets.now.items c.args.place (to_z w128 (of_z w128 after)) c.requires.place (omega (arith, smaller.1, here)) m

@@ -34,7 +34,7 @@ invariant_of-self-in_err-enter_counted c =
       with_pairs e.slots.items e.trail.0 e.trail.1 c.enter_counted.new.table e.clauses e.counters.items e.limits.items e.watchers.pairs new.pairs it c.in_err-enter_counted.ensures.no_pairs,
       c.self.invariant.1,
       c.self.invariant.2,
-      watched_kept e.slots.items e.trail.0 e.trail.1 e.watchers new c.self.invariant.3 c.in_err-enter_counted.ensures.no_pairs (omega (arith, ap (length {A = List ℕ}) c.enter_counted.ensures.rows)) (same_rows e.watchers.rows new.rows c.enter_counted.ensures.rows),
+      watched_kept e.slots.items e.trail.0 e.trail.1 e.watchers new c.self.invariant.3 c.in_err-enter_counted.ensures.no_pairs (omega (arith, ap (length {A = List ℕ}) c.enter_counted.ensures.rows)) (same_rows e.watchers.rows new.rows c.enter_counted.ensures.rows) c.enter_counted.ensures.others,
       orders_beside e.slots.items (on_trail e.trail) e.orders c.give.new.self c.self.invariant.4 (others e.slots.items c.make_room.new.slots.items e.orders c.give.new.self c.len.result room.slots (omega (arith, c.len.ensures, c.make_room.new.slots.ok)) c.give.ensures.others),
     )
 
@@ -56,6 +56,6 @@ invariant_of-self-2 c =
       with_pairs (e.slots.items ++ Some n ∷ []) e.trail.0 e.trail.1 c.enter_counted.new.table e.clauses (e.counters.items ++ c.open_sum-open.result ∷ []) (e.limits.items ++ (c.degree.result + c.largest.result) ∷ []) (e.watchers.pairs ++ None ∷ []) new.pairs it pairs,
       reasons_beside e.slots.items n (on_trail e.trail) e.reasons.items c.self.invariant.1,
       c.self.invariant.2,
-      watched_more e.slots.items e.trail.0 e.trail.1 e.watchers new n None c.self.invariant.3 i.slots_are.pair_count pairs (omega (arith, ap (length {A = List ℕ}) c.enter_counted.ensures.rows)) (same_rows e.watchers.rows new.rows c.enter_counted.ensures.rows) tt,
+      watched_more e.slots.items e.trail.0 e.trail.1 e.watchers new n None c.self.invariant.3 i.slots_are.pair_count pairs (omega (arith, ap (length {A = List ℕ}) c.enter_counted.ensures.rows)) (same_rows e.watchers.rows new.rows c.enter_counted.ensures.rows) c.enter_counted.ensures.others tt,
       orders_more e.slots.items (on_trail e.trail) e.orders c.give.new.self n c.self.invariant.4 (others e.slots.items c.make_room.new.slots.items e.orders c.give.new.self c.len.result room.slots (omega (arith, c.len.ensures, c.make_room.new.slots.ok)) c.give.ensures.others) (its e.slots.items c.make_room.new.slots.items (on_trail e.trail) n c.give.new.self c.len.result room.slots (omega (arith, c.len.ensures, c.make_room.new.slots.ok)) c.in_ok-give.ensures.ok c.in_ok-give.ensures.none),
     )

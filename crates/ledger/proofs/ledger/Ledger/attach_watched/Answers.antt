@@ -78,7 +78,7 @@ invariant_of-self-in_err-enter_watched c =
       with_pairs e.slots.items e.trail.0 e.trail.1 e.table c.enter_watched.new.table e.counters.items e.limits.items e.watchers.pairs new.pairs it c.in_err-enter_watched.ensures.no_pairs,
       c.self.invariant.1,
       c.self.invariant.2,
-      watched_kept e.slots.items e.trail.0 e.trail.1 e.watchers new c.self.invariant.3 c.in_err-enter_watched.ensures.no_pairs (omega (arith, c.enter_watched.ensures.row_count)) c.enter_watched.ensures.kept,
+      watched_kept e.slots.items e.trail.0 e.trail.1 e.watchers new c.self.invariant.3 c.in_err-enter_watched.ensures.no_pairs (omega (arith, c.enter_watched.ensures.row_count)) c.enter_watched.ensures.kept c.enter_watched.ensures.others,
       orders_beside e.slots.items (on_trail e.trail) e.orders c.give.new.self c.self.invariant.4 (others e.slots.items c.make_room.new.slots.items e.orders c.give.new.self c.len-place.result room.slots (omega (arith, c.len-place.ensures, c.make_room.new.slots.ok)) c.give.ensures.others),
     )
 
@@ -103,7 +103,7 @@ invariant_of-self-2 c =
       with_pairs (e.slots.items ++ Some n ∷ []) e.trail.0 e.trail.1 e.table c.enter_watched.new.table (e.counters.items ++ 0 ∷ []) (e.limits.items ++ limit ∷ []) (e.watchers.pairs ++ Some p ∷ []) new.pairs it said.pairs,
       reasons_beside e.slots.items n (on_trail e.trail) e.reasons.items c.self.invariant.1,
       c.self.invariant.2,
-      watched_more e.slots.items e.trail.0 e.trail.1 e.watchers new n (Some p) c.self.invariant.3 i.slots_are.pair_count said.pairs (omega (arith, said.row_count)) said.kept
-          (c.requires.pair, (first_below n p e.trail.1 c.requires.pair within, second_below n p e.trail.1 c.requires.pair within), tell, said.first_there, said.second_there),
+      watched_more e.slots.items e.trail.0 e.trail.1 e.watchers new n (Some p) c.self.invariant.3 i.slots_are.pair_count said.pairs (omega (arith, said.row_count)) said.kept said.others
+          (c.requires.pair, (first_below n p e.trail.1 c.requires.pair within, second_below n p e.trail.1 c.requires.pair within), tell, said.first_there, said.second_there, said.listed),
       orders_more e.slots.items (on_trail e.trail) e.orders c.give.new.self n c.self.invariant.4 (others e.slots.items c.make_room.new.slots.items e.orders c.give.new.self c.len-place.result room.slots (omega (arith, c.len-place.ensures, c.make_room.new.slots.ok)) c.give.ensures.others) (its e.slots.items c.make_room.new.slots.items (on_trail e.trail) n c.give.new.self c.len-place.result room.slots (omega (arith, c.len-place.ensures, c.make_room.new.slots.ok)) c.in_ok-give.ensures.ok c.in_ok-give.ensures.none),
     )

@@ -53,6 +53,7 @@ left c after behind long none long_w none_w same_counters same_limits same_watch
     let limits : c.pop-in-Some-Some-2.new.self.items ≡ take (length e.limits.items - 1) e.limits.items = c.pop-in-Some-Some-2.ensures.rest ∙ ap (λ v. take (vec_len v - 1) v.items) same_limits ∙ ap (λ (k : ℕ). take (k - 1) e.limits.items) (omega (arith, e.limits.ok)) in
     let pairs : c.detach.new.self.pairs ≡ take (length e.watchers.pairs - 1) e.watchers.pairs = c.detach.ensures.pairs ∙ ap (λ (w : Watching). take (length w.pairs - 1) w.pairs) same_watchers in
     let rows : c.detach.new.self.rows ≡ e.watchers.rows = c.detach.ensures.rows ∙ ap (λ (w : Watching). w.rows) same_watchers in
+    let lists : (k : ℕ) → k + 1 < length e.watchers.pairs → get_or c.detach.new.self.literals k [] ≡ get_or e.watchers.literals k [] = subst (λ (w : Watching). (k : ℕ) → k + 1 < length w.pairs → get_or c.detach.new.self.literals k [] ≡ get_or w.literals k []) same_watchers c.detach.ensures.others in
     let it = detached e.slots.items rest e.trail.0 e.trail.1 e.table after e.clauses behind e.counters.items e.limits.items e.watchers.pairs n i (split c) long none long_w none_w in
     let below : (k place : ℕ) → k < length (on_trail e.trail) → get_or e.reasons.items k None ≡ Some place → place + 1 < length e.slots.items = subst (λ (s : State). (k place : ℕ) → k < length s.assigned → get_or s.reasons k None ≡ Some place → place + 1 < length s.slots) (sym c.self.view_is) c.requires.reasons in
     let fewer : (k : ℕ) → k < length rest → order_at c.take_out.new.self k ≡ order_at e.orders k = λ k low. c.take_out.ensures k (λ here. absurd (omega (arith, here, low, c.len-place.ensures, c.pop.new.self.ok))) ∙ ap (λ (o : Ordering). order_at o k) same_orders in
@@ -60,7 +61,7 @@ left c after behind long none long_w none_w same_counters same_limits same_watch
       with_pairs rest e.trail.0 e.trail.1 after behind (take (length e.counters.items - 1) e.counters.items) (take (length e.limits.items - 1) e.limits.items) (take (length e.watchers.pairs - 1) e.watchers.pairs) c.detach.new.self.pairs it pairs,
       reasons_without e.slots.items rest n (on_trail e.trail) e.reasons.items (split c) c.self.invariant.1 below,
       c.self.invariant.2,
-      watched_fewer e.slots.items rest e.trail.0 e.trail.1 e.watchers c.detach.new.self n (split c) i.slots_are.pair_count pairs rows c.self.invariant.3,
+      watched_fewer e.slots.items rest e.trail.0 e.trail.1 e.watchers c.detach.new.self n (split c) i.slots_are.pair_count pairs rows lists c.self.invariant.3,
       orders_fewer e.slots.items rest (on_trail e.trail) e.orders c.take_out.new.self n (split c) c.self.invariant.4 fewer,
     )
 

@@ -14,7 +14,7 @@ invariant_of-self-in_err-widen-3 c =
           c.widen-3.ensures.pairs,
       c.self.invariant.1,
       c.self.invariant.2,
-      watched_wider e.slots.items e.trail.0 v v e.watchers c.widen-3.new.self c.self.invariant.3 c.widen-3.ensures.pairs (omega arith) (omega (arith, c.self.invariant.3.size, c.widen-3.ensures.longer)) c.widen-3.ensures.kept,
+      watched_wider e.slots.items e.trail.0 v v e.watchers c.widen-3.new.self c.self.invariant.3 c.widen-3.ensures.pairs c.widen-3.ensures.literals (omega arith) (omega (arith, c.self.invariant.3.size, c.widen-3.ensures.longer)) c.widen-3.ensures.kept,
       c.self.invariant.4,
     )
 
@@ -28,7 +28,7 @@ invariant_of-self-in_err-reserve c =
           c.widen-3.ensures.pairs,
       (rw c.reserve.ensures.items c.self.invariant.1),
       omega (arith, c.self.invariant.2, c.reserve.ensures.capacity),
-      watched_wider e.slots.items e.trail.0 v v e.watchers c.widen-3.new.self c.self.invariant.3 c.widen-3.ensures.pairs (omega arith) (omega (arith, c.self.invariant.3.size, c.widen-3.ensures.longer)) c.widen-3.ensures.kept,
+      watched_wider e.slots.items e.trail.0 v v e.watchers c.widen-3.new.self c.self.invariant.3 c.widen-3.ensures.pairs c.widen-3.ensures.literals (omega arith) (omega (arith, c.self.invariant.3.size, c.widen-3.ensures.longer)) c.widen-3.ensures.kept,
       c.self.invariant.4,
     )
 
@@ -58,6 +58,6 @@ invariant_of-self-2 c =
           c.widen-3.ensures.pairs,
       (rw c.reserve.ensures.items c.self.invariant.1),
       below v w c.args.variables (vec_capacity c.reserve.new.self) (omega (arith, c.self.invariant.2, c.reserve.ensures.capacity)) room most,
-      watched_wider e.slots.items e.trail.0 v w e.watchers c.widen-3.new.self c.self.invariant.3 c.widen-3.ensures.pairs c.widen-4.ensures.more rows c.widen-3.ensures.kept,
+      watched_wider e.slots.items e.trail.0 v w e.watchers c.widen-3.new.self c.self.invariant.3 c.widen-3.ensures.pairs c.widen-3.ensures.literals c.widen-4.ensures.more rows c.widen-3.ensures.kept,
       c.self.invariant.4,
     )

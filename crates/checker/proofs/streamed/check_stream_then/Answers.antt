@@ -2,7 +2,7 @@ use Rattle.std.proofs.Common.{subst, sym}
 use Rattle.checker.specs.Streamed.{IsStreamVerdictOf, StreamStopsBy}
 use Rattle.checker.specs.declared.stream_verdict.StreamVerdict.TheVariants.{Judged}
 use Rattle.checker.proofs.VerdictsSaid.{stream_stop_said, stream_true}
-use Rattle.checker.proofs.streamed.check_stream.Goals as goal
+use Rattle.checker.proofs.streamed.check_stream_then.Goals as goal
 
 pub returns-in-Ok-judge_stream : goal.returns-in-Ok-judge_stream
 returns-in-Ok-judge_stream g c =
@@ -14,7 +14,7 @@ returns-in-Err-Judging g c =
     let t = g.S.Source.state c.judge_stream.new.source in
     let why = subst (StreamStopsBy c.in-Ok.problem s t) c.in-Err-Judging.field-0-is c.in-Err-Judging.ensures.stop in
     subst (λ v. IsStreamVerdictOf c.args.opb.now s t (Judged v)) (sym c.stopped.ensures)
-    (stream_stop_said c.args.opb.now c.in-Ok.problem c.in-Ok.ensures.spells c.in-Ok.ensures.within s t c.in-Err-Judging.stop why)
+    (rw c.in-Err-Judging.field-0-is (stream_stop_said c.args.opb.now c.in-Ok.problem c.in-Ok.ensures.spells c.in-Ok.ensures.within s t c.in-Err-Judging.stop why))
 
 pub returns : goal.returns
 returns g c = c.bad_problem.ensures.stream c.args.opb.now (g.S.Source.state c.args.source.now) c.in-Err.ensures.denies c.in-Err.ensures.line
