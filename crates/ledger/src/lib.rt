@@ -11,6 +11,7 @@
 
 mod assignment;
 mod choosing;
+mod clause_index;
 mod entry_lists;
 mod entry_table;
 mod finding;

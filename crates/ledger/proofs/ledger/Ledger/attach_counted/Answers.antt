@@ -3,7 +3,7 @@ use Rattle.std.proofs.Common.{◌≡◌, ◌+◌, ◌≤◌, ℕ, List, Option, 
 use Rattle.normal_form.specs.Normal.{NormalConstraint, variable_bound}
 use Rattle.ledger.specs.Trails.{on_trail}
 use Rattle.ledger.specs.Ledgers.{State}
-use Rattle.ledger.proofs.Attaching.{attached_counted, none_more, reasons_beside, unchanged, with_pairs}
+use Rattle.ledger.proofs.Attaching.{attached_counted, reasons_beside, unchanged, with_pairs}
 use Rattle.ledger.proofs.PlacedOrders.{its, orders_beside, orders_more, others}
 use Rattle.ledger.proofs.WatchedPlaces.{same_rows, watched_kept, watched_more}
 use Rattle.ledger.proofs.ledger.Ledger.attach_counted.Goals as goal
@@ -29,7 +29,7 @@ invariant_of-self-in_err-enter_counted c =
     let i = c.self.invariant.0 in
     let room = c.in_ok-make_room.ensures in
     let new = c.enter_counted.new.watchers in
-    let it = unchanged e.slots.items e.trail.0 e.trail.1 e.table c.enter_counted.new.table e.clauses e.clauses e.counters.items e.limits.items e.watchers.pairs (length e.watchers.pairs) i c.in_err-enter_counted.ensures.err c.in_err-enter_counted.ensures.length (none_more e.clauses (length e.watchers.pairs)) refl in
+    let it = unchanged e.slots.items e.trail.0 e.trail.1 e.table c.enter_counted.new.table e.clauses e.counters.items e.limits.items e.watchers.pairs (length e.watchers.pairs) i c.in_err-enter_counted.ensures.err c.in_err-enter_counted.ensures.length in
     rw (room.slots, room.counters, room.limits) (
       with_pairs e.slots.items e.trail.0 e.trail.1 c.enter_counted.new.table e.clauses e.counters.items e.limits.items e.watchers.pairs new.pairs it c.in_err-enter_counted.ensures.no_pairs,
       c.self.invariant.1,
