@@ -12,7 +12,7 @@
 
 ghost use Rattle.std.specs.Prelude.{◌≡◌, ◌+◌, ◌-◌, ◌<◌, ◌≤◌, ◌++◌, ◌∷◌};
 ghost use Rattle.std.specs.Prelude.{◌⊎◌, [], ℕ, List, false, true, All, Contains, IfOk, IfSome, IsSome};
-ghost use Rattle.std.specs.Prelude.{Some, None, IsTrue, MatchOption, OnOk, OnErr, ◌↔◌, length, min, take, slice_index_or};
+ghost use Rattle.std.specs.Prelude.{Some, None, IsTrue, MatchOption, OnOk, OnErr, ◌↔◌, length, take, slice_index_or};
 ghost use Rattle.std.specs.Prelude.{slice_set, vec_capacity, vec_len};
 ghost use Rattle.std.specs.Option.{option_copied};
 ghost use Rattle.linear.specs.declared.term.Lit.{Lit};
@@ -519,7 +519,7 @@ impl Ledger {
         requires live { IsSome (slice_index_or self.old.slots (length self.old.slots - 1) None) }
         requires reasons { (k place : ℕ) → k < length self.old.assigned
             → slice_index_or self.old.reasons k None ≡ Some place → place + 1 < length self.old.slots }
-        ensures { self.new ≡ record self.old { slots = take (length self.old.slots - 1) self.old.slots; listed = min self.old.listed (length self.old.slots - 1) } }
+        ensures { self.new ≡ record self.old { slots = take (length self.old.slots - 1) self.old.slots; listed = self.new.listed } }
     {
         match self.slots.pop() {
             Some(Some(constraint)) => {

@@ -8,15 +8,14 @@
 //! that. Its place stays empty, and its entries in the lists of literals stay and cost a little, until the places are
 //! made anew.
 
-ghost use Rattle.std.specs.Prelude.{◌≡◌, ◌↔◌, ◌<◌, ◌++◌, ◌∷◌, [], ℕ, List, All, IfOk};
+ghost use Rattle.std.specs.Prelude.{◌≡◌, ◌↔◌, ◌<◌, ◌++◌, ◌∷◌, [], ℕ, List, IfOk};
 ghost use Rattle.std.specs.Prelude.{IsTrue, None, OnErr, OnOk, Some, length, slice_index_or, slice_set};
 ghost use Rattle.std.specs.Option.{option_copied};
 ghost use Rattle.propagate.specs.Chain.{IsRefuted};
-ghost use Rattle.propagate.specs.Content.{AreDecided, AreTaken};
+ghost use Rattle.propagate.specs.Content.{AddsOccurrences, AreDecided, AreTaken};
 ghost use Rattle.propagate.specs.Literals.{IsConsistent};
 ghost use Rattle.propagate.specs.Reach.{IsReach, IsRetrace};
 ghost use Rattle.ledger.specs.Ledgers.{constraint_at, shown};
-ghost use Rattle.ledger.specs.Entered.{AreEntriesOf, all_of};
 ghost use Rattle.watch.specs.Named.{AreNamed, content_at};
 ghost use Rattle.watch.specs.Steps.{IsFound};
 
@@ -25,15 +24,16 @@ use super::continuing::traces_of_each;
 use super::extension::reach_over;
 use super::extras::attach_waiting;
 use super::following::go_back;
+use super::lending::Occurrences;
 use super::levels::Levels;
 use super::refutation::refute_anew;
 use super::release::release;
 use super::retracing::retrace_over;
 use super::tracing::chain_over;
-use ledger::{Entries, Ledger, Queue};
+use ledger::{Ledger, Queue};
 use linear::Lit;
 use normal_form::Normal;
-use propagate::{Decided, Id, Reach, Retrace};
+use propagate::{Decided, Id, Ids, Reach, Retrace};
 use std::alloc::{AllocError, Global};
 use std::marker::Model;
 
@@ -87,12 +87,21 @@ impl Closure {
         self.ledger.get(place)
     }
 
-    /// Where a literal stands, places that are empty among them.
-    pub(crate) fn entries(&self, literal: Lit) -> Entries<'_>
-        ensures value { AreEntriesOf self.now literal (all_of result) }
-        ensures places { All (λ e. e.place < length self.now) (all_of result) }
+    /// Adds the ids of the constraints that have a literal to a set, by the ids of places. Where memory runs out the set is gone.
+    pub(crate) fn with_occurrences(
+        &mut self,
+        literal: Lit,
+        ids: &[Id],
+        gathered: Ids,
+    ) -> Result<Ids, AllocError>
+        requires { length ids.now ≡ length self.old }
+        ensures slots { self.new ≡ self.old }
+        ensures added { IfOk result (λ all. (places : List (ℕ × ℕ)) → AreNamed places ids.now self.old
+            → AddsOccurrences (content_at self.old places) literal gathered all) }
     {
-        self.ledger.entries(literal)
+        self.ledger.list_clauses()?;
+        let entries = self.ledger.entries(literal);
+        Occurrences::of(entries, &self.ledger, ids).add_to(gathered)
     }
 
     /// How many terms the constraint of a place has, 0 where there is none.

@@ -4,22 +4,20 @@
 //! by id; the id of a place names a reason when a chain is told. Where more stands empty than not, an insertion makes
 //! the places anew: it may fail, as a removal may not, and what it copies is paid for by the removals before it.
 
-ghost use Rattle.std.specs.Prelude.{◌≡◌, ◌↔◌, ◌++◌, ◌∷◌, [], ℕ, Contains, IfOk, IsSome, IsTrue, MatchOption, OnErr, OnOk, None};
+ghost use Rattle.std.specs.Prelude.{◌≡◌, ◌↔◌, ◌++◌, ◌∷◌, [], IfOk, IsSome, IsTrue, MatchOption, OnErr, OnOk, None};
 ghost use Rattle.std.specs.FinMap as map;
 ghost use Rattle.std.specs.Option.{option_copied};
 ghost use Rattle.propagate.specs.Chain.{IsRefuted};
-ghost use Rattle.propagate.specs.Content.{AreDecided, AreTaken, HasLiteral, IsLeastAbove, IsTrace};
+ghost use Rattle.propagate.specs.Content.{AddsOccurrences, AreDecided, AreTaken, IsLeastAbove, IsTrace};
 ghost use Rattle.propagate.specs.Literals.{IsConsistent};
 ghost use Rattle.propagate.specs.Reach.{IsReach, IsRetrace};
-ghost use Rattle.watch.specs.Lent.{IsEachOnce};
 
 use super::closure::Closure;
-use super::lending::Occurrences;
 use super::naming::trace_of;
 use super::places::Places;
 use linear::Lit;
 use normal_form::Normal;
-use propagate::{Decided, Id, Reach, Retrace, Trace};
+use propagate::{Decided, Id, Ids, Reach, Retrace, Trace};
 use std::alloc::{AllocError, Global};
 use std::marker::Model;
 
@@ -160,13 +158,13 @@ impl Database {
         self.closure.get(place)
     }
 
-    /// The ids of the constraints that have a literal.
-    pub(crate) fn occurrences(&self, literal: Lit) -> Occurrences<'_>
-        ensures exactly { (id : ℕ) → Contains result id ↔ HasLiteral self.now literal id }
-        ensures once { IsEachOnce result }
+    /// Adds the ids of the constraints that have a literal to a set. Where memory runs out the set is gone.
+    pub(crate) fn with_occurrences(&mut self, literal: Lit, ids: Ids) -> Result<Ids, AllocError>
+        ensures content { self.new ≡ self.old }
+        ensures added { IfOk result (AddsOccurrences self.old literal ids) }
     {
-        let ids = self.ids.as_slice();
-        Occurrences::of(self.closure.entries(literal), &self.closure, ids)
+        self.closure
+            .with_occurrences(literal, self.ids.as_slice(), ids)
     }
 
     /// Whether the constraints are refuted together with some extra ones.

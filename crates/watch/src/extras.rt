@@ -75,7 +75,7 @@ pub(crate) fn detach_from(ledger: &mut Ledger, count: usize)
         → IsSome (slice_index_or ledger.old.slots k None) }
     requires reasons { (k place : ℕ) → k < length ledger.old.assigned
         → slice_index_or ledger.old.reasons k None ≡ Some place → place < count }
-    ensures { ledger.new ≡ record ledger.old { slots = take count ledger.old.slots } }
+    ensures { ledger.new ≡ record ledger.old { slots = take count ledger.old.slots; listed = ledger.new.listed } }
 {
     while ledger.count() > count {
         ledger.detach();

@@ -31,5 +31,4 @@ mod tracing;
 mod walk;
 mod watch_propagator;
 
-pub use lending::Occurrences;
 pub use watch_propagator::WatchPropagator;

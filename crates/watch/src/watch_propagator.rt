@@ -5,7 +5,6 @@
 //! assignment goes on from where it parts from the last one, and costs the constraints that its literals touch.
 
 use super::database::Database;
-use super::lending::Occurrences;
 use linear::Lit;
 use normal_form::Normal;
 use propagate::{Decided, Id, Ids, Propagator, Reach, Retrace, Trace};
@@ -29,20 +28,6 @@ impl Model for WatchPropagator {
     ghost coded = { map.code coded_ℕ constraint_code };
 
     ghost view = { λ p. p.database };
-}
-
-impl WatchPropagator {
-    ghost use Rattle.std.specs.Prelude.{◌↔◌, ℕ, Contains};
-    ghost use Rattle.propagate.specs.Content.{HasLiteral};
-    ghost use Rattle.watch.specs.Lent.{IsEachOnce};
-
-    /// The ids of the constraints that have a literal, each once, from a list that is kept.
-    pub fn occurrences(&self, literal: Lit) -> Occurrences<'_>
-        ensures exactly { (id : ℕ) → Contains result id ↔ HasLiteral self.now literal id }
-        ensures once { IsEachOnce result }
-    {
-        self.database.occurrences(literal)
-    }
 }
 
 impl Propagator for WatchPropagator {
@@ -71,12 +56,7 @@ impl Propagator for WatchPropagator {
     }
 
     fn with_occurrences(&mut self, literal: Lit, ids: Ids) -> Result<Ids, AllocError> {
-        let mut gathered = ids;
-        let mut rest = self.occurrences(literal);
-        while let Some(id) = rest.next() {
-            gathered.insert(id)?;
-        }
-        Ok(gathered)
+        self.database.with_occurrences(literal, ids)
     }
 
     fn refute(&mut self, extras: &[Normal]) -> Result<bool, AllocError> {
