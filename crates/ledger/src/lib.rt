@@ -9,6 +9,7 @@
 //! follows from the constraints then, is for the walks of the crate above.
 #![tactic(auto)]
 
+mod arena;
 mod assignment;
 mod choosing;
 mod clause_index;
@@ -18,8 +19,6 @@ mod finding;
 mod forcing;
 mod hint;
 mod ledger;
-mod listing;
-mod lists;
 mod lowering;
 mod measures;
 mod occurrence;
@@ -32,6 +31,7 @@ mod replacing;
 mod starts;
 mod table;
 mod trail;
+mod watched_first;
 mod watchers;
 
 pub use hint::Hint;

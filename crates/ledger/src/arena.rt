@@ -1,4 +1,4 @@
-//! The literals of clauses by place, all in one array.
+//! The clause arena: the literals of clauses by place, all in one array.
 //!
 //! A list of its own would cost each clause a block of memory. Clauses come and go at the end alone, as a stack, so the literals of the last one
 //! are the last of the array. Those of a clause that is taken out stay where they are until the places are made anew.
@@ -7,8 +7,8 @@ ghost use Rattle.std.specs.Prelude.{◌≡◌, ◌-◌, ◌<◌, ◌++◌, ◌�
 ghost use Rattle.linear.specs.declared.term.Lit.{Lit};
 ghost use Rattle.ledger.specs.Watched.{AreLiteralsOf, IsPairOf, pair_of};
 
-use super::listing::append_literals;
 use super::pair::Pair;
+use super::watched_first::append_literals;
 use linear::Lit;
 use normal_form::Normal;
 use std::alloc::{AllocError, Global};
@@ -23,12 +23,12 @@ pub(crate) struct Span {
 
 /// A list of literals for each place, empty where its clause is not watched.
 #[derive(Drop)]
-pub(crate) struct Lists {
+pub(crate) struct Arena {
     literals: Vec<Lit>,
     spans: Vec<Span>,
 }
 
-impl Model for Lists {
+impl Model for Arena {
     ghost use Rattle.std.specs.Prelude.{List, length, map};
     ghost use Rattle.linear.specs.declared.term.Lit.{Lit};
     ghost use Rattle.ledger.specs.Spans.{AreSpans, piece};
@@ -40,12 +40,12 @@ impl Model for Lists {
     ghost invariant = { λ l. AreSpans (length l.literals.items) l.spans.items };
 }
 
-impl Lists {
+impl Arena {
     /// No place.
     pub(crate) fn new(alloc: Global) -> Self
         ensures { result ≡ [] }
     {
-        Lists {
+        Arena {
             literals: Vec::new(alloc),
             spans: Vec::new(alloc),
         }

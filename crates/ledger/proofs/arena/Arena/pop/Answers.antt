@@ -3,7 +3,7 @@ use Rattle.std.proofs.Common.{◌-◌, List, length, map, take, ap, ◌∙◌}
 use Rattle.linear.specs.declared.term.Lit.{Lit}
 use Rattle.ledger.specs.Spans.{piece}
 use Rattle.ledger.proofs.Spans.{pieces_fewer}
-use Rattle.ledger.proofs.lists.Lists.pop.Goals as goal
+use Rattle.ledger.proofs.arena.Arena.pop.Goals as goal
 
 pub returns-in-Some : goal.returns-in-Some
 returns-in-Some c =

@@ -2,10 +2,10 @@
 use Rattle.std.proofs.Common.{◌<◌, ◌≤◌, List, [], length, get_or, set, ap, ◌∙◌, arith}
 use Rattle.std.proofs.lemmas.List.{length-map}
 use Rattle.linear.specs.declared.term.Lit.{Lit}
-use Rattle.ledger.specs.declared.lists.Span.{Span}
+use Rattle.ledger.specs.declared.arena.Span.{Span}
 use Rattle.ledger.specs.Spans.{end_of, piece}
 use Rattle.ledger.proofs.Spans.{length_piece, piece_at, pieces_set}
-use Rattle.ledger.proofs.lists.Lists.set.Goals as goal
+use Rattle.ledger.proofs.arena.Arena.set.Goals as goal
 
 pub returns : goal.returns
 returns c =

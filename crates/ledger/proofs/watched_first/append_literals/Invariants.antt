@@ -2,7 +2,7 @@
 use Rattle.std.proofs.Common.{◌≡◌, List, ◌++◌}
 use Rattle.linear.specs.declared.term.Lit.{Lit}
 use Rattle.ledger.proofs.ClauseLists.{IsListing}
-use Rattle.ledger.proofs.listing.append_literals.Given as goal
+use Rattle.ledger.proofs.watched_first.append_literals.Given as goal
 
 abbrev pub invariant-loop-index : goal.invariant-loop-index
 invariant-loop-index l = (ls : List Lit) × (l.literals.items ≡ l.fn.literals.items ++ ls) × IsListing l.clause l.pair l.index ls

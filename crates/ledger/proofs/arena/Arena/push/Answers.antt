@@ -2,11 +2,11 @@
 use Rattle.std.proofs.Common.{◌≡◌, ◌≤◌, ◌-◌, List, [], ◌∷◌, ◌++◌, length, length-append, map, ap, sym, subst, ◌∙◌, arith}
 use Rattle.std.proofs.lemmas.List.{map_push}
 use Rattle.linear.specs.declared.term.Lit.{Lit}
-use Rattle.ledger.specs.declared.lists.Span.{Span}
+use Rattle.ledger.specs.declared.arena.Span.{Span}
 use Rattle.ledger.specs.Spans.{AreSpans, piece}
 use Rattle.ledger.proofs.RowPlaces.{on_err_anyway}
 use Rattle.ledger.proofs.Spans.{piece_last, pieces_longer, spans_pushed}
-use Rattle.ledger.proofs.lists.Lists.push.Goals as goal
+use Rattle.ledger.proofs.arena.Arena.push.Goals as goal
 
 pub returns-in_err-append_literals-clause-err : goal.returns-in_err-append_literals-clause-err
 returns-in_err-append_literals-clause-err c =

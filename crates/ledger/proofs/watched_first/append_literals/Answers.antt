@@ -5,7 +5,7 @@ use Rattle.linear.specs.declared.term.Lit.{Lit}
 use Rattle.ledger.specs.Falls.{IsOneOf}
 use Rattle.ledger.specs.declared.pair.Pair.{Pair}
 use Rattle.ledger.proofs.ClauseLists.{all_listed, begun, grown_next, pair_listed}
-use Rattle.ledger.proofs.listing.append_literals.Goals as goal
+use Rattle.ledger.proofs.watched_first.append_literals.Goals as goal
 
 pub loop-index-init : goal.loop-index-init
 loop-index-init c =
