@@ -1,5 +1,5 @@
 -- A ledger with a constraint more at the end, and with one fewer.
-use Rattle.std.proofs.Common.{◌≡◌, ℕ, ◌+◌, ◌-◌, ◌*◌, ◌<◌, ◌≤◌, ◌⊎◌, inl, inr, Option, None, Some, List, [], ◌∷◌, ◌++◌, length, get_or, set, take, min, refl, ap, sym, subst, ◌∙◌, append-nil, length-append, arith}
+use Rattle.std.proofs.Common.{◌≡◌, ℕ, ◌+◌, ◌-◌, ◌*◌, ◌<◌, ◌≤◌, ◌⊎◌, inl, inr, IfSome, Option, None, Some, List, [], ◌∷◌, ◌++◌, length, get_or, set, take, min, refl, ap, sym, subst, ◌∙◌, append-nil, length-append, arith}
 use Rattle.std.proofs.lemmas.Bool.{cases_eq, cases_lt}
 use Rattle.std.proofs.lemmas.List.{get_or_push, get_or_append_left, get_or-set_same, get_or-set_other, length-set, get_or-take, length-take-le, length-map, take_more, take-append-le, take-set-le, take-take, map_push, get_or_past}
 use Rattle.std.proofs.lemmas.List.Elements.{All-push, All-set, All-take, All-weaker}
@@ -16,7 +16,7 @@ use Rattle.ledger.proofs.EntrySums.{occurrences_push}
 use Rattle.ledger.proofs.Reasons.{reasons_moved}
 use Rattle.ledger.proofs.Standing.{shown_at, variables_there}
 
-none_is_not_some : (n : NormalConstraint) → None ≡ Some n → ⊥
+pub none_is_not_some : (n : NormalConstraint) → None ≡ Some n → ⊥
 none_is_not_some n e = cc
 
 -- the last constraint of some
@@ -32,8 +32,8 @@ earlier_or_last ns n k h = elim (cases_eq k (length ns)) [
   | inr other ↦ inl (omega (arith, h, other, length-append ns (n ∷ [])))
 ]
 
-pub shown_more : (slots : List (Option NormalConstraint)) (n : NormalConstraint) → shown (slots ++ Some n ∷ []) ≡ shown slots ++ n ∷ []
-shown_more slots n = map_push constraint_in slots (Some n)
+pub shown_more : (slots : List (Option NormalConstraint)) (s : Option NormalConstraint) → shown (slots ++ s ∷ []) ≡ shown slots ++ constraint_in s ∷ []
+shown_more slots s = map_push constraint_in slots s
 
 counters_more : (ns : List NormalConstraint) (assigned : List Lit) (counters : List ℕ) (n : NormalConstraint) (opened : ℕ) → AreCounters ns assigned counters → opened ≡ open_sum assigned n → AreCounters (ns ++ n ∷ []) assigned (counters ++ opened ∷ [])
 counters_more ns assigned counters n opened a is = record {
@@ -53,52 +53,59 @@ limits_more ns limits n limit a enough = record {
   ];
 }
 
--- what a place with a constraint and perhaps two literals adds to what is counted and to what is watched
-pub record IsPartOf (n counted watched : NormalConstraint) (o : Option Pair) : Type 0 where
-  pub counts : o ≡ None → (counted ≡ n) × (watched ≡ nothing)
-  pub watches : (p : Pair) → o ≡ Some p → (counted ≡ nothing) × (watched ≡ n)
+-- what a place adds to what is counted and to what is watched: its constraint, where it has one, with two literals or without
+pub record IsPartOf (s : Option NormalConstraint) (counted watched : NormalConstraint) (o : Option Pair) : Type 0 where
+  pub counts : (n : NormalConstraint) → s ≡ Some n → o ≡ None → (counted ≡ n) × (watched ≡ nothing)
+  pub watches : (n : NormalConstraint) (p : Pair) → s ≡ Some n → o ≡ Some p → (counted ≡ nothing) × (watched ≡ n)
 
-pub part_counted : (n : NormalConstraint) → IsPartOf n n nothing None
-part_counted n = record { counts = λ e. (refl, refl); watches = λ p e. absurd (cc) }
+-- what is said of what a slot has, where it has this
+pub of_slot : (P : NormalConstraint → Type 0) (s : Option NormalConstraint) (n : NormalConstraint) → s ≡ Some n → IfSome s P → P n
+of_slot P s n e h = subst (λ (o : Option NormalConstraint). IfSome o P) e h
 
-pub part_watched : (n : NormalConstraint) (p : Pair) → IsPartOf n nothing n (Some p)
-part_watched n p = record { counts = λ e. absurd (cc); watches = λ q e. (refl, refl) }
+own : (n m : NormalConstraint) → Some n ≡ Some m → n ≡ m
+own n m e = cc
 
-some_same : (n m : NormalConstraint) (o : Option NormalConstraint) → o ≡ Some n → o ≡ Some m → n ≡ m
-some_same n m o e f = cc
+pub part_counted : (n : NormalConstraint) → IsPartOf (Some n) n nothing None
+part_counted n = record { counts = λ m e f. (own n m e, refl); watches = λ m p e f. absurd (cc) }
+
+pub part_watched : (n : NormalConstraint) (p : Pair) → IsPartOf (Some n) nothing n (Some p)
+part_watched n p = record { counts = λ m e f. absurd (cc); watches = λ m q e f. (refl, own n m e) }
+
+pub part_empty : IsPartOf None nothing nothing None
+part_empty = record { counts = λ n e f. absurd (none_is_not_some n e); watches = λ n p e f. absurd (none_is_not_some n e) }
 
 -- a place behind the others, or before the end
-pub place_cases : (slots : List (Option NormalConstraint)) (n m : NormalConstraint) (k : ℕ) → get_or (slots ++ Some n ∷ []) k None ≡ Some m → ((k < length slots) × (get_or slots k None ≡ Some m)) ⊎ ((k ≡ length slots) × (n ≡ m))
-place_cases slots n m k e = elim (cases_eq k (length slots)) [
-  | inl here ↦ inr (here, some_same n m (get_or (slots ++ Some n ∷ []) k None) (get_or_push slots (Some n) None k (sym here)) e)
+pub place_cases : (slots : List (Option NormalConstraint)) (s : Option NormalConstraint) (m : NormalConstraint) (k : ℕ) → get_or (slots ++ s ∷ []) k None ≡ Some m → ((k < length slots) × (get_or slots k None ≡ Some m)) ⊎ ((k ≡ length slots) × (s ≡ Some m))
+place_cases slots s m k e = elim (cases_eq k (length slots)) [
+  | inl here ↦ inr (here, sym (get_or_push slots s None k (sym here)) ∙ e)
   | inr other ↦ elim (cases_lt k (length slots)) [
-    | inl low ↦ inl (low, sym (get_or_append_left slots (Some n ∷ []) None k low) ∙ e)
+    | inl low ↦ inl (low, sym (get_or_append_left slots (s ∷ []) None k low) ∙ e)
     | inr high ↦
-        let past : get_or (slots ++ Some n ∷ []) k None ≡ None = get_or_past (slots ++ Some n ∷ []) k None (omega (arith, high, other, length-append slots (Some n ∷ []))) in
+        let past : get_or (slots ++ s ∷ []) k None ≡ None = get_or_past (slots ++ s ∷ []) k None (omega (arith, high, other, length-append slots (s ∷ []))) in
         absurd (none_is_not_some m (sym past ∙ e))
   ]
 ]
 
-parted_more : (slots : List (Option NormalConstraint)) (ns ws : List NormalConstraint) (pairs : List (Option Pair)) (n c w : NormalConstraint) (o : Option Pair) → AreParted slots ns ws pairs → IsPartOf n c w o → AreParted (slots ++ Some n ∷ []) (ns ++ c ∷ []) (ws ++ w ∷ []) (pairs ++ o ∷ [])
-parted_more slots ns ws pairs n c w o x part = record {
-  count = omega (arith, x.count, length-append slots (Some n ∷ []), length-append ns (c ∷ []));
-  watched_count = omega (arith, x.watched_count, length-append slots (Some n ∷ []), length-append ws (w ∷ []));
-  pair_count = omega (arith, x.pair_count, length-append slots (Some n ∷ []), length-append pairs (o ∷ []));
-  counts = λ k m e f. elim (place_cases slots n m k e) [
+parted_more : (slots : List (Option NormalConstraint)) (ns ws : List NormalConstraint) (pairs : List (Option Pair)) (s : Option NormalConstraint) (c w : NormalConstraint) (o : Option Pair) → AreParted slots ns ws pairs → IsPartOf s c w o → AreParted (slots ++ s ∷ []) (ns ++ c ∷ []) (ws ++ w ∷ []) (pairs ++ o ∷ [])
+parted_more slots ns ws pairs s c w o x part = record {
+  count = omega (arith, x.count, length-append slots (s ∷ []), length-append ns (c ∷ []));
+  watched_count = omega (arith, x.watched_count, length-append slots (s ∷ []), length-append ws (w ∷ []));
+  pair_count = omega (arith, x.pair_count, length-append slots (s ∷ []), length-append pairs (o ∷ []));
+  counts = λ k m e f. elim (place_cases slots s m k e) [
     | inl before ↦
         let it = x.counts k m before.1 (sym (get_or_append_left pairs (o ∷ []) None k (omega (arith, before.0, x.pair_count))) ∙ f) in
         (earlier_is ns c k (omega (arith, before.0, x.count)) ∙ it.0, earlier_is ws w k (omega (arith, before.0, x.watched_count)) ∙ it.1)
     | inr last ↦
-        let it = part.counts (sym (get_or_push pairs o None k (omega (arith, last.0, x.pair_count))) ∙ f) in
-        (last_is ns c k (omega (arith, last.0, x.count)) ∙ it.0 ∙ last.1, last_is ws w k (omega (arith, last.0, x.watched_count)) ∙ it.1)
+        let it = part.counts m last.1 (sym (get_or_push pairs o None k (omega (arith, last.0, x.pair_count))) ∙ f) in
+        (last_is ns c k (omega (arith, last.0, x.count)) ∙ it.0, last_is ws w k (omega (arith, last.0, x.watched_count)) ∙ it.1)
   ];
-  watches = λ k m p e f. elim (place_cases slots n m k e) [
+  watches = λ k m p e f. elim (place_cases slots s m k e) [
     | inl before ↦
         let it = x.watches k m p before.1 (sym (get_or_append_left pairs (o ∷ []) None k (omega (arith, before.0, x.pair_count))) ∙ f) in
         (earlier_is ns c k (omega (arith, before.0, x.count)) ∙ it.0, earlier_is ws w k (omega (arith, before.0, x.watched_count)) ∙ it.1)
     | inr last ↦
-        let it = part.watches p (sym (get_or_push pairs o None k (omega (arith, last.0, x.pair_count))) ∙ f) in
-        (last_is ns c k (omega (arith, last.0, x.count)) ∙ it.0, last_is ws w k (omega (arith, last.0, x.watched_count)) ∙ it.1 ∙ last.1)
+        let it = part.watches m p last.1 (sym (get_or_push pairs o None k (omega (arith, last.0, x.pair_count))) ∙ f) in
+        (last_is ns c k (omega (arith, last.0, x.count)) ∙ it.0, last_is ws w k (omega (arith, last.0, x.watched_count)) ∙ it.1)
   ];
 }
 
@@ -123,12 +130,12 @@ below_more ws variables lists w b = record {
   index = subst (λ (ns : List NormalConstraint). IsIndex ns variables lists.rows) (sym (take-append-le lists.count ws (w ∷ []) b.low)) b.index;
 }
 
--- one constraint more
-pub attached : (slots : List (Option NormalConstraint)) (assigned : List Lit) (variables : ℕ) (table after : List (List Occurrence)) (clauses : Listed) (counters limits : List ℕ) (pairs : List (Option Pair)) (n c w : NormalConstraint) (o : Option Pair) (place opened limit : ℕ)
-    → IsLedger slots assigned variables table clauses counters limits pairs → IsPartOf n c w o → place ≡ length pairs → IsNormal c → IsNormal w → variable_bound c.terms ≤ variables → variable_bound w.terms ≤ variables
-    → HasMore (entries_of table) after place c.terms → length after ≡ length table → opened ≡ open_sum assigned c → ((l : Lit) → n.degree + coefficient_of n l ≤ limit)
-    → IsLedger (slots ++ Some n ∷ []) assigned variables after clauses (counters ++ opened ∷ []) (limits ++ limit ∷ []) (pairs ++ o ∷ [])
-attached slots assigned variables table after clauses counters limits pairs n c w o place opened limit i part e normal_c normal_w within_c within_w more long is enough =
+-- one place more
+pub attached : (slots : List (Option NormalConstraint)) (assigned : List Lit) (variables : ℕ) (table after : List (List Occurrence)) (clauses : Listed) (counters limits : List ℕ) (pairs : List (Option Pair)) (s : Option NormalConstraint) (c w : NormalConstraint) (o : Option Pair) (place opened limit : ℕ)
+    → IsLedger slots assigned variables table clauses counters limits pairs → IsPartOf s c w o → place ≡ length pairs → IsNormal c → IsNormal w → variable_bound c.terms ≤ variables → variable_bound w.terms ≤ variables
+    → HasMore (entries_of table) after place c.terms → length after ≡ length table → opened ≡ open_sum assigned c → ((l : Lit) → (constraint_in s).degree + coefficient_of (constraint_in s) l ≤ limit)
+    → IsLedger (slots ++ s ∷ []) assigned variables after clauses (counters ++ opened ∷ []) (limits ++ limit ∷ []) (pairs ++ o ∷ [])
+attached slots assigned variables table after clauses counters limits pairs s c w o place opened limit i part e normal_c normal_w within_c within_w more long is enough =
     let x = i.slots_are in
     record {
       counted = i.counted ++ c ∷ [];
@@ -138,8 +145,8 @@ attached slots assigned variables table after clauses counters limits pairs n c 
       counters_are = counters_more i.counted assigned counters c opened i.counters_are is;
       known = record { normal = All-push IsNormal i.counted c i.known.normal normal_c; within = All-push (λ (m : NormalConstraint). variable_bound m.terms ≤ variables) i.counted c i.known.within within_c };
       watched_known = record { normal = All-push IsNormal i.watched w i.watched_known.normal normal_w; within = All-push (λ (m : NormalConstraint). variable_bound m.terms ≤ variables) i.watched w i.watched_known.within within_w };
-      slots_are = parted_more slots i.counted i.watched pairs n c w o x part;
-      limits_are = rw (shown_more slots n) (limits_more (shown slots) limits n limit i.limits_are enough);
+      slots_are = parted_more slots i.counted i.watched pairs s c w o x part;
+      limits_are = rw (shown_more slots s) (limits_more (shown slots) limits (constraint_in s) limit i.limits_are enough);
     }
 
 pub attached_counted : (slots : List (Option NormalConstraint)) (assigned : List Lit) (variables : ℕ) (table after : List (List Occurrence)) (clauses : Listed) (counters limits : List ℕ) (pairs : List (Option Pair)) (n : NormalConstraint) (place opened limit : ℕ)
@@ -147,19 +154,24 @@ pub attached_counted : (slots : List (Option NormalConstraint)) (assigned : List
     → HasMore (entries_of table) after place n.terms → length after ≡ length table → opened ≡ open_sum assigned n → ((l : Lit) → n.degree + coefficient_of n l ≤ limit)
     → IsLedger (slots ++ Some n ∷ []) assigned variables after clauses (counters ++ opened ∷ []) (limits ++ limit ∷ []) (pairs ++ None ∷ [])
 attached_counted slots assigned variables table after clauses counters limits pairs n place opened limit i e normal within more long is enough =
-    attached slots assigned variables table after clauses counters limits pairs n n nothing None place opened limit i (part_counted n) e normal nothing_normal within (omega arith) more long is enough
+    attached slots assigned variables table after clauses counters limits pairs (Some n) n nothing None place opened limit i (part_counted n) e normal nothing_normal within (omega arith) more long is enough
 
 pub attached_watched : (slots : List (Option NormalConstraint)) (assigned : List Lit) (variables : ℕ) (table : List (List Occurrence)) (clauses : Listed) (counters limits : List ℕ) (pairs : List (Option Pair)) (n : NormalConstraint) (p : Pair) (place opened limit : ℕ)
     → IsLedger slots assigned variables table clauses counters limits pairs → place ≡ length pairs → IsNormal n → variable_bound n.terms ≤ variables
     → opened ≡ 0 → ((l : Lit) → n.degree + coefficient_of n l ≤ limit)
     → IsLedger (slots ++ Some n ∷ []) assigned variables table clauses (counters ++ opened ∷ []) (limits ++ limit ∷ []) (pairs ++ Some p ∷ [])
 attached_watched slots assigned variables table clauses counters limits pairs n p place opened limit i e normal within is enough =
-    attached slots assigned variables table table clauses counters limits pairs n nothing n (Some p) place opened limit i (part_watched n p) e nothing_normal normal (omega arith) within (none_more table place) refl is enough
+    attached slots assigned variables table table clauses counters limits pairs (Some n) nothing n (Some p) place opened limit i (part_watched n p) e nothing_normal normal (omega arith) within (none_more table place) refl is enough
 
--- the reasons stand beside one constraint more
-pub reasons_beside : (slots : List (Option NormalConstraint)) (n : NormalConstraint) (xs : List Lit) (rs : List (Option ℕ)) → AreReasons (shown slots) xs rs → AreReasons (shown (slots ++ Some n ∷ [])) xs rs
-reasons_beside slots n xs rs a = rw (shown_more slots n) (reasons_moved (shown slots) (shown slots ++ n ∷ []) xs rs a
-    (λ k place low is below. (omega (arith, below, length-append (shown slots) (n ∷ [])), earlier_is (shown slots) n place below)))
+pub attached_empty : (slots : List (Option NormalConstraint)) (assigned : List Lit) (variables : ℕ) (table : List (List Occurrence)) (clauses : Listed) (counters limits : List ℕ) (pairs : List (Option Pair)) → IsLedger slots assigned variables table clauses counters limits pairs
+    → IsLedger (slots ++ None ∷ []) assigned variables table clauses (counters ++ 0 ∷ []) (limits ++ 0 ∷ []) (pairs ++ None ∷ [])
+attached_empty slots assigned variables table clauses counters limits pairs i =
+    attached slots assigned variables table table clauses counters limits pairs None nothing nothing None (length pairs) 0 0 i part_empty refl nothing_normal nothing_normal (omega arith) (omega arith) (none_more table (length pairs)) refl refl (λ l. omega arith)
+
+-- the reasons stand beside one place more
+pub reasons_beside : (slots : List (Option NormalConstraint)) (s : Option NormalConstraint) (xs : List Lit) (rs : List (Option ℕ)) → AreReasons (shown slots) xs rs → AreReasons (shown (slots ++ s ∷ [])) xs rs
+reasons_beside slots s xs rs a = rw (shown_more slots s) (reasons_moved (shown slots) (shown slots ++ constraint_in s ∷ []) xs rs a
+    (λ k place low is below. (omega (arith, below, length-append (shown slots) (constraint_in s ∷ [])), earlier_is (shown slots) (constraint_in s) place below)))
 
 -- what was put in for nothing
 index_same : (ns : List NormalConstraint) (variables place : ℕ) (table after : List (List Occurrence)) → IsIndex ns variables table → HasMore (entries_of table) after place [] → length after ≡ length table → IsIndex ns variables after
@@ -285,7 +297,7 @@ last_known slots rest assigned variables table clauses counters limits pairs n i
     (omega (arith, below, i.index.size), omega (arith, below, i.watched_index.index.size))
 
 fewer_shown : (slots rest : List (Option NormalConstraint)) (n : NormalConstraint) → slots ≡ rest ++ Some n ∷ [] → shown slots ≡ shown rest ++ n ∷ []
-fewer_shown slots rest n e = ap shown e ∙ shown_more rest n
+fewer_shown slots rest n e = ap shown e ∙ shown_more rest (Some n)
 
 known_fewer : (ns : List NormalConstraint) (variables m : ℕ) → AreKnown ns variables → AreKnown (take m ns) variables
 known_fewer ns variables m a = record { normal = All-take IsNormal m ns a.normal; within = All-take (λ (c : NormalConstraint). variable_bound c.terms ≤ variables) m ns a.within }

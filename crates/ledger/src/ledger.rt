@@ -464,53 +464,83 @@ impl Ledger {
         self.trail.widen(variables)
     }
 
-    /// Adds a constraint at the next place, to be counted.
-    fn attach_counted(&mut self, constraint: Normal) -> Result<(), AllocError>
-        requires { variable_bound constraint.terms ≤ self.old.variables }
-        ensures ok { OnOk result (self.new ≡ record self.old { slots = self.old.slots ++ Some constraint ∷ [] }) }
+    /// Moves the constraint of a slot to the next place, to be counted.
+    fn attach_counted(&mut self, slot: &mut Option<Normal>) -> Result<(), AllocError>
+        requires there { IsSome slot.old }
+        requires variables { IfSome slot.old (λ n. variable_bound n.terms ≤ self.old.variables) }
+        ensures ok { OnOk result (self.new ≡ record self.old { slots = self.old.slots ++ slot.old ∷ [] }) }
+        ensures moved { OnOk result (slot.new ≡ None) }
         ensures err { OnErr result (self.new ≡ self.old) }
+        ensures kept { OnErr result (slot.new ≡ slot.old) }
     {
+        let Some(constraint) = slot.as_ref() else {
+            unreachable!()
+        };
         make_room(&mut self.slots, &mut self.counters, &mut self.limits)?;
-        self.orders.give(self.slots.len(), &constraint)?;
-        let open = open_sum(&constraint, &self.trail);
-        let limit = constraint.degree() + largest(&constraint);
-        enter_counted(&mut self.table, &mut self.watchers, &constraint)?;
+        self.orders.give(self.slots.len(), constraint)?;
+        let open = open_sum(constraint, &self.trail);
+        let limit = constraint.degree() + largest(constraint);
+        enter_counted(&mut self.table, &mut self.watchers, constraint)?;
         self.counters.push_reserved(open);
         self.limits.push_reserved(limit);
-        self.slots.push_reserved(Some(constraint));
+        self.slots.push_reserved(slot.take());
         Ok(())
     }
 
-    /// Adds a clause at the next place, to be watched by two literals that tell of it under each beginning of the trail.
-    fn attach_watched(&mut self, constraint: Normal, pair: Pair) -> Result<(), AllocError>
-        requires variables { variable_bound constraint.terms ≤ self.old.variables }
-        requires pair { IsPairOf constraint pair }
-        requires tell { (h : ℕ) → Tell (take h self.old.propagated) constraint pair }
-        ensures ok { OnOk result (self.new ≡ record self.old { slots = self.old.slots ++ Some constraint ∷ [] }) }
+    /// Moves the clause of a slot to the next place, to be watched by two literals that tell of it under each beginning of the trail.
+    fn attach_watched(&mut self, slot: &mut Option<Normal>, pair: Pair) -> Result<(), AllocError>
+        requires there { IsSome slot.old }
+        requires variables { IfSome slot.old (λ n. variable_bound n.terms ≤ self.old.variables) }
+        requires pair { IfSome slot.old (λ n. IsPairOf n pair) }
+        requires tell { IfSome slot.old (λ n. (h : ℕ) → Tell (take h self.old.propagated) n pair) }
+        ensures ok { OnOk result (self.new ≡ record self.old { slots = self.old.slots ++ slot.old ∷ [] }) }
+        ensures moved { OnOk result (slot.new ≡ None) }
         ensures err { OnErr result (self.new ≡ self.old) }
+        ensures kept { OnErr result (slot.new ≡ slot.old) }
     {
+        let Some(constraint) = slot.as_ref() else {
+            unreachable!()
+        };
         make_room(&mut self.slots, &mut self.counters, &mut self.limits)?;
         let place = self.slots.len();
-        self.orders.give(place, &constraint)?;
+        self.orders.give(place, constraint)?;
         self.starts.widen(place + 1)?;
         // No counter is held against the limit of a clause that is watched, so the sum does in place of the largest coefficient.
         let limit = constraint.degree() + constraint.sum();
-        self.watchers.watch(&constraint, pair)?;
+        self.watchers.watch(constraint, pair)?;
         self.counters.push_reserved(0);
         self.limits.push_reserved(limit);
-        self.slots.push_reserved(Some(constraint));
+        self.slots.push_reserved(slot.take());
         Ok(())
     }
 
-    /// Adds a constraint at the next place.
-    pub fn attach(&mut self, constraint: Normal) -> Result<(), AllocError>
-        requires { variable_bound constraint.terms ≤ self.old.variables }
-        ensures ok { OnOk result (self.new ≡ record self.old { slots = self.old.slots ++ Some constraint ∷ [] }) }
+    /// Leaves the next place empty.
+    fn skip(&mut self) -> Result<(), AllocError>
+        ensures ok { OnOk result (self.new ≡ record self.old { slots = self.old.slots ++ None ∷ [] }) }
         ensures err { OnErr result (self.new ≡ self.old) }
     {
-        match latest_pair(&constraint, &self.trail) {
-            None => self.attach_counted(constraint),
-            Some(pair) => self.attach_watched(constraint, pair),
+        make_room(&mut self.slots, &mut self.counters, &mut self.limits)?;
+        self.watchers.skip()?;
+        self.counters.push_reserved(0);
+        self.limits.push_reserved(0);
+        self.slots.push_reserved(None);
+        Ok(())
+    }
+
+    /// Moves what is in a slot to the next place, which stays empty where nothing is. Where memory ends it stays where it is.
+    pub fn attach(&mut self, slot: &mut Option<Normal>) -> Result<(), AllocError>
+        requires { IfSome slot.old (λ n. variable_bound n.terms ≤ self.old.variables) }
+        ensures ok { OnOk result (self.new ≡ record self.old { slots = self.old.slots ++ slot.old ∷ [] }) }
+        ensures moved { OnOk result (slot.new ≡ None) }
+        ensures err { OnErr result (self.new ≡ self.old) }
+        ensures kept { OnErr result (slot.new ≡ slot.old) }
+    {
+        let Some(constraint) = slot.as_ref() else {
+            return self.skip();
+        };
+        match latest_pair(constraint, &self.trail) {
+            None => self.attach_counted(slot),
+            Some(pair) => self.attach_watched(slot, pair),
         }
     }
 

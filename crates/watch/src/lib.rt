@@ -8,6 +8,7 @@
 //! trace. Whether a place has to be looked at, and how that is found out, is decided below.
 #![tactic(auto)]
 
+mod arrivals;
 mod ascent;
 mod chain;
 mod closure;
