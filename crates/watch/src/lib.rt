@@ -14,7 +14,6 @@ mod chain;
 mod closure;
 mod continuing;
 mod cubes;
-mod database;
 mod extension;
 mod extras;
 mod following;

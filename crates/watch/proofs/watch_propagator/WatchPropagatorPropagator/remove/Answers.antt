@@ -5,7 +5,7 @@ use Rattle.normal_form.specs.Normal.{NormalConstraint}
 use Rattle.propagate.specs.Content.{Content}
 use Rattle.watch.specs.Named.{content_at}
 use Rattle.watch.proofs.NamedPlaces.{content_fewer, content_without, got, got_none, named_fewer, place_there}
-use Rattle.watch.proofs.database.Database.remove.Goals as goal
+use Rattle.watch.proofs.watch_propagator.WatchPropagatorPropagator.remove.Goals as goal
 
 pub returns-in_err-place-clause-value : goal.returns-in_err-place-clause-value
 returns-in_err-place-clause-value c =

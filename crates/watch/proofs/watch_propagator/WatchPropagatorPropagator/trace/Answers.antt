@@ -4,7 +4,7 @@ use Rattle.std.proofs.lemmas.Result.{IfOk-weaker}
 use Rattle.propagate.specs.Content.{Content, IsTrace}
 use Rattle.watch.specs.Steps.{IsTraceOf}
 use Rattle.watch.proofs.NamedChains.{falsified_place_named, places_named, trace_named}
-use Rattle.watch.proofs.database.Database.trace.Goals as goal
+use Rattle.watch.proofs.watch_propagator.WatchPropagatorPropagator.trace.Goals as goal
 
 pub trace_of-requires-clause-steps : goal.trace_of-requires-clause-steps
 trace_of-requires-clause-steps c =

@@ -4,7 +4,7 @@ use Rattle.std.proofs.lemmas.Result.{IfOk-weaker}
 use Rattle.propagate.specs.Content.{AddsOccurrences, Content}
 use Rattle.propagate.specs.Ids.{IdSet}
 use Rattle.watch.specs.Named.{AreNamed, content_at}
-use Rattle.watch.proofs.database.Database.with_occurrences.Goals as goal
+use Rattle.watch.proofs.watch_propagator.WatchPropagatorPropagator.with_occurrences.Goals as goal
 
 pub returns-clause-added : goal.returns-clause-added
 returns-clause-added c =

@@ -5,7 +5,7 @@ use Rattle.std.specs.FinMap as map
 use Rattle.std.specs.Option.{option_copied}
 use Rattle.propagate.specs.Content.{Content}
 use Rattle.watch.proofs.MadeAnew.{IsFilledTo, filled, filled_first, filled_more}
-use Rattle.watch.proofs.database.Database.fill_from.Goals as goal
+use Rattle.watch.proofs.watch_propagator.WatchPropagator.fill_from.Goals as goal
 
 pub loop-place-init : goal.loop-place-init
 loop-place-init c = subst (λ (m : Content). IsFilledTo c.other.inside.closure c.other.inside.ids.items m 0) (sym c.requires) (filled_first c.other.inside.closure c.other.inside.ids.items)

@@ -4,7 +4,7 @@ use Rattle.std.specs.FinMap as map
 use Rattle.std.specs.Option.{option_copied}
 use Rattle.propagate.specs.Content.{Content}
 use Rattle.watch.proofs.NamedPlaces.{got, got_none}
-use Rattle.watch.proofs.database.Database.get.Goals as goal
+use Rattle.watch.proofs.watch_propagator.WatchPropagatorPropagator.get.Goals as goal
 
 pub returns-in_err-place : goal.returns-in_err-place
 returns-in_err-place c =

@@ -3,7 +3,7 @@ use Rattle.std.proofs.Common.{◌≡◌, ℕ, List, length, subst, sym}
 use Rattle.std.proofs.lemmas.Result.{IfOk-weaker}
 use Rattle.propagate.specs.Content.{Content, AreDecided}
 use Rattle.watch.specs.Named.{AreNamed, content_at}
-use Rattle.watch.proofs.database.Database.trace_each.Goals as goal
+use Rattle.watch.proofs.watch_propagator.WatchPropagatorPropagator.trace_each.Goals as goal
 
 pub trace_each-requires-clause-ids : goal.trace_each-requires-clause-ids
 trace_each-requires-clause-ids c = subst (λ (ids : List ℕ). length ids ≡ length c.self.inside.closure) (sym c.as_slice.ensures.value) c.self.invariant.as_many

@@ -7,7 +7,7 @@ use Rattle.propagate.specs.Content.{Content}
 use Rattle.ledger.specs.Ledgers.{shown}
 use Rattle.watch.proofs.LiveContent.{live_content}
 use Rattle.watch.proofs.LiveOnes.{AddsNothing, live_refuted}
-use Rattle.watch.proofs.database.Database.refute.Goals as goal
+use Rattle.watch.proofs.watch_propagator.WatchPropagatorPropagator.refute.Goals as goal
 
 pub returns-clause-value : goal.returns-clause-value
 returns-clause-value c =

@@ -2,7 +2,7 @@
 use Rattle.std.proofs.Common.{subst}
 use Rattle.propagate.specs.Content.{Content, IsLeastAbove}
 use Rattle.watch.proofs.LiveContent.{least_placed}
-use Rattle.watch.proofs.database.Database.after.Goals as goal
+use Rattle.watch.proofs.watch_propagator.WatchPropagatorPropagator.after.Goals as goal
 
 pub returns : goal.returns
 returns c =

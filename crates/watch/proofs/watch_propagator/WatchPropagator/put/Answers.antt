@@ -5,7 +5,7 @@ use Rattle.normal_form.specs.Normal.{NormalConstraint}
 use Rattle.propagate.specs.Content.{Content}
 use Rattle.watch.specs.Named.{content_at}
 use Rattle.watch.proofs.NamedPlaces.{content_again, content_more, named_again, named_more, places_again}
-use Rattle.watch.proofs.database.Database.put.Goals as goal
+use Rattle.watch.proofs.watch_propagator.WatchPropagator.put.Goals as goal
 
 pub invariant_of-self-in-Err : goal.invariant_of-self-in-Err
 invariant_of-self-in-Err c =
