@@ -1,5 +1,5 @@
 -- What capping does to a net coefficient, to an array of them, and to the constraint that it stands for.
-use Rattle.std.proofs.Common.{◌≡◌, ℕ, zero, suc, ◌+◌, ◌-◌, ◌<◌, ◌≤◌, min, Bool, true, false, List, length, get_or, ◌⊎◌, inl, inr, refl, ap, sym, subst, ◌∙◌, arith, to_z, of_z}
+use Rattle.std.proofs.Common.{◌≡◌, ℕ, zero, suc, ◌+◌, ◌-◌, ◌<◌, ◌≤◌, min, List, length, get_or, ◌⊎◌, inl, inr, refl, ap, sym, subst, ◌∙◌, arith, to_z, of_z}
 use mir.Syntax.{w128}
 use Rattle.std.specs.Prelude.{ℤ, pos, negsuc, neg_ℤ, unsigned_abs}
 use Rattle.std.proofs.lemmas.Int.{ints}
@@ -7,20 +7,11 @@ use Rattle.std.proofs.Math.ListN.{set}
 use Rattle.std.proofs.lemmas.Bool.{cases_eq}
 use Rattle.std.proofs.lemmas.Grind.{get_or_default_zero}
 use Rattle.std.proofs.lemmas.List.{get_or-set_same, get_or-set_other}
-use Rattle.normal_form.specs.Normal.{NormalConstraint, coefficient, largest_sum}
-use Rattle.normal_form.specs.NormalOf.{at_least_zero}
+use Rattle.normal_form.specs.Normal.{NormalConstraint, largest_sum}
 use Rattle.cut_rules.specs.Rules.{IsSaturation}
 use Rattle.accumulate.specs.Nets.{AreCapped, IsAhead, capped, constraint_of, sizes}
 use Rattle.accumulate.proofs.NetTerms.{set_sizes, size_below, terms_rise}
-use Rattle.accumulate.proofs.Coefficients.{coefficients_at}
-
-none_above : (k : ℕ) → at_least_zero (neg_ℤ (pos k)) ≡ 0
-none_above zero = refl
-none_above (suc k) = refl
-
-twice_turned : (k : ℕ) → neg_ℤ (neg_ℤ (pos k)) ≡ pos k
-twice_turned zero = refl
-twice_turned (suc k) = refl
+use Rattle.accumulate.proofs.Resized.{resized_coefficients, size_of_turned}
 
 least_zero : (m : ℕ) → min 0 m ≡ 0
 least_zero m = omega arith
@@ -34,10 +25,6 @@ again : (m : ℕ) (z : ℤ) → capped m (capped m z) ≡ capped m z
 again m (pos n) = ap pos (omega arith)
 again m (negsuc n) = capped_below m (min (suc n) m) ∙ ap (λ (k : ℕ). neg_ℤ (pos k)) (omega arith)
 
-size_of_turned : (k : ℕ) → unsigned_abs (neg_ℤ (pos k)) ≡ k
-size_of_turned zero = refl
-size_of_turned (suc k) = refl
-
 pub capped_size : (m : ℕ) (z : ℤ) → unsigned_abs (capped m z) ≤ unsigned_abs z
 capped_size m (pos n) = omega arith
 capped_size m (negsuc n) = omega (arith, size_of_turned (min (suc n) m))
@@ -46,25 +33,10 @@ pub capped_low : (m : ℕ) (z : ℤ) → unsigned_abs (capped m z) ≤ m
 capped_low m (pos n) = omega arith
 capped_low m (negsuc n) = omega (arith, size_of_turned (min (suc n) m))
 
-plain : (m : ℕ) (z : ℤ) → at_least_zero (capped m z) ≡ min (at_least_zero z) m
-plain m (pos n) = refl
-plain m (negsuc n) = omega (arith, none_above (min (suc n) m))
-
-negated : (m : ℕ) (z : ℤ) → at_least_zero (neg_ℤ (capped m z)) ≡ min (at_least_zero (neg_ℤ z)) m
-negated m (pos n) = omega (arith, none_above (min n m), none_above n)
-negated m (negsuc n) = ap at_least_zero (twice_turned (min (suc n) m))
-
-by_sign : (P : Bool → Type 0) → P false → P true → (s : Bool) → P s
-by_sign P f t true = t
-by_sign P f t false = f
-
 -- an array that is capped at the degree is the saturation
 pub saturated : (d : NormalConstraint) (ns new : List ℤ) (degree : ℕ) → constraint_of ns degree ≡ d → AreCapped degree ns new → IsSaturation d (constraint_of new degree)
 saturated d ns new degree is all = subst (λ (x : NormalConstraint). IsSaturation x (constraint_of new degree)) is (record {
-  coefficients = λ v s. by_sign (λ s. coefficient (constraint_of new degree) v s ≡ min (coefficient (constraint_of ns degree) v s) degree)
-      ((coefficients_at new degree v).0 ∙ ap at_least_zero (all v) ∙ plain degree (get_or ns v (pos 0)) ∙ ap (λ (k : ℕ). min k degree) (sym ((coefficients_at ns degree v).0)))
-      ((coefficients_at new degree v).1 ∙ ap (λ (z : ℤ). at_least_zero (neg_ℤ z)) (all v) ∙ negated degree (get_or ns v (pos 0)) ∙ ap (λ (k : ℕ). min k degree) (sym ((coefficients_at ns degree v).1)))
-      s;
+  coefficients = resized_coefficients (λ n. min n degree) (least_zero degree) ns new degree degree all;
   degree = refl;
   rises = terms_rise 0 new;
 })

@@ -7,21 +7,13 @@ use Rattle.std.proofs.lemmas.List.{get_or-set_same, get_or-set_other, length-set
 use Rattle.std.proofs.lemmas.List.Elements.{All-weaker}
 use Rattle.normal_form.specs.Normal.{largest_sum}
 use Rattle.accumulate.specs.Nets.{AreCapped, IsMarkedAbove, sizes}
-use Rattle.accumulate.proofs.NetTerms.{size_below}
-use Rattle.accumulate.proofs.Coefficients.{beyond_all}
+use Rattle.accumulate.proofs.Resized.{below_sum}
 use Rattle.accumulate.proofs.CappedCells.{capped_low}
 
 -- more marks, of variables that the array has
 pub marked_noted : (level bound : ℕ) (marks more : List ℕ) (ns : List ℤ) → bound ≤ length ns → ((v : ℕ) → Contains marks v → Contains more v)
     → ((n : ℕ) → bound ≤ n → All (λ v. v < n) marks → All (λ v. v < n) more) → IsMarkedAbove level marks ns → IsMarkedAbove level more ns
 marked_noted level bound marks more ns room kept below m = record { covers = λ v p. kept v (m.covers v p); room = below (length ns) room m.room }
-
--- no cell is greater than all together
-below_sum : (ns : List ℤ) (v : ℕ) → unsigned_abs (get_or ns v (pos 0)) ≤ sizes ns
-below_sum ns v = elim (cases_lt v (length ns)) [
-  | inl h ↦ size_below ns v (pos 0) h
-  | inr h ↦ omega (arith, ap unsigned_abs (beyond_all ns v h))
-]
 
 pub marked_low : (level : ℕ) (marks : List ℕ) (ns : List ℤ) → sizes ns ≤ level → All (λ v. v < length ns) marks → IsMarkedAbove level marks ns
 marked_low level marks ns h room = record { covers = λ v p. absurd (omega (arith, p, h, below_sum ns v)); room = room }

@@ -1,5 +1,5 @@
 -- The sum that an array stands for after the terms of a constraint were added.
-use Rattle.std.proofs.Common.{◌≡◌, ℕ, ◌+◌, ◌-◌, ◌/◌, ◌≤◌, Bool, true, false, List, [], refl, ap, subst, ◌∙◌, arith, inl, inr, ◌⊎◌, ◌==◌}
+use Rattle.std.proofs.Common.{◌≡◌, ℕ, ◌+◌, ◌-◌, ◌/◌, ◌≤◌, Bool, true, false, List, [], refl, ap, sym, subst, ◌∙◌, arith, inl, inr, ◌⊎◌, ◌==◌}
 use Rattle.std.specs.Prelude.{ℤ, pos, ◌+ℤ◌}
 use Rattle.std.proofs.lemmas.Int.{ints}
 use Rattle.normal_form.specs.declared.term.NormalTerm.{NormalTerm}
@@ -12,7 +12,7 @@ use Rattle.cut_rules.specs.Steps.{SumBalances}
 use Rattle.cut_rules.proofs.Sum.{sum_at, sum_total, sum_from}
 use Rattle.accumulate.specs.declared.cells.Change.{Change}
 use Rattle.accumulate.specs.declared.cells.Change.TheVariants as changes
-use Rattle.accumulate.specs.Nets.{terms_from, nets_of, sizes, turned, constraint_of, nothing}
+use Rattle.accumulate.specs.Nets.{terms_from, nets_of, sizes, turned, constraint_of, nothing, IsKept}
 use Rattle.accumulate.proofs.NetTerms.{terms_give, terms_total, terms_rise}
 
 -- the array gives what it gave and what a constraint gives
@@ -39,6 +39,14 @@ added_normal new sum result e h k = record {
   rises = terms_rise 0 new;
   fits = record { sum = omega (arith, terms_total 0 new, e, h); degree = k };
 }
+
+-- the sum and the degree that are kept are those of the constraint, which is normal
+pub kept_total : (ns : List ℤ) (marks : List ℕ) (sum degree : ℕ) (d : NormalConstraint) → constraint_of ns degree ≡ d → IsKept ns marks sum degree → (sum ≡ total d.terms) × (degree ≡ d.degree) × IsNormal d
+kept_total ns marks sum degree d is k = (
+  k.summed ∙ sym (terms_total 0 ns) ∙ ap (λ (x : NormalConstraint). total x.terms) is,
+  ap (λ (x : NormalConstraint). x.degree) is,
+  subst IsNormal is (added_normal ns sum degree k.summed k.small k.low),
+)
 
 -- what balances alike is the same list
 same_pair : (a b c d : ℕ) (z : ℤ) → pos a ≡ pos b +ℤ z → pos c ≡ pos d +ℤ z → (a ≡ 0) ⊎ (b ≡ 0) → (c ≡ 0) ⊎ (d ≡ 0) → (a ≡ c) × (b ≡ d)

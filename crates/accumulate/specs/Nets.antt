@@ -1,10 +1,13 @@
 -- A constraint as an array: at each place the net coefficient of the variable of that number.
-use Rattle.std.specs.Prelude.{ℕ, suc, min, negsuc, ◌+◌, ◌<◌, ◌≤◌, ◌≡◌, All, Contains, length, slice_index_or, ℤ, pos, neg_ℤ, ◌+ℤ◌, unsigned_abs, Bool, List, [], ◌∷◌, ◌++◌, if◌then◌else◌}
+use Rattle.std.specs.Prelude.{ℕ, suc, min, negsuc, ◌+◌, ◌*◌, ◌<◌, ◌≤◌, ◌≡◌, All, Contains, length, slice_index_or, ℤ, pos, neg_ℤ, ◌+ℤ◌, unsigned_abs, Bool, List, [], ◌∷◌, ◌++◌, if◌then◌else◌}
+use Rattle.std.specs.Int.{div_ceil}
 use Rattle.normal_form.specs.Normal.{NormalConstraint, largest_sum}
 use Rattle.normal_form.specs.Balance.{net_term}
 use Rattle.normal_form.specs.declared.term.NormalTerm.{NormalTerm}
 use Rattle.accumulate.specs.declared.cells.Change.{Change}
 use Rattle.accumulate.specs.declared.cells.Change.TheVariants as changes
+use Rattle.accumulate.specs.declared.scaling.Scaling.{Scaling}
+use Rattle.accumulate.specs.declared.scaling.Scaling.TheVariants as scalings
 
 -- the terms of the variables from v on
 abbrev pub terms_from : ℕ → List ℤ → List NormalTerm
@@ -58,11 +61,29 @@ pub record IsKept (nets : List ℤ) (marks : List ℕ) (sum degree : ℕ) : Type
 abbrev pub IsAhead : ℕ → List ℕ → ℕ → Type 0
 IsAhead i xs v = (k : ℕ) × (i ≤ k) × (k < length xs) × (slice_index_or xs k v ≡ v)
 
+-- a net coefficient of another size, on the same side of 0
+abbrev pub resized : (ℕ → ℕ) → ℤ → ℤ
+resized f (pos n) = pos (f n)
+resized f (negsuc n) = neg_ℤ (pos (f (suc n)))
+
+-- each cell of an array gets another size
+abbrev pub AreResized : (ℕ → ℕ) → List ℤ → List ℤ → Type 0
+AreResized f old new = (v : ℕ) → slice_index_or new v (pos 0) ≡ resized f (slice_index_or old v (pos 0))
+
 -- a net coefficient of at most this size, on the same side of 0
 abbrev pub capped : ℕ → ℤ → ℤ
-capped most (pos n) = pos (min n most)
-capped most (negsuc n) = neg_ℤ (pos (min (suc n) most))
+capped most = resized (λ n. min n most)
 
 -- each cell of an array is capped at this size
 abbrev pub AreCapped : ℕ → List ℤ → List ℤ → Type 0
-AreCapped most old new = (v : ℕ) → slice_index_or new v (pos 0) ≡ capped most (slice_index_or old v (pos 0))
+AreCapped most = AreResized (λ n. min n most)
+
+-- what becomes of a number
+abbrev pub scaled : Scaling → ℕ → ℕ
+scaled (scalings.Times k) n = k * n
+scaled (scalings.DividedBy k) n = div_ceil n k
+
+-- that can be done, and where the number is within the limit, so is what becomes of it
+abbrev pub ScalesWithin : Scaling → ℕ → Type 0
+ScalesWithin (scalings.Times k) n = k * n ≤ largest_sum
+ScalesWithin (scalings.DividedBy k) n = 0 < k

@@ -9,16 +9,18 @@
 //!
 //! A constraint is added first, and taken back where the result is too large: so one pass is enough where it is not.
 
-ghost use Rattle.std.specs.Prelude.{◌≡◌, ◌<◌, ℕ, Bool, false, true, neg_ℤ, Contains, IfOk, OnOk, OnErr, IsErrOf};
+ghost use Rattle.std.specs.Prelude.{◌≡◌, ◌<◌, ◌<ℤ◌, ◌≤◌, ◌*◌, ◌↔◌, ℕ, Bool, false, true, pos, neg_ℤ, unsigned_abs, Contains, IsTrue, IfOk, OnOk, OnErr, IsErrOf};
 ghost use Rattle.linear.specs.Valuation.{Valuation};
-ghost use Rattle.normal_form.specs.Normal.{NormalConstraint, IsNormal, Fits, Holds, coefficient};
+ghost use Rattle.normal_form.specs.Normal.{NormalConstraint, IsNormal, Fits, Holds, coefficient, largest_sum, total};
 ghost use Rattle.normal_form.specs.NormalOf.{at_least_zero};
-ghost use Rattle.cut_rules.specs.Rules.{IsSaturation, IsSum, IsTooLarge, IsWeakening};
-ghost use Rattle.accumulate.specs.Nets.{nothing};
+ghost use Rattle.cut_rules.specs.Rules.{IsMultiple, IsQuotient, IsSaturation, IsSum, IsTooLarge, IsWeakening};
+ghost use Rattle.accumulate.specs.Nets.{ScalesWithin, nothing, scaled};
 
 use super::capping::cap_all;
 use super::cells::{Change, apply, degree_after, fits, make_room, mark_reserved, note, prepare};
 use super::reading::{clear, collect, finished};
+use super::scaling::{Scaling, scale_all, scaled, scaled_level};
+use cut_rules::product_fits;
 use linear::Var;
 use normal_form::{CutFault, LARGEST_SUM, Normal};
 use std::alloc::{AllocError, Global};
@@ -165,6 +167,67 @@ impl Accumulator {
         );
         self.level = self.degree;
         self.recent.clear();
+    }
+
+    /// Becomes its multiple. `BadFactor` comes exactly for a factor below 1, and else `TooLarge` exactly where the coefficient sum or the
+    /// degree of the result is above `2^120`. After an error it is as before.
+    pub fn multiply(&mut self, factor: i128) -> Result<(), CutFault>
+        ensures multiple { OnOk result (IsMultiple (unsigned_abs factor) self.old self.new) }
+        ensures keeps { OnOk result ((a : Valuation) → Holds a self.old → Holds a self.new) }
+        ensures unchanged { OnErr result (self.new ≡ self.old) }
+        ensures too_large { IsErrOf result CutFault.TooLarge → (r : NormalConstraint) × IsTooLarge (IsMultiple (unsigned_abs factor) self.old) r }
+        ensures within { OnOk result ((r : NormalConstraint) → IsMultiple (unsigned_abs factor) self.old r → Fits r) }
+        ensures factor { factor <ℤ pos 1 ↔ IsErrOf result CutFault.BadFactor }
+    {
+        if factor < 1 {
+            return Err(CutFault::BadFactor);
+        }
+        let factor = factor.unsigned_abs();
+        if !self.multiple_fits(factor) {
+            return Err(CutFault::TooLarge);
+        }
+        self.scale(Scaling::Times(factor))?;
+        Ok(())
+    }
+
+    /// Whether a multiple is within the limits.
+    fn multiple_fits(&self, factor: u128) -> bool
+        ensures fits { IsTrue result ↔ (factor * total self.now.terms ≤ largest_sum) × (factor * self.now.degree ≤ largest_sum) }
+        ensures normal { IsNormal self.now }
+    {
+        product_fits(factor, self.sum) && product_fits(factor, self.degree)
+    }
+
+    /// Becomes its quotient, each number rounded up. `BadFactor` comes exactly for a divisor below 1. The result is always within the
+    /// limits. After an error it is as before.
+    pub fn divide(&mut self, divisor: i128) -> Result<(), CutFault>
+        ensures quotient { OnOk result (IsQuotient (unsigned_abs divisor) self.old self.new) }
+        ensures keeps { OnOk result ((a : Valuation) → Holds a self.old → Holds a self.new) }
+        ensures unchanged { OnErr result (self.new ≡ self.old) }
+        ensures fits { IsErrOf result CutFault.TooLarge → ⊥ }
+        ensures factor { divisor <ℤ pos 1 ↔ IsErrOf result CutFault.BadFactor }
+    {
+        if divisor < 1 {
+            return Err(CutFault::BadFactor);
+        }
+        self.scale(Scaling::DividedBy(divisor.unsigned_abs()))?;
+        Ok(())
+    }
+
+    /// Scales all coefficients and the degree. Where memory runs out it is as before.
+    fn scale(&mut self, scaling: Scaling) -> Result<(), AllocError>
+        requires sum { ScalesWithin scaling (total self.old.terms) }
+        requires degree { ScalesWithin scaling self.old.degree }
+        ensures coefficients { OnOk result ((v : ℕ) (s : Bool) → coefficient self.new v s ≡ scaled scaling (coefficient self.old v s)) }
+        ensures degree { OnOk result (self.new.degree ≡ scaled scaling self.old.degree) }
+        ensures normal { OnOk result (IsNormal self.new) }
+        ensures unchanged { OnErr result (self.new ≡ self.old) }
+    {
+        self.touched.sort()?;
+        self.sum = scale_all(&mut self.nets, &self.touched, scaling);
+        self.degree = scaled(self.degree, scaling);
+        self.level = scaled_level(self.level, scaling);
+        Ok(())
     }
 
     /// Hands over the constraint, and is empty then: without terms, of degree 0. After an error, which is that memory

@@ -8,5 +8,6 @@ mod accumulator;
 mod capping;
 mod cells;
 mod reading;
+mod scaling;
 
 pub use accumulator::Accumulator;

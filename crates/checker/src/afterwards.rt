@@ -10,7 +10,7 @@ use std::mem;
 pub enum Afterwards {
     /// It is given back, as a caller wants it that goes on.
     GiveBack,
-    /// Where a proof is accepted, it is left to the system, as a program may do that ends then.
+    /// Where a proof comes to its end, accepted or too short, it is left to the system, as a program may do that ends then.
     Leave,
 }
 

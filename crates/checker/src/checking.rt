@@ -14,14 +14,12 @@ ghost use Rattle.checker.specs.declared.stream_verdict.StreamVerdict.TheVariants
 use super::judge::judge;
 use super::stop::Stop;
 use super::verdict::Verdict;
-use deferred::Deferred;
 use opb_read::{OpbCode, OpbFault, read};
 use std::alloc::Global;
 use watch::WatchPropagator;
 
-/// What keeps the live constraints: a new one waits, by its id alone, until a question is asked; then it is entered
-/// into the lists of its literals. A proof that asks nothing enters nothing.
-pub(crate) type LiveConstraints = Deferred<WatchPropagator>;
+/// What keeps the live constraints.
+pub(crate) type LiveConstraints = WatchPropagator;
 
 /// Judges a proof (VeriPB 2.0, this product's profile) of a problem (the linear OPB format).
 ///

@@ -16,8 +16,8 @@ use super::changes::push_kept;
 use normal_form::{CutFault, Normal, NormalBuilder};
 use std::alloc::{AllocError, Global};
 
-/// A number divided by another and rounded up. Most numbers have 64 bits, and their division costs a tenth of one of 128.
-fn divided_up(number: u128, divisor: u128) -> u128
+/// A number divided by another, above 0, and rounded up. Most numbers have 64 bits, and their division costs a tenth of one of 128.
+pub fn divided_up(number: u128, divisor: u128) -> u128
     requires { 0 < divisor }
     ensures { result ≡ div_ceil number divisor }
 {

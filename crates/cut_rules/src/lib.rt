@@ -14,7 +14,7 @@ mod weakening;
 
 pub use addition::add;
 pub use axioms::axiom;
-pub use division::{divide, divide_in_place};
-pub use multiplication::multiply;
+pub use division::{divide, divide_in_place, divided_up};
+pub use multiplication::{multiply, product_fits};
 pub use saturation::{saturate, saturate_in_place};
 pub use weakening::weaken;

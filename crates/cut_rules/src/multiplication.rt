@@ -13,8 +13,8 @@ use super::changes::push_kept;
 use normal_form::{CutFault, LARGEST_SUM, Normal, NormalBuilder};
 use std::alloc::{AllocError, Global};
 
-/// Whether a product is within the limit.
-fn product_fits(factor: u128, number: u128) -> bool
+/// Whether a product is within the limit of coefficient sums and of degrees, `2^120`.
+pub fn product_fits(factor: u128, number: u128) -> bool
     ensures { IsTrue result ↔ factor * number ≤ largest_sum }
 {
     match factor.checked_mul(number) {

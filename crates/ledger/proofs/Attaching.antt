@@ -1,21 +1,22 @@
 -- A ledger with a constraint more at the end, and with one fewer.
-use Rattle.std.proofs.Common.{◌≡◌, ℕ, ◌+◌, ◌-◌, ◌*◌, ◌<◌, ◌≤◌, ◌⊎◌, inl, inr, Option, None, Some, List, [], ◌∷◌, ◌++◌, length, get_or, set, take, refl, ap, sym, subst, ◌∙◌, append-nil, length-append, arith}
+use Rattle.std.proofs.Common.{◌≡◌, ℕ, ◌+◌, ◌-◌, ◌*◌, ◌<◌, ◌≤◌, ◌⊎◌, inl, inr, IfSome, Option, None, Some, List, [], ◌∷◌, ◌++◌, length, get_or, set, take, min, refl, ap, sym, subst, ◌∙◌, append-nil, length-append, arith}
 use Rattle.std.proofs.lemmas.Bool.{cases_eq, cases_lt}
-use Rattle.std.proofs.lemmas.List.{get_or_push, get_or_append_left, get_or-set_same, get_or-set_other, length-set, get_or-take, length-take-le, length-map, take_more, map_push, get_or_past}
-use Rattle.std.proofs.lemmas.List.Elements.{All-push, All-take, All-weaker}
+use Rattle.std.proofs.lemmas.List.{get_or_push, get_or_append_left, get_or-set_same, get_or-set_other, length-set, get_or-take, length-take-le, length-map, take_more, take-append-le, take-set-le, take-take, map_push, get_or_past}
+use Rattle.std.proofs.lemmas.List.Elements.{All-push, All-set, All-take, All-weaker}
 use Rattle.std.proofs.Math.Seq.{take-length}
 use Rattle.linear.specs.declared.term.Lit.{Lit}
+use Rattle.normal_form.specs.declared.term.NormalTerm.{NormalTerm}
 use Rattle.normal_form.specs.Normal.{NormalConstraint, IsNormal, variable_bound}
 use Rattle.propagate.specs.Literals.{coefficient_of}
 use Rattle.ledger.specs.declared.occurrence.Occurrence.{Occurrence}
 use Rattle.ledger.specs.Occurrences.{entries_of, entry_of, occurrences_of, HasMore}
-use Rattle.ledger.specs.Ledgers.{constraint_at, constraint_in, shown, nothing, open_sum, IsIndex, IsLedger, AreCounters, AreKnown, AreParted, AreLimits, AreReasons}
+use Rattle.ledger.specs.Ledgers.{constraint_at, constraint_in, shown, nothing, open_sum, IsIndex, IsIndexBelow, IsLedger, Listed, AreCounters, AreKnown, AreParted, AreLimits, AreReasons}
 use Rattle.ledger.specs.declared.pair.Pair.{Pair}
 use Rattle.ledger.proofs.EntrySums.{occurrences_push}
 use Rattle.ledger.proofs.Reasons.{reasons_moved}
 use Rattle.ledger.proofs.Standing.{shown_at, variables_there}
 
-none_is_not_some : (n : NormalConstraint) → None ≡ Some n → ⊥
+pub none_is_not_some : (n : NormalConstraint) → None ≡ Some n → ⊥
 none_is_not_some n e = cc
 
 -- the last constraint of some
@@ -31,8 +32,8 @@ earlier_or_last ns n k h = elim (cases_eq k (length ns)) [
   | inr other ↦ inl (omega (arith, h, other, length-append ns (n ∷ [])))
 ]
 
-pub shown_more : (slots : List (Option NormalConstraint)) (n : NormalConstraint) → shown (slots ++ Some n ∷ []) ≡ shown slots ++ n ∷ []
-shown_more slots n = map_push constraint_in slots (Some n)
+pub shown_more : (slots : List (Option NormalConstraint)) (s : Option NormalConstraint) → shown (slots ++ s ∷ []) ≡ shown slots ++ constraint_in s ∷ []
+shown_more slots s = map_push constraint_in slots s
 
 counters_more : (ns : List NormalConstraint) (assigned : List Lit) (counters : List ℕ) (n : NormalConstraint) (opened : ℕ) → AreCounters ns assigned counters → opened ≡ open_sum assigned n → AreCounters (ns ++ n ∷ []) assigned (counters ++ opened ∷ [])
 counters_more ns assigned counters n opened a is = record {
@@ -52,52 +53,59 @@ limits_more ns limits n limit a enough = record {
   ];
 }
 
--- what a place with a constraint and perhaps two literals adds to what is counted and to what is watched
-pub record IsPartOf (n counted watched : NormalConstraint) (o : Option Pair) : Type 0 where
-  pub counts : o ≡ None → (counted ≡ n) × (watched ≡ nothing)
-  pub watches : (p : Pair) → o ≡ Some p → (counted ≡ nothing) × (watched ≡ n)
+-- what a place adds to what is counted and to what is watched: its constraint, where it has one, with two literals or without
+pub record IsPartOf (s : Option NormalConstraint) (counted watched : NormalConstraint) (o : Option Pair) : Type 0 where
+  pub counts : (n : NormalConstraint) → s ≡ Some n → o ≡ None → (counted ≡ n) × (watched ≡ nothing)
+  pub watches : (n : NormalConstraint) (p : Pair) → s ≡ Some n → o ≡ Some p → (counted ≡ nothing) × (watched ≡ n)
 
-pub part_counted : (n : NormalConstraint) → IsPartOf n n nothing None
-part_counted n = record { counts = λ e. (refl, refl); watches = λ p e. absurd (cc) }
+-- what is said of what a slot has, where it has this
+pub of_slot : (P : NormalConstraint → Type 0) (s : Option NormalConstraint) (n : NormalConstraint) → s ≡ Some n → IfSome s P → P n
+of_slot P s n e h = subst (λ (o : Option NormalConstraint). IfSome o P) e h
 
-pub part_watched : (n : NormalConstraint) (p : Pair) → IsPartOf n nothing n (Some p)
-part_watched n p = record { counts = λ e. absurd (cc); watches = λ q e. (refl, refl) }
+own : (n m : NormalConstraint) → Some n ≡ Some m → n ≡ m
+own n m e = cc
 
-some_same : (n m : NormalConstraint) (o : Option NormalConstraint) → o ≡ Some n → o ≡ Some m → n ≡ m
-some_same n m o e f = cc
+pub part_counted : (n : NormalConstraint) → IsPartOf (Some n) n nothing None
+part_counted n = record { counts = λ m e f. (own n m e, refl); watches = λ m p e f. absurd (cc) }
+
+pub part_watched : (n : NormalConstraint) (p : Pair) → IsPartOf (Some n) nothing n (Some p)
+part_watched n p = record { counts = λ m e f. absurd (cc); watches = λ m q e f. (refl, own n m e) }
+
+pub part_empty : IsPartOf None nothing nothing None
+part_empty = record { counts = λ n e f. absurd (none_is_not_some n e); watches = λ n p e f. absurd (none_is_not_some n e) }
 
 -- a place behind the others, or before the end
-pub place_cases : (slots : List (Option NormalConstraint)) (n m : NormalConstraint) (k : ℕ) → get_or (slots ++ Some n ∷ []) k None ≡ Some m → ((k < length slots) × (get_or slots k None ≡ Some m)) ⊎ ((k ≡ length slots) × (n ≡ m))
-place_cases slots n m k e = elim (cases_eq k (length slots)) [
-  | inl here ↦ inr (here, some_same n m (get_or (slots ++ Some n ∷ []) k None) (get_or_push slots (Some n) None k (sym here)) e)
+pub place_cases : (slots : List (Option NormalConstraint)) (s : Option NormalConstraint) (m : NormalConstraint) (k : ℕ) → get_or (slots ++ s ∷ []) k None ≡ Some m → ((k < length slots) × (get_or slots k None ≡ Some m)) ⊎ ((k ≡ length slots) × (s ≡ Some m))
+place_cases slots s m k e = elim (cases_eq k (length slots)) [
+  | inl here ↦ inr (here, sym (get_or_push slots s None k (sym here)) ∙ e)
   | inr other ↦ elim (cases_lt k (length slots)) [
-    | inl low ↦ inl (low, sym (get_or_append_left slots (Some n ∷ []) None k low) ∙ e)
+    | inl low ↦ inl (low, sym (get_or_append_left slots (s ∷ []) None k low) ∙ e)
     | inr high ↦
-        let past : get_or (slots ++ Some n ∷ []) k None ≡ None = get_or_past (slots ++ Some n ∷ []) k None (omega (arith, high, other, length-append slots (Some n ∷ []))) in
+        let past : get_or (slots ++ s ∷ []) k None ≡ None = get_or_past (slots ++ s ∷ []) k None (omega (arith, high, other, length-append slots (s ∷ []))) in
         absurd (none_is_not_some m (sym past ∙ e))
   ]
 ]
 
-parted_more : (slots : List (Option NormalConstraint)) (ns ws : List NormalConstraint) (pairs : List (Option Pair)) (n c w : NormalConstraint) (o : Option Pair) → AreParted slots ns ws pairs → IsPartOf n c w o → AreParted (slots ++ Some n ∷ []) (ns ++ c ∷ []) (ws ++ w ∷ []) (pairs ++ o ∷ [])
-parted_more slots ns ws pairs n c w o x part = record {
-  count = omega (arith, x.count, length-append slots (Some n ∷ []), length-append ns (c ∷ []));
-  watched_count = omega (arith, x.watched_count, length-append slots (Some n ∷ []), length-append ws (w ∷ []));
-  pair_count = omega (arith, x.pair_count, length-append slots (Some n ∷ []), length-append pairs (o ∷ []));
-  counts = λ k m e f. elim (place_cases slots n m k e) [
+parted_more : (slots : List (Option NormalConstraint)) (ns ws : List NormalConstraint) (pairs : List (Option Pair)) (s : Option NormalConstraint) (c w : NormalConstraint) (o : Option Pair) → AreParted slots ns ws pairs → IsPartOf s c w o → AreParted (slots ++ s ∷ []) (ns ++ c ∷ []) (ws ++ w ∷ []) (pairs ++ o ∷ [])
+parted_more slots ns ws pairs s c w o x part = record {
+  count = omega (arith, x.count, length-append slots (s ∷ []), length-append ns (c ∷ []));
+  watched_count = omega (arith, x.watched_count, length-append slots (s ∷ []), length-append ws (w ∷ []));
+  pair_count = omega (arith, x.pair_count, length-append slots (s ∷ []), length-append pairs (o ∷ []));
+  counts = λ k m e f. elim (place_cases slots s m k e) [
     | inl before ↦
         let it = x.counts k m before.1 (sym (get_or_append_left pairs (o ∷ []) None k (omega (arith, before.0, x.pair_count))) ∙ f) in
         (earlier_is ns c k (omega (arith, before.0, x.count)) ∙ it.0, earlier_is ws w k (omega (arith, before.0, x.watched_count)) ∙ it.1)
     | inr last ↦
-        let it = part.counts (sym (get_or_push pairs o None k (omega (arith, last.0, x.pair_count))) ∙ f) in
-        (last_is ns c k (omega (arith, last.0, x.count)) ∙ it.0 ∙ last.1, last_is ws w k (omega (arith, last.0, x.watched_count)) ∙ it.1)
+        let it = part.counts m last.1 (sym (get_or_push pairs o None k (omega (arith, last.0, x.pair_count))) ∙ f) in
+        (last_is ns c k (omega (arith, last.0, x.count)) ∙ it.0, last_is ws w k (omega (arith, last.0, x.watched_count)) ∙ it.1)
   ];
-  watches = λ k m p e f. elim (place_cases slots n m k e) [
+  watches = λ k m p e f. elim (place_cases slots s m k e) [
     | inl before ↦
         let it = x.watches k m p before.1 (sym (get_or_append_left pairs (o ∷ []) None k (omega (arith, before.0, x.pair_count))) ∙ f) in
         (earlier_is ns c k (omega (arith, before.0, x.count)) ∙ it.0, earlier_is ws w k (omega (arith, before.0, x.watched_count)) ∙ it.1)
     | inr last ↦
-        let it = part.watches p (sym (get_or_push pairs o None k (omega (arith, last.0, x.pair_count))) ∙ f) in
-        (last_is ns c k (omega (arith, last.0, x.count)) ∙ it.0, last_is ws w k (omega (arith, last.0, x.watched_count)) ∙ it.1 ∙ last.1)
+        let it = part.watches m p last.1 (sym (get_or_push pairs o None k (omega (arith, last.0, x.pair_count))) ∙ f) in
+        (last_is ns c k (omega (arith, last.0, x.count)) ∙ it.0, last_is ws w k (omega (arith, last.0, x.watched_count)) ∙ it.1)
   ];
 }
 
@@ -115,57 +123,67 @@ none_more table place l = sym (append-nil (entries_of table l))
 nothing_normal : IsNormal nothing
 nothing_normal = record { rises = tt; fits = record { sum = omega arith; degree = omega arith } }
 
--- one constraint more
-pub attached : (slots : List (Option NormalConstraint)) (assigned : List Lit) (variables : ℕ) (table after clauses behind : List (List Occurrence)) (counters limits : List ℕ) (pairs : List (Option Pair)) (n c w : NormalConstraint) (o : Option Pair) (place opened limit : ℕ)
-    → IsLedger slots assigned variables table clauses counters limits pairs → IsPartOf n c w o → place ≡ length pairs → IsNormal c → IsNormal w → variable_bound c.terms ≤ variables → variable_bound w.terms ≤ variables
-    → HasMore (entries_of table) after place c.terms → length after ≡ length table → HasMore (entries_of clauses) behind place w.terms → length behind ≡ length clauses
-    → opened ≡ open_sum assigned c → ((l : Lit) → n.degree + coefficient_of n l ≤ limit)
-    → IsLedger (slots ++ Some n ∷ []) assigned variables after behind (counters ++ opened ∷ []) (limits ++ limit ∷ []) (pairs ++ o ∷ [])
-attached slots assigned variables table after clauses behind counters limits pairs n c w o place opened limit i part e normal_c normal_w within_c within_w more long more_w long_w is enough =
+-- lists of the first constraints stand where one more comes
+below_more : (ws : List NormalConstraint) (variables : ℕ) (lists : Listed) (w : NormalConstraint) → IsIndexBelow ws variables lists → IsIndexBelow (ws ++ w ∷ []) variables lists
+below_more ws variables lists w b = record {
+  low = omega (arith, b.low, length-append ws (w ∷ []));
+  index = subst (λ (ns : List NormalConstraint). IsIndex ns variables lists.rows) (sym (take-append-le lists.count ws (w ∷ []) b.low)) b.index;
+}
+
+-- one place more
+pub attached : (slots : List (Option NormalConstraint)) (assigned : List Lit) (variables : ℕ) (table after : List (List Occurrence)) (clauses : Listed) (counters limits : List ℕ) (pairs : List (Option Pair)) (s : Option NormalConstraint) (c w : NormalConstraint) (o : Option Pair) (place opened limit : ℕ)
+    → IsLedger slots assigned variables table clauses counters limits pairs → IsPartOf s c w o → place ≡ length pairs → IsNormal c → IsNormal w → variable_bound c.terms ≤ variables → variable_bound w.terms ≤ variables
+    → HasMore (entries_of table) after place c.terms → length after ≡ length table → opened ≡ open_sum assigned c → ((l : Lit) → (constraint_in s).degree + coefficient_of (constraint_in s) l ≤ limit)
+    → IsLedger (slots ++ s ∷ []) assigned variables after clauses (counters ++ opened ∷ []) (limits ++ limit ∷ []) (pairs ++ o ∷ [])
+attached slots assigned variables table after clauses counters limits pairs s c w o place opened limit i part e normal_c normal_w within_c within_w more long is enough =
     let x = i.slots_are in
     record {
       counted = i.counted ++ c ∷ [];
       watched = i.watched ++ w ∷ [];
       index = index_more i.counted variables place table after c i.index (omega (arith, e, x.count, x.pair_count)) more long;
-      watched_index = index_more i.watched variables place clauses behind w i.watched_index (omega (arith, e, x.watched_count, x.pair_count)) more_w long_w;
+      watched_index = below_more i.watched variables clauses w i.watched_index;
       counters_are = counters_more i.counted assigned counters c opened i.counters_are is;
       known = record { normal = All-push IsNormal i.counted c i.known.normal normal_c; within = All-push (λ (m : NormalConstraint). variable_bound m.terms ≤ variables) i.counted c i.known.within within_c };
       watched_known = record { normal = All-push IsNormal i.watched w i.watched_known.normal normal_w; within = All-push (λ (m : NormalConstraint). variable_bound m.terms ≤ variables) i.watched w i.watched_known.within within_w };
-      slots_are = parted_more slots i.counted i.watched pairs n c w o x part;
-      limits_are = rw (shown_more slots n) (limits_more (shown slots) limits n limit i.limits_are enough);
+      slots_are = parted_more slots i.counted i.watched pairs s c w o x part;
+      limits_are = rw (shown_more slots s) (limits_more (shown slots) limits (constraint_in s) limit i.limits_are enough);
     }
 
-pub attached_counted : (slots : List (Option NormalConstraint)) (assigned : List Lit) (variables : ℕ) (table after clauses : List (List Occurrence)) (counters limits : List ℕ) (pairs : List (Option Pair)) (n : NormalConstraint) (place opened limit : ℕ)
+pub attached_counted : (slots : List (Option NormalConstraint)) (assigned : List Lit) (variables : ℕ) (table after : List (List Occurrence)) (clauses : Listed) (counters limits : List ℕ) (pairs : List (Option Pair)) (n : NormalConstraint) (place opened limit : ℕ)
     → IsLedger slots assigned variables table clauses counters limits pairs → place ≡ length pairs → IsNormal n → variable_bound n.terms ≤ variables
     → HasMore (entries_of table) after place n.terms → length after ≡ length table → opened ≡ open_sum assigned n → ((l : Lit) → n.degree + coefficient_of n l ≤ limit)
     → IsLedger (slots ++ Some n ∷ []) assigned variables after clauses (counters ++ opened ∷ []) (limits ++ limit ∷ []) (pairs ++ None ∷ [])
 attached_counted slots assigned variables table after clauses counters limits pairs n place opened limit i e normal within more long is enough =
-    attached slots assigned variables table after clauses clauses counters limits pairs n n nothing None place opened limit i (part_counted n) e normal nothing_normal within (omega arith) more long (none_more clauses place) refl is enough
+    attached slots assigned variables table after clauses counters limits pairs (Some n) n nothing None place opened limit i (part_counted n) e normal nothing_normal within (omega arith) more long is enough
 
-pub attached_watched : (slots : List (Option NormalConstraint)) (assigned : List Lit) (variables : ℕ) (table clauses behind : List (List Occurrence)) (counters limits : List ℕ) (pairs : List (Option Pair)) (n : NormalConstraint) (p : Pair) (place opened limit : ℕ)
+pub attached_watched : (slots : List (Option NormalConstraint)) (assigned : List Lit) (variables : ℕ) (table : List (List Occurrence)) (clauses : Listed) (counters limits : List ℕ) (pairs : List (Option Pair)) (n : NormalConstraint) (p : Pair) (place opened limit : ℕ)
     → IsLedger slots assigned variables table clauses counters limits pairs → place ≡ length pairs → IsNormal n → variable_bound n.terms ≤ variables
-    → HasMore (entries_of clauses) behind place n.terms → length behind ≡ length clauses → opened ≡ 0 → ((l : Lit) → n.degree + coefficient_of n l ≤ limit)
-    → IsLedger (slots ++ Some n ∷ []) assigned variables table behind (counters ++ opened ∷ []) (limits ++ limit ∷ []) (pairs ++ Some p ∷ [])
-attached_watched slots assigned variables table clauses behind counters limits pairs n p place opened limit i e normal within more long is enough =
-    attached slots assigned variables table table clauses behind counters limits pairs n nothing n (Some p) place opened limit i (part_watched n p) e nothing_normal normal (omega arith) within (none_more table place) refl more long is enough
+    → opened ≡ 0 → ((l : Lit) → n.degree + coefficient_of n l ≤ limit)
+    → IsLedger (slots ++ Some n ∷ []) assigned variables table clauses (counters ++ opened ∷ []) (limits ++ limit ∷ []) (pairs ++ Some p ∷ [])
+attached_watched slots assigned variables table clauses counters limits pairs n p place opened limit i e normal within is enough =
+    attached slots assigned variables table table clauses counters limits pairs (Some n) nothing n (Some p) place opened limit i (part_watched n p) e nothing_normal normal (omega arith) within (none_more table place) refl is enough
 
--- the reasons stand beside one constraint more
-pub reasons_beside : (slots : List (Option NormalConstraint)) (n : NormalConstraint) (xs : List Lit) (rs : List (Option ℕ)) → AreReasons (shown slots) xs rs → AreReasons (shown (slots ++ Some n ∷ [])) xs rs
-reasons_beside slots n xs rs a = rw (shown_more slots n) (reasons_moved (shown slots) (shown slots ++ n ∷ []) xs rs a
-    (λ k place low is below. (omega (arith, below, length-append (shown slots) (n ∷ [])), earlier_is (shown slots) n place below)))
+pub attached_empty : (slots : List (Option NormalConstraint)) (assigned : List Lit) (variables : ℕ) (table : List (List Occurrence)) (clauses : Listed) (counters limits : List ℕ) (pairs : List (Option Pair)) → IsLedger slots assigned variables table clauses counters limits pairs
+    → IsLedger (slots ++ None ∷ []) assigned variables table clauses (counters ++ 0 ∷ []) (limits ++ 0 ∷ []) (pairs ++ None ∷ [])
+attached_empty slots assigned variables table clauses counters limits pairs i =
+    attached slots assigned variables table table clauses counters limits pairs None nothing nothing None (length pairs) 0 0 i part_empty refl nothing_normal nothing_normal (omega arith) (omega arith) (none_more table (length pairs)) refl refl (λ l. omega arith)
+
+-- the reasons stand beside one place more
+pub reasons_beside : (slots : List (Option NormalConstraint)) (s : Option NormalConstraint) (xs : List Lit) (rs : List (Option ℕ)) → AreReasons (shown slots) xs rs → AreReasons (shown (slots ++ s ∷ [])) xs rs
+reasons_beside slots s xs rs a = rw (shown_more slots s) (reasons_moved (shown slots) (shown slots ++ constraint_in s ∷ []) xs rs a
+    (λ k place low is below. (omega (arith, below, length-append (shown slots) (constraint_in s ∷ [])), earlier_is (shown slots) (constraint_in s) place below)))
 
 -- what was put in for nothing
 index_same : (ns : List NormalConstraint) (variables place : ℕ) (table after : List (List Occurrence)) → IsIndex ns variables table → HasMore (entries_of table) after place [] → length after ≡ length table → IsIndex ns variables after
 index_same ns variables place table after i none long = record { size = omega (arith, long, i.size); entries = λ l. none l ∙ append-nil (entries_of table l) ∙ i.entries l }
 
-pub unchanged : (slots : List (Option NormalConstraint)) (assigned : List Lit) (variables : ℕ) (table after clauses behind : List (List Occurrence)) (counters limits : List ℕ) (pairs : List (Option Pair)) (place : ℕ) → IsLedger slots assigned variables table clauses counters limits pairs
-    → HasMore (entries_of table) after place [] → length after ≡ length table → HasMore (entries_of clauses) behind place [] → length behind ≡ length clauses
-    → IsLedger slots assigned variables after behind counters limits pairs
-unchanged slots assigned variables table after clauses behind counters limits pairs place i none long none_w long_w = record {
+pub unchanged : (slots : List (Option NormalConstraint)) (assigned : List Lit) (variables : ℕ) (table after : List (List Occurrence)) (clauses : Listed) (counters limits : List ℕ) (pairs : List (Option Pair)) (place : ℕ) → IsLedger slots assigned variables table clauses counters limits pairs
+    → HasMore (entries_of table) after place [] → length after ≡ length table → IsLedger slots assigned variables after clauses counters limits pairs
+unchanged slots assigned variables table after clauses counters limits pairs place i none long = record {
   counted = i.counted;
   watched = i.watched;
   index = index_same i.counted variables place table after i.index none long;
-  watched_index = index_same i.watched variables place clauses behind i.watched_index none_w long_w;
+  watched_index = i.watched_index;
   counters_are = i.counters_are;
   known = i.known;
   watched_known = i.watched_known;
@@ -180,14 +198,20 @@ index_wider ns variables more table after i long same = record { size = long; en
 known_wider : (ns : List NormalConstraint) (variables more : ℕ) → AreKnown ns variables → variables ≤ more → AreKnown ns more
 known_wider ns variables more a up = record { normal = a.normal; within = All-weaker (λ (m : NormalConstraint). variable_bound m.terms ≤ variables) (λ m. variable_bound m.terms ≤ more) (λ m h. omega (arith, h, up)) ns a.within }
 
-pub widened : (slots : List (Option NormalConstraint)) (assigned : List Lit) (variables more : ℕ) (table after clauses behind : List (List Occurrence)) (counters limits : List ℕ) (pairs : List (Option Pair)) → IsLedger slots assigned variables table clauses counters limits pairs → variables ≤ more
-    → 2 * more ≤ length after → ((k : ℕ) → get_or after k [] ≡ get_or table k []) → 2 * more ≤ length behind → ((k : ℕ) → get_or behind k [] ≡ get_or clauses k [])
+below_wider : (ws : List NormalConstraint) (variables more : ℕ) (lists behind : Listed) → IsIndexBelow ws variables lists → behind.count ≡ lists.count → 2 * more ≤ length behind.rows → ((k : ℕ) → get_or behind.rows k [] ≡ get_or lists.rows k []) → IsIndexBelow ws more behind
+below_wider ws variables more lists behind b same long kept = record {
+  low = omega (arith, same, b.low);
+  index = subst (λ (k : ℕ). IsIndex (take k ws) more behind.rows) (sym same) (index_wider (take lists.count ws) variables more lists.rows behind.rows b.index long kept);
+}
+
+pub widened : (slots : List (Option NormalConstraint)) (assigned : List Lit) (variables more : ℕ) (table after : List (List Occurrence)) (clauses behind : Listed) (counters limits : List ℕ) (pairs : List (Option Pair)) → IsLedger slots assigned variables table clauses counters limits pairs → variables ≤ more
+    → 2 * more ≤ length after → ((k : ℕ) → get_or after k [] ≡ get_or table k []) → behind.count ≡ clauses.count → 2 * more ≤ length behind.rows → ((k : ℕ) → get_or behind.rows k [] ≡ get_or clauses.rows k [])
     → IsLedger slots assigned more after behind counters limits pairs
-widened slots assigned variables more table after clauses behind counters limits pairs i up long same long_w same_w = record {
+widened slots assigned variables more table after clauses behind counters limits pairs i up long same count_w long_w same_w = record {
   counted = i.counted;
   watched = i.watched;
   index = index_wider i.counted variables more table after i.index long same;
-  watched_index = index_wider i.watched variables more clauses behind i.watched_index long_w same_w;
+  watched_index = below_wider i.watched variables more clauses behind i.watched_index count_w long_w same_w;
   counters_are = i.counters_are;
   known = known_wider i.counted variables more i.known up;
   watched_known = known_wider i.watched variables more i.watched_known up;
@@ -212,42 +236,68 @@ slot_last slots rest n e = ap (λ (os : List (Option NormalConstraint)). get_or 
 slot_count : (slots rest : List (Option NormalConstraint)) (n : NormalConstraint) → slots ≡ rest ++ Some n ∷ [] → length slots ≡ length rest + 1
 slot_count slots rest n e = ap (length {A = Option NormalConstraint}) e ∙ length-append rest (Some n ∷ [])
 
--- what both tables had before the last constraint, which was counted or watched
-pub record WasBefore (rest : List (Option NormalConstraint)) (counted watched : List NormalConstraint) (table clauses : List (List Occurrence)) (n w : NormalConstraint) : Type 0 where
-  pub counts : HasMore (λ l. occurrences_of l 0 (take (length rest) counted)) table (length rest) n.terms
-  pub watches : HasMore (λ l. occurrences_of l 0 (take (length rest) watched)) clauses (length rest) w.terms
-
-pub counted_before : (slots rest : List (Option NormalConstraint)) (assigned : List Lit) (variables : ℕ) (table clauses : List (List Occurrence)) (counters limits : List ℕ) (pairs : List (Option Pair)) (n : NormalConstraint) (i : IsLedger slots assigned variables table clauses counters limits pairs) → slots ≡ rest ++ Some n ∷ []
-    → get_or pairs (length rest) None ≡ None → WasBefore rest i.counted i.watched table clauses n nothing
+-- what the table had before the last constraint, which is counted or watched
+pub counted_before : (slots rest : List (Option NormalConstraint)) (assigned : List Lit) (variables : ℕ) (table : List (List Occurrence)) (clauses : Listed) (counters limits : List ℕ) (pairs : List (Option Pair)) (n : NormalConstraint) (i : IsLedger slots assigned variables table clauses counters limits pairs) → slots ≡ rest ++ Some n ∷ []
+    → get_or pairs (length rest) None ≡ None → HasMore (λ l. occurrences_of l 0 (take (length rest) i.counted)) table (length rest) n.terms
 counted_before slots rest assigned variables table clauses counters limits pairs n i e o =
-    let count = slot_count slots rest n e in
-    let is = i.slots_are.counts (length rest) n (slot_last slots rest n e) o in
-    record {
-      counts = index_before i.counted variables (length rest) table n i.index (omega (arith, count, i.slots_are.count)) is.0;
-      watches = index_before i.watched variables (length rest) clauses nothing i.watched_index (omega (arith, count, i.slots_are.watched_count)) is.1;
-    }
+    index_before i.counted variables (length rest) table n i.index (omega (arith, slot_count slots rest n e, i.slots_are.count)) (i.slots_are.counts (length rest) n (slot_last slots rest n e) o).0
 
-pub watched_before : (slots rest : List (Option NormalConstraint)) (assigned : List Lit) (variables : ℕ) (table clauses : List (List Occurrence)) (counters limits : List ℕ) (pairs : List (Option Pair)) (n : NormalConstraint) (p : Pair) (i : IsLedger slots assigned variables table clauses counters limits pairs) → slots ≡ rest ++ Some n ∷ []
-    → get_or pairs (length rest) None ≡ Some p → WasBefore rest i.counted i.watched table clauses nothing n
+pub watched_before : (slots rest : List (Option NormalConstraint)) (assigned : List Lit) (variables : ℕ) (table : List (List Occurrence)) (clauses : Listed) (counters limits : List ℕ) (pairs : List (Option Pair)) (n : NormalConstraint) (p : Pair) (i : IsLedger slots assigned variables table clauses counters limits pairs) → slots ≡ rest ++ Some n ∷ []
+    → get_or pairs (length rest) None ≡ Some p → HasMore (λ l. occurrences_of l 0 (take (length rest) i.counted)) table (length rest) []
 watched_before slots rest assigned variables table clauses counters limits pairs n p i e o =
-    let count = slot_count slots rest n e in
-    let is = i.slots_are.watches (length rest) n p (slot_last slots rest n e) o in
-    record {
-      counts = index_before i.counted variables (length rest) table nothing i.index (omega (arith, count, i.slots_are.count)) is.0;
-      watches = index_before i.watched variables (length rest) clauses n i.watched_index (omega (arith, count, i.slots_are.watched_count)) is.1;
-    }
-
-pub last_known : (slots rest : List (Option NormalConstraint)) (assigned : List Lit) (variables : ℕ) (table clauses : List (List Occurrence)) (counters limits : List ℕ) (pairs : List (Option Pair)) (n : NormalConstraint) → IsLedger slots assigned variables table clauses counters limits pairs → slots ≡ rest ++ Some n ∷ []
-    → (2 * variable_bound n.terms ≤ length table) × (2 * variable_bound n.terms ≤ length clauses)
-last_known slots rest assigned variables table clauses counters limits pairs n i e =
-    let below = variables_there slots assigned variables table clauses counters limits pairs (length rest) n i (omega (arith, slot_count slots rest n e)) (slot_last slots rest n e) in
-    (omega (arith, below, i.index.size), omega (arith, below, i.watched_index.size))
-
-fewer_shown : (slots rest : List (Option NormalConstraint)) (n : NormalConstraint) → slots ≡ rest ++ Some n ∷ [] → shown slots ≡ shown rest ++ n ∷ []
-fewer_shown slots rest n e = ap shown e ∙ shown_more rest n
+    index_before i.counted variables (length rest) table nothing i.index (omega (arith, slot_count slots rest n e, i.slots_are.count)) (i.slots_are.watches (length rest) n p (slot_last slots rest n e) o).0
 
 index_fewer : (ns : List NormalConstraint) (variables m : ℕ) (table after : List (List Occurrence)) → IsIndex ns variables table → length after ≡ length table → HasMore (λ l. occurrences_of l 0 (take m ns)) after m [] → IsIndex (take m ns) variables after
 index_fewer ns variables m table after i long none = record { size = omega (arith, long, i.size); entries = λ l. none l ∙ append-nil (occurrences_of l 0 (take m ns)) }
+
+-- the lists without the last constraint, which a list that reaches so far has lost
+pub below_fewer : (ws : List NormalConstraint) (variables m : ℕ) (lists behind : Listed) (terms : List NormalTerm) → IsIndexBelow ws variables lists → length ws ≡ m + 1 → (constraint_at ws m).terms ≡ terms → length behind.rows ≡ length lists.rows
+    → (lists.count ≤ m → (behind.count ≡ lists.count) × (behind.rows ≡ lists.rows)) → (m < lists.count → behind.count ≡ m) → (m < lists.count → (base : Lit → List Occurrence) → HasMore base lists.rows m terms → HasMore base behind.rows m []) → IsIndexBelow (take m ws) variables behind
+below_fewer ws variables m lists behind terms b many is long waits count left = elim (cases_lt m lists.count) [
+  | inl reaches ↦
+      let all : lists.count ≡ m + 1 = omega (arith, reaches, b.low, many) in
+      let whole : take lists.count ws ≡ ws = ap (λ (k : ℕ). take k ws) (omega (arith, all, many)) ∙ take-length ws in
+      let full : IsIndex ws variables lists.rows = subst (λ (ns : List NormalConstraint). IsIndex ns variables lists.rows) whole b.index in
+      let before : HasMore (λ l. occurrences_of l 0 (take m ws)) lists.rows m terms = subst (λ (ts : List NormalTerm). HasMore (λ l. occurrences_of l 0 (take m ws)) lists.rows m ts) is (index_before ws variables m lists.rows (constraint_at ws m) full (sym many) refl) in
+      let short : length (take m ws) ≡ m = length-take-le m ws (omega (arith, many)) in
+      record {
+        low = omega (arith, count reaches, short);
+        index = subst (λ (ns : List NormalConstraint). IsIndex ns variables behind.rows) (sym (ap (λ (k : ℕ). take k (take m ws)) (count reaches ∙ sym short) ∙ take-length (take m ws)))
+            (index_fewer ws variables m lists.rows behind.rows full long (left reaches (λ l. occurrences_of l 0 (take m ws)) before));
+      }
+  | inr waiting ↦
+      let short : length (take m ws) ≡ m = length-take-le m ws (omega (arith, many)) in
+      record {
+        low = omega (arith, (waits waiting).0, waiting, short);
+        index = subst (λ (table : List (List Occurrence)). IsIndex (take behind.count (take m ws)) variables table) (sym (waits waiting).1)
+            (subst (λ (ns : List NormalConstraint). IsIndex ns variables lists.rows) (sym (ap (λ (k : ℕ). take k (take m ws)) (waits waiting).0 ∙ take-take lists.count m ws waiting)) b.index);
+      }
+]
+
+pub counted_left : (slots rest : List (Option NormalConstraint)) (assigned : List Lit) (variables : ℕ) (table : List (List Occurrence)) (clauses behind : Listed) (counters limits : List ℕ) (pairs : List (Option Pair)) (n : NormalConstraint) (i : IsLedger slots assigned variables table clauses counters limits pairs) → slots ≡ rest ++ Some n ∷ []
+    → get_or pairs (length rest) None ≡ None → behind ≡ record clauses { count = min clauses.count (length rest) } → IsIndexBelow (take (length rest) i.watched) variables behind
+counted_left slots rest assigned variables table clauses behind counters limits pairs n i e o is =
+    let none : (constraint_at i.watched (length rest)).terms ≡ [] = ap (λ (c : NormalConstraint). c.terms) (i.slots_are.counts (length rest) n (slot_last slots rest n e) o).1 in
+    rw is (below_fewer i.watched variables (length rest) clauses (record clauses { count = min clauses.count (length rest) }) [] i.watched_index (omega (arith, slot_count slots rest n e, i.slots_are.watched_count)) none refl
+    (λ h. (omega (arith, h), refl)) (λ h. omega (arith, h)) (λ h base more. more))
+
+pub watched_left : (slots rest : List (Option NormalConstraint)) (assigned : List Lit) (variables : ℕ) (table : List (List Occurrence)) (clauses behind : Listed) (counters limits : List ℕ) (pairs : List (Option Pair)) (n : NormalConstraint) (p : Pair) (place : ℕ) (i : IsLedger slots assigned variables table clauses counters limits pairs) → slots ≡ rest ++ Some n ∷ []
+    → get_or pairs (length rest) None ≡ Some p → place ≡ length rest → length behind.rows ≡ length clauses.rows → (clauses.count ≤ place → behind ≡ clauses) → (place < clauses.count → behind.count ≡ place)
+    → (place < clauses.count → (base : Lit → List Occurrence) → HasMore base clauses.rows place n.terms → HasMore base behind.rows place []) → IsIndexBelow (take (length rest) i.watched) variables behind
+watched_left slots rest assigned variables table clauses behind counters limits pairs n p place i e o last long waits count left =
+    let is : (constraint_at i.watched place).terms ≡ n.terms = ap (λ (k : ℕ). (constraint_at i.watched k).terms) last ∙ ap (λ (c : NormalConstraint). c.terms) (i.slots_are.watches (length rest) n p (slot_last slots rest n e) o).1 in
+    subst (λ (k : ℕ). IsIndexBelow (take k i.watched) variables behind) last
+    (below_fewer i.watched variables place clauses behind n.terms i.watched_index (omega (arith, last, slot_count slots rest n e, i.slots_are.watched_count)) is long
+    (λ h. (ap (λ (l : Listed). l.count) (waits h), ap (λ (l : Listed). l.rows) (waits h))) count left)
+
+pub last_known : (slots rest : List (Option NormalConstraint)) (assigned : List Lit) (variables : ℕ) (table : List (List Occurrence)) (clauses : Listed) (counters limits : List ℕ) (pairs : List (Option Pair)) (n : NormalConstraint) → IsLedger slots assigned variables table clauses counters limits pairs → slots ≡ rest ++ Some n ∷ []
+    → (2 * variable_bound n.terms ≤ length table) × (2 * variable_bound n.terms ≤ length clauses.rows)
+last_known slots rest assigned variables table clauses counters limits pairs n i e =
+    let below = variables_there slots assigned variables table clauses counters limits pairs (length rest) n i (omega (arith, slot_count slots rest n e)) (slot_last slots rest n e) in
+    (omega (arith, below, i.index.size), omega (arith, below, i.watched_index.index.size))
+
+fewer_shown : (slots rest : List (Option NormalConstraint)) (n : NormalConstraint) → slots ≡ rest ++ Some n ∷ [] → shown slots ≡ shown rest ++ n ∷ []
+fewer_shown slots rest n e = ap shown e ∙ shown_more rest (Some n)
 
 known_fewer : (ns : List NormalConstraint) (variables m : ℕ) → AreKnown ns variables → AreKnown (take m ns) variables
 known_fewer ns variables m a = record { normal = All-take IsNormal m ns a.normal; within = All-take (λ (c : NormalConstraint). variable_bound c.terms ≤ variables) m ns a.within }
@@ -276,11 +326,11 @@ parted_fewer slots rest ns ws pairs n e x =
       ];
     }
 
-pub detached : (slots rest : List (Option NormalConstraint)) (assigned : List Lit) (variables : ℕ) (table after clauses behind : List (List Occurrence)) (counters limits : List ℕ) (pairs : List (Option Pair)) (n : NormalConstraint) (i : IsLedger slots assigned variables table clauses counters limits pairs) → slots ≡ rest ++ Some n ∷ []
+pub detached : (slots rest : List (Option NormalConstraint)) (assigned : List Lit) (variables : ℕ) (table after : List (List Occurrence)) (clauses behind : Listed) (counters limits : List ℕ) (pairs : List (Option Pair)) (n : NormalConstraint) (i : IsLedger slots assigned variables table clauses counters limits pairs) → slots ≡ rest ++ Some n ∷ []
     → length after ≡ length table → HasMore (λ l. occurrences_of l 0 (take (length rest) i.counted)) after (length rest) []
-    → length behind ≡ length clauses → HasMore (λ l. occurrences_of l 0 (take (length rest) i.watched)) behind (length rest) []
+    → IsIndexBelow (take (length rest) i.watched) variables behind
     → IsLedger rest assigned variables after behind (take (length counters - 1) counters) (take (length limits - 1) limits) (take (length pairs - 1) pairs)
-detached slots rest assigned variables table after clauses behind counters limits pairs n i e long none long_w none_w =
+detached slots rest assigned variables table after clauses behind counters limits pairs n i e long none fewer =
     let m : ℕ = length rest in
     let ns : List NormalConstraint = i.counted in
     let count : length slots ≡ m + 1 = slot_count slots rest n e in
@@ -294,7 +344,7 @@ detached slots rest assigned variables table after clauses behind counters limit
       counted = take m ns;
       watched = take m i.watched;
       index = index_fewer ns variables m table after i.index long none;
-      watched_index = index_fewer i.watched variables m clauses behind i.watched_index long_w none_w;
+      watched_index = fewer;
       counters_are = record {
         counted = omega (arith, length-take-le (length counters - 1) counters (omega arith), counted, many);
         open_sums = λ k h.
@@ -312,6 +362,98 @@ detached slots rest assigned variables table after clauses behind counters limit
             omega (arith, get_or-take (length limits - 1) limits k 0 (omega (arith, low, limited)), i.limits_are.enough k l (omega (arith, low, count, length-map slots constraint_in)), ap (λ (c : NormalConstraint). c.degree + coefficient_of c l) same);
       };
     }
+
+none_is_no_pair : (p : Pair) → None ≡ Some p → ⊥
+none_is_no_pair p e = cc
+
+-- the next place is listed: a clause that is watched with its entries, any other as nothing
+emptied : (slots : List (Option NormalConstraint)) (ns ws : List NormalConstraint) (pairs : List (Option Pair)) (place : ℕ) → (get_or slots place None ≡ None) ⊎ (get_or pairs place None ≡ None) → place < length ws → AreParted slots ns ws pairs → AreParted slots ns (set ws place nothing) pairs
+emptied slots ns ws pairs place none low x = record {
+  count = x.count;
+  watched_count = x.watched_count ∙ sym (length-set ws place nothing);
+  pair_count = x.pair_count;
+  counts = λ k n e f. elim (cases_eq k place) [
+    | inl here ↦ ((x.counts k n e f).0, ap (λ (j : ℕ). constraint_at (set ws place nothing) j) here ∙ get_or-set_same ws place nothing nothing low)
+    | inr other ↦ ((x.counts k n e f).0, get_or-set_other ws place k nothing nothing other ∙ (x.counts k n e f).1)
+  ];
+  watches = λ k n p e f. elim (cases_eq k place) [
+    | inl here ↦ elim none [
+      | inl gone ↦ absurd (none_is_not_some n (sym gone ∙ ap (λ (j : ℕ). get_or slots j None) (sym here) ∙ e))
+      | inr unpaired ↦ absurd (none_is_no_pair p (sym unpaired ∙ ap (λ (j : ℕ). get_or pairs j None) (sym here) ∙ f))
+    ]
+    | inr other ↦ ((x.watches k n p e f).0, get_or-set_other ws place k nothing nothing other ∙ (x.watches k n p e f).1)
+  ];
+}
+
+below_on : (ws : List NormalConstraint) (variables : ℕ) (lists after : Listed) (w : NormalConstraint) → IsIndexBelow ws variables lists → lists.count < length ws → constraint_at ws lists.count ≡ w → after.count ≡ lists.count + 1 → length after.rows ≡ length lists.rows
+    → HasMore (entries_of lists.rows) after.rows lists.count w.terms → IsIndexBelow ws variables after
+below_on ws variables lists after w b low is next long more =
+    let short : length (take lists.count ws) ≡ lists.count = length-take-le lists.count ws (omega (arith, low)) in
+    let taken : take after.count ws ≡ take lists.count ws ++ w ∷ [] = ap (λ (k : ℕ). take k ws) next ∙ take_more ws lists.count nothing low ∙ ap (λ (m : NormalConstraint). take lists.count ws ++ m ∷ []) is in
+    record {
+      low = omega (arith, next, low);
+      index = subst (λ (ns : List NormalConstraint). IsIndex ns variables after.rows) (sym taken) (index_more (take lists.count ws) variables lists.count lists.rows after.rows w b.index (sym short) more long);
+    }
+
+pub listed_on : (slots : List (Option NormalConstraint)) (assigned : List Lit) (variables : ℕ) (table : List (List Occurrence)) (clauses after : Listed) (counters limits : List ℕ) (pairs : List (Option Pair)) (n : NormalConstraint) (p : Pair) → IsLedger slots assigned variables table clauses counters limits pairs
+    → get_or slots clauses.count None ≡ Some n → get_or pairs clauses.count None ≡ Some p → clauses.count < length slots → after.count ≡ clauses.count + 1 → length after.rows ≡ length clauses.rows → HasMore (entries_of clauses.rows) after.rows clauses.count n.terms
+    → IsLedger slots assigned variables table after counters limits pairs
+listed_on slots assigned variables table clauses after counters limits pairs n p i there paired low next long more = record {
+  counted = i.counted;
+  watched = i.watched;
+  index = i.index;
+  watched_index = below_on i.watched variables clauses after n i.watched_index (omega (arith, low, i.slots_are.watched_count)) (i.slots_are.watches clauses.count n p there paired).1 next long more;
+  counters_are = i.counters_are;
+  known = i.known;
+  watched_known = i.watched_known;
+  slots_are = i.slots_are;
+  limits_are = i.limits_are;
+}
+
+-- nothing was listed, where memory ended
+pub listed_kept : (slots : List (Option NormalConstraint)) (assigned : List Lit) (variables : ℕ) (table : List (List Occurrence)) (clauses after : Listed) (counters limits : List ℕ) (pairs : List (Option Pair)) → IsLedger slots assigned variables table clauses counters limits pairs
+    → after.count ≡ clauses.count → length after.rows ≡ length clauses.rows → HasMore (entries_of clauses.rows) after.rows clauses.count [] → IsLedger slots assigned variables table after counters limits pairs
+listed_kept slots assigned variables table clauses after counters limits pairs i same long none = record {
+  counted = i.counted;
+  watched = i.watched;
+  index = i.index;
+  watched_index = record {
+    low = omega (arith, same, i.watched_index.low);
+    index = subst (λ (k : ℕ). IsIndex (take k i.watched) variables after.rows) (sym same) (index_same (take clauses.count i.watched) variables clauses.count clauses.rows after.rows i.watched_index.index none long);
+  };
+  counters_are = i.counters_are;
+  known = i.known;
+  watched_known = i.watched_known;
+  slots_are = i.slots_are;
+  limits_are = i.limits_are;
+}
+
+known_emptied : (ws : List NormalConstraint) (variables place : ℕ) → AreKnown ws variables → AreKnown (set ws place nothing) variables
+known_emptied ws variables place a = record {
+  normal = All-set IsNormal ws place nothing nothing_normal a.normal;
+  within = All-set (λ (m : NormalConstraint). variable_bound m.terms ≤ variables) ws place nothing (omega arith) a.within;
+}
+
+pub passed_over : (slots : List (Option NormalConstraint)) (assigned : List Lit) (variables : ℕ) (table : List (List Occurrence)) (clauses after : Listed) (counters limits : List ℕ) (pairs : List (Option Pair)) → IsLedger slots assigned variables table clauses counters limits pairs
+    → (get_or slots clauses.count None ≡ None) ⊎ (get_or pairs clauses.count None ≡ None) → clauses.count < length slots → after ≡ record clauses { count = clauses.count + 1 } → IsLedger slots assigned variables table after counters limits pairs
+passed_over slots assigned variables table clauses after counters limits pairs i none low is =
+    let inside : clauses.count < length i.watched = omega (arith, low, i.slots_are.watched_count) in
+    let same : take clauses.count (set i.watched clauses.count nothing) ≡ take clauses.count i.watched = take-set-le clauses.count i.watched clauses.count nothing (omega arith) in
+    let before : IsIndexBelow (set i.watched clauses.count nothing) variables clauses = record {
+      low = omega (arith, i.watched_index.low, length-set i.watched clauses.count nothing);
+      index = subst (λ (ns : List NormalConstraint). IsIndex ns variables clauses.rows) (sym same) i.watched_index.index;
+    } in
+    rw is (record {
+      counted = i.counted;
+      watched = set i.watched clauses.count nothing;
+      index = i.index;
+      watched_index = below_on (set i.watched clauses.count nothing) variables clauses (record clauses { count = clauses.count + 1 }) nothing before (omega (arith, inside, length-set i.watched clauses.count nothing)) (get_or-set_same i.watched clauses.count nothing nothing inside) refl refl (none_more clauses.rows clauses.count);
+      counters_are = i.counters_are;
+      known = i.known;
+      watched_known = known_emptied i.watched variables clauses.count i.watched_known;
+      slots_are = emptied slots i.counted i.watched pairs clauses.count none inside i.slots_are;
+      limits_are = i.limits_are;
+    })
 
 -- the reasons stand without the last constraint, where it is none of them
 pub reasons_without : (slots rest : List (Option NormalConstraint)) (n : NormalConstraint) (xs : List Lit) (rs : List (Option ℕ)) → slots ≡ rest ++ Some n ∷ [] → AreReasons (shown slots) xs rs
@@ -344,7 +486,7 @@ parted_without slots place ns ws pairs low x = record {
   ];
 }
 
-pub taken_out : (slots : List (Option NormalConstraint)) (place : ℕ) (assigned : List Lit) (variables : ℕ) (table clauses : List (List Occurrence)) (counters limits : List ℕ) (pairs : List (Option Pair)) → IsLedger slots assigned variables table clauses counters limits pairs → place < length slots
+pub taken_out : (slots : List (Option NormalConstraint)) (place : ℕ) (assigned : List Lit) (variables : ℕ) (table : List (List Occurrence)) (clauses : Listed) (counters limits : List ℕ) (pairs : List (Option Pair)) → IsLedger slots assigned variables table clauses counters limits pairs → place < length slots
     → IsLedger (set slots place None) assigned variables table clauses counters (set limits place 0) (set pairs place None)
 taken_out slots place assigned variables table clauses counters limits pairs i low =
     let many : length limits ≡ length slots = i.limits_are.limited ∙ length-map slots constraint_in in
@@ -378,5 +520,5 @@ reasons_apart slots place xs rs a free = reasons_moved (shown slots) (shown (set
 ))
 
 -- the same ledger, with the same pairs
-pub with_pairs : (slots : List (Option NormalConstraint)) (assigned : List Lit) (variables : ℕ) (table clauses : List (List Occurrence)) (counters limits : List ℕ) (pairs new : List (Option Pair)) → IsLedger slots assigned variables table clauses counters limits pairs → new ≡ pairs → IsLedger slots assigned variables table clauses counters limits new
+pub with_pairs : (slots : List (Option NormalConstraint)) (assigned : List Lit) (variables : ℕ) (table : List (List Occurrence)) (clauses : Listed) (counters limits : List ℕ) (pairs new : List (Option Pair)) → IsLedger slots assigned variables table clauses counters limits pairs → new ≡ pairs → IsLedger slots assigned variables table clauses counters limits new
 with_pairs slots assigned variables table clauses counters limits pairs new i e = subst (λ (ps : List (Option Pair)). IsLedger slots assigned variables table clauses counters limits ps) (sym e) i

@@ -1,10 +1,10 @@
 -- The clause of a place where a literal that watches it falls, with its list.
-use Rattle.std.proofs.Common.{◌≡◌, ◌<◌, ◌≤◌, inl, inr, true, ℕ, Option, None, Some, List, [], Contains, length, get_or, map, ap, sym, subst, ◌∙◌, arith}
+use Rattle.std.proofs.Common.{◌≡◌, ◌≤◌, inl, inr, true, ℕ, Option, None, Some, List, [], Contains, get_or, map, ap, sym, subst, ◌∙◌, arith}
 use Rattle.std.proofs.lemmas.Bool.{cases_eq, cases_lt}
 use Rattle.linear.specs.declared.term.Lit.{Lit}
 use Rattle.normal_form.specs.Normal.{NormalConstraint, variable_bound}
 use Rattle.linear.specs.Literal.{opposite}
-use Rattle.propagate.specs.Literals.{coefficient_of, lists}
+use Rattle.propagate.specs.Literals.{lists}
 use Rattle.ledger.specs.declared.pair.Pair.{Pair}
 use Rattle.ledger.specs.Falls.{IsAt, IsBeside}
 use Rattle.ledger.specs.Watched.{AreLiteralsOf, AreOthersFalse, AreRestFalse, AreWatched, AreWithin, IsFalseBeside, IsOpenAt, IsOpenBeside, IsPairOf, Tell, Watching, pair_of}

@@ -26,10 +26,10 @@ pub orders_beside : (slots : Slots) (xs : List Lit) (orders new : Ordering) → 
 orders_beside slots xs orders new a same k n e = moved n.terms xs (order_at orders k) (order_at new k) (same k (λ here. absurd (omega (arith, here, some_there slots k n e)))) (a k n e)
 
 -- one place more
-pub orders_more : (slots : Slots) (xs : List Lit) (orders new : Ordering) (n : NormalConstraint) → AreOrders slots xs orders → AreKeptBut (length slots) orders new → IsOrder xs n.terms (order_at new (length slots)) → AreOrders (slots ++ Some n ∷ []) xs new
-orders_more slots xs orders new n a same its k m e = elim (place_cases slots n m k e) [
+pub orders_more : (slots : Slots) (xs : List Lit) (orders new : Ordering) (s : Option NormalConstraint) → AreOrders slots xs orders → AreKeptBut (length slots) orders new → ((n : NormalConstraint) → s ≡ Some n → IsOrder xs n.terms (order_at new (length slots))) → AreOrders (slots ++ s ∷ []) xs new
+orders_more slots xs orders new s a same its k m e = elim (place_cases slots s m k e) [
   | inl before ↦ moved m.terms xs (order_at orders k) (order_at new k) (same k (λ here. absurd (omega (arith, here, before.0)))) (a k m before.1)
-  | inr last ↦ subst (λ (j : ℕ). IsOrder xs m.terms (order_at new j)) (sym last.0) (subst (λ (x : NormalConstraint). IsOrder xs x.terms (order_at new (length slots))) last.1 its)
+  | inr last ↦ subst (λ (j : ℕ). IsOrder xs m.terms (order_at new j)) (sym last.0) (its m last.1)
 ]
 
 -- one place fewer
@@ -56,9 +56,10 @@ others slots same orders new place e is h k apart = h k (λ here. apart (here �
 none_passed : (terms : List NormalTerm) (order : List ℕ) (xs : List Lit) (count : ℕ) → count ≡ 0 → ArePassed terms order xs count
 none_passed terms order xs count none k h free = absurd (omega (arith, none, h))
 
-pub its : (slots same : Slots) (xs : List Lit) (n : NormalConstraint) (new : Ordering) (place : ℕ) → same ≡ slots → place ≡ length same → IsDecreasing n.terms (order_at new place).places → (order_at new place).passed ≡ 0 → IsOrder xs n.terms (order_at new (length slots))
-its slots same xs n new place e is o none =
-    subst (λ (k : ℕ). IsOrder xs n.terms (order_at new k)) (is ∙ ap (length {A = Option NormalConstraint}) e) (o, none_passed n.terms (order_at new place).places xs (order_at new place).passed none)
+pub its : (slots same : Slots) (xs : List Lit) (n m : NormalConstraint) (new : Ordering) (place : ℕ) → Some n ≡ Some m → same ≡ slots → place ≡ length same → IsDecreasing n.terms (order_at new place).places → (order_at new place).passed ≡ 0 → IsOrder xs m.terms (order_at new (length slots))
+its slots same xs n m new place own e is o none =
+    let first : IsOrder xs n.terms (order_at new (length slots)) = subst (λ (k : ℕ). IsOrder xs n.terms (order_at new k)) (is ∙ ap (length {A = Option NormalConstraint}) e) (o, none_passed n.terms (order_at new place).places xs (order_at new place).passed none) in
+    subst (λ (x : Option NormalConstraint). IsOrder xs (constraint_in x).terms (order_at new (length slots))) own first
 
 -- literals more
 pub orders_longer : (slots : Slots) (xs new ls : List Lit) (orders : Ordering) → AreOrders slots xs orders → new ≡ xs ++ ls → AreOrders slots new orders

@@ -1,11 +1,11 @@
 -- The queue of places that wait, one more and one fewer.
-use Rattle.std.proofs.Common.{◌≡◌, ℕ, zero, suc, ◌+◌, ◌<◌, ◌≤◌, inl, inr, Bool, true, false, cond, Contains, All, List, Option, None, Some, IfSome, [], ◌∷◌, ◌++◌, length, get_or, set, refl, ap, sym, subst, ◌∙◌, arith, length-append}
+use Rattle.std.proofs.Common.{◌≡◌, ℕ, zero, suc, ◌+◌, ◌-◌, ◌<◌, ◌≤◌, inl, inr, Bool, true, false, cond, Contains, All, List, Option, None, Some, IfSome, [], ◌∷◌, ◌++◌, length, get_or, set, take, refl, ap, sym, subst, ◌∙◌, arith, length-append}
 use Rattle.std.specs.List.{count_by}
 use Rattle.std.proofs.lemmas.Bool.{false≢true, cases_eq}
-use Rattle.std.proofs.lemmas.List.{length-set, get_or-set_same, get_or-set_other, get_or_append_left}
-use Rattle.std.proofs.Math.Seq.{get_or-append_seam}
-use Rattle.std.proofs.lemmas.List.Elements.{All-push, All-tail, All-head, All-weaker, Contains-append_left, Contains-push}
-use Rattle.std.proofs.lemmas.List.Sums.{sum_by-set, sum_by_push, count_by-le-length}
+use Rattle.std.proofs.lemmas.List.{get_or-take, length-set, length-take-le, get_or-set_same, get_or-set_other, get_or_append_left}
+use Rattle.std.proofs.Math.Seq.{get_or-append_seam, take-length}
+use Rattle.std.proofs.lemmas.List.Elements.{All-contains, All-push, All-tail, All-head, All-weaker, Contains-append_left, Contains-push}
+use Rattle.std.proofs.lemmas.List.Sums.{count_by_more_no, sum_by-set, sum_by_push, count_by-le-length}
 use Rattle.ledger.specs.Waiting.{IsQueue, with_first}
 
 abbrev weight : Bool → ℕ
@@ -64,6 +64,35 @@ grown places waiting q = record {
   ];
   few = omega (arith, q.few, sum_by_push weight waiting false);
 }
+
+last_unset : (places : List ℕ) (waiting : List Bool) (m : ℕ) (b : Bool) → IsQueue places waiting → All (λ k. k + 1 < length waiting) places → m + 1 ≡ length waiting → get_or waiting m false ≡ b → b ≡ false
+last_unset places waiting m false q low e is = refl
+last_unset places waiting m true q low e is = absurd (omega (arith, e, All-contains (λ k. k + 1 < length waiting) places m low (q.there m (omega (arith, e)) is)))
+
+-- one place fewer, which did not wait
+pub shrunk : (places : List ℕ) (waiting : List Bool) → IsQueue places waiting → All (λ k. k + 1 < length waiting) places → IsQueue places (take (length waiting - 1) waiting)
+shrunk places waiting q low = elim (cases_eq (length waiting) 0) [
+  | inl none ↦ subst (IsQueue places) (sym (ap (λ (n : ℕ). take n waiting) (omega (arith, none)) ∙ take-length waiting)) q
+  | inr some ↦
+      let m : ℕ = length waiting - 1 in
+      let all : m + 1 ≡ length waiting = omega (arith, some) in
+      let long : length (take m waiting) ≡ m = length-take-le m waiting (omega arith) in
+      let unset : get_or waiting m false ≡ false = last_unset places waiting m (get_or waiting m false) q low all refl in
+      let whole : take (m + 1) waiting ≡ waiting = ap (λ (n : ℕ). take n waiting) all ∙ take-length waiting in
+      let counted : count_by (λ b. b) waiting ≡ count_by (λ b. b) (take m waiting) = ap (count_by (λ (b : Bool). b)) (sym whole) ∙ count_by_more_no (λ (b : Bool). b) waiting m false (omega (arith, all)) unset in
+      record {
+        below = All-weaker (λ k. k + 1 < length waiting) (λ k. k < length (take m waiting)) (λ k h. omega (arith, h, long)) places low;
+        there = λ j under flag. q.there j (omega (arith, under, long)) (sym (get_or-take m waiting j false (omega (arith, under, long))) ∙ flag);
+        few = omega (arith, q.few, counted);
+      }
+]
+
+-- what waits behind the first one, and the first one, where none of them is the last
+pub before_last : (first : Option ℕ) (places : List ℕ) (n : ℕ) → All (λ k. k + 1 < n) (with_first first places) → All (λ k. k + 1 < n) places × IfSome first (λ k. k < n - 1)
+before_last None places n all = (all, tt)
+before_last (Some k) places n all =
+    let low = All-head (λ k. k + 1 < n) k places all in
+    (All-tail (λ k. k + 1 < n) k places all, omega (arith, low))
 
 -- a place that comes first is below a greater number, too
 pub first_below : (first : Option ℕ) (m n : ℕ) → m ≤ n → IfSome first (λ k. k < m) → IfSome first (λ k. k < n)

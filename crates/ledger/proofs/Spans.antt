@@ -1,10 +1,10 @@
 -- Lists in one array: what stands in a span as the array changes.
 use Rattle.std.proofs.Common.{◌≡◌, inl, inr, ℕ, zero, suc, ◌+◌, ◌-◌, ◌<◌, ◌≤◌, List, [], ◌∷◌, ◌++◌, length, length-append, get_or, set, take, drop, map, refl, ap, sym, subst, ◌∙◌, arith}
 use Rattle.std.proofs.lemmas.Bool.{cases_eq, cases_lt}
-use Rattle.std.proofs.lemmas.List.{drop-append-le, drop-set-add, drop-set-lt, drop-take, get_or-map, get_or-set_other, get_or-set_same, get_or-take, get_or_append_left, get_or_default, get_or_past, get_or_push, length-drop, length-map, length-set, length-take-le, map-set, map_push, take-append-le, take-map, take-set-le, take-take}
+use Rattle.std.proofs.lemmas.List.{drop-append-le, drop-set-add, drop-set-lt, drop-take, get_or-map, get_or-set_other, get_or-set_same, get_or_append_left, get_or_default, get_or_push, length-drop, length-set, length-take-le, map_push, take-append-le, take-set-le, take-take}
 use Rattle.std.proofs.Math.Seq.{drop-append_seam, take-length, take-set-lt}
 use Rattle.linear.specs.declared.term.Lit.{Lit}
-use Rattle.ledger.specs.declared.lists.Span.{Span}
+use Rattle.ledger.specs.declared.arena.Span.{Span}
 use Rattle.ledger.specs.Spans.{AreSpans, end_of, piece}
 
 -- lists are the same where each piece is

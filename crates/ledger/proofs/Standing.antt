@@ -15,7 +15,7 @@ use Rattle.ledger.specs.declared.occurrence.Occurrence.{Occurrence}
 use Rattle.linear.specs.Literal.{code}
 use Rattle.ledger.specs.Occurrences.{share_of, occurrences_of}
 use Rattle.ledger.specs.Trails.{on_trail}
-use Rattle.ledger.specs.Ledgers.{constraint_at, constraint_in, shown, nothing, open_sum, IsLedger, IsIndex, AreCounters, AreKnown, AreParted, AreLimits, AreReasons}
+use Rattle.ledger.specs.Ledgers.{constraint_at, constraint_in, shown, nothing, open_sum, IsLedger, IsIndex, AreCounters, AreKnown, AreParted, AreLimits, AreReasons, Listed}
 use Rattle.ledger.specs.Orders.{AreOrders, Ordering}
 use Rattle.ledger.specs.declared.pair.Pair.{Pair}
 use Rattle.ledger.specs.Falls.{IsAt}
@@ -142,7 +142,7 @@ parted_same slots ns ws pairs new x same = record {
   watches = λ k n q e f. let p = pair_kept (get_or pairs k None) (get_or new k None) q (same.kinds k) f in x.watches k n p.0 e p.1;
 }
 
-pub recounted : (slots : Slots) (assigned new : List Lit) (variables same_variables : ℕ) (table clauses : List (List Occurrence)) (counters after limits : List ℕ) (pairs others : List (Option Pair)) (e : IsLedger slots assigned variables table clauses counters limits pairs)
+pub recounted : (slots : Slots) (assigned new : List Lit) (variables same_variables : ℕ) (table : List (List Occurrence)) (clauses : Listed) (counters after limits : List ℕ) (pairs others : List (Option Pair)) (e : IsLedger slots assigned variables table clauses counters limits pairs)
     → same_variables ≡ variables → AreCounters e.counted new after → AreSameKinds pairs others → IsLedger slots new same_variables table clauses after limits others
 recounted slots assigned new variables same_variables table clauses counters after limits pairs others e same a kinds = rw same (record {
   counted = e.counted;
@@ -182,14 +182,14 @@ pub none_at : (slots : List (Option NormalConstraint)) (place : ℕ) (o : Option
 none_at slots place o h is e = get_or_default slots place None o h ∙ sym is ∙ e
 
 -- its counter is what is open in it, where it is counted
-pub counter_there : (slots : Slots) (assigned : List Lit) (variables : ℕ) (table clauses : List (List Occurrence)) (counters limits : List ℕ) (pairs : List (Option Pair)) (place counter : ℕ) (n : NormalConstraint) → IsLedger slots assigned variables table clauses counters limits pairs
+pub counter_there : (slots : Slots) (assigned : List Lit) (variables : ℕ) (table : List (List Occurrence)) (clauses : Listed) (counters limits : List ℕ) (pairs : List (Option Pair)) (place counter : ℕ) (n : NormalConstraint) → IsLedger slots assigned variables table clauses counters limits pairs
     → place < length slots → get_or slots place None ≡ Some n → get_or pairs place None ≡ None → counter ≡ get_or counters place counter → counter ≡ open_sum assigned n
 counter_there slots assigned variables table clauses counters limits pairs place counter n i h e f is =
     let low : place < length i.counted = omega (arith, h, i.slots_are.count) in
     is ∙ get_or_default counters place counter 0 (omega (arith, low, i.counters_are.counted)) ∙ i.counters_are.open_sums place low ∙ ap (open_sum assigned) (i.slots_are.counts place n e f).0
 
 -- its variables are known, and it is normal
-known_by : (slots : Slots) (assigned : List Lit) (variables : ℕ) (table clauses : List (List Occurrence)) (counters limits : List ℕ) (pairs : List (Option Pair)) (place : ℕ) (n : NormalConstraint) (o : Option Pair) → IsLedger slots assigned variables table clauses counters limits pairs
+known_by : (slots : Slots) (assigned : List Lit) (variables : ℕ) (table : List (List Occurrence)) (clauses : Listed) (counters limits : List ℕ) (pairs : List (Option Pair)) (place : ℕ) (n : NormalConstraint) (o : Option Pair) → IsLedger slots assigned variables table clauses counters limits pairs
     → place < length slots → get_or slots place None ≡ Some n → get_or pairs place None ≡ o → (variable_bound n.terms ≤ variables) × IsNormal n
 known_by slots assigned variables table clauses counters limits pairs place n None i h e f =
     let low : place < length i.counted = omega (arith, h, i.slots_are.count) in (
@@ -202,11 +202,11 @@ known_by slots assigned variables table clauses counters limits pairs place n (S
       rw ((i.slots_are.watches place n p e f).1) at (All-get_or IsNormal i.watched place nothing low i.watched_known.normal),
     )
 
-pub variables_there : (slots : Slots) (assigned : List Lit) (variables : ℕ) (table clauses : List (List Occurrence)) (counters limits : List ℕ) (pairs : List (Option Pair)) (place : ℕ) (n : NormalConstraint) → IsLedger slots assigned variables table clauses counters limits pairs
+pub variables_there : (slots : Slots) (assigned : List Lit) (variables : ℕ) (table : List (List Occurrence)) (clauses : Listed) (counters limits : List ℕ) (pairs : List (Option Pair)) (place : ℕ) (n : NormalConstraint) → IsLedger slots assigned variables table clauses counters limits pairs
     → place < length slots → get_or slots place None ≡ Some n → variable_bound n.terms ≤ variables
 variables_there slots assigned variables table clauses counters limits pairs place n i h e = (known_by slots assigned variables table clauses counters limits pairs place n (get_or pairs place None) i h e refl).0
 
-pub normal_there : (slots : Slots) (assigned : List Lit) (variables : ℕ) (table clauses : List (List Occurrence)) (counters limits : List ℕ) (pairs : List (Option Pair)) (place : ℕ) (n : NormalConstraint) → IsLedger slots assigned variables table clauses counters limits pairs
+pub normal_there : (slots : Slots) (assigned : List Lit) (variables : ℕ) (table : List (List Occurrence)) (clauses : Listed) (counters limits : List ℕ) (pairs : List (Option Pair)) (place : ℕ) (n : NormalConstraint) → IsLedger slots assigned variables table clauses counters limits pairs
     → place < length slots → get_or slots place None ≡ Some n → IsNormal n
 normal_there slots assigned variables table clauses counters limits pairs place n i h e = (known_by slots assigned variables table clauses counters limits pairs place n (get_or pairs place None) i h e refl).1
 
@@ -219,17 +219,17 @@ none_past slots k n e = elim (cases_lt k (length slots)) [
     none_some : None ≡ Some n → ⊥
     none_some f = cc
 
-pub all_within : (slots : Slots) (assigned : List Lit) (variables : ℕ) (table clauses : List (List Occurrence)) (counters limits : List ℕ) (pairs : List (Option Pair)) → IsLedger slots assigned variables table clauses counters limits pairs
+pub all_within : (slots : Slots) (assigned : List Lit) (variables : ℕ) (table : List (List Occurrence)) (clauses : Listed) (counters limits : List ℕ) (pairs : List (Option Pair)) → IsLedger slots assigned variables table clauses counters limits pairs
     → (k : ℕ) (n : NormalConstraint) → get_or slots k None ≡ Some n → variable_bound n.terms ≤ variables
 all_within slots assigned variables table clauses counters limits pairs i k n e = variables_there slots assigned variables table clauses counters limits pairs k n i (none_past slots k n e) e
 
 -- a ledger with nothing in it
-nowhere : IsLedger [] [] 0 [] [] [] [] []
+nowhere : IsLedger [] [] 0 [] (record { count = 0; rows = [] }) [] [] []
 nowhere = record {
   counted = [];
   watched = [];
   index = record { size = omega arith; entries = λ l. refl };
-  watched_index = record { size = omega arith; entries = λ l. refl };
+  watched_index = record { low = omega arith; index = record { size = omega arith; entries = λ l. refl } };
   counters_are = record { counted = refl; open_sums = λ k h. absurd (omega (arith, h)) };
   known = record { normal = All-nil IsNormal; within = All-nil (λ (n : NormalConstraint). variable_bound n.terms ≤ 0) };
   watched_known = record { normal = All-nil IsNormal; within = All-nil (λ (n : NormalConstraint). variable_bound n.terms ≤ 0) };
@@ -249,7 +249,7 @@ no_orders xs orders k n e = absurd (no_constraint n e)
 no_reasons : AreReasons [] [] []
 no_reasons = record { as_many = refl; forced = λ k d h. absurd (omega (arith, h)) }
 
-pub empty : (slots : Slots) (trail : List Lit × ℕ × List Lit) (table clauses : List (List Occurrence)) (counters limits : List ℕ) (watchers : Watching) (reasons : List (Option ℕ)) (capacity : ℕ) (orders : Ordering) → slots ≡ [] → trail ≡ ([], 0, []) → table ≡ [] → clauses ≡ [] → counters ≡ [] → limits ≡ [] → watchers ≡ record { rows = []; pairs = []; literals = [] } → reasons ≡ []
+pub empty : (slots : Slots) (trail : List Lit × ℕ × List Lit) (table : List (List Occurrence)) (clauses : Listed) (counters limits : List ℕ) (watchers : Watching) (reasons : List (Option ℕ)) (capacity : ℕ) (orders : Ordering) → slots ≡ [] → trail ≡ ([], 0, []) → table ≡ [] → clauses ≡ record { count = 0; rows = [] } → counters ≡ [] → limits ≡ [] → watchers ≡ record { rows = []; pairs = []; literals = [] } → reasons ≡ []
     → IsLedger slots trail.0 trail.1 table clauses counters limits watchers.pairs × AreReasons (shown slots) (on_trail trail) reasons × (trail.1 ≤ capacity) × AreWatched slots trail.0 trail.1 watchers × AreOrders slots (on_trail trail) orders
 empty slots trail table clauses counters limits watchers reasons capacity orders s t b d c l w r = rw (s, t, b, d, c, l, w, r) (nowhere, no_reasons, omega arith, nobody, no_orders (on_trail ([], 0, [])) orders)
 

@@ -24,9 +24,10 @@ abbrev pub AreSameLists : ℕ → Watching → Watching → Type 0
 AreSameLists count w new = (k : ℕ) → k < count → get_or new.literals k [] ≡ get_or w.literals k []
 
 -- what watches the clause of a new place: nothing, or two of its literals that tell of it, in whose rows the place stands
-abbrev pub IsNewWatch : Watching → List Lit → ℕ → ℕ → NormalConstraint → Option Pair → Type 0
-IsNewWatch w assigned variables place n None = Unit {0}
-IsNewWatch w assigned variables place n (Some p) =
+abbrev pub IsNewWatch : Watching → List Lit → ℕ → ℕ → Option NormalConstraint → Option Pair → Type 0
+IsNewWatch w assigned variables place s None = Unit {0}
+IsNewWatch w assigned variables place None (Some p) = ⊥
+IsNewWatch w assigned variables place (Some n) (Some p) =
     IsPairOf n p × IsPairWithin variables p × ((h : ℕ) → Tell (take h assigned) n p) × StandsIn w.rows p.first place × StandsIn w.rows p.second place × AreLiteralsOf n (get_or w.literals place [])
 
 pair_cases : (pairs : List (Option Pair)) (o : Option Pair) (p : Pair) (k : ℕ) → get_or (pairs ++ o ∷ []) k None ≡ Some p → ((k < length pairs) × (get_or pairs k None ≡ Some p)) ⊎ ((k ≡ length pairs) × (o ≡ Some p))
@@ -38,28 +39,35 @@ pair_cases pairs o p k e = elim (cases_eq k (length pairs)) [
   ]
 ]
 
-new_watch : (w : Watching) (assigned : List Lit) (variables place : ℕ) (n : NormalConstraint) (o : Option Pair) (p : Pair) → IsNewWatch w assigned variables place n o → o ≡ Some p → IsWatched w.rows assigned place n p × IsPairWithin variables p × AreLiteralsOf n (get_or w.literals place [])
-new_watch w assigned variables place n None p i e = absurd (none_is_not_some p e)
-new_watch w assigned variables place n (Some q) p i e =
-    subst (λ (r : Pair). IsWatched w.rows assigned place n r × IsPairWithin variables r × AreLiteralsOf n (get_or w.literals place [])) (some_same q p (Some q) refl e) (
+-- the literals of a new place are of the variables
+new_within : (w : Watching) (assigned : List Lit) (variables place : ℕ) (s : Option NormalConstraint) (o : Option Pair) (p : Pair) → IsNewWatch w assigned variables place s o → o ≡ Some p → IsPairWithin variables p
+new_within w assigned variables place s None p i e = absurd (none_is_not_some p e)
+new_within w assigned variables place None (Some q) p i e = absurd i
+new_within w assigned variables place (Some n) (Some q) p i e = subst (IsPairWithin variables) (some_same q p (Some q) refl e) i.1
+
+new_watch : (w : Watching) (assigned : List Lit) (variables place : ℕ) (s : Option NormalConstraint) (n : NormalConstraint) (o : Option Pair) (p : Pair) → IsNewWatch w assigned variables place s o → s ≡ Some n → o ≡ Some p → IsWatched w.rows assigned place n p × AreLiteralsOf n (get_or w.literals place [])
+new_watch w assigned variables place s n None p i e f = absurd (none_is_not_some p f)
+new_watch w assigned variables place None n (Some q) p i e f = absurd i
+new_watch w assigned variables place (Some m) n (Some q) p i e f =
+    subst (λ (x : NormalConstraint). IsWatched w.rows assigned place x p × AreLiteralsOf x (get_or w.literals place [])) (some_same m n (Some m) refl e)
+    (subst (λ (r : Pair). IsWatched w.rows assigned place m r × AreLiteralsOf m (get_or w.literals place [])) (some_same q p (Some q) refl f) (
       record { of_it = i.0; first = i.3; second = i.4; tell = i.2 },
-      i.1,
       i.5,
-    )
+    ))
 
 -- one place more
-pub watched_more : (slots : Slots) (assigned : List Lit) (variables : ℕ) (w new : Watching) (n : NormalConstraint) (o : Option Pair) → AreWatched slots assigned variables w → length slots ≡ length w.pairs → new.pairs ≡ w.pairs ++ o ∷ [] → length w.rows ≤ length new.rows
-    → ((l : Lit) (k : ℕ) → StandsIn w.rows l k → StandsIn new.rows l k) → AreSameLists (length w.pairs) w new → IsNewWatch new assigned variables (length w.pairs) n o
-    → AreWatched (slots ++ Some n ∷ []) assigned variables new
-watched_more slots assigned variables w new n o a many e long kept lists watch =
+pub watched_more : (slots : Slots) (assigned : List Lit) (variables : ℕ) (w new : Watching) (s : Option NormalConstraint) (o : Option Pair) → AreWatched slots assigned variables w → length slots ≡ length w.pairs → new.pairs ≡ w.pairs ++ o ∷ [] → length w.rows ≤ length new.rows
+    → ((l : Lit) (k : ℕ) → StandsIn w.rows l k → StandsIn new.rows l k) → AreSameLists (length w.pairs) w new → IsNewWatch new assigned variables (length w.pairs) s o
+    → AreWatched (slots ++ s ∷ []) assigned variables new
+watched_more slots assigned variables w new s o a many e long kept lists watch =
     let at : (k : ℕ) (p : Pair) → get_or new.pairs k None ≡ Some p → get_or (w.pairs ++ o ∷ []) k None ≡ Some p = λ k p f. ap (λ (xs : List (Option Pair)). get_or xs k None) (sym e) ∙ f in
     record {
       size = omega (arith, a.size, long);
       within = λ k p f. elim (pair_cases w.pairs o p k (at k p f)) [
         | inl before ↦ a.within k p before.1
-        | inr last ↦ (new_watch new assigned variables (length w.pairs) n o p watch last.1).1
+        | inr last ↦ new_within new assigned variables (length w.pairs) s o p watch last.1
       ];
-      each = λ k m p slot f. elim (place_cases slots n m k slot) [
+      each = λ k m p slot f. elim (place_cases slots s m k slot) [
         | inl before ↦ elim (pair_cases w.pairs o p k (at k p f)) [
           | inl there ↦
               let i = a.each k m p before.1 there.1 in
@@ -69,10 +77,10 @@ watched_more slots assigned variables w new n o a many e long kept lists watch =
         | inr end ↦ elim (pair_cases w.pairs o p k (at k p f)) [
           | inl there ↦ absurd (omega (arith, there.0, end.0, many))
           | inr last ↦
-              subst (λ (x : ℕ). IsWatched new.rows assigned x m p) (sym last.0) (subst (λ (x : NormalConstraint). IsWatched new.rows assigned (length w.pairs) x p) end.1 (new_watch new assigned variables (length w.pairs) n o p watch last.1).0)
+              subst (λ (x : ℕ). IsWatched new.rows assigned x m p) (sym last.0) (new_watch new assigned variables (length w.pairs) s m o p watch end.1 last.1).0
         ]
       ];
-      listed = λ k m p slot f. elim (place_cases slots n m k slot) [
+      listed = λ k m p slot f. elim (place_cases slots s m k slot) [
         | inl before ↦ elim (pair_cases w.pairs o p k (at k p f)) [
           | inl there ↦ subst (AreLiteralsOf m) (sym (lists k there.0)) (a.listed k m p before.1 there.1)
           | inr last ↦ absurd (omega (arith, before.0, last.0, many))
@@ -80,7 +88,7 @@ watched_more slots assigned variables w new n o a many e long kept lists watch =
         | inr end ↦ elim (pair_cases w.pairs o p k (at k p f)) [
           | inl there ↦ absurd (omega (arith, there.0, end.0, many))
           | inr last ↦
-              subst (λ (x : ℕ). AreLiteralsOf m (get_or new.literals x [])) (sym last.0) (subst (λ (x : NormalConstraint). AreLiteralsOf x (get_or new.literals (length w.pairs) [])) end.1 (new_watch new assigned variables (length w.pairs) n o p watch last.1).2)
+              subst (λ (x : ℕ). AreLiteralsOf m (get_or new.literals x [])) (sym last.0) (new_watch new assigned variables (length w.pairs) s m o p watch end.1 last.1).1
         ]
       ];
     }

@@ -12,13 +12,15 @@ use Rattle.ledger.specs.declared.pair.Pair.{Pair}
 use Rattle.ledger.specs.Occurrences.{entries_of, occurrences_of}
 
 -- what a caller sees: what stands at each place, the literals that are assigned, the first of them, which were propagated, the
--- place of the constraint that forced each, none for a literal that was given, and how many variables there are
+-- place of the constraint that forced each, none for a literal that was given, how many variables there are, and of how many places
+-- the clauses are listed by literal
 pub record State : Type 0 where
   pub slots : List (Option NormalConstraint)
   pub assigned : List Lit
   pub propagated : List Lit
   pub reasons : List (Option ℕ)
   pub variables : ℕ
+  pub listed : ℕ
 
 -- the constraint that holds everywhere
 abbrev pub nothing : NormalConstraint
@@ -55,6 +57,16 @@ pub record IsIndex (constraints : List NormalConstraint) (variables : ℕ) (tabl
   pub size : 2 * variables ≤ length table
   pub entries : (l : Lit) → entries_of table l ≡ occurrences_of l 0 constraints
 
+-- lists of entries by literal, and of how many places they are
+pub record Listed : Type 0 where
+  pub count : ℕ
+  pub rows : List (List Occurrence)
+
+-- lists of the first of these constraints
+pub record IsIndexBelow (constraints : List NormalConstraint) (variables : ℕ) (lists : Listed) : Type 0 where
+  pub low : lists.count ≤ length constraints
+  pub index : IsIndex (take lists.count constraints) variables lists.rows
+
 -- each counter is what is open in its constraint
 pub record AreCounters (constraints : List NormalConstraint) (assigned : List Lit) (counters : List ℕ) : Type 0 where
   pub counted : length counters ≡ length constraints
@@ -81,11 +93,11 @@ pub record AreParted (slots : List (Option NormalConstraint)) (counted watched :
       → (constraint_at counted k ≡ nothing) × (constraint_at watched k ≡ n)
 
 -- what a ledger keeps. A constraint that was taken out stays indexed and counted, and its limit asks for nothing
-pub record IsLedger (slots : List (Option NormalConstraint)) (assigned : List Lit) (variables : ℕ) (table clauses : List (List Occurrence)) (counters limits : List ℕ) (pairs : List (Option Pair)) : Type 0 where
+pub record IsLedger (slots : List (Option NormalConstraint)) (assigned : List Lit) (variables : ℕ) (table : List (List Occurrence)) (clauses : Listed) (counters limits : List ℕ) (pairs : List (Option Pair)) : Type 0 where
   pub counted : List NormalConstraint
   pub watched : List NormalConstraint
   pub index : IsIndex counted variables table
-  pub watched_index : IsIndex watched variables clauses
+  pub watched_index : IsIndexBelow watched variables clauses
   pub counters_are : AreCounters counted assigned counters
   pub known : AreKnown counted variables
   pub watched_known : AreKnown watched variables

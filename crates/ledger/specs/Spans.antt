@@ -1,7 +1,7 @@
 -- Lists that stand in one array, each in a span of it.
 use Rattle.std.specs.Prelude.{ℕ, ◌+◌, ◌<◌, ◌≤◌, List, drop, length, slice_index_or, take}
 use Rattle.linear.specs.declared.term.Lit.{Lit}
-use Rattle.ledger.specs.declared.lists.Span.{Span}
+use Rattle.ledger.specs.declared.arena.Span.{Span}
 
 -- what stands in a span
 abbrev pub piece : List Lit → Span → List Lit

@@ -30,7 +30,8 @@ ghost use Rattle.ledger.specs.Watched.{IsOpen, IsPairOf, Tell};
 
 use super::assignment::Assignment;
 use super::choosing::latest_pair;
-use super::entry_lists::{enter_counted, enter_watched, leave};
+use super::clause_index::ClauseIndex;
+use super::entry_lists::{enter_counted, leave};
 use super::entry_table::EntryTable;
 use super::forcing::force_terms;
 use super::hint::{Hint, hint_of};
@@ -57,8 +58,8 @@ pub struct Ledger {
     table: EntryTable,
     counters: Vec<u128>,
     limits: Vec<u128>,
-    /// Where literals stand in clauses that are watched.
-    clauses: EntryTable,
+    /// Where literals stand in clauses that are watched, as far as was asked for.
+    clauses: ClauseIndex,
     watchers: Watchers,
     /// Where the search for another literal that watches a clause goes on.
     starts: Starts,
@@ -81,6 +82,7 @@ impl Model for Ledger {
       propagated = e.trail.0;
       reasons = e.reasons.items;
       variables = e.trail.1;
+      listed = e.clauses.count;
     } };
 
     ghost invariant = { λ e. IsLedger e.slots.items e.trail.0 e.trail.1 e.table e.clauses e.counters.items e.limits.items e.watchers.pairs
@@ -91,14 +93,14 @@ impl Model for Ledger {
 impl Ledger {
     /// No constraint, and no variables.
     pub fn new(alloc: Global) -> Ledger
-        ensures { result ≡ record { slots = []; assigned = []; propagated = []; reasons = []; variables = 0 } }
+        ensures { result ≡ record { slots = []; assigned = []; propagated = []; reasons = []; variables = 0; listed = 0 } }
     {
         Ledger {
             slots: Vec::new(alloc),
             table: EntryTable::new(alloc),
             counters: Vec::new(alloc),
             limits: Vec::new(alloc),
-            clauses: EntryTable::new(alloc),
+            clauses: ClauseIndex::new(alloc),
             watchers: Watchers::new(alloc),
             trail: Assignment::new(alloc),
             reasons: Vec::new(alloc),
@@ -377,8 +379,39 @@ impl Ledger {
         self.slots[place].as_ref()
     }
 
-    /// Where a literal stands, places that say nothing among them.
+    /// Lists the clauses that wait to be listed, for `entries`.
+    pub fn list_clauses(&mut self) -> Result<(), AllocError>
+        ensures same { self.new ≡ record self.old { listed = self.new.listed } }
+        ensures ok { OnOk result (self.new.listed ≡ length self.old.slots) }
+    {
+        while self.clauses.count() < self.slots.len() {
+            self.list_next()?;
+        }
+        Ok(())
+    }
+
+    /// Lists the clause of the next place, if one is watched there.
+    fn list_next(&mut self) -> Result<(), AllocError>
+        requires { self.old.listed < length self.old.slots }
+        ensures same { self.new ≡ record self.old { listed = self.new.listed } }
+        ensures ok { OnOk result (self.new.listed ≡ self.old.listed + 1) }
+    {
+        let place = self.clauses.count();
+        let Some(constraint) = &self.slots[place] else {
+            self.clauses.pass_over();
+            return Ok(());
+        };
+        if self.watchers.pair(place).is_none() {
+            self.clauses.pass_over();
+            return Ok(());
+        }
+        self.clauses.enter(constraint)?;
+        Ok(())
+    }
+
+    /// Where a literal stands, places that say nothing among them. All clauses are listed by then.
     pub fn entries(&self, literal: Lit) -> Entries<'_>
+        requires { self.now.listed ≡ length self.now.slots }
         ensures value { AreEntriesOf self.now.slots literal (all_of result) }
         ensures places { All (λ e. e.place < length self.now.slots) (all_of result) }
     {
@@ -431,53 +464,83 @@ impl Ledger {
         self.trail.widen(variables)
     }
 
-    /// Adds a constraint at the next place, to be counted.
-    fn attach_counted(&mut self, constraint: Normal) -> Result<(), AllocError>
-        requires { variable_bound constraint.terms ≤ self.old.variables }
-        ensures ok { OnOk result (self.new ≡ record self.old { slots = self.old.slots ++ Some constraint ∷ [] }) }
+    /// Moves the constraint of a slot to the next place, to be counted.
+    fn attach_counted(&mut self, slot: &mut Option<Normal>) -> Result<(), AllocError>
+        requires there { IsSome slot.old }
+        requires variables { IfSome slot.old (λ n. variable_bound n.terms ≤ self.old.variables) }
+        ensures ok { OnOk result (self.new ≡ record self.old { slots = self.old.slots ++ slot.old ∷ [] }) }
+        ensures moved { OnOk result (slot.new ≡ None) }
         ensures err { OnErr result (self.new ≡ self.old) }
+        ensures kept { OnErr result (slot.new ≡ slot.old) }
     {
+        let Some(constraint) = slot.as_ref() else {
+            unreachable!()
+        };
         make_room(&mut self.slots, &mut self.counters, &mut self.limits)?;
-        self.orders.give(self.slots.len(), &constraint)?;
-        let open = open_sum(&constraint, &self.trail);
-        let limit = constraint.degree() + largest(&constraint);
-        enter_counted(&mut self.table, &mut self.watchers, &constraint)?;
+        self.orders.give(self.slots.len(), constraint)?;
+        let open = open_sum(constraint, &self.trail);
+        let limit = constraint.degree() + largest(constraint);
+        enter_counted(&mut self.table, &mut self.watchers, constraint)?;
         self.counters.push_reserved(open);
         self.limits.push_reserved(limit);
-        self.slots.push_reserved(Some(constraint));
+        self.slots.push_reserved(slot.take());
         Ok(())
     }
 
-    /// Adds a clause at the next place, to be watched by two literals that tell of it under each beginning of the trail.
-    fn attach_watched(&mut self, constraint: Normal, pair: Pair) -> Result<(), AllocError>
-        requires variables { variable_bound constraint.terms ≤ self.old.variables }
-        requires pair { IsPairOf constraint pair }
-        requires tell { (h : ℕ) → Tell (take h self.old.propagated) constraint pair }
-        ensures ok { OnOk result (self.new ≡ record self.old { slots = self.old.slots ++ Some constraint ∷ [] }) }
+    /// Moves the clause of a slot to the next place, to be watched by two literals that tell of it under each beginning of the trail.
+    fn attach_watched(&mut self, slot: &mut Option<Normal>, pair: Pair) -> Result<(), AllocError>
+        requires there { IsSome slot.old }
+        requires variables { IfSome slot.old (λ n. variable_bound n.terms ≤ self.old.variables) }
+        requires pair { IfSome slot.old (λ n. IsPairOf n pair) }
+        requires tell { IfSome slot.old (λ n. (h : ℕ) → Tell (take h self.old.propagated) n pair) }
+        ensures ok { OnOk result (self.new ≡ record self.old { slots = self.old.slots ++ slot.old ∷ [] }) }
+        ensures moved { OnOk result (slot.new ≡ None) }
         ensures err { OnErr result (self.new ≡ self.old) }
+        ensures kept { OnErr result (slot.new ≡ slot.old) }
     {
+        let Some(constraint) = slot.as_ref() else {
+            unreachable!()
+        };
         make_room(&mut self.slots, &mut self.counters, &mut self.limits)?;
         let place = self.slots.len();
-        self.orders.give(place, &constraint)?;
+        self.orders.give(place, constraint)?;
         self.starts.widen(place + 1)?;
         // No counter is held against the limit of a clause that is watched, so the sum does in place of the largest coefficient.
         let limit = constraint.degree() + constraint.sum();
-        enter_watched(&mut self.clauses, &mut self.watchers, &constraint, pair)?;
+        self.watchers.watch(constraint, pair)?;
         self.counters.push_reserved(0);
         self.limits.push_reserved(limit);
-        self.slots.push_reserved(Some(constraint));
+        self.slots.push_reserved(slot.take());
         Ok(())
     }
 
-    /// Adds a constraint at the next place.
-    pub fn attach(&mut self, constraint: Normal) -> Result<(), AllocError>
-        requires { variable_bound constraint.terms ≤ self.old.variables }
-        ensures ok { OnOk result (self.new ≡ record self.old { slots = self.old.slots ++ Some constraint ∷ [] }) }
+    /// Leaves the next place empty.
+    fn skip(&mut self) -> Result<(), AllocError>
+        ensures ok { OnOk result (self.new ≡ record self.old { slots = self.old.slots ++ None ∷ [] }) }
         ensures err { OnErr result (self.new ≡ self.old) }
     {
-        match latest_pair(&constraint, &self.trail) {
-            None => self.attach_counted(constraint),
-            Some(pair) => self.attach_watched(constraint, pair),
+        make_room(&mut self.slots, &mut self.counters, &mut self.limits)?;
+        self.watchers.skip()?;
+        self.counters.push_reserved(0);
+        self.limits.push_reserved(0);
+        self.slots.push_reserved(None);
+        Ok(())
+    }
+
+    /// Moves what is in a slot to the next place, which stays empty where nothing is. Where memory ends it stays where it is.
+    pub fn attach(&mut self, slot: &mut Option<Normal>) -> Result<(), AllocError>
+        requires { IfSome slot.old (λ n. variable_bound n.terms ≤ self.old.variables) }
+        ensures ok { OnOk result (self.new ≡ record self.old { slots = self.old.slots ++ slot.old ∷ [] }) }
+        ensures moved { OnOk result (slot.new ≡ None) }
+        ensures err { OnErr result (self.new ≡ self.old) }
+        ensures kept { OnErr result (slot.new ≡ slot.old) }
+    {
+        let Some(constraint) = slot.as_ref() else {
+            return self.skip();
+        };
+        match latest_pair(constraint, &self.trail) {
+            None => self.attach_counted(slot),
+            Some(pair) => self.attach_watched(slot, pair),
         }
     }
 
@@ -486,15 +549,18 @@ impl Ledger {
         requires live { IsSome (slice_index_or self.old.slots (length self.old.slots - 1) None) }
         requires reasons { (k place : ℕ) → k < length self.old.assigned
             → slice_index_or self.old.reasons k None ≡ Some place → place + 1 < length self.old.slots }
-        ensures { self.new ≡ record self.old { slots = take (length self.old.slots - 1) self.old.slots } }
+        ensures { self.new ≡ record self.old { slots = take (length self.old.slots - 1) self.old.slots; listed = self.new.listed } }
     {
         match self.slots.pop() {
             Some(Some(constraint)) => {
                 let count = constraint.len();
                 let place = self.slots.len();
                 match self.watchers.pair(place) {
-                    None => leave(&mut self.table, &constraint, count),
-                    Some(_) => leave(&mut self.clauses, &constraint, count),
+                    None => {
+                        leave(&mut self.table, &constraint, count);
+                        self.clauses.leave_out(place);
+                    }
+                    Some(_) => self.clauses.leave(place, &constraint),
                 }
                 self.watchers.detach();
                 self.orders.take_out(place);

@@ -9,16 +9,16 @@
 //! follows from the constraints then, is for the walks of the crate above.
 #![tactic(auto)]
 
+mod arena;
 mod assignment;
 mod choosing;
+mod clause_index;
 mod entry_lists;
 mod entry_table;
 mod finding;
 mod forcing;
 mod hint;
 mod ledger;
-mod listing;
-mod lists;
 mod lowering;
 mod measures;
 mod occurrence;
@@ -31,6 +31,7 @@ mod replacing;
 mod starts;
 mod table;
 mod trail;
+mod watched_first;
 mod watchers;
 
 pub use hint::Hint;

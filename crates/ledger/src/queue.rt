@@ -6,7 +6,7 @@
 //! A place that is known to be falsified comes before all others, also where it waits already: a walk ends there, and what
 //! else waits is not forced in vain.
 
-ghost use Rattle.std.specs.Prelude.{◌≡◌, ◌↔◌, ◌+◌, ◌<◌, ◌≤◌, ◌∷◌, [], ℕ, IfSome, IsTrue, OnOk, OnErr, MatchOption, Contains, length};
+ghost use Rattle.std.specs.Prelude.{◌≡◌, ◌↔◌, ◌+◌, ◌-◌, ◌<◌, ◌≤◌, ◌∷◌, [], ℕ, All, IfSome, IsTrue, OnOk, OnErr, MatchOption, Contains, length};
 ghost use Rattle.std.specs.VecDeque.{deque_capacity};
 
 use std::alloc::{AllocError, Global};
@@ -48,9 +48,10 @@ impl Queue {
     }
 
     /// What holds of every queue, for a proof that needs it where nothing else of the queue is asked: at most one more
-    /// waits than there are places.
+    /// waits than there are places, and each of them is one.
     pub fn reveal(&self)
-        ensures { length self.now.0 ≤ self.now.1 + 1 }
+        ensures few { length self.now.0 ≤ self.now.1 + 1 }
+        ensures below { All (λ k. k < self.now.1) self.now.0 }
     {
         let _ = &self.places;
     }
@@ -116,6 +117,14 @@ impl Queue {
         make_room(&mut self.places, self.waiting.len() + 1)?;
         self.waiting.push(false)?;
         Ok(())
+    }
+
+    /// Takes back the room for the last place, which does not wait.
+    pub fn shrink(&mut self)
+        requires below { All (λ k. k + 1 < self.old.1) self.old.0 }
+        ensures { self.new ≡ (self.old.0, self.old.1 - 1) }
+    {
+        self.waiting.pop();
     }
 
     /// Nothing waits, and there are this many places.

@@ -4,7 +4,7 @@
 //! literals falls, and then another open one is sought to watch it (Moskewicz, Madigan, Zhao, Zhang and Malik: Chaff, 2001), from
 //! where the last search in the clause ended (`starts`): a literal that stands in many clauses costs those that it watches. Where
 //! literals are backtracked nothing is mended. A row may have places that its literal does not watch any more: they are dropped when
-//! it falls. The literals of each clause stand in a list of their own, those that watch it first (`listing`).
+//! it falls. The literals of each clause stand in a list of their own, those that watch it first (`watched_first`, `arena`).
 //!
 //! A row is gone through only as far as to the first clause that is falsified, since a walk ends there: the literal then counts as one that
 //! was not propagated, and what its row would tell is not asked for before it is propagated anew. For that all literals
@@ -23,9 +23,9 @@ ghost use Rattle.ledger.specs.Falls.{IsBeside, IsFalling, IsFound, IsNearer, IsO
 ghost use Rattle.linear.specs.Literal.{code};
 ghost use Rattle.ledger.specs.Watched.{AreLiteralsOf, AreSameKinds, AreWatched, IsOpen, IsPairOf, IsPairWithin, StandsIn, exchanged};
 
+use super::arena::Arena;
 use super::assignment::Assignment;
 use super::finding::{Finding, Move, Progress};
-use super::lists::Lists;
 use super::pair::Pair;
 use super::queue::Queue;
 use super::replacing::open_beside;
@@ -40,7 +40,7 @@ use std::marker::Model;
 #[derive(Drop)]
 pub(crate) struct Watchers {
     rows: Table<usize>,
-    literals: Lists,
+    literals: Arena,
 }
 
 impl Model for Watchers {
@@ -59,7 +59,7 @@ impl Watchers {
     {
         Watchers {
             rows: Table::new(alloc),
-            literals: Lists::new(alloc),
+            literals: Arena::new(alloc),
         }
     }
 

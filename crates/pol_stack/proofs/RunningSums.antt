@@ -5,6 +5,7 @@ use Rattle.normal_form.specs.Normal.{NormalConstraint, Fits, sum_below, variable
 use Rattle.cut_rules.specs.Rules.{IsSum, IsTooLarge, both_at, cancelled}
 use Rattle.proof_rules.specs.declared.fault.StepFault.{StepFault}
 use Rattle.proof_rules.specs.declared.fault.StepFault.TheVariants as faults
+use Rattle.proof_steps.specs.declared.step.Item.{Item}
 use Rattle.proof_steps.specs.declared.step.Item.TheVariants as items
 use Rattle.proof_rules.specs.Expression.{Given}
 use Rattle.proof_rules.specs.Running.{AppliesItem}
@@ -54,8 +55,8 @@ added_on_top old [] below behind held.RunningSum s n given bare is view h = subs
 added_on_top old [] below behind held.Nothing s n given bare is view h = cc
 added_on_top old (o ∷ above) below behind what s n given bare is view h = absurd (omega (arith, bare))
 
--- where both hands are empty, what happens on the pile happens on the stack
-pub added_below_hands : (old pile next : List NormalConstraint) (top under : Option Operand) (given : Given) → is_some top ≡ false → is_some under ≡ false → with_hands top under pile ≡ old → AppliesItem given items.Add pile next → AppliesItem given items.Add old (with_hands top under next)
-added_below_hands old pile next None None given t u view h = subst (λ (ns : List NormalConstraint). AppliesItem given items.Add ns next) view h
-added_below_hands old pile next None (Some o) given t u view h = cc
-added_below_hands old pile next (Some o) under given t u view h = cc
+-- where both hands are empty, what an item does to the pile it does to the stack
+pub below_hands : (old pile next : List NormalConstraint) (top under : Option Operand) (given : Given) (item : Item) → is_some top ≡ false → is_some under ≡ false → with_hands top under pile ≡ old → AppliesItem given item pile next → AppliesItem given item old (with_hands top under next)
+below_hands old pile next None None given item t u view h = subst (λ (ns : List NormalConstraint). AppliesItem given item ns next) view h
+below_hands old pile next None (Some o) given item t u view h = cc
+below_hands old pile next (Some o) under given item t u view h = cc

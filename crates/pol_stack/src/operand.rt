@@ -3,7 +3,7 @@
 //! Citing a constraint copies nothing, and a result is handed over as it is. What the step made belongs to the step alone: where a rule
 //! makes no number greater, it is changed where it stands.
 
-use cut_rules::{divide, divide_in_place, saturate, saturate_in_place};
+use cut_rules::{divide, divide_in_place, multiply, saturate, saturate_in_place};
 use normal_form::{CutFault, Normal};
 use std::alloc::Global;
 
@@ -20,7 +20,8 @@ pub enum Operand<'a> {
 
 impl<'a> Operand<'a> {
     ghost use Rattle.std.specs.Prelude.{◌≡◌, ◌↔◌, pos, ◌<ℤ◌, unsigned_abs, IfErr, IfOk, OnOk, OnErr, IsErrOf};
-    ghost use Rattle.cut_rules.specs.Rules.{IsQuotient, IsSaturation};
+    ghost use Rattle.normal_form.specs.Normal.{NormalConstraint, Fits};
+    ghost use Rattle.cut_rules.specs.Rules.{IsMultiple, IsQuotient, IsSaturation, IsTooLarge};
     ghost use Rattle.pol_stack.specs.Stack.{operand_value};
 
     /// The constraint that the operand stands for.
@@ -50,14 +51,28 @@ impl<'a> Operand<'a> {
         }
     }
 
-    /// What it becomes by weakening: a sum stays one.
-    pub(crate) fn weakened(&self, made: Normal) -> Operand<'a>
+    /// What it becomes by a rule that made this of it: a sum stays one.
+    pub(crate) fn becoming(&self, made: Normal) -> Operand<'a>
         ensures { operand_value result ≡ made }
     {
         match self {
             Operand::Sum(_) => Operand::Sum(made),
             _ => Operand::Made(made),
         }
+    }
+
+    /// Multiplies it. `BadFactor` comes exactly for a factor below 1, and else `TooLarge` where the product is not within the limits. After
+    /// an error it is as before.
+    pub(crate) fn multiply(&mut self, alloc: Global, factor: i128) -> Result<(), CutFault>
+        ensures multiple { OnOk result (IsMultiple (unsigned_abs factor) (operand_value self.old) (operand_value self.new)) }
+        ensures fits { OnOk result (Fits (operand_value self.new)) }
+        ensures err { OnErr result (operand_value self.new ≡ operand_value self.old) }
+        ensures too_large { IsErrOf result CutFault.TooLarge → (r : NormalConstraint) × IsTooLarge (IsMultiple (unsigned_abs factor) (operand_value self.old)) r }
+        ensures factor { factor <ℤ pos 1 ↔ IsErrOf result CutFault.BadFactor }
+    {
+        let made = multiply(alloc, self.constraint(), factor)?;
+        *self = self.becoming(made);
+        Ok(())
     }
 
     /// Divides it, rounding up. `BadFactor` comes exactly for a divisor below 1; after an error it is as before.
@@ -93,16 +108,6 @@ impl<'a> Operand<'a> {
             Operand::Sum(made) => saturate_in_place(made),
         }
         Ok(())
-    }
-
-    /// The same, to which no more is likely to be added.
-    pub(crate) fn settled(self) -> Operand<'a>
-        ensures { operand_value result ≡ operand_value self.entry }
-    {
-        match self {
-            Operand::Sum(made) => Operand::Made(made),
-            other => other,
-        }
     }
 
     /// The constraint that the operand stands for, to keep: a live one is copied, and lent once more where there is no memory for that.

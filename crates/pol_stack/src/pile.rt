@@ -3,8 +3,8 @@
 //! A sum to which more is added stands in an accumulator: so an addition costs what is added, and not what was summed
 //! up before. There is one accumulator, and it holds the sum that is nearest to the top; the other operands stand above
 //! and below it. Where two operands above it are to become such a sum themselves, it is read off first. A constraint that is
-//! weakened again and again stands in it too, so that each time costs one look and not the whole constraint. A sum that is saturated
-//! stays there, so that where that comes after each addition, each time costs what was added. Which of its
+//! weakened again and again stands in it too, so that each time costs one look and not the whole constraint. A sum that is saturated,
+//! multiplied or divided stays there, so that where that comes after each addition nothing is copied. Which of its
 //! ways an addition or a weakening takes says nothing of what it gives, and is chosen by what it costs.
 
 ghost use Rattle.std.specs.Prelude.{◌≡◌, ◌∷◌, [], IsTrue, IfErr, OnOk, OnErr, IsErrOf};
@@ -104,7 +104,7 @@ impl<'a> Pile<'a> {
     ghost use Rattle.std.specs.Prelude.{◌≡◌, ◌∷◌, [], true, false, IsTrue, MatchOption, IfOk, IfErr, OnOk, OnErr, IsErrOf};
     ghost use Rattle.proof_rules.specs.Expression.{Given};
     ghost use Rattle.proof_rules.specs.Running.{AppliesItem};
-    ghost use Rattle.proof_rules.specs.Fault.{OrMemory, IsAddFault};
+    ghost use Rattle.proof_rules.specs.Fault.{OrMemory, IsAddFault, IsFactorFault, IsMultiplyFault};
     ghost use Rattle.proof_steps.specs.declared.step.Item.TheVariants as items;
     ghost use Rattle.pol_stack.specs.Stack.{operand_value, IsSumOnTop, IsSumFault, IsWeakeningOnTop, IsAddedOnTop, IsTopSaturated, IsTopSumFault, IsTopWeakened};
 
@@ -248,6 +248,34 @@ impl<'a> Pile<'a> {
             self.sum.weaken(var);
         }
         is_there
+    }
+
+    /// Multiplies the running sum, where that is on top; whether it is.
+    pub(crate) fn multiply_sum(&mut self, factor: i128) -> Result<bool, StepFault>
+        ensures multiplied { (given : Given) → IfOk result (λ yes. IsTrue yes → AppliesItem given (items.Multiply factor) self.old self.new) }
+        ensures left { IfOk result (λ yes. yes ≡ false → self.new ≡ self.old) }
+        ensures err { OnErr result (self.new ≡ self.old) }
+        ensures fault { IfErr result (λ f. OrMemory f (IsMultiplyFault factor self.old f)) }
+    {
+        if !is_on_top(&self.held, &self.above) {
+            return Ok(false);
+        }
+        self.sum.multiply(factor)?;
+        Ok(true)
+    }
+
+    /// Divides the running sum, where that is on top, rounding up; whether it is.
+    pub(crate) fn divide_sum(&mut self, divisor: i128) -> Result<bool, StepFault>
+        ensures divided { (given : Given) → IfOk result (λ yes. IsTrue yes → AppliesItem given (items.Divide divisor) self.old self.new) }
+        ensures left { IfOk result (λ yes. yes ≡ false → self.new ≡ self.old) }
+        ensures err { OnErr result (self.new ≡ self.old) }
+        ensures fault { IfErr result (λ f. OrMemory f (IsFactorFault divisor self.old f)) }
+    {
+        if !is_on_top(&self.held, &self.above) {
+            return Ok(false);
+        }
+        self.sum.divide(divisor)?;
+        Ok(true)
     }
 
     /// Saturates the running sum, where that is on top; whether it is.

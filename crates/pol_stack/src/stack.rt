@@ -10,7 +10,7 @@ ghost use Rattle.proof_rules.specs.Fault.{OrMemory, IsAddFault};
 use super::operand::Operand;
 use super::pile::Pile;
 use accumulate::Accumulator;
-use cut_rules::{add, axiom, multiply, weaken};
+use cut_rules::{add, axiom, weaken};
 use linear::{Lit, Var};
 use normal_form::{CutFault, Normal};
 use proof_rules::StepFault;
@@ -171,7 +171,7 @@ fn weaken_apart<'a>(
     }
     let made = weaken(alloc, operand.constraint(), var)?;
     pile.count_copy(made.len());
-    Ok(Some(operand.weakened(made)))
+    Ok(Some(operand.becoming(made)))
 }
 
 /// Puts what a hand holds on the pile.
@@ -268,19 +268,15 @@ impl<'a> Stack<'a> {
         ensures err { OnErr result (self.new ≡ self.old) }
         ensures fault { IfErr result (λ f. OrMemory f (IsMultiplyFault factor self.old f)) }
     {
-        let Some(top) = take_top(alloc, &mut self.top, &mut self.under, &mut self.pile)? else {
+        if self.top.is_none() && self.under.is_none() && self.pile.multiply_sum(factor)? {
+            return Ok(());
+        }
+        let Some(mut top) = take_top(alloc, &mut self.top, &mut self.under, &mut self.pile)? else {
             return Err(StepFault::StackShape);
         };
-        match multiply(alloc, top.constraint(), factor) {
-            Ok(made) => {
-                self.top = Some(Operand::Made(made));
-                Ok(())
-            }
-            Err(fault) => {
-                self.top = Some(top);
-                Err(StepFault::from(fault))
-            }
-        }
+        let multiplied = top.multiply(alloc, factor);
+        self.top = Some(top);
+        Ok(multiplied?)
     }
 
     /// Divides the one on top, rounding up. `StackShape` where there is none; else `BadFactor` where the divisor is
@@ -290,11 +286,14 @@ impl<'a> Stack<'a> {
         ensures err { OnErr result (self.new ≡ self.old) }
         ensures fault { IfErr result (λ f. OrMemory f (IsFactorFault divisor self.old f)) }
     {
+        if self.top.is_none() && self.under.is_none() && self.pile.divide_sum(divisor)? {
+            return Ok(());
+        }
         let Some(mut top) = take_top(alloc, &mut self.top, &mut self.under, &mut self.pile)? else {
             return Err(StepFault::StackShape);
         };
         let divided = top.divide(alloc, divisor);
-        self.top = Some(top.settled());
+        self.top = Some(top);
         Ok(divided?)
     }
 

@@ -1,7 +1,6 @@
 //! Equal answers over each propagator: the plain one, the fast one, and the fast one to which constraints are handed when a
 //! question is asked. Their contract is one, so this could only fail where it says too little, or where memory runs out.
 
-use deferred::Deferred;
 use kernel::Kernel;
 use linear::{Names, Problem};
 use opb_read::read;
@@ -50,13 +49,12 @@ fn answers<P: Propagator>(
     Ok(answers)
 }
 
-/// How many lines read as steps, where kernels over all three answer alike, and never that memory ran out.
+/// How many lines read as steps, where kernels over both answer alike, and never that memory ran out.
 fn agree(alloc: Global, problem: &Problem, lines: &[&str]) -> Result<Option<usize>, StepFault> {
     let plain = answers::<ScanPropagator>(alloc, problem, lines)?;
     let fast = answers::<WatchPropagator>(alloc, problem, lines)?;
-    let waiting = answers::<Deferred<WatchPropagator>>(alloc, problem, lines)?;
     let wanted = Some(Err(StepFault::OutOfMemory));
-    if plain == fast && plain == waiting && !plain.contains(&wanted) {
+    if plain == fast && !plain.contains(&wanted) {
         Ok(Some(plain.iter().filter(|answer| answer.is_some()).count()))
     } else {
         Ok(None)

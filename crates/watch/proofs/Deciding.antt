@@ -46,12 +46,12 @@ looked_with_one ns n assigned w w' all kept here k low = elim (cases_eq k (lengt
       ]
 ]
 
-pub looked_with_slot : (slots new : List (Option NormalConstraint)) (n : NormalConstraint) (assigned later : List Lit) (w w' : List ℕ) (place : ℕ) → new ≡ slots ++ Some n ∷ [] → later ≡ assigned → place ≡ length slots
+pub looked_with_slot : (slots new : List (Option NormalConstraint)) (s : Option NormalConstraint) (assigned later : List Lit) (w w' : List ℕ) (place : ℕ) → new ≡ slots ++ s ∷ [] → later ≡ assigned → place ≡ length slots
     → AreLookedAt (shown slots) assigned w → ((k : ℕ) → Contains w k → Contains w' k) → Contains w' place → AreLookedAt (shown new) later w'
-looked_with_slot slots new n assigned later w w' place e f h all kept here =
-    let same : shown new ≡ shown slots ++ n ∷ [] = ap shown e ∙ shown_more slots n in
+looked_with_slot slots new s assigned later w w' place e f h all kept here =
+    let same : shown new ≡ shown slots ++ constraint_in s ∷ [] = ap shown e ∙ shown_more slots s in
     let last : Contains w' (length (shown slots)) = subst (λ (j : ℕ). Contains w' j) (h ∙ sym (length-map slots constraint_in)) here in
-    rw (same, f) (looked_with_one (shown slots) n assigned w w' all kept last)
+    rw (same, f) (looked_with_one (shown slots) (constraint_in s) assigned w w' all kept last)
 
 -- all constraints more
 shown_some : (ns : List NormalConstraint) → shown (map Some ns) ≡ ns

@@ -1,5 +1,5 @@
 -- Levels of given literals, when the trail grows and when it is backtracked.
-use Rattle.std.proofs.Common.{◌≡◌, ℕ, suc, ◌+◌, ◌<◌, ◌≤◌, inl, inr, true, false, Contains, OnErr, OnOk, Result, Ok, Err, Option, None, Some, List, [], ◌∷◌, ◌++◌, length, get_or, map, take, refl, ap, sym, subst, ◌∙◌, length-append, arith}
+use Rattle.std.proofs.Common.{◌≡◌, ℕ, suc, ◌+◌, ◌<◌, ◌≤◌, inl, inr, true, false, Contains, Option, None, Some, List, [], ◌∷◌, ◌++◌, length, get_or, map, take, refl, ap, sym, subst, ◌∙◌, length-append, arith}
 use Rattle.std.proofs.lemmas.Bool.{false≢true, cases_lt}
 use Rattle.std.proofs.lemmas.List.{get_or-take, get_or_append_left, get_or_default, get_or_past, get_or_push, length-take-le, take-append-le, take-take, take_more}
 use Rattle.std.proofs.Math.Seq.{take-length}
@@ -289,10 +289,10 @@ next_first xs given k d low e = ap (λ (ys : List Lit). ys ++ get_or given k d �
 pub kept_has : (s : State) (levels : List Lit × List ℕ × List ℕ) (q : List ℕ) (c : ℕ) (given : List Lit) → levels.0 ≡ given → IsKept s levels q c → HasAll given s.assigned
 kept_has s levels q c given e k = subst (λ (xs : List Lit). HasAll xs s.assigned) e (top_has s.assigned s.reasons levels.0 levels.1 k.levels_are)
 
--- one constraint more
-pub kept_attached : (old new : State) (levels : List Lit × List ℕ × List ℕ) (q q' : List ℕ) (c c' : ℕ) (n : NormalConstraint) → new.slots ≡ old.slots ++ Some n ∷ [] → new.assigned ≡ old.assigned → new.propagated ≡ old.propagated → new.reasons ≡ old.reasons → c' ≡ length new.slots → AreLookedAt (shown new.slots) new.propagated q' → IsKept old levels q c → IsKept new levels q' c'
-kept_attached old new levels q q' c c' n slots assigned propagated reasons e looked k =
-    kept_same old new levels q q' c c' assigned reasons e looked (rw (slots, propagated) (settled_more old.slots n old.propagated levels.1 levels.2 k.settled)) k
+-- more places
+pub kept_attached : (old new : State) (levels : List Lit × List ℕ × List ℕ) (q q' : List ℕ) (c c' : ℕ) (more : List (Option NormalConstraint)) → new.slots ≡ old.slots ++ more → new.assigned ≡ old.assigned → new.propagated ≡ old.propagated → new.reasons ≡ old.reasons → c' ≡ length new.slots → AreLookedAt (shown new.slots) new.propagated q' → IsKept old levels q c → IsKept new levels q' c'
+kept_attached old new levels q q' c c' more slots assigned propagated reasons e looked k =
+    kept_same old new levels q q' c c' assigned reasons e looked (rw (slots, propagated) (settled_more old.slots more old.propagated levels.1 levels.2 k.settled)) k
 
 pub kept_waiting : (old new : State) (levels : List Lit × List ℕ × List ℕ) (q q' : List ℕ) (c c' : ℕ) → new.slots ≡ old.slots → new.assigned ≡ old.assigned → new.propagated ≡ old.propagated → new.reasons ≡ old.reasons → c' ≡ length new.slots → AreLookedAt (shown new.slots) new.propagated q' → IsKept old levels q c → IsKept new levels q' c'
 kept_waiting old new levels q q' c c' slots assigned propagated reasons e looked k =
@@ -305,9 +305,3 @@ all_levels s levels q c level e k =
     let second : take level levels.1 ≡ levels.1 = ap (λ (n : ℕ). take n levels.1) (e ∙ sym k.levels_are.as_many) ∙ take-length levels.1 in
     let third : take level levels.2 ≡ levels.2 = ap (λ (n : ℕ). take n levels.2) (e ∙ sym k.levels_are.as_many ∙ sym k.settled.as_many) ∙ take-length levels.2 in
     sym (ap (λ (xs : List Lit). (xs, take level levels.1, take level levels.2)) first ∙ ap (λ (ys : List ℕ). (levels.0, ys, take level levels.2)) second ∙ ap (λ (ys : List ℕ). (levels.0, levels.1, ys)) third)
-
--- one constraint more, or none where memory ended
-pub kept_maybe_attached : {X E : Type 0} (r : Result X E) (old new : State) (levels : List Lit × List ℕ × List ℕ) (q q' : List ℕ) (c c' : ℕ) (n : NormalConstraint) → OnOk r (new.slots ≡ old.slots ++ Some n ∷ []) → OnErr r (new.slots ≡ old.slots)
-    → new.assigned ≡ old.assigned → new.propagated ≡ old.propagated → new.reasons ≡ old.reasons → c' ≡ length new.slots → AreLookedAt (shown new.slots) new.propagated q' → IsKept old levels q c → IsKept new levels q' c'
-kept_maybe_attached (Ok x) old new levels q q' c c' n more same = kept_attached old new levels q q' c c' n more
-kept_maybe_attached (Err e) old new levels q q' c c' n more same = kept_waiting old new levels q q' c c' same

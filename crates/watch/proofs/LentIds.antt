@@ -1,7 +1,7 @@
 -- Which ids are lent for a literal: those of the live constraints that have it, each once.
 use Rattle.std.proofs.Common.{◌≡◌, ◌↔◌, ℕ, zero, suc, ◌+◌, ◌<◌, ◌==◌, ◌⊎◌, inl, inr, Bool, true, false, cond, is_some, Contains, drop, Option, None, Some, List, [], ◌∷◌, ◌++◌, length, get_or, map, refl, ap, sym, subst, ◌∙◌, arith}
 use Rattle.std.proofs.lemmas.Bool.Decides.{nat_tests}
-use Rattle.std.proofs.lemmas.List.{drop_more, map-append}
+use Rattle.std.proofs.lemmas.List.{drop_more}
 use Rattle.std.proofs.lemmas.List.Elements.{Contains-append_cases, Contains-append_left, Contains-append_right, Contains-push_cases}
 use Rattle.std.specs.FinMap as fin
 use Rattle.linear.specs.declared.term.Lit.{Lit}
@@ -11,7 +11,7 @@ use Rattle.propagate.specs.Literals.{coefficient_of}
 use Rattle.ledger.specs.declared.occurrence.Occurrence.{Occurrence}
 use Rattle.ledger.specs.Ledgers.{AreParted, constraint_at}
 use Rattle.ledger.specs.Entered.{AreEntriesOf}
-use Rattle.watch.specs.Lent.{IsEachOnce, ids_at, live_places}
+use Rattle.watch.specs.Lent.{ids_at, live_places}
 use Rattle.watch.specs.Named.{AreNamed, content_at, place_of}
 use Rattle.ledger.specs.Occurrences.{occurrences_of}
 use Rattle.watch.proofs.NamedPlaces.{below, got, got_none}
@@ -115,35 +115,6 @@ there_live slots l p (n ∷ ns) k (suc j) e h =
     (place_later (coef == 0) (is_some (get_or slots p None)) p k (live_places slots (occurrences_of l (p + 1) ns))
     (there_live slots l (p + 1) ns k j (omega (arith, e)) (omega (arith, h.0), h.1, h.2)))
 
--- two live places have two ids
-one_live : (slots : Slots) (es : Places) (ids : List ℕ) (i k : ℕ) → AreNamed es ids slots → is_some (get_or slots i None) ≡ true → is_some (get_or slots k None) ≡ true → get_or ids i 0 ≡ get_or ids k 0 → i ≡ k
-one_live slots es ids i k a h g e =
-    let x = some_of (get_or slots i None) h in
-    let y = some_of (get_or slots k None) g in
-    same_some i k (sym (a.named i x.0 x.1) ∙ ap (place_of es) e ∙ a.named k y.0 y.1)
-  where
-    same_some : (i k : ℕ) → Some i ≡ Some k → i ≡ k
-    same_some i k e = cc
-
-once_more : (ids : List ℕ) (b d : Bool) (p : ℕ) (L : List ℕ) → (d ≡ true → Contains (ids_at ids L) (get_or ids p 0) → ⊥) → IsEachOnce (ids_at ids L) → IsEachOnce (ids_at ids (with_place b d p L))
-once_more ids true d p L h once = once
-once_more ids false false p L h once = once
-once_more ids false true p L h once = (h refl, once)
-
-each_once : (slots : Slots) (es : Places) (ids : List ℕ) (l : Lit) (p : ℕ) (ns : List NormalConstraint) → AreNamed es ids slots → IsEachOnce (ids_at ids (live_places slots (occurrences_of l p ns)))
-each_once slots es ids l p [] a = tt
-each_once slots es ids l p (n ∷ ns) a =
-    let coef = coefficient_of n l in
-    let L : List ℕ = live_places slots (occurrences_of l (p + 1) ns) in
-    subst (λ (ks : List ℕ). IsEachOnce (ids_at ids ks)) (sym (entry_live slots p coef (occurrences_of l (p + 1) ns) (coef == 0)))
-    (once_more ids (coef == 0) (is_some (get_or slots p None)) p L
-    (λ live c.
-    let m = contains_mapped (λ k. get_or ids k 0) L (get_or ids p 0) c in
-    let it = live_there slots l (p + 1) ns m.0 m.1 in
-    let same : m.0 ≡ p = one_live slots es ids m.0 p a it.2.1 live m.2 in
-    omega (arith, same, it.1))
-    (each_once slots es ids l (p + 1) ns a))
-
 some_same : (n m : NormalConstraint) (o : Option NormalConstraint) → o ≡ Some n → o ≡ Some m → n ≡ m
 some_same n m o e f = cc
 
@@ -160,20 +131,7 @@ live_append slots [] ys = refl
 live_append slots (o ∷ os) ys =
     ap (λ (ks : List ℕ). cond (is_some (get_or slots o.place None)) (o.place ∷ ks) ks) (live_append slots os ys) ∙ live_cases (is_some (get_or slots o.place None)) o.place (live_places slots os) (live_places slots ys)
 
-ids_append : (ids xs ys : List ℕ) → ids_at ids (xs ++ ys) ≡ ids_at ids xs ++ ids_at ids ys
-ids_append ids xs ys = map-append (λ k. get_or ids k 0) xs ys
-
-once_append : (xs ys : List ℕ) → IsEachOnce xs → IsEachOnce ys → ((k : ℕ) → Contains xs k → Contains ys k → ⊥) → IsEachOnce (xs ++ ys)
-once_append [] ys a b apart = b
-once_append (x ∷ xs) ys a b apart = (
-  λ c. elim (Contains-append_cases xs ys x c) [
-    | inl left ↦ a.0 left
-    | inr right ↦ apart x (0, omega arith, refl) right
-  ],
-  once_append xs ys a.1 b (λ k c d. apart k (later xs x k c) d),
-)
-
--- what is counted or watched at a live place is the constraint that stands there, and not both
+-- what is counted or watched at a live place is the constraint that stands there
 abbrev Counts : List NormalConstraint → Lit → ℕ → Type 0
 Counts ns l k = 0 < coefficient_of (constraint_at ns k) l
 
@@ -186,10 +144,6 @@ of_slot slots ns ws pairs l k n (Some p) x e f (inr some) = subst (λ (c : Norma
 in_one : (slots : Slots) (ns ws : List NormalConstraint) (pairs : _) (l : Lit) (k : ℕ) (n : NormalConstraint) (o : _) → AreParted slots ns ws pairs → get_or slots k None ≡ Some n → get_or pairs k None ≡ o → 0 < coefficient_of n l → Counts ns l k ⊎ Counts ws l k
 in_one slots ns ws pairs l k n None x e f some = inl (subst (λ (c : NormalConstraint). 0 < coefficient_of c l) (sym (x.counts k n e f).0) some)
 in_one slots ns ws pairs l k n (Some p) x e f some = inr (subst (λ (c : NormalConstraint). 0 < coefficient_of c l) (sym (x.watches k n p e f).1) some)
-
-not_in_both : (slots : Slots) (ns ws : List NormalConstraint) (pairs : _) (l : Lit) (k : ℕ) (n : NormalConstraint) (o : _) → AreParted slots ns ws pairs → get_or slots k None ≡ Some n → get_or pairs k None ≡ o → Counts ns l k → Counts ws l k → ⊥
-not_in_both slots ns ws pairs l k n None x e f a b = omega (arith, subst (λ (c : NormalConstraint). 0 < coefficient_of c l) (x.counts k n e f).1 b)
-not_in_both slots ns ws pairs l k n (Some p) x e f a b = omega (arith, subst (λ (c : NormalConstraint). 0 < coefficient_of c l) (x.watches k n p e f).0 a)
 
 -- a place that is live in either part
 abbrev IsLive : Slots → Lit → List NormalConstraint → ℕ → Type 0
@@ -246,22 +200,6 @@ lent_at slots es ids l os a x id h (Some k) e =
 
 pub lent_exactly : (slots : Slots) (es : Places) (ids : List ℕ) (l : Lit) (os : List Occurrence) → AreNamed es ids slots → AreEntriesOf slots l os → (id : ℕ) → Contains (ids_at ids (live_places slots os)) id ↔ HasLiteral (content_at slots es) l id
 lent_exactly slots es ids l os a x id = (lent_has slots es ids l os a x id, λ h. lent_at slots es ids l os a x id h (place_of es id) refl)
-
--- no id comes of both parts
-apart_ids : (slots : Slots) (es : Places) (ids : List ℕ) (l : Lit) (ns ws : List NormalConstraint) (pairs : _) → AreNamed es ids slots → AreParted slots ns ws pairs → (id : ℕ) → Contains (ids_at ids (places_in slots l ns)) id → Contains (ids_at ids (places_in slots l ws)) id → ⊥
-apart_ids slots es ids l ns ws pairs a x id c d =
-    let m = contains_mapped (λ k. get_or ids k 0) (places_in slots l ns) id c in
-    let r = contains_mapped (λ k. get_or ids k 0) (places_in slots l ws) id d in
-    let one = live_in slots l ns m.0 m.1 in
-    let two = live_in slots l ws r.0 r.1 in
-    let same : m.0 ≡ r.0 = one_live slots es ids m.0 r.0 a one.0 two.0 (m.2 ∙ sym r.2) in
-    let n = some_of (get_or slots m.0 None) one.0 in
-    not_in_both slots ns ws pairs l m.0 n.0 (get_or pairs m.0 None) x n.1 refl one.1 (subst (λ (j : ℕ). Counts ws l j) (sym same) two.1)
-
-pub lent_once : (slots : Slots) (es : Places) (ids : List ℕ) (l : Lit) (os : List Occurrence) → AreNamed es ids slots → AreEntriesOf slots l os → IsEachOnce (ids_at ids (live_places slots os))
-lent_once slots es ids l os a x =
-    subst IsEachOnce (sym (ap (ids_at ids) (both_places slots l x.0 x.1 os x.4) ∙ ids_append ids (places_in slots l x.0) (places_in slots l x.1)))
-    (once_append (ids_at ids (places_in slots l x.0)) (ids_at ids (places_in slots l x.1)) (each_once slots es ids l 0 x.0 a) (each_once slots es ids l 0 x.1 a) (apart_ids slots es ids l x.0 x.1 x.2 a x.3))
 
 -- one entry after another
 step_live : (slots : Slots) (o : Occurrence) (rest : List Occurrence) (b : Bool) → is_some (get_or slots o.place None) ≡ b → live_places slots (o ∷ rest) ≡ cond b (o.place ∷ live_places slots rest) (live_places slots rest)

@@ -1,4 +1,5 @@
 pub mod AddedIds
+pub mod Arriving
 pub mod Ascents
 pub mod Deciding
 pub mod Forcing

@@ -1,5 +1,5 @@
 -- What was settled when a level began, as the trail grows and goes back and constraints come.
-use Rattle.std.proofs.Common.{◌≡◌, ℕ, ◌<◌, ◌≤◌, inl, inr, Contains, Option, None, Some, List, [], ◌∷◌, ◌++◌, length, get_or, take, refl, ap, sym, subst, ◌∙◌, length-append, arith}
+use Rattle.std.proofs.Common.{◌≡◌, ℕ, ◌<◌, ◌≤◌, inl, inr, Contains, Option, None, List, [], ◌∷◌, ◌++◌, length, get_or, take, refl, ap, sym, subst, ◌∙◌, length-append, arith}
 use Rattle.std.proofs.lemmas.Bool.{cases_eq, cases_lt}
 use Rattle.std.proofs.lemmas.List.{get_or-take, get_or_append_left, get_or_past, get_or_push, length-map, length-take-le, take-take, take_all}
 use Rattle.std.proofs.Math.Seq.{take-length}
@@ -89,13 +89,13 @@ looked_late slots propagated heights counts level height waiting is late s k low
   | inr since ↦ inr (late k since (omega (arith, low, length-map slots constraint_in)))
 ]
 
--- one constraint more
-pub settled_more : (slots : List (Option NormalConstraint)) (n : NormalConstraint) (propagated : List Lit) (heights counts : List ℕ) → AreSettled (shown slots) propagated heights counts → AreSettled (shown (slots ++ Some n ∷ [])) propagated heights counts
-settled_more slots n propagated heights counts s = record {
+-- more places
+pub settled_more : (slots : List (Option NormalConstraint)) (more : List (Option NormalConstraint)) (propagated : List Lit) (heights counts : List ℕ) → AreSettled (shown slots) propagated heights counts → AreSettled (shown (slots ++ more)) propagated heights counts
+settled_more slots more propagated heights counts s = record {
   as_many = s.as_many;
   settled = λ j k low.
       let it = s.settled j k low in
       let there : k < length slots = omega (arith, it.0, length-map slots constraint_in) in
-      let same : constraint_at (shown (slots ++ Some n ∷ [])) k ≡ constraint_at (shown slots) k = shown_at (slots ++ Some n ∷ []) k ∙ ap constraint_in (get_or_append_left slots (Some n ∷ []) None k there) ∙ sym (shown_at slots k) in
-      (omega (arith, there, length-map (slots ++ Some n ∷ []) constraint_in, length-append slots (Some n ∷ [])), it.1, subst (λ (m : NormalConstraint). IsQuiet (take (get_or heights j 0) propagated) m) (sym same) it.2);
+      let same : constraint_at (shown (slots ++ more)) k ≡ constraint_at (shown slots) k = shown_at (slots ++ more) k ∙ ap constraint_in (get_or_append_left slots more None k there) ∙ sym (shown_at slots k) in
+      (omega (arith, there, length-map (slots ++ more) constraint_in, length-append slots more), it.1, subst (λ (m : NormalConstraint). IsQuiet (take (get_or heights j 0) propagated) m) (sym same) it.2);
 }

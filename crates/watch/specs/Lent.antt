@@ -1,12 +1,8 @@
 -- The ids of the constraints that have a literal.
-use Rattle.std.specs.Prelude.{ℕ, List, [], ◌∷◌, Option, None, Contains, is_some, if◌then◌else◌, map, slice_index_or}
+use Rattle.std.specs.Prelude.{◌↔◌, ◌⊎◌, ℕ, List, [], ◌∷◌, Option, None, Contains, is_some, if◌then◌else◌, map, slice_index_or}
+use Rattle.propagate.specs.Ids.{HasId, IdSet}
 use Rattle.normal_form.specs.Normal.{NormalConstraint}
 use Rattle.ledger.specs.declared.occurrence.Occurrence.{Occurrence}
-
--- none stands twice
-abbrev pub IsEachOnce : List ℕ → Type 0
-IsEachOnce [] = Unit {0}
-IsEachOnce (k ∷ ks) = (Contains ks k → ⊥) × IsEachOnce ks
 
 -- the places of entries, where a constraint is there
 abbrev pub live_places : List (Option NormalConstraint) → List Occurrence → List ℕ
@@ -16,3 +12,7 @@ live_places slots (o ∷ os) = if is_some (slice_index_or slots o.place None) th
 -- the ids of places
 abbrev pub ids_at : List ℕ → List ℕ → List ℕ
 ids_at ids = map (λ k. slice_index_or ids k 0)
+
+-- a set has these ids beside those that another set has, and no more
+abbrev pub AreAdded : List ℕ → IdSet → IdSet → Type 0
+AreAdded lent before ids = (id : ℕ) → HasId ids id ↔ (HasId before id ⊎ Contains lent id)

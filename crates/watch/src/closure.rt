@@ -3,38 +3,39 @@
 //! A closure from nothing only grows as constraints come in, and a question beside extra constraints goes on from it.
 //! Above it stand the literals that were given last, with what they force: an assignment that begins as that one goes on
 //! from where they part, and a question without given literals takes them back.
-//! It is found when something is asked: a constraint that comes in only waits, so that reading a database costs no
+//! It is found when something is asked: a constraint that comes in only stands behind the others, so that reading a database costs no
 //! walk. A constraint that goes takes with it what was given, and what was found from nothing by way of it and after
 //! that. Its place stays empty, and its entries in the lists of literals stay and cost a little, until the places are
 //! made anew.
 
-ghost use Rattle.std.specs.Prelude.{◌≡◌, ◌↔◌, ◌<◌, ◌++◌, ◌∷◌, [], ℕ, List, All, IfOk};
+ghost use Rattle.std.specs.Prelude.{◌≡◌, ◌↔◌, ◌<◌, ◌++◌, ◌∷◌, [], ℕ, List, IfOk};
 ghost use Rattle.std.specs.Prelude.{IsTrue, None, OnErr, OnOk, Some, length, slice_index_or, slice_set};
 ghost use Rattle.std.specs.Option.{option_copied};
 ghost use Rattle.propagate.specs.Chain.{IsRefuted};
-ghost use Rattle.propagate.specs.Content.{AreDecided, AreTaken};
+ghost use Rattle.propagate.specs.Content.{AddsOccurrences, AreDecided, AreTaken};
 ghost use Rattle.propagate.specs.Literals.{IsConsistent};
 ghost use Rattle.propagate.specs.Reach.{IsReach, IsRetrace};
 ghost use Rattle.ledger.specs.Ledgers.{constraint_at, shown};
-ghost use Rattle.ledger.specs.Entered.{AreEntriesOf, all_of};
 ghost use Rattle.watch.specs.Named.{AreNamed, content_at};
 ghost use Rattle.watch.specs.Steps.{IsFound};
 
+use super::arrivals::attach_arrivals;
 use super::chain::Chain;
 use super::continuing::traces_of_each;
 use super::extension::reach_over;
-use super::extras::attach_waiting;
 use super::following::go_back;
+use super::lending::Occurrences;
 use super::levels::Levels;
 use super::refutation::refute_anew;
 use super::release::release;
 use super::retracing::retrace_over;
 use super::tracing::chain_over;
-use ledger::{Entries, Ledger, Queue};
+use ledger::{Ledger, Queue};
 use linear::Lit;
 use normal_form::Normal;
-use propagate::{Decided, Id, Reach, Retrace};
+use propagate::{Decided, Id, Ids, Reach, Retrace};
 use std::alloc::{AllocError, Global};
+use std::collections::VecDeque;
 use std::marker::Model;
 
 /// Constraints by place. What is kept of them between calls does not show.
@@ -43,17 +44,19 @@ pub(crate) struct Closure {
     ledger: Ledger,
     queue: Queue,
     levels: Levels,
+    /// What came since something was asked last, at the places behind those of the ledger.
+    arrivals: VecDeque<Option<Normal>>,
     alloc: Global,
 }
 
 impl Model for Closure {
-    ghost use Rattle.std.specs.Prelude.{List, Option};
+    ghost use Rattle.std.specs.Prelude.{◌++◌, List, Option};
     ghost use Rattle.normal_form.specs.Normal.{NormalConstraint};
     ghost use Rattle.watch.specs.Keeping.{IsKept};
 
     ghost Value = { List (Option NormalConstraint) };
 
-    ghost view = { λ c. c.ledger.slots };
+    ghost view = { λ c. c.ledger.slots ++ c.arrivals.items };
 
     ghost invariant = { λ c. IsKept c.ledger c.levels c.queue.0 c.queue.1 };
 }
@@ -67,6 +70,7 @@ impl Closure {
             ledger: Ledger::new(alloc),
             queue: Queue::new(alloc),
             levels: Levels::new(alloc),
+            arrivals: VecDeque::new(alloc),
             alloc,
         }
     }
@@ -76,7 +80,10 @@ impl Closure {
         ensures ok { OnOk result (self.new ≡ self.old ++ Some constraint ∷ []) }
         ensures err { OnErr result (self.new ≡ self.old) }
     {
-        attach_waiting(self.alloc, &mut self.ledger, &mut self.queue, constraint)
+        match self.arrivals.push_back(Some(constraint)) {
+            Err(_) => return Err(AllocError),
+            Ok(()) => return Ok(()),
+        }
     }
 
     /// The constraint of a place, if there is one.
@@ -84,15 +91,34 @@ impl Closure {
         requires { place < length self.now }
         ensures { option_copied result ≡ slice_index_or self.now place None }
     {
-        self.ledger.get(place)
+        let count = self.ledger.count();
+        if place < count {
+            return self.ledger.get(place);
+        }
+        self.arrivals[place - count].as_ref()
     }
 
-    /// Where a literal stands, places that are empty among them.
-    pub(crate) fn entries(&self, literal: Lit) -> Entries<'_>
-        ensures value { AreEntriesOf self.now literal (all_of result) }
-        ensures places { All (λ e. e.place < length self.now) (all_of result) }
+    /// Adds the ids of the constraints that have a literal to a set, by the ids of places. Where memory runs out the set is gone.
+    pub(crate) fn with_occurrences(
+        &mut self,
+        literal: Lit,
+        ids: &[Id],
+        gathered: Ids,
+    ) -> Result<Ids, AllocError>
+        requires { length ids.now ≡ length self.old }
+        ensures slots { self.new ≡ self.old }
+        ensures added { IfOk result (λ all. (places : List (ℕ × ℕ)) → AreNamed places ids.now self.old
+            → AddsOccurrences (content_at self.old places) literal gathered all) }
     {
-        self.ledger.entries(literal)
+        attach_arrivals(
+            self.alloc,
+            &mut self.ledger,
+            &mut self.queue,
+            &mut self.arrivals,
+        )?;
+        self.ledger.list_clauses()?;
+        let entries = self.ledger.entries(literal);
+        Occurrences::of(entries, &self.ledger, ids).add_to(gathered)
     }
 
     /// How many terms the constraint of a place has, 0 where there is none.
@@ -100,7 +126,10 @@ impl Closure {
         requires { place < length self.now }
         ensures { result ≡ length (constraint_at (shown self.now) place).terms }
     {
-        self.ledger.term_count(place)
+        match self.get(place) {
+            Some(constraint) => constraint.len(),
+            None => 0,
+        }
     }
 
     /// How many variables there is room for.
@@ -113,6 +142,12 @@ impl Closure {
         ensures slots { self.new ≡ self.old }
         ensures value { IfOk result (λ yes. IsTrue yes ↔ IsRefuted (shown self.old ++ extras.now)) }
     {
+        attach_arrivals(
+            self.alloc,
+            &mut self.ledger,
+            &mut self.queue,
+            &mut self.arrivals,
+        )?;
         go_back(&mut self.ledger, &mut self.queue, &mut self.levels, 0);
         self.ledger.reveal();
         let answer = refute_anew(self.alloc, &mut self.ledger, &mut self.queue, extras);
@@ -126,6 +161,12 @@ impl Closure {
         ensures slots { self.new ≡ self.old }
         ensures value { IfOk result (IsReach (shown self.old) given.now) }
     {
+        attach_arrivals(
+            self.alloc,
+            &mut self.ledger,
+            &mut self.queue,
+            &mut self.arrivals,
+        )?;
         reach_over(
             self.alloc,
             &mut self.ledger,
@@ -145,6 +186,12 @@ impl Closure {
         ensures slots { self.new ≡ self.old }
         ensures value { IfOk result (IsRetrace (shown self.old) given.now known.now) }
     {
+        attach_arrivals(
+            self.alloc,
+            &mut self.ledger,
+            &mut self.queue,
+            &mut self.arrivals,
+        )?;
         retrace_over(
             self.alloc,
             &mut self.ledger,
@@ -162,6 +209,10 @@ impl Closure {
         ensures value { result ≡ slice_index_or self.old place None }
         ensures slots { self.new ≡ slice_set self.old place None }
     {
+        let count = self.ledger.count();
+        if place >= count {
+            return self.arrivals[place - count].take();
+        }
         go_back(&mut self.ledger, &mut self.queue, &mut self.levels, 0);
         self.ledger.reveal();
         release(&mut self.ledger, &mut self.queue, place);
@@ -175,6 +226,12 @@ impl Closure {
         ensures slots { self.new ≡ self.old }
         ensures value { IfOk result (IsFound (shown self.old) given.now) }
     {
+        attach_arrivals(
+            self.alloc,
+            &mut self.ledger,
+            &mut self.queue,
+            &mut self.arrivals,
+        )?;
         chain_over(
             self.alloc,
             &mut self.ledger,
@@ -200,6 +257,12 @@ impl Closure {
             → AreDecided (content_at self.old places) before.now v.items) }
         ensures taken { IfOk result (λ v. AreTaken first more.now v.items) }
     {
+        attach_arrivals(
+            self.alloc,
+            &mut self.ledger,
+            &mut self.queue,
+            &mut self.arrivals,
+        )?;
         traces_of_each(
             self.alloc,
             &mut self.ledger,

@@ -1,11 +1,12 @@
 //! Constraints that come and go at the end, and wait in the queue as they come.
 //!
-//! A constraint that comes in is only queued: what it forces is found when something is asked. Where memory ends, all
-//! is as before, but that there may be room for more variables.
+//! A constraint that comes in is only queued: what it forces is found when something is asked. Where memory ends, it stays where it
+//! was, and all is as before, but that there may be room for more variables.
 
-ghost use Rattle.std.specs.Prelude.{◌≡◌, ◌<◌, ◌≤◌, ◌++◌, ◌∷◌, [], ℕ, List, Some, None, IsSome, OnOk, OnErr, length};
+ghost use Rattle.std.specs.Prelude.{◌≡◌, ◌<◌, ◌≤◌, ◌++◌, ◌∷◌, [], ℕ, List, Some, None, IfSome, IsSome, OnOk, OnErr, length};
 ghost use Rattle.std.specs.Prelude.{map, slice_index_or, take};
-ghost use Rattle.normal_form.specs.Normal.{NormalConstraint};
+ghost use Rattle.linear.specs.Largest.{most_names};
+ghost use Rattle.normal_form.specs.Normal.{NormalConstraint, variable_bound};
 ghost use Rattle.ledger.specs.Ledgers.{shown};
 ghost use Rattle.watch.specs.Looking.{AreLookedAt};
 
@@ -13,12 +14,23 @@ use ledger::{Ledger, Queue};
 use normal_form::Normal;
 use std::alloc::{AllocError, Global};
 
-/// Adds a constraint at the next place, which then waits.
+/// How many variables the constraint of a slot needs room for.
+fn variable_count(slot: &Option<Normal>) -> usize
+    ensures value { IfSome slot.now (λ n. variable_bound n.terms ≤ result) }
+    ensures few { result ≤ most_names }
+{
+    match slot {
+        Some(constraint) => constraint.variable_count(),
+        None => 0,
+    }
+}
+
+/// Moves what is in a slot to the next place, which then waits.
 pub(crate) fn attach_waiting(
     alloc: Global,
     ledger: &mut Ledger,
     queue: &mut Queue,
-    constraint: Normal,
+    slot: &mut Option<Normal>,
 ) -> Result<(), AllocError>
     requires count { queue.old.1 ≡ length ledger.old.slots }
     requires looked_at { AreLookedAt (shown ledger.old.slots) ledger.old.propagated queue.old.0 }
@@ -27,16 +39,18 @@ pub(crate) fn attach_waiting(
     ensures reasons { ledger.new.reasons ≡ ledger.old.reasons }
     ensures count { queue.new.1 ≡ length ledger.new.slots }
     ensures looked_at { AreLookedAt (shown ledger.new.slots) ledger.new.propagated queue.new.0 }
-    ensures ok { OnOk result (ledger.new.slots ≡ ledger.old.slots ++ Some constraint ∷ []) }
+    ensures ok { OnOk result (ledger.new.slots ≡ ledger.old.slots ++ slot.old ∷ []) }
+    ensures moved { OnOk result (slot.new ≡ None) }
     ensures err { OnErr result (ledger.new.slots ≡ ledger.old.slots) }
+    ensures kept { OnErr result (slot.new ≡ slot.old) }
 {
-    ledger.widen(alloc, constraint.variable_count())?;
+    ledger.widen(alloc, variable_count(slot))?;
     let place = ledger.count();
-    ledger.reveal();
-    ledger.attach(constraint)?;
-    match queue.grow() {
+    queue.reveal();
+    queue.grow()?;
+    match ledger.attach(slot) {
         Err(_) => {
-            ledger.detach();
+            queue.shrink();
             return Err(AllocError);
         }
         Ok(()) => {}
@@ -63,7 +77,8 @@ pub(crate) fn attach_all(
     ensures ok { OnOk result (ledger.new.slots ≡ ledger.old.slots ++ map Some extras.now) }
 {
     for extra in extras {
-        attach_waiting(alloc, ledger, queue, extra.copy(alloc)?)?;
+        let mut slot = Some(extra.copy(alloc)?);
+        attach_waiting(alloc, ledger, queue, &mut slot)?;
     }
     Ok(())
 }
@@ -75,7 +90,7 @@ pub(crate) fn detach_from(ledger: &mut Ledger, count: usize)
         → IsSome (slice_index_or ledger.old.slots k None) }
     requires reasons { (k place : ℕ) → k < length ledger.old.assigned
         → slice_index_or ledger.old.reasons k None ≡ Some place → place < count }
-    ensures { ledger.new ≡ record ledger.old { slots = take count ledger.old.slots } }
+    ensures { ledger.new ≡ record ledger.old { slots = take count ledger.old.slots; listed = ledger.new.listed } }
 {
     while ledger.count() > count {
         ledger.detach();

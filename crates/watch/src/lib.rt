@@ -8,12 +8,12 @@
 //! trace. Whether a place has to be looked at, and how that is found out, is decided below.
 #![tactic(auto)]
 
+mod arrivals;
 mod ascent;
 mod chain;
 mod closure;
 mod continuing;
 mod cubes;
-mod database;
 mod extension;
 mod extras;
 mod following;
@@ -31,5 +31,4 @@ mod tracing;
 mod walk;
 mod watch_propagator;
 
-pub use lending::Occurrences;
 pub use watch_propagator::WatchPropagator;

@@ -1,11 +1,24 @@
-//! The propagator that keeps what it has found: over a ledger, what the constraints force from nothing, and above that the
-//! literals that were given last with what they force.
+//! The propagator that keeps what it has found: constraints by their ids, over a closure of them by place, which keeps what they
+//! force from nothing, and above that the literals that were given last with what they force.
 //!
-//! What it answers is what the plain propagator answers, since both meet the one contract. What it keeps shows in the time alone: a
+//! What it answers is what the plain propagator answers, since both meet the one contract. What it keeps shows in the time alone: an
 //! assignment goes on from where it parts from the last one, and costs the constraints that its literals touch.
+//!
+//! A place is a number from 0 on, and stays when its constraint goes, so that the lists of literals need no look-up
+//! by id; the id of a place names a reason when a chain is told. Where more stands empty than not, an insertion makes
+//! the places anew: it may fail, as a removal may not, and what it copies is paid for by the removals before it.
 
-use super::database::Database;
-use super::lending::Occurrences;
+ghost use Rattle.std.specs.Prelude.{◌≡◌, ◌↔◌, ◌++◌, ◌∷◌, [], IfOk, IsSome, IsTrue, MatchOption, OnErr, OnOk, None};
+ghost use Rattle.std.specs.FinMap as map;
+ghost use Rattle.std.specs.Option.{option_copied};
+ghost use Rattle.propagate.specs.Chain.{IsRefuted};
+ghost use Rattle.propagate.specs.Content.{AddsOccurrences, AreDecided, AreTaken, IsLeastAbove, IsTrace};
+ghost use Rattle.propagate.specs.Literals.{IsConsistent};
+ghost use Rattle.propagate.specs.Reach.{IsReach, IsRetrace};
+
+use super::closure::Closure;
+use super::naming::trace_of;
+use super::places::Places;
 use linear::Lit;
 use normal_form::Normal;
 use propagate::{Decided, Id, Ids, Propagator, Reach, Retrace, Trace};
@@ -15,7 +28,14 @@ use std::marker::Model;
 /// Constraints by their ids, with what they force kept between calls.
 #[derive(Drop)]
 pub struct WatchPropagator {
-    database: Database,
+    places: Places,
+    ids: Vec<Id>,
+    closure: Closure,
+    /// The terms and places of the constraints that are there.
+    occupied: usize,
+    /// The terms and places of those that are gone.
+    vacant: usize,
+    alloc: Global,
 }
 
 impl Model for WatchPropagator {
@@ -23,25 +43,79 @@ impl Model for WatchPropagator {
     ghost use Rattle.std.specs.FinMap as map;
     ghost use Rattle.propagate.specs.Content.{Content};
     ghost use Rattle.normal_form.specs.Codes.{constraint_code};
+    ghost use Rattle.watch.specs.Named.{AreNamed, content_at};
 
     ghost Value = { Content };
 
     ghost coded = { map.code coded_ℕ constraint_code };
 
-    ghost view = { λ p. p.database };
+    ghost view = { λ d. content_at d.closure d.places };
+
+    ghost invariant = { λ d. AreNamed d.places d.ids.items d.closure };
 }
 
 impl WatchPropagator {
-    ghost use Rattle.std.specs.Prelude.{◌↔◌, ℕ, Contains};
-    ghost use Rattle.propagate.specs.Content.{HasLiteral};
-    ghost use Rattle.watch.specs.Lent.{IsEachOnce};
-
-    /// The ids of the constraints that have a literal, each once, from a list that is kept.
-    pub fn occurrences(&self, literal: Lit) -> Occurrences<'_>
-        ensures exactly { (id : ℕ) → Contains result id ↔ HasLiteral self.now literal id }
-        ensures once { IsEachOnce result }
+    /// Puts in a constraint at the next place.
+    fn put(&mut self, id: Id, constraint: Normal) -> Result<(), AllocError>
+        requires { map.get self.old id ≡ None }
+        ensures ok { OnOk result (self.new ≡ map.insert self.old id constraint) }
+        ensures err { OnErr result (self.new ≡ self.old) }
     {
-        self.database.occurrences(literal)
+        let size = constraint.len().saturating_add(1);
+        self.ids.reserve(1)?;
+        let place = self.ids.len();
+        self.places.insert(id, place)?;
+        match self.closure.attach(constraint) {
+            Err(_) => {
+                self.places.remove(id);
+                return Err(AllocError);
+            }
+            Ok(()) => {}
+        }
+        self.ids.push_reserved(id);
+        self.occupied = self.occupied.saturating_add(size);
+        Ok(())
+    }
+
+    /// Puts in a copy of a constraint, if there is one.
+    fn put_copy(&mut self, id: Id, constraint: Option<&Normal>) -> Result<(), AllocError>
+        requires { IsSome constraint → map.get self.old id ≡ None }
+        ensures { OnOk result (MatchOption (option_copied constraint.entry) (self.new ≡ self.old) (λ n. self.new ≡ map.insert self.old id n)) }
+    {
+        let Some(constraint) = constraint else {
+            return Ok(());
+        };
+        self.put(id, constraint.copy(self.alloc)?)
+    }
+
+    /// Puts in copies of the constraints of another propagator, place by place, where there is none yet.
+    fn fill_from(&mut self, other: &WatchPropagator) -> Result<(), AllocError>
+        requires { self.old ≡ map.empty }
+        ensures { OnOk result (self.new ≡ other.now) }
+    {
+        for place in 0..other.ids.len() {
+            self.put_copy(other.ids[place], other.closure.get(place))?;
+        }
+        Ok(())
+    }
+
+    /// The same constraints at places without gaps.
+    fn made_anew(&self) -> Result<WatchPropagator, AllocError>
+        ensures { IfOk result (λ d. d ≡ self.now) }
+    {
+        let mut anew = WatchPropagator::empty(self.alloc);
+        anew.fill_from(self)?;
+        Ok(anew)
+    }
+
+    /// Makes the places anew where more stands empty than not, the lists of literals counted in.
+    fn close_gaps(&mut self) -> Result<(), AllocError>
+        ensures { self.new ≡ self.old }
+    {
+        if self.vacant > self.occupied.max(self.closure.variable_count()) {
+            *self = self.made_anew()?;
+        }
+        Ok(())
     }
 }
 
@@ -50,49 +124,57 @@ impl Propagator for WatchPropagator {
 
     fn empty(alloc: Global) -> Self {
         WatchPropagator {
-            database: Database::new(alloc),
+            places: Places::new(alloc),
+            ids: Vec::new(alloc),
+            closure: Closure::new(alloc),
+            occupied: 0,
+            vacant: 0,
+            alloc,
         }
     }
 
     fn insert(&mut self, id: Id, constraint: Normal) -> Result<(), AllocError> {
-        self.database.insert(id, constraint)
+        self.close_gaps()?;
+        self.put(id, constraint)
     }
 
     fn remove(&mut self, id: Id) -> Option<Normal> {
-        self.database.remove(id)
+        let place = self.places.remove(id)?;
+        let size = self.closure.term_count(place).saturating_add(1);
+        self.occupied = self.occupied.saturating_sub(size);
+        self.vacant = self.vacant.saturating_add(size);
+        self.closure.remove(place)
     }
 
     fn get(&self, id: Id) -> Option<&Normal> {
-        self.database.get(id)
+        let place = self.places.get(id)?;
+        self.closure.get(place)
     }
 
     fn after(&self, id: Id) -> Option<Id> {
-        self.database.after(id)
+        self.places.after(id)
     }
 
     fn with_occurrences(&mut self, literal: Lit, ids: Ids) -> Result<Ids, AllocError> {
-        let mut gathered = ids;
-        let mut rest = self.occurrences(literal);
-        while let Some(id) = rest.next() {
-            gathered.insert(id)?;
-        }
-        Ok(gathered)
+        self.closure
+            .with_occurrences(literal, self.ids.as_slice(), ids)
     }
 
     fn refute(&mut self, extras: &[Normal]) -> Result<bool, AllocError> {
-        self.database.refute(extras)
+        self.closure.refute(extras)
     }
 
     fn extend(&mut self, given: &[Lit]) -> Result<Reach, AllocError> {
-        self.database.extend(given)
+        self.closure.extend(given)
     }
 
     fn retrace(&mut self, given: &[Lit], known: &[Lit]) -> Result<Retrace, AllocError> {
-        self.database.retrace(given, known)
+        self.closure.retrace(given, known, self.ids.as_slice())
     }
 
     fn trace(&mut self, given: &[Lit]) -> Result<Trace, AllocError> {
-        self.database.trace(given)
+        let chain = self.closure.trace(given)?;
+        trace_of(self.alloc, chain, self.ids.as_slice())
     }
 
     fn trace_each(
@@ -101,6 +183,7 @@ impl Propagator for WatchPropagator {
         first: Lit,
         more: &[Lit],
     ) -> Result<Vec<Decided>, AllocError> {
-        self.database.trace_each(before, first, more)
+        self.closure
+            .trace_each(before, first, more, self.ids.as_slice())
     }
 }

@@ -4,7 +4,7 @@ use Rattle.watch.proofs.extras.detach_from.Given as goal
 
 abbrev pub invariant-loop-ledger : goal.invariant-loop-ledger
 invariant-loop-ledger l = record {
-  same : l.ledger ≡ record l.initial.ledger { slots = take (length l.ledger.slots) l.initial.ledger.slots };
+  same : l.ledger ≡ record l.initial.ledger { slots = take (length l.ledger.slots) l.initial.ledger.slots; listed = l.ledger.listed };
   many : l.count ≤ length l.ledger.slots;
   few : length l.ledger.slots ≤ length l.initial.ledger.slots;
 }

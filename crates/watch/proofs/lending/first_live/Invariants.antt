@@ -5,4 +5,4 @@ use Rattle.watch.specs.Lent.{live_places}
 use Rattle.watch.proofs.lending.first_live.Given as goal
 
 abbrev pub invariant-loop-index : goal.invariant-loop-index
-invariant-loop-index l = live_places l.closure (drop l.from (all_of l.entries)) ≡ live_places l.closure (drop l.index (all_of l.entries))
+invariant-loop-index l = live_places l.ledger.slots (drop l.from (all_of l.entries)) ≡ live_places l.ledger.slots (drop l.index (all_of l.entries))

@@ -8,15 +8,11 @@ use Rattle.ledger.specs.declared.pair.Pair.{Pair}
 use Rattle.ledger.specs.Trails.{on_trail}
 use Rattle.ledger.specs.Ledgers.{State}
 use Rattle.ledger.specs.Watched.{IsPairOf, Tell}
-use Rattle.ledger.proofs.Attaching.{attached_watched, none_more, reasons_beside, unchanged, with_pairs}
+use Rattle.ledger.proofs.Attaching.{attached_watched, of_slot, reasons_beside, with_pairs}
 use Rattle.ledger.proofs.FallingRows.{number_inside, variable_below}
 use Rattle.ledger.proofs.PlacedOrders.{its, orders_beside, orders_more, others}
 use Rattle.ledger.proofs.WatchedPlaces.{watched_kept, watched_more}
 use Rattle.ledger.proofs.ledger.Ledger.attach_watched.Goals as goal
-
-pub enter_watched-requires-clause-table : goal.enter_watched-requires-clause-table
-enter_watched-requires-clause-table c =
-    omega (arith, c.requires.variables, ap (λ (s : State). s.variables) c.self.view_is, c.self.invariant.0.watched_index.size)
 
 coefficient_below : (n : NormalConstraint) (l : Lit) → coefficient_of n l ≤ total n.terms
 coefficient_below n l = sum_over_below (only (l.var.0) l.negated) n.terms
@@ -28,17 +24,23 @@ first_below n p variables of_it within = variable_below n p.first variables of_i
 second_below : (n : NormalConstraint) (p : Pair) (variables : ℕ) → IsPairOf n p → variable_bound n.terms ≤ variables → p.second.var.0 < variables
 second_below n p variables of_it within = variable_below n p.second variables of_it.second within
 
-pub enter_watched-requires-clause-first : goal.enter_watched-requires-clause-first
-enter_watched-requires-clause-first c =
+pub watch-requires-clause-first : goal.watch-requires-clause-first
+watch-requires-clause-first c =
     let e = c.self.inside in
-    let within : variable_bound c.args.constraint.terms ≤ e.trail.1 = omega (arith, c.requires.variables, ap (λ (s : State). s.variables) c.self.view_is) in
-    number_inside c.args.pair.first e.trail.1 e.watchers.rows (first_below c.args.constraint c.args.pair e.trail.1 c.requires.pair within) c.self.invariant.3.size
+    let n : NormalConstraint = c.in-Some.constraint.now in
+    let there : c.args.slot.now ≡ Some n = sym c.in-Some.ensures.value in
+    let of_it : IsPairOf n c.args.pair = of_slot (λ m. IsPairOf m c.args.pair) c.args.slot.now n there c.requires.pair in
+    let within : variable_bound n.terms ≤ e.trail.1 = omega (arith, of_slot (λ m. variable_bound m.terms ≤ c.args.self.now.variables) c.args.slot.now n there c.requires.variables, ap (λ (s : State). s.variables) c.self.view_is) in
+    number_inside c.args.pair.first e.trail.1 e.watchers.rows (first_below n c.args.pair e.trail.1 of_it within) c.self.invariant.3.size
 
-pub enter_watched-requires-clause-second : goal.enter_watched-requires-clause-second
-enter_watched-requires-clause-second c =
+pub watch-requires-clause-second : goal.watch-requires-clause-second
+watch-requires-clause-second c =
     let e = c.self.inside in
-    let within : variable_bound c.args.constraint.terms ≤ e.trail.1 = omega (arith, c.requires.variables, ap (λ (s : State). s.variables) c.self.view_is) in
-    number_inside c.args.pair.second e.trail.1 e.watchers.rows (second_below c.args.constraint c.args.pair e.trail.1 c.requires.pair within) c.self.invariant.3.size
+    let n : NormalConstraint = c.in-Some.constraint.now in
+    let there : c.args.slot.now ≡ Some n = sym c.in-Some.ensures.value in
+    let of_it : IsPairOf n c.args.pair = of_slot (λ m. IsPairOf m c.args.pair) c.args.slot.now n there c.requires.pair in
+    let within : variable_bound n.terms ≤ e.trail.1 = omega (arith, of_slot (λ m. variable_bound m.terms ≤ c.args.self.now.variables) c.args.slot.now n there c.requires.variables, ap (λ (s : State). s.variables) c.self.view_is) in
+    number_inside c.args.pair.second e.trail.1 e.watchers.rows (second_below n c.args.pair e.trail.1 of_it within) c.self.invariant.3.size
 
 pub invariant_of-self : goal.invariant_of-self
 invariant_of-self c = rw (c.in_err-make_room.ensures.slots, c.in_err-make_room.ensures.counters, c.in_err-make_room.ensures.limits) c.self.invariant
@@ -67,43 +69,43 @@ invariant_of-self-in_err-widen c =
       orders_beside e.slots.items (on_trail e.trail) e.orders c.give.new.self c.self.invariant.4 (others e.slots.items c.make_room.new.slots.items e.orders c.give.new.self c.len-place.result room.slots (omega (arith, c.len-place.ensures, c.make_room.new.slots.ok)) c.give.ensures.others),
     )
 
-pub invariant_of-self-in_err-enter_watched : goal.invariant_of-self-in_err-enter_watched
-invariant_of-self-in_err-enter_watched c =
+pub invariant_of-self-in_err-watch : goal.invariant_of-self-in_err-watch
+invariant_of-self-in_err-watch c =
     let e = c.self.inside in
-    let i = c.self.invariant.0 in
     let room = c.in_ok-make_room.ensures in
-    let new = c.enter_watched.new.watchers in
-    let it = unchanged e.slots.items e.trail.0 e.trail.1 e.table e.table e.clauses c.enter_watched.new.table e.counters.items e.limits.items e.watchers.pairs (length e.watchers.pairs) i (none_more e.table (length e.watchers.pairs)) refl c.in_err-enter_watched.ensures.err c.in_err-enter_watched.ensures.length in
+    let new = c.watch.new.self in
     rw (room.slots, room.counters, room.limits) (
-      with_pairs e.slots.items e.trail.0 e.trail.1 e.table c.enter_watched.new.table e.counters.items e.limits.items e.watchers.pairs new.pairs it c.in_err-enter_watched.ensures.no_pairs,
+      with_pairs e.slots.items e.trail.0 e.trail.1 e.table e.clauses e.counters.items e.limits.items e.watchers.pairs new.pairs c.self.invariant.0 c.in_err-watch.ensures.err,
       c.self.invariant.1,
       c.self.invariant.2,
-      watched_kept e.slots.items e.trail.0 e.trail.1 e.watchers new c.self.invariant.3 c.in_err-enter_watched.ensures.no_pairs (omega (arith, c.enter_watched.ensures.row_count)) c.enter_watched.ensures.kept c.enter_watched.ensures.others,
+      watched_kept e.slots.items e.trail.0 e.trail.1 e.watchers new c.self.invariant.3 c.in_err-watch.ensures.err (omega (arith, c.watch.ensures.length)) c.watch.ensures.kept c.watch.ensures.others,
       orders_beside e.slots.items (on_trail e.trail) e.orders c.give.new.self c.self.invariant.4 (others e.slots.items c.make_room.new.slots.items e.orders c.give.new.self c.len-place.result room.slots (omega (arith, c.len-place.ensures, c.make_room.new.slots.ok)) c.give.ensures.others),
     )
 
 pub invariant_of-self-2 : goal.invariant_of-self-2
 invariant_of-self-2 c =
     let e = c.self.inside in
-    let n : NormalConstraint = c.args.constraint in
+    let n : NormalConstraint = c.in-Some.constraint.now in
+    let there : c.args.slot.now ≡ Some n = sym c.in-Some.ensures.value in
     let p : Pair = c.args.pair in
     let limit : ℕ = c.degree.result + c.sum.result in
     let room = c.in_ok-make_room.ensures in
-    let slots : c.push_reserved-3.new.self.items ≡ e.slots.items ++ Some n ∷ [] = c.push_reserved-3.ensures.items ∙ ap (λ (os : List (Option NormalConstraint)). os ++ Some n ∷ []) room.slots in
+    let slots : c.push_reserved-3.new.self.items ≡ e.slots.items ++ Some n ∷ [] = c.push_reserved-3.ensures.items ∙ ap (λ (o : Option NormalConstraint). c.make_room.new.slots.items ++ o ∷ []) (c.take.ensures.value ∙ there) ∙ ap (λ (os : List (Option NormalConstraint)). os ++ Some n ∷ []) room.slots in
+    let of_it : IsPairOf n p = of_slot (λ m. IsPairOf m p) c.args.slot.now n there c.requires.pair in
     let counters : c.push_reserved.new.self.items ≡ e.counters.items ++ 0 ∷ [] = c.push_reserved.ensures.items ∙ ap (λ (os : List ℕ). os ++ 0 ∷ []) room.counters in
     let limits : c.push_reserved-2.new.self.items ≡ e.limits.items ++ limit ∷ [] = c.push_reserved-2.ensures.items ∙ ap (λ (os : List ℕ). os ++ limit ∷ []) room.limits in
-    let within : variable_bound n.terms ≤ e.trail.1 = omega (arith, c.requires.variables, ap (λ (s : State). s.variables) c.self.view_is) in
-    let tell : (h : ℕ) → Tell (take h e.trail.0) n p = subst (λ (s : State). (h : ℕ) → Tell (take h s.propagated) n p) (sym c.self.view_is) c.requires.tell in
+    let within : variable_bound n.terms ≤ e.trail.1 = omega (arith, of_slot (λ m. variable_bound m.terms ≤ c.args.self.now.variables) c.args.slot.now n there c.requires.variables, ap (λ (s : State). s.variables) c.self.view_is) in
+    let tell : (h : ℕ) → Tell (take h e.trail.0) n p = subst (λ (s : State). (h : ℕ) → Tell (take h s.propagated) n p) (sym c.self.view_is) (of_slot (λ m. (h : ℕ) → Tell (take h c.args.self.now.propagated) m p) c.args.slot.now n there c.requires.tell) in
     let i = c.self.invariant.0 in
-    let new = c.enter_watched.new.watchers in
-    let said = c.in_ok-enter_watched.ensures in
-    let it = attached_watched e.slots.items e.trail.0 e.trail.1 e.table e.clauses c.enter_watched.new.table e.counters.items e.limits.items e.watchers.pairs n p (length e.watchers.pairs) 0 limit i refl c.degree.ensures.normal within said.ok said.length refl
+    let new = c.watch.new.self in
+    let said = c.in_ok-watch.ensures in
+    let it = attached_watched e.slots.items e.trail.0 e.trail.1 e.table e.clauses e.counters.items e.limits.items e.watchers.pairs n p (length e.watchers.pairs) 0 limit i refl c.degree.ensures.normal within refl
     (λ l. omega (arith, c.degree.ensures.value, c.sum.ensures.value, coefficient_below n l)) in
     rw (slots, counters, limits) (
-      with_pairs (e.slots.items ++ Some n ∷ []) e.trail.0 e.trail.1 e.table c.enter_watched.new.table (e.counters.items ++ 0 ∷ []) (e.limits.items ++ limit ∷ []) (e.watchers.pairs ++ Some p ∷ []) new.pairs it said.pairs,
-      reasons_beside e.slots.items n (on_trail e.trail) e.reasons.items c.self.invariant.1,
+      with_pairs (e.slots.items ++ Some n ∷ []) e.trail.0 e.trail.1 e.table e.clauses (e.counters.items ++ 0 ∷ []) (e.limits.items ++ limit ∷ []) (e.watchers.pairs ++ Some p ∷ []) new.pairs it said.ok,
+      reasons_beside e.slots.items (Some n) (on_trail e.trail) e.reasons.items c.self.invariant.1,
       c.self.invariant.2,
-      watched_more e.slots.items e.trail.0 e.trail.1 e.watchers new n (Some p) c.self.invariant.3 i.slots_are.pair_count said.pairs (omega (arith, said.row_count)) said.kept said.others
-          (c.requires.pair, (first_below n p e.trail.1 c.requires.pair within, second_below n p e.trail.1 c.requires.pair within), tell, said.first_there, said.second_there, said.listed),
-      orders_more e.slots.items (on_trail e.trail) e.orders c.give.new.self n c.self.invariant.4 (others e.slots.items c.make_room.new.slots.items e.orders c.give.new.self c.len-place.result room.slots (omega (arith, c.len-place.ensures, c.make_room.new.slots.ok)) c.give.ensures.others) (its e.slots.items c.make_room.new.slots.items (on_trail e.trail) n c.give.new.self c.len-place.result room.slots (omega (arith, c.len-place.ensures, c.make_room.new.slots.ok)) c.in_ok-give.ensures.ok c.in_ok-give.ensures.none),
+      watched_more e.slots.items e.trail.0 e.trail.1 e.watchers new (Some n) (Some p) c.self.invariant.3 i.slots_are.pair_count said.ok (omega (arith, said.length)) said.kept said.others
+          (of_it, (first_below n p e.trail.1 of_it within, second_below n p e.trail.1 of_it within), tell, said.first_there, said.second_there, said.listed),
+      orders_more e.slots.items (on_trail e.trail) e.orders c.give.new.self (Some n) c.self.invariant.4 (others e.slots.items c.make_room.new.slots.items e.orders c.give.new.self c.len-place.result room.slots (omega (arith, c.len-place.ensures, c.make_room.new.slots.ok)) c.give.ensures.others) (λ m same. its e.slots.items c.make_room.new.slots.items (on_trail e.trail) n m c.give.new.self c.len-place.result same room.slots (omega (arith, c.len-place.ensures, c.make_room.new.slots.ok)) c.in_ok-give.ensures.ok c.in_ok-give.ensures.none),
     )

@@ -65,9 +65,9 @@ invariant_of-self c =
       orders_passed e.slots.items c.args.place n (on_trail e.trail) (on_trail new.trail) f.forced.literals e.orders c.pass.new.self c.force_terms-passed.result there c.self.invariant.4 f.forced.longer c.pass.ensures.orders c.pass.ensures.others c.pass.ensures.most (subst (λ (o : List ℕ). ArePassed n.terms o (on_trail new.trail) c.force_terms-passed.result) c.order.ensures f.passed),
     )
 
-same_state : (slots others : List (Option NormalConstraint)) (xs ps qs : List Lit) (rs : List (Option ℕ)) (v w : ℕ) → slots ≡ others → ps ≡ qs → v ≡ w
-    → ◌≡◌ {A = State} (record { slots = slots; assigned = xs; propagated = ps; reasons = rs; variables = v }) (record { slots = others; assigned = xs; propagated = qs; reasons = rs; variables = w })
-same_state slots others xs ps qs rs v w a b c = cc
+same_state : (slots others : List (Option NormalConstraint)) (xs ps qs : List Lit) (rs : List (Option ℕ)) (v w m n : ℕ) → slots ≡ others → ps ≡ qs → v ≡ w → m ≡ n
+    → ◌≡◌ {A = State} (record { slots = slots; assigned = xs; propagated = ps; reasons = rs; variables = v; listed = m }) (record { slots = others; assigned = xs; propagated = qs; reasons = rs; variables = w; listed = n })
+same_state slots others xs ps qs rs v w m n a b c d = cc
 
 pub returns-clause-same : goal.returns-clause-same
 returns-clause-same c =
@@ -75,8 +75,8 @@ returns-clause-same c =
     let old = c.args.self.now in
     let f = c.force_terms-passed.ensures in
     let new = c.force_terms-passed.new in
-    same_state e.slots.items old.slots (on_trail new.trail) new.trail.0 old.propagated new.reasons.items new.trail.1 old.variables
-    (ap (λ (s : State). s.slots) c.self.view_is) (f.propagated ∙ ap (λ (s : State). s.propagated) c.self.view_is) (f.count ∙ ap (λ (s : State). s.variables) c.self.view_is)
+    same_state e.slots.items old.slots (on_trail new.trail) new.trail.0 old.propagated new.reasons.items new.trail.1 old.variables e.clauses.count old.listed
+    (ap (λ (s : State). s.slots) c.self.view_is) (f.propagated ∙ ap (λ (s : State). s.propagated) c.self.view_is) (f.count ∙ ap (λ (s : State). s.variables) c.self.view_is) (ap (λ (s : State). s.listed) c.self.view_is)
 
 pub returns-clause-forced : goal.returns-clause-forced
 returns-clause-forced c =

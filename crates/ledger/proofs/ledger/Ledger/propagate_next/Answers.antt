@@ -79,9 +79,9 @@ returns-then-is_some-clause-end c =
     ) in
     some_case _ _ _ _ c.in_ok-falsified.falsified (sym c.is_some.ensures ∙ c.if-is_some.true) there end
 
-same_state : (slots others : List (Option NormalConstraint)) (xs ys ps qs : List Lit) (rs ss : List (Option ℕ)) (v w : ℕ) → slots ≡ others → xs ≡ ys → ps ≡ qs → rs ≡ ss → v ≡ w
-    → ◌≡◌ {A = State} (record { slots = slots; assigned = xs; propagated = ps; reasons = rs; variables = v }) (record { slots = others; assigned = ys; propagated = qs; reasons = ss; variables = w })
-same_state slots others xs ys ps qs rs ss v w a b c d e = cc
+same_state : (slots others : List (Option NormalConstraint)) (xs ys ps qs : List Lit) (rs ss : List (Option ℕ)) (v w m n : ℕ) → slots ≡ others → xs ≡ ys → ps ≡ qs → rs ≡ ss → v ≡ w → m ≡ n
+    → ◌≡◌ {A = State} (record { slots = slots; assigned = xs; propagated = ps; reasons = rs; variables = v; listed = m }) (record { slots = others; assigned = ys; propagated = qs; reasons = ss; variables = w; listed = n })
+same_state slots others xs ys ps qs rs ss v w m n a b c d e f = cc
 
 pub returns-clause-same : goal.returns-clause-same
 returns-clause-same c =
@@ -89,9 +89,9 @@ returns-clause-same c =
     let old = c.args.self.now in
     let l : Lit = c.next.result in
     let next : c.advance.new.self ≡ (e.trail.0 ++ l ∷ [], e.trail.1, drop 1 e.trail.2) = c.advance.ensures l c.next.ensures.first in
-    same_state e.slots.items old.slots (on_trail c.advance.new.self) old.assigned c.advance.new.self.0 c.advance.new.self.0 e.reasons.items old.reasons c.advance.new.self.1 old.variables
+    same_state e.slots.items old.slots (on_trail c.advance.new.self) old.assigned c.advance.new.self.0 c.advance.new.self.0 e.reasons.items old.reasons c.advance.new.self.1 old.variables e.clauses.count old.listed
     (ap (λ (s : State). s.slots) c.self.view_is) (same_assigned e.trail c.advance.new.self l c.next.ensures.first next ∙ ap (λ (s : State). s.assigned) c.self.view_is) refl
-    (ap (λ (s : State). s.reasons) c.self.view_is) (ap (λ (w : Whole). w.1) next ∙ ap (λ (s : State). s.variables) c.self.view_is)
+    (ap (λ (s : State). s.reasons) c.self.view_is) (ap (λ (w : Whole). w.1) next ∙ ap (λ (s : State). s.variables) c.self.view_is) (ap (λ (s : State). s.listed) c.self.view_is)
 
 pub returns-clause-end : goal.returns-clause-end
 returns-clause-end c =

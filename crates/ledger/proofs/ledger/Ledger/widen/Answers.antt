@@ -10,7 +10,7 @@ invariant_of-self-in_err-widen-3 c =
     let i = c.self.invariant.0 in
     let v = e.trail.1 in (
       with_pairs e.slots.items e.trail.0 v c.widen.new.self c.widen-2.new.self e.counters.items e.limits.items e.watchers.pairs c.widen-3.new.self.pairs
-          (widened e.slots.items e.trail.0 v v e.table c.widen.new.self e.clauses c.widen-2.new.self e.counters.items e.limits.items e.watchers.pairs i (omega arith) (omega (arith, i.index.size, c.widen.ensures.longer)) c.widen.ensures.kept (omega (arith, i.watched_index.size, c.widen-2.ensures.longer)) c.widen-2.ensures.kept)
+          (widened e.slots.items e.trail.0 v v e.table c.widen.new.self e.clauses c.widen-2.new.self e.counters.items e.limits.items e.watchers.pairs i (omega arith) (omega (arith, i.index.size, c.widen.ensures.longer)) c.widen.ensures.kept c.widen-2.ensures.count (omega (arith, i.watched_index.index.size, c.widen-2.ensures.longer)) c.widen-2.ensures.kept)
           c.widen-3.ensures.pairs,
       c.self.invariant.1,
       c.self.invariant.2,
@@ -24,7 +24,7 @@ invariant_of-self-in_err-reserve c =
     let i = c.self.invariant.0 in
     let v = e.trail.1 in (
       with_pairs e.slots.items e.trail.0 v c.widen.new.self c.widen-2.new.self e.counters.items e.limits.items e.watchers.pairs c.widen-3.new.self.pairs
-          (widened e.slots.items e.trail.0 v v e.table c.widen.new.self e.clauses c.widen-2.new.self e.counters.items e.limits.items e.watchers.pairs i (omega arith) (omega (arith, i.index.size, c.widen.ensures.longer)) c.widen.ensures.kept (omega (arith, i.watched_index.size, c.widen-2.ensures.longer)) c.widen-2.ensures.kept)
+          (widened e.slots.items e.trail.0 v v e.table c.widen.new.self e.clauses c.widen-2.new.self e.counters.items e.limits.items e.watchers.pairs i (omega arith) (omega (arith, i.index.size, c.widen.ensures.longer)) c.widen.ensures.kept c.widen-2.ensures.count (omega (arith, i.watched_index.index.size, c.widen-2.ensures.longer)) c.widen-2.ensures.kept)
           c.widen-3.ensures.pairs,
       (rw c.reserve.ensures.items c.self.invariant.1),
       omega (arith, c.self.invariant.2, c.reserve.ensures.capacity),
@@ -49,12 +49,12 @@ invariant_of-self-2 c =
     let w = c.widen-4.new.self.1 in
     let most = c.widen-4.ensures.most in
     let table : 2 * w ≤ length c.widen.new.self = fits v w c.args.variables (length c.widen.new.self) (omega (arith, i.index.size, c.widen.ensures.longer)) c.in_ok-widen.ensures.ok most in
-    let clauses : 2 * w ≤ length c.widen-2.new.self = fits v w c.args.variables (length c.widen-2.new.self) (omega (arith, i.watched_index.size, c.widen-2.ensures.longer)) c.in_ok-widen-2.ensures.ok most in
+    let clauses : 2 * w ≤ length c.widen-2.new.self.rows = fits v w c.args.variables (length c.widen-2.new.self.rows) (omega (arith, i.watched_index.index.size, c.widen-2.ensures.longer)) c.in_ok-widen-2.ensures.ok most in
     let rows : 2 * w ≤ length c.widen-3.new.self.rows = fits v w c.args.variables (length c.widen-3.new.self.rows) (omega (arith, c.self.invariant.3.size, c.widen-3.ensures.longer)) c.in_ok-widen-3.ensures.ok most in
     let room : c.args.variables ≤ vec_capacity c.reserve.new.self = omega (arith, c.in_ok-reserve.ensures.ok, c.in_ok-reserve.ensures.succeeds, c.reserve.ensures.len, c.len.ensures, c.saturating_sub.ensures) in
     rw (c.widen-4.ensures.propagated, c.widen-4.ensures.pending) (
       with_pairs e.slots.items e.trail.0 w c.widen.new.self c.widen-2.new.self e.counters.items e.limits.items e.watchers.pairs c.widen-3.new.self.pairs
-          (widened e.slots.items e.trail.0 v w e.table c.widen.new.self e.clauses c.widen-2.new.self e.counters.items e.limits.items e.watchers.pairs i c.widen-4.ensures.more table c.widen.ensures.kept clauses c.widen-2.ensures.kept)
+          (widened e.slots.items e.trail.0 v w e.table c.widen.new.self e.clauses c.widen-2.new.self e.counters.items e.limits.items e.watchers.pairs i c.widen-4.ensures.more table c.widen.ensures.kept c.widen-2.ensures.count clauses c.widen-2.ensures.kept)
           c.widen-3.ensures.pairs,
       (rw c.reserve.ensures.items c.self.invariant.1),
       below v w c.args.variables (vec_capacity c.reserve.new.self) (omega (arith, c.self.invariant.2, c.reserve.ensures.capacity)) room most,

@@ -1,19 +1,38 @@
 -- Nothing stands on the constraint any more, and nothing is given.
-use Rattle.std.proofs.Common.{◌≡◌, ◌∙◌, ap, length, sym}
+use Rattle.std.proofs.Common.{◌≡◌, ◌-◌, ◌<◌, ◌++◌, ◌∙◌, ℕ, List, Option, None, ap, length, set, sym, arith}
+use Rattle.std.proofs.lemmas.List.{set-append_left, set-append_right}
+use Rattle.normal_form.specs.Normal.{NormalConstraint}
 use Rattle.ledger.specs.Ledgers.{State}
 use Rattle.watch.proofs.KeptLevels.{kept_root, root_kept}
 use Rattle.watch.proofs.TakenBack.{root_without}
 use Rattle.watch.proofs.closure.Closure.remove.Goals as goal
 
+pub returns-then-place-count-clause-slots : goal.returns-then-place-count-clause-slots
+returns-then-place-count-clause-slots c =
+    let e = c.self.inside in
+    let count : ℕ = c.count-count.result in
+    ap (λ (o : Option NormalConstraint). e.ledger.slots ++ set e.arrivals.items (c.args.place - count) o) c.take.ensures.after
+    ∙ sym (set-append_right e.ledger.slots e.arrivals.items count c.args.place None (sym c.count-count.ensures) c.if-place-count.true)
+    ∙ ap (λ (os : List (Option NormalConstraint)). set os c.args.place None) c.self.view_is
+
 pub release-requires-clause-root : goal.release-requires-clause-root
 release-requires-clause-root c =
     root_kept c.go_back.new.ledger c.go_back.new.levels c.go_back.new.queue.0 c.go_back.new.queue.1 c.reveal.ensures.reasons.as_many c.go_back.ensures.levels c.go_back.ensures.kept
 
-pub invariant_of-self : goal.invariant_of-self
-invariant_of-self c =
+pub invariant_of-self-2 : goal.invariant_of-self-2
+invariant_of-self-2 c =
     let before = c.release.new.ledger in
     let new = c.take_out.new.self in
     let many : length new.reasons ≡ length new.assigned =
     ap (λ (s : State). length s.reasons) c.take_out.ensures.slots ∙ c.reveal-2.ensures.reasons.as_many ∙ sym (ap (λ (s : State). length s.assigned) c.take_out.ensures.slots) in
     kept_root new c.go_back.new.levels c.release.new.queue.0 c.release.new.queue.1 many c.go_back.ensures.levels
     (root_without before new c.args.place c.release.new.queue.0 c.release.new.queue.1 c.take_out.ensures.slots c.release.ensures.root)
+
+pub returns-clause-slots : goal.returns-clause-slots
+returns-clause-slots c =
+    let e = c.self.inside in
+    let low : c.args.place < length e.ledger.slots = omega (arith, c.count-count.ensures, c.if-place-count.false) in
+    ap (λ (s : State). s.slots ++ e.arrivals.items) c.take_out.ensures.slots
+    ∙ ap (λ (os : List (Option NormalConstraint)). set os c.args.place None ++ e.arrivals.items) (c.release.ensures.slots ∙ c.go_back.ensures.slots)
+    ∙ sym (set-append_left e.ledger.slots e.arrivals.items c.args.place None low)
+    ∙ ap (λ (os : List (Option NormalConstraint)). set os c.args.place None) c.self.view_is
