@@ -12,6 +12,7 @@ ghost use Rattle.occurrences.specs.Rows.{all_in};
 
 use super::queue::Queue;
 use normal_form::Normal;
+use occurrences::Row;
 
 /// Whether a number is less than the degree of the constraint at a place.
 fn falls_short(slots: &[Option<Normal>], place: usize, number: u128) -> bool
