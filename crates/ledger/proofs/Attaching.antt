@@ -8,9 +8,10 @@ use Rattle.linear.specs.declared.term.Lit.{Lit}
 use Rattle.normal_form.specs.declared.term.NormalTerm.{NormalTerm}
 use Rattle.normal_form.specs.Normal.{NormalConstraint, IsNormal, variable_bound}
 use Rattle.propagate.specs.Literals.{coefficient_of}
-use Rattle.ledger.specs.declared.occurrence.Occurrence.{Occurrence}
-use Rattle.ledger.specs.Occurrences.{entries_of, entry_of, occurrences_of, HasMore}
-use Rattle.ledger.specs.Ledgers.{constraint_at, constraint_in, shown, nothing, open_sum, IsIndex, IsIndexBelow, IsLedger, Listed, AreCounters, AreKnown, AreParted, AreLimits, AreReasons}
+use Rattle.occurrences.specs.declared.occurrence.Occurrence.{Occurrence}
+use Rattle.occurrences.specs.Occurrences.{entries_of, entry_of, occurrences_of, HasMore}
+use Rattle.ledger.specs.Ledgers.{constraint_at, constraint_in, shown, nothing, open_sum, IsIndex, IsIndexBelow, IsLedger, AreCounters, AreKnown, AreParted, AreLimits, AreReasons}
+use Rattle.occurrences.specs.Occurrences.{Listed}
 use Rattle.ledger.specs.declared.pair.Pair.{Pair}
 use Rattle.ledger.proofs.EntrySums.{occurrences_push}
 use Rattle.ledger.proofs.Reasons.{reasons_moved}

@@ -5,8 +5,8 @@ use Rattle.std.proofs.lemmas.Bool.Decides.{nat_tests}
 use Rattle.std.proofs.lemmas.List.{get_or_default, length-set, get_or-set_same, get_or-set_other}
 use Rattle.std.proofs.lemmas.List.Elements.{All-get_or}
 use Rattle.std.proofs.lemmas.List.Sums.{sum_by_more, sum_by-drop_more, sum_by-take-le}
-use Rattle.ledger.specs.declared.occurrence.Occurrence.{Occurrence}
-use Rattle.ledger.specs.Occurrences.{share, share_of}
+use Rattle.occurrences.specs.declared.occurrence.Occurrence.{Occurrence}
+use Rattle.occurrences.specs.Occurrences.{share, share_of}
 
 share_own : (k : ℕ) (o : Occurrence) → k ≡ o.place → share k o ≡ o.coef
 share_own k o h = grind (arith, nat_tests)

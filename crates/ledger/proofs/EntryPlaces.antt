@@ -4,12 +4,13 @@ use Rattle.std.proofs.Math.Seq.{take-length}
 use Rattle.std.proofs.lemmas.List.Elements.{All-append}
 use Rattle.linear.specs.declared.term.Lit.{Lit}
 use Rattle.normal_form.specs.Normal.{NormalConstraint}
-use Rattle.ledger.specs.declared.occurrence.Occurrence.{Occurrence}
+use Rattle.occurrences.specs.declared.occurrence.Occurrence.{Occurrence}
 use Rattle.ledger.specs.declared.pair.Pair.{Pair}
 use Rattle.ledger.specs.Entered.{AreEntriesOf}
-use Rattle.ledger.specs.Ledgers.{IsIndex, IsLedger, Listed}
+use Rattle.ledger.specs.Ledgers.{IsIndex, IsLedger}
+use Rattle.occurrences.specs.Occurrences.{Listed}
 use Rattle.linear.specs.Literal.{code}
-use Rattle.ledger.specs.Occurrences.{occurrences_of}
+use Rattle.occurrences.specs.Occurrences.{occurrences_of}
 use Rattle.ledger.proofs.EntrySums.{places_from, shares_from}
 use Rattle.ledger.proofs.Standing.{AreEntries}
 

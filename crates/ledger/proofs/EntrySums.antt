@@ -6,8 +6,8 @@ use Rattle.std.proofs.lemmas.List.Sums.{sum_by-append}
 use Rattle.linear.specs.declared.term.Lit.{Lit}
 use Rattle.normal_form.specs.Normal.{NormalConstraint}
 use Rattle.propagate.specs.Literals.{coefficient_of}
-use Rattle.ledger.specs.declared.occurrence.Occurrence.{Occurrence}
-use Rattle.ledger.specs.Occurrences.{share, share_of, entry_of, occurrences_of}
+use Rattle.occurrences.specs.declared.occurrence.Occurrence.{Occurrence}
+use Rattle.occurrences.specs.Occurrences.{share, share_of, entry_of, occurrences_of}
 use Rattle.ledger.specs.Ledgers.{constraint_at}
 
 by_test : (b : Bool) (k p c : ℕ) → (c == 0) ≡ b → k ≡ p → share_of k (cond b [] (record { place = p; coef = c } ∷ [])) ≡ c

@@ -15,7 +15,7 @@ use Rattle.ledger.specs.Falls.{IsAhead, IsAt, IsBeside, IsFalling, IsHandled, Is
 use Rattle.linear.specs.Literal.{code}
 use Rattle.ledger.specs.Watched.{AreLiteralsOf, AreSameKinds, AreWatched, IsOpen, IsPairOf, IsPairWithin, IsWatched, StandsIn, Watching, exchanged}
 use Rattle.ledger.proofs.ClauseLists.{list_there, still_listed}
-use Rattle.ledger.proofs.Entering.{code_below, same_code}
+use Rattle.occurrences.proofs.Entering.{code_below, same_code}
 use Rattle.ledger.proofs.Opening.{fewer}
 use Rattle.ledger.proofs.RowPlaces.{IsPut, ahead_first, ahead_next, ahead_still, put_length, put_still, put_there, row_other, row_set, stands_beside}
 

@@ -7,10 +7,7 @@ pub mod Opening
 pub mod QueuedRows
 pub mod RowPlaces
 pub mod Spans
-pub mod Rows
-pub mod JoinedRows
 pub mod EntrySums
-pub mod Entering
 pub mod ChosenLiterals
 pub mod ClauseLists
 pub mod RoundAbout

@@ -11,16 +11,17 @@ use Rattle.linear.specs.Literal.{opposite}
 use Rattle.propagate.specs.Literals.{coefficient_of, lists}
 use Rattle.propagate.specs.Slack.{not_false, IsFalsified}
 use Rattle.propagate.specs.Walk.{IsQuiet}
-use Rattle.ledger.specs.declared.occurrence.Occurrence.{Occurrence}
+use Rattle.occurrences.specs.declared.occurrence.Occurrence.{Occurrence}
 use Rattle.linear.specs.Literal.{code}
-use Rattle.ledger.specs.Occurrences.{share_of, occurrences_of}
+use Rattle.occurrences.specs.Occurrences.{share_of, occurrences_of}
 use Rattle.ledger.specs.Trails.{on_trail}
-use Rattle.ledger.specs.Ledgers.{constraint_at, constraint_in, shown, nothing, open_sum, IsLedger, IsIndex, AreCounters, AreKnown, AreParted, AreLimits, AreReasons, Listed}
+use Rattle.ledger.specs.Ledgers.{constraint_at, constraint_in, shown, nothing, open_sum, IsLedger, IsIndex, AreCounters, AreKnown, AreParted, AreLimits, AreReasons}
+use Rattle.occurrences.specs.Occurrences.{Listed}
 use Rattle.ledger.specs.Orders.{AreOrders, Ordering}
 use Rattle.ledger.specs.declared.pair.Pair.{Pair}
 use Rattle.ledger.specs.Falls.{IsAt}
 use Rattle.ledger.specs.Watched.{AreSameKinds, AreWatched, Watching}
-use Rattle.ledger.proofs.Entering.{code_below}
+use Rattle.occurrences.proofs.Entering.{code_below}
 use Rattle.ledger.proofs.EntrySums.{shares_from, places_from}
 use Rattle.ledger.proofs.Opening.{open_less, quiet_at_limit}
 

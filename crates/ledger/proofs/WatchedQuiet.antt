@@ -19,7 +19,7 @@ use Rattle.ledger.specs.Falls.{AreHandled, IsAt, IsBeside, IsHandled, IsOneOf, I
 use Rattle.ledger.specs.Ledgers.{open_sum}
 use Rattle.linear.specs.Literal.{code}
 use Rattle.ledger.proofs.AssignedLiterals.{take_long}
-use Rattle.ledger.proofs.Entering.{same_code}
+use Rattle.occurrences.proofs.Entering.{same_code}
 use Rattle.ledger.specs.Watched.{AreOthersFalse, AreWatched, IsOpen, IsPairOf, IsWatched, StandsIn, Tell, Watching}
 
 abbrev Slots : Type 0

@@ -2,12 +2,12 @@
 use Rattle.std.specs.Prelude.{◌≡◌, List, ◌++◌, Option}
 use Rattle.linear.specs.declared.term.Lit.{Lit}
 use Rattle.normal_form.specs.Normal.{NormalConstraint}
-use Rattle.ledger.specs.declared.occurrence.Occurrence.{Occurrence}
-use Rattle.ledger.specs.declared.occurrence.Entries.{Entries}
+use Rattle.occurrences.specs.declared.occurrence.Occurrence.{Occurrence}
+use Rattle.ledger.specs.declared.entries.Entries.{Entries}
 use Rattle.ledger.specs.declared.pair.Pair.{Pair}
 use Rattle.ledger.specs.Ledgers.{AreParted}
-use Rattle.ledger.specs.Occurrences.{occurrences_of}
-use Rattle.ledger.specs.Rows.{all_in}
+use Rattle.occurrences.specs.Occurrences.{occurrences_of}
+use Rattle.occurrences.specs.Rows.{all_in}
 
 -- the entries of both kinds, those that are counted first
 abbrev pub all_of : Entries → List Occurrence

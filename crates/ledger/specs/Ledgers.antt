@@ -7,9 +7,9 @@ use Rattle.linear.specs.Literal.{opposite}
 use Rattle.propagate.specs.Literals.{coefficient_of, lists}
 use Rattle.propagate.specs.Slack.{IsForced, not_false}
 use Rattle.propagate.specs.Walk.{IsFalsifiedAt, IsQuiet}
-use Rattle.ledger.specs.declared.occurrence.Occurrence.{Occurrence}
+use Rattle.occurrences.specs.declared.occurrence.Occurrence.{Occurrence}
 use Rattle.ledger.specs.declared.pair.Pair.{Pair}
-use Rattle.ledger.specs.Occurrences.{entries_of, occurrences_of}
+use Rattle.occurrences.specs.Occurrences.{Listed, entries_of, occurrences_of}
 
 -- what a caller sees: what stands at each place, the literals that are assigned, the first of them, which were propagated, the
 -- place of the constraint that forced each, none for a literal that was given, how many variables there are, and of how many places
@@ -56,11 +56,6 @@ term_at constraints place index = slice_index_or (constraint_at constraints plac
 pub record IsIndex (constraints : List NormalConstraint) (variables : ℕ) (table : List (List Occurrence)) : Type 0 where
   pub size : 2 * variables ≤ length table
   pub entries : (l : Lit) → entries_of table l ≡ occurrences_of l 0 constraints
-
--- lists of entries by literal, and of how many places they are
-pub record Listed : Type 0 where
-  pub count : ℕ
-  pub rows : List (List Occurrence)
 
 -- lists of the first of these constraints
 pub record IsIndexBelow (constraints : List NormalConstraint) (variables : ℕ) (lists : Listed) : Type 0 where

@@ -3,11 +3,9 @@ pub mod Falls
 pub mod Forcing
 pub mod Hints
 pub mod Ledgers
-pub mod Occurrences
 pub mod Orders
 pub mod Passed
 pub mod Rounds
-pub mod Rows
 pub mod Spans
 pub mod Trails
 pub mod Waiting

@@ -30,14 +30,12 @@ ghost use Rattle.ledger.specs.Watched.{IsOpen, IsPairOf, Tell};
 
 use super::assignment::Assignment;
 use super::choosing::latest_pair;
-use super::clause_index::ClauseIndex;
-use super::entry_lists::{enter_counted, leave};
-use super::entry_table::EntryTable;
+use super::counting::enter_counted;
+use super::entries::Entries;
 use super::forcing::force_terms;
 use super::hint::{Hint, hint_of};
 use super::lowering::{lower, queue_below, raise};
 use super::measures::{largest, open_sum};
-use super::occurrence::Entries;
 use super::orders::Orders;
 use super::pair::Pair;
 use super::queue::Queue;
@@ -45,6 +43,7 @@ use super::starts::Starts;
 use super::watchers::Watchers;
 use linear::Lit;
 use normal_form::{Normal, NormalTerm};
+use occurrences::{ClauseIndex, EntryTable, leave};
 use std::alloc::{AllocError, Global};
 use std::marker::Model;
 

@@ -7,12 +7,12 @@
 ghost use Rattle.std.specs.Prelude.{◌≡◌, ◌↔◌, ◌+◌, ◌<◌, ◌≤◌, ◌⊎◌, ℕ, All, Contains, IsTrue, length, slice_index_or};
 ghost use Rattle.normal_form.specs.Normal.{largest_sum};
 ghost use Rattle.ledger.specs.Ledgers.{constraint_at, shown};
-ghost use Rattle.ledger.specs.Occurrences.{share_of};
-ghost use Rattle.ledger.specs.Rows.{all_in};
+ghost use Rattle.occurrences.specs.Occurrences.{share_of};
+ghost use Rattle.occurrences.specs.Rows.{all_in};
 
-use super::occurrence::Row;
 use super::queue::Queue;
 use normal_form::Normal;
+use occurrences::Row;
 
 /// Whether a number is less than the degree of the constraint at a place.
 fn falls_short(slots: &[Option<Normal>], place: usize, number: u128) -> bool

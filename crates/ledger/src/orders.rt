@@ -8,8 +8,8 @@ ghost use Rattle.ledger.specs.Orders.{IsDecreasing, order_at};
 
 use super::order::order_of;
 use super::passed::Passed;
-use super::table::Table;
 use normal_form::Normal;
+use occurrences::Table;
 use std::alloc::{AllocError, Global};
 use std::marker::Model;
 

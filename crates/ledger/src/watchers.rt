@@ -30,9 +30,9 @@ use super::pair::Pair;
 use super::queue::Queue;
 use super::replacing::open_beside;
 use super::starts::Starts;
-use super::table::Table;
 use linear::Lit;
 use normal_form::Normal;
+use occurrences::Table;
 use std::alloc::{AllocError, Global};
 use std::marker::Model;
 

@@ -29,6 +29,13 @@ impl<T> Seq<T> {
         if unused > items.len() / 8 {
             items.shrink_to_fit();
         }
+        Seq::short_lived(items)
+    }
+
+    /// The same with all the room that the vector has: for a list that is soon gone, of which giving back would be half the cost.
+    pub fn short_lived(items: Vec<T>) -> Self
+        ensures { result ≡ items.items }
+    {
         Seq { items }
     }
 

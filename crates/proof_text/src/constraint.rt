@@ -60,7 +60,7 @@ fn terms(
         let term = term(coefficient, words, table)?;
         terms.push(term)?;
     }
-    Ok(Seq::from_vec(terms))
+    Ok(Seq::short_lived(terms))
 }
 
 /// `>=` and the right side.

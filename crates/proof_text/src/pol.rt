@@ -90,5 +90,5 @@ pub(crate) fn items(
         let item = item(token, &mut words, table)?;
         items.push(item)?;
     }
-    Ok(Seq::from_vec(items))
+    Ok(Seq::short_lived(items))
 }

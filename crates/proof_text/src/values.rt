@@ -71,7 +71,7 @@ pub(crate) fn lits(
         let lit = lit(token, table)?;
         lits.push(lit)?;
     }
-    Ok(Seq::from_vec(lits))
+    Ok(Seq::short_lived(lits))
 }
 
 /// Integers up to the end of a line.
@@ -86,5 +86,5 @@ pub(crate) fn numbers(alloc: Global, mut words: LineWords<'_>) -> Reading<Seq<i1
         let number = number(token)?;
         numbers.push(number)?;
     }
-    Ok(Seq::from_vec(numbers))
+    Ok(Seq::short_lived(numbers))
 }

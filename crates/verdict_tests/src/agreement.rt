@@ -1,5 +1,5 @@
-//! Equal answers over each propagator: the plain one, the fast one, and the fast one to which constraints are handed when a
-//! question is asked. Their contract is one, so this could only fail where it says too little, or where memory runs out.
+//! Equal answers over both propagators, the plain one and the fast one. Their contract is one, so this could only fail where it says
+//! too little, or where memory runs out.
 
 use kernel::Kernel;
 use linear::{Names, Problem};

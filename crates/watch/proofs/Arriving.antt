@@ -7,7 +7,7 @@ abbrev Slots : Type 0
 Slots = List (Option NormalConstraint)
 
 -- the first one stands behind the others now, and all is the same in order
-pub first_moved : (slots after row rest : Slots) (first left : Option NormalConstraint) → 0 < length row → first ≡ get_or row 0 first → after ≡ slots ++ first ∷ [] → rest ≡ drop 1 (set row 0 left) → after ++ rest ≡ slots ++ row
+pub first_moved : (slots after waiting rest : Slots) (first left : Option NormalConstraint) → 0 < length waiting → first ≡ get_or waiting 0 first → after ≡ slots ++ first ∷ [] → rest ≡ drop 1 (set waiting 0 left) → after ++ rest ≡ slots ++ waiting
 first_moved slots after [] rest first left some is more fewer = absurd (omega (arith, some))
-first_moved slots after (s ∷ row) rest first left some is more fewer =
-    ap (λ (xs : Slots). xs ++ rest) more ∙ ap (λ (ys : Slots). slots ++ first ∷ [] ++ ys) fewer ∙ append_assoc slots (first ∷ []) row ∙ ap (λ (x : Option NormalConstraint). slots ++ x ∷ row) is
+first_moved slots after (s ∷ waiting) rest first left some is more fewer =
+    ap (λ (xs : Slots). xs ++ rest) more ∙ ap (λ (ys : Slots). slots ++ first ∷ [] ++ ys) fewer ∙ append_assoc slots (first ∷ []) waiting ∙ ap (λ (x : Option NormalConstraint). slots ++ x ∷ waiting) is

@@ -8,12 +8,12 @@ use Rattle.linear.specs.declared.term.Lit.{Lit}
 use Rattle.normal_form.specs.Normal.{NormalConstraint}
 use Rattle.propagate.specs.Content.{HasLiteral}
 use Rattle.propagate.specs.Literals.{coefficient_of}
-use Rattle.ledger.specs.declared.occurrence.Occurrence.{Occurrence}
+use Rattle.occurrences.specs.declared.occurrence.Occurrence.{Occurrence}
 use Rattle.ledger.specs.Ledgers.{AreParted, constraint_at}
 use Rattle.ledger.specs.Entered.{AreEntriesOf}
 use Rattle.watch.specs.Lent.{ids_at, live_places}
 use Rattle.watch.specs.Named.{AreNamed, content_at, place_of}
-use Rattle.ledger.specs.Occurrences.{occurrences_of}
+use Rattle.occurrences.specs.Occurrences.{occurrences_of}
 use Rattle.watch.proofs.NamedPlaces.{below, got, got_none}
 
 abbrev Slots : Type 0

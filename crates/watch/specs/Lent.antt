@@ -2,7 +2,7 @@
 use Rattle.std.specs.Prelude.{◌↔◌, ◌⊎◌, ℕ, List, [], ◌∷◌, Option, None, Contains, is_some, if◌then◌else◌, map, slice_index_or}
 use Rattle.propagate.specs.Ids.{HasId, IdSet}
 use Rattle.normal_form.specs.Normal.{NormalConstraint}
-use Rattle.ledger.specs.declared.occurrence.Occurrence.{Occurrence}
+use Rattle.occurrences.specs.declared.occurrence.Occurrence.{Occurrence}
 
 -- the places of entries, where a constraint is there
 abbrev pub live_places : List (Option NormalConstraint) → List Occurrence → List ℕ

@@ -19,7 +19,7 @@ ghost use Rattle.ledger.specs.Ledgers.{constraint_at, shown};
 ghost use Rattle.watch.specs.Named.{AreNamed, content_at};
 ghost use Rattle.watch.specs.Steps.{IsFound};
 
-use super::arrivals::attach_arrivals;
+use super::arrivals::Arrivals;
 use super::chain::Chain;
 use super::continuing::traces_of_each;
 use super::extension::reach_over;
@@ -35,7 +35,6 @@ use linear::Lit;
 use normal_form::Normal;
 use propagate::{Decided, Id, Ids, Reach, Retrace};
 use std::alloc::{AllocError, Global};
-use std::collections::VecDeque;
 use std::marker::Model;
 
 /// Constraints by place. What is kept of them between calls does not show.
@@ -45,7 +44,7 @@ pub(crate) struct Closure {
     queue: Queue,
     levels: Levels,
     /// What came since something was asked last, at the places behind those of the ledger.
-    arrivals: VecDeque<Option<Normal>>,
+    arrivals: Arrivals,
     alloc: Global,
 }
 
@@ -56,7 +55,7 @@ impl Model for Closure {
 
     ghost Value = { List (Option NormalConstraint) };
 
-    ghost view = { λ c. c.ledger.slots ++ c.arrivals.items };
+    ghost view = { λ c. c.ledger.slots ++ c.arrivals };
 
     ghost invariant = { λ c. IsKept c.ledger c.levels c.queue.0 c.queue.1 };
 }
@@ -70,7 +69,7 @@ impl Closure {
             ledger: Ledger::new(alloc),
             queue: Queue::new(alloc),
             levels: Levels::new(alloc),
-            arrivals: VecDeque::new(alloc),
+            arrivals: Arrivals::new(alloc),
             alloc,
         }
     }
@@ -80,10 +79,7 @@ impl Closure {
         ensures ok { OnOk result (self.new ≡ self.old ++ Some constraint ∷ []) }
         ensures err { OnErr result (self.new ≡ self.old) }
     {
-        match self.arrivals.push_back(Some(constraint)) {
-            Err(_) => return Err(AllocError),
-            Ok(()) => return Ok(()),
-        }
+        self.arrivals.push(constraint)
     }
 
     /// The constraint of a place, if there is one.
@@ -95,7 +91,7 @@ impl Closure {
         if place < count {
             return self.ledger.get(place);
         }
-        self.arrivals[place - count].as_ref()
+        self.arrivals.get(place - count)
     }
 
     /// Adds the ids of the constraints that have a literal to a set, by the ids of places. Where memory runs out the set is gone.
@@ -110,12 +106,8 @@ impl Closure {
         ensures added { IfOk result (λ all. (places : List (ℕ × ℕ)) → AreNamed places ids.now self.old
             → AddsOccurrences (content_at self.old places) literal gathered all) }
     {
-        attach_arrivals(
-            self.alloc,
-            &mut self.ledger,
-            &mut self.queue,
-            &mut self.arrivals,
-        )?;
+        self.arrivals
+            .attach_to(self.alloc, &mut self.ledger, &mut self.queue)?;
         self.ledger.list_clauses()?;
         let entries = self.ledger.entries(literal);
         Occurrences::of(entries, &self.ledger, ids).add_to(gathered)
@@ -142,12 +134,8 @@ impl Closure {
         ensures slots { self.new ≡ self.old }
         ensures value { IfOk result (λ yes. IsTrue yes ↔ IsRefuted (shown self.old ++ extras.now)) }
     {
-        attach_arrivals(
-            self.alloc,
-            &mut self.ledger,
-            &mut self.queue,
-            &mut self.arrivals,
-        )?;
+        self.arrivals
+            .attach_to(self.alloc, &mut self.ledger, &mut self.queue)?;
         go_back(&mut self.ledger, &mut self.queue, &mut self.levels, 0);
         self.ledger.reveal();
         let answer = refute_anew(self.alloc, &mut self.ledger, &mut self.queue, extras);
@@ -161,12 +149,8 @@ impl Closure {
         ensures slots { self.new ≡ self.old }
         ensures value { IfOk result (IsReach (shown self.old) given.now) }
     {
-        attach_arrivals(
-            self.alloc,
-            &mut self.ledger,
-            &mut self.queue,
-            &mut self.arrivals,
-        )?;
+        self.arrivals
+            .attach_to(self.alloc, &mut self.ledger, &mut self.queue)?;
         reach_over(
             self.alloc,
             &mut self.ledger,
@@ -186,12 +170,8 @@ impl Closure {
         ensures slots { self.new ≡ self.old }
         ensures value { IfOk result (IsRetrace (shown self.old) given.now known.now) }
     {
-        attach_arrivals(
-            self.alloc,
-            &mut self.ledger,
-            &mut self.queue,
-            &mut self.arrivals,
-        )?;
+        self.arrivals
+            .attach_to(self.alloc, &mut self.ledger, &mut self.queue)?;
         retrace_over(
             self.alloc,
             &mut self.ledger,
@@ -211,7 +191,7 @@ impl Closure {
     {
         let count = self.ledger.count();
         if place >= count {
-            return self.arrivals[place - count].take();
+            return self.arrivals.take(place - count);
         }
         go_back(&mut self.ledger, &mut self.queue, &mut self.levels, 0);
         self.ledger.reveal();
@@ -226,12 +206,8 @@ impl Closure {
         ensures slots { self.new ≡ self.old }
         ensures value { IfOk result (IsFound (shown self.old) given.now) }
     {
-        attach_arrivals(
-            self.alloc,
-            &mut self.ledger,
-            &mut self.queue,
-            &mut self.arrivals,
-        )?;
+        self.arrivals
+            .attach_to(self.alloc, &mut self.ledger, &mut self.queue)?;
         chain_over(
             self.alloc,
             &mut self.ledger,
@@ -257,12 +233,8 @@ impl Closure {
             → AreDecided (content_at self.old places) before.now v.items) }
         ensures taken { IfOk result (λ v. AreTaken first more.now v.items) }
     {
-        attach_arrivals(
-            self.alloc,
-            &mut self.ledger,
-            &mut self.queue,
-            &mut self.arrivals,
-        )?;
+        self.arrivals
+            .attach_to(self.alloc, &mut self.ledger, &mut self.queue)?;
         traces_of_each(
             self.alloc,
             &mut self.ledger,

@@ -4,7 +4,7 @@
 //! one that ever came with the literal, and those of constraints that are gone are passed over.
 
 ghost use Rattle.std.specs.Prelude.{◌≡◌, ◌+◌, ◌<◌, ◌≤◌, ◌^◌, ◌∷◌, [], All, IfOk, IfSome, MatchOption, drop, length, slice_index_or};
-ghost use Rattle.ledger.specs.declared.occurrence.Occurrence.{Occurrence};
+ghost use Rattle.occurrences.specs.declared.occurrence.Occurrence.{Occurrence};
 ghost use Rattle.ledger.specs.Entered.{all_of};
 ghost use Rattle.watch.specs.Lent.{AreAdded, ids_at, live_places};
 

@@ -1,7 +1,7 @@
 -- The counters are lowered by the entries so far.
 use Rattle.std.proofs.Common.{◌≡◌}
 use Rattle.ledger.proofs.Counters.{IsLowered}
-use Rattle.ledger.specs.Rows.{all_in}
+use Rattle.occurrences.specs.Rows.{all_in}
 use Rattle.ledger.proofs.lowering.lower.Given as goal
 
 abbrev pub invariant-loop-index : goal.invariant-loop-index

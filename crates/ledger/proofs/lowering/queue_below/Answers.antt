@@ -1,7 +1,7 @@
 -- One entry more.
 use Rattle.std.proofs.Common.{◌∙◌, refl, arith}
-use Rattle.ledger.specs.declared.occurrence.Occurrence.{Occurrence}
-use Rattle.ledger.specs.Rows.{all_in}
+use Rattle.occurrences.specs.declared.occurrence.Occurrence.{Occurrence}
+use Rattle.occurrences.specs.Rows.{all_in}
 use Rattle.ledger.proofs.Counters.{queued_of}
 use Rattle.ledger.proofs.lowering.queue_below.Goals as goal
 

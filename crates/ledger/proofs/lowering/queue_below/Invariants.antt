@@ -1,7 +1,7 @@
 -- The places of the entries so far wait, where they have to.
 use Rattle.std.proofs.Common.{◌≡◌}
 use Rattle.ledger.proofs.Counters.{IsQueuedSoFar}
-use Rattle.ledger.specs.Rows.{all_in}
+use Rattle.occurrences.specs.Rows.{all_in}
 use Rattle.ledger.proofs.lowering.queue_below.Given as goal
 
 abbrev pub invariant-loop-index : goal.invariant-loop-index

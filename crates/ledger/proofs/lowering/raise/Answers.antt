@@ -1,8 +1,8 @@
 -- One entry more.
 use Rattle.std.proofs.Common.{length, arith}
 use Rattle.normal_form.specs.Normal.{largest_sum}
-use Rattle.ledger.specs.declared.occurrence.Occurrence.{Occurrence}
-use Rattle.ledger.specs.Rows.{all_in}
+use Rattle.occurrences.specs.declared.occurrence.Occurrence.{Occurrence}
+use Rattle.occurrences.specs.Rows.{all_in}
 use Rattle.ledger.proofs.Counters.{entry_below, raised_of, room_of}
 use Rattle.ledger.proofs.lowering.raise.Goals as goal
 

@@ -1,6 +1,6 @@
 -- The counters are raised by the entries so far.
 use Rattle.ledger.proofs.Counters.{IsRaised}
-use Rattle.ledger.specs.Rows.{all_in}
+use Rattle.occurrences.specs.Rows.{all_in}
 use Rattle.ledger.proofs.lowering.raise.Given as goal
 
 abbrev pub invariant-loop-index : goal.invariant-loop-index

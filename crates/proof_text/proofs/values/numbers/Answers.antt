@@ -28,4 +28,4 @@ pub returns-clause-values : goal.returns-clause-values
 returns-clause-values c =
     let l = c.loop-token in
     let r = all_read are_integers (λ names. integers_of) none c.args.words l.numbers.items none l.words l.invariant c.in_default.ensures.0 (λ n. refl) in
-    c.from_vec.ensures ∙ r.parts []
+    c.short_lived.ensures ∙ r.parts []

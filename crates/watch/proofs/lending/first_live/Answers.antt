@@ -1,6 +1,6 @@
 use Rattle.std.proofs.Common.{◌≡◌, ◌<◌, false, None, ℕ, get_or, is_some, length, ap, sym, ◌∙◌, rules, arith}
 use Rattle.std.proofs.lemmas.List.Elements.{All-get_or}
-use Rattle.ledger.specs.declared.occurrence.Occurrence.{Occurrence}
+use Rattle.occurrences.specs.declared.occurrence.Occurrence.{Occurrence}
 use Rattle.ledger.specs.Entered.{all_of}
 use Rattle.watch.proofs.LentIds.{live_at}
 use Rattle.watch.proofs.lending.first_live.Goals as goal

@@ -4,13 +4,14 @@ use Rattle.std.proofs.Math.Seq.{take-length}
 use Rattle.linear.specs.declared.term.Lit.{Lit}
 use Rattle.normal_form.specs.declared.term.NormalTerm.{NormalTerm}
 use Rattle.normal_form.specs.Normal.{NormalConstraint}
-use Rattle.ledger.specs.declared.occurrence.Occurrence.{Occurrence}
+use Rattle.occurrences.specs.declared.occurrence.Occurrence.{Occurrence}
 use Rattle.ledger.specs.declared.pair.Pair.{Pair}
 use Rattle.ledger.specs.Trails.{on_trail}
-use Rattle.ledger.specs.Ledgers.{AreReasons, IsIndexBelow, IsLedger, Listed, State, shown}
+use Rattle.ledger.specs.Ledgers.{AreReasons, IsIndexBelow, IsLedger, State, shown}
+use Rattle.occurrences.specs.Occurrences.{Listed}
 use Rattle.ledger.specs.Orders.{AreOrders, Ordering, order_at}
 use Rattle.ledger.specs.Watched.{AreWatched, Watching}
-use Rattle.ledger.specs.Occurrences.{HasMore, occurrences_of}
+use Rattle.occurrences.specs.Occurrences.{HasMore, occurrences_of}
 use Rattle.ledger.proofs.Attaching.{counted_before, counted_left, detached, reasons_without, watched_before, watched_left, with_pairs}
 use Rattle.ledger.proofs.PlacedOrders.{orders_fewer}
 use Rattle.ledger.proofs.WatchedPlaces.{watched_fewer}

@@ -1,9 +1,9 @@
 -- The entries are those of the constraints that are counted, and of the clauses that are watched.
 use Rattle.std.proofs.Common.{◌≡◌, ◌<◌, ◌++◌, All, List, Option, ap, length, subst, sym}
 use Rattle.normal_form.specs.Normal.{NormalConstraint}
-use Rattle.ledger.specs.declared.occurrence.Occurrence.{Occurrence}
+use Rattle.occurrences.specs.declared.occurrence.Occurrence.{Occurrence}
 use Rattle.ledger.specs.Ledgers.{State}
-use Rattle.ledger.specs.Rows.{all_in}
+use Rattle.occurrences.specs.Rows.{all_in}
 use Rattle.ledger.proofs.EntryPlaces.{entries_are, entries_below}
 use Rattle.ledger.proofs.ledger.Ledger.entries.Goals as goal
 

@@ -9,9 +9,9 @@ use Rattle.ledger.specs.declared.pair.Pair.{Pair}
 use Rattle.ledger.specs.Falls.{IsAt, IsFalsifiedThere}
 use Rattle.ledger.specs.Trails.{on_trail}
 use Rattle.ledger.specs.Ledgers.{AreReasons, State, shown}
-use Rattle.ledger.specs.Occurrences.{share_of}
+use Rattle.occurrences.specs.Occurrences.{share_of}
 use Rattle.ledger.specs.Orders.{AreOrders}
-use Rattle.ledger.specs.Rows.{all_in}
+use Rattle.occurrences.specs.Rows.{all_in}
 use Rattle.ledger.proofs.Standing.{all_within, each_kind, entries, enough, counted, parted_same, queued_there, recounted}
 use Rattle.ledger.proofs.WatchedQuiet.{fallen_queued, fallen_watched}
 use Rattle.ledger.proofs.AssignedLiterals.{next_listed, next_open, same_assigned, whole_when}

@@ -3,9 +3,9 @@ use Rattle.std.proofs.Common.{◌<◌, ◌≤◌, ℕ, ◌⊎◌, inl, inr, Cont
 use Rattle.propagate.specs.Literals.{coefficient_of}
 use Rattle.propagate.specs.Walk.{IsQuiet}
 use Rattle.ledger.specs.Ledgers.{State, constraint_at, shown}
-use Rattle.ledger.specs.Occurrences.{share_of}
+use Rattle.occurrences.specs.Occurrences.{share_of}
 use Rattle.ledger.specs.Watched.{IsOpen}
-use Rattle.ledger.specs.Rows.{all_in}
+use Rattle.occurrences.specs.Rows.{all_in}
 use Rattle.ledger.proofs.EntryPlaces.{entries_at}
 use Rattle.ledger.proofs.Standing.{each_kind}
 use Rattle.ledger.proofs.WatchedQuiet.{last_queued}

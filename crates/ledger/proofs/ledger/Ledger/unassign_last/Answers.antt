@@ -4,7 +4,7 @@ use Rattle.std.proofs.lemmas.Bool.{false≢true}
 use Rattle.linear.specs.declared.term.Lit.{Lit}
 use Rattle.ledger.specs.Ledgers.{AreCounters, AreReasons, shown}
 use Rattle.ledger.specs.Trails.{on_trail}
-use Rattle.ledger.specs.Rows.{all_in}
+use Rattle.occurrences.specs.Rows.{all_in}
 use Rattle.ledger.proofs.AssignedLiterals.{last_counted, unset_first}
 use Rattle.ledger.proofs.Standing.{entries, room, counted_back, recounted}
 use Rattle.ledger.proofs.FallingRows.{kinds_same}

@@ -18,4 +18,4 @@ invariant_of-self-2 c =
 pub returns-clause-value : goal.returns-clause-value
 returns-clause-value c =
     let answer = c.refute_anew-answer in
-    subst (λ (os : List (Option NormalConstraint)). IfOk answer.result (λ yes. IsTrue yes ↔ IsRefuted (shown os ++ c.args.extras.now))) (c.go_back.ensures.slots ∙ c.in_ok-attach_arrivals.ensures.all ∙ c.self.view_is) answer.ensures.value
+    subst (λ (os : List (Option NormalConstraint)). IfOk answer.result (λ yes. IsTrue yes ↔ IsRefuted (shown os ++ c.args.extras.now))) (c.go_back.ensures.slots ∙ c.in_ok-attach_to.ensures.all ∙ c.self.view_is) answer.ensures.value

@@ -1,5 +1,5 @@
 -- Nothing stands on the constraint any more, and nothing is given.
-use Rattle.std.proofs.Common.{◌≡◌, ◌-◌, ◌<◌, ◌++◌, ◌∙◌, ℕ, List, Option, None, ap, length, set, sym, arith}
+use Rattle.std.proofs.Common.{◌≡◌, ◌<◌, ◌++◌, ◌∙◌, ℕ, List, Option, None, ap, length, set, sym, arith}
 use Rattle.std.proofs.lemmas.List.{set-append_left, set-append_right}
 use Rattle.normal_form.specs.Normal.{NormalConstraint}
 use Rattle.ledger.specs.Ledgers.{State}
@@ -11,8 +11,8 @@ pub returns-then-place-count-clause-slots : goal.returns-then-place-count-clause
 returns-then-place-count-clause-slots c =
     let e = c.self.inside in
     let count : ℕ = c.count-count.result in
-    ap (λ (o : Option NormalConstraint). e.ledger.slots ++ set e.arrivals.items (c.args.place - count) o) c.take.ensures.after
-    ∙ sym (set-append_right e.ledger.slots e.arrivals.items count c.args.place None (sym c.count-count.ensures) c.if-place-count.true)
+    ap (λ (os : List (Option NormalConstraint)). e.ledger.slots ++ os) c.take.ensures.rest
+    ∙ sym (set-append_right e.ledger.slots e.arrivals count c.args.place None (sym c.count-count.ensures) c.if-place-count.true)
     ∙ ap (λ (os : List (Option NormalConstraint)). set os c.args.place None) c.self.view_is
 
 pub release-requires-clause-root : goal.release-requires-clause-root
@@ -32,7 +32,7 @@ pub returns-clause-slots : goal.returns-clause-slots
 returns-clause-slots c =
     let e = c.self.inside in
     let low : c.args.place < length e.ledger.slots = omega (arith, c.count-count.ensures, c.if-place-count.false) in
-    ap (λ (s : State). s.slots ++ e.arrivals.items) c.take_out.ensures.slots
-    ∙ ap (λ (os : List (Option NormalConstraint)). set os c.args.place None ++ e.arrivals.items) (c.release.ensures.slots ∙ c.go_back.ensures.slots)
-    ∙ sym (set-append_left e.ledger.slots e.arrivals.items c.args.place None low)
+    ap (λ (s : State). s.slots ++ e.arrivals) c.take_out.ensures.slots
+    ∙ ap (λ (os : List (Option NormalConstraint)). set os c.args.place None ++ e.arrivals) (c.release.ensures.slots ∙ c.go_back.ensures.slots)
+    ∙ sym (set-append_left e.ledger.slots e.arrivals c.args.place None low)
     ∙ ap (λ (os : List (Option NormalConstraint)). set os c.args.place None) c.self.view_is

@@ -19,7 +19,7 @@ pub returns-clause-added : goal.returns-clause-added
 returns-clause-added c =
     let slots : Slots = c.list_clauses.new.self.slots in
     let ids : List ℕ = c.args.ids.now in
-    let same : slots ≡ c.args.self.now = ap (λ (s : State). s.slots) c.list_clauses.ensures.same ∙ c.in_ok-attach_arrivals.ensures.all ∙ c.self.view_is in
+    let same : slots ≡ c.args.self.now = ap (λ (s : State). s.slots) c.list_clauses.ensures.same ∙ c.in_ok-attach_to.ensures.all ∙ c.self.view_is in
     IfOk-weaker c.add_to.result (AreAdded c.of.result c.args.gathered)
     (λ (all : IdSet). (places : List (ℕ × ℕ)) → AreNamed places ids c.args.self.now → AddsOccurrences (content_at c.args.self.now places) c.args.literal c.args.gathered all)
     (λ all added. subst (λ (ss : Slots). (places : List (ℕ × ℕ)) → AreNamed places ids ss → AddsOccurrences (content_at ss places) c.args.literal c.args.gathered all) same

@@ -1,0 +1,3 @@
+pub mod Rows
+pub mod JoinedRows
+pub mod Entering
