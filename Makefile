@@ -41,8 +41,9 @@ library:
 demo-embed: library
 	scripts/demo-embed
 
+# As many crates side by side as there are processors, where the environment does not say: each takes up to 4 GB.
 test:
-	rt ci
+	RT_JOBS=$${RT_JOBS:-$$(nproc)} rt ci
 
 # `pbopt` ends with 30 where it found an optimum.
 demo: all

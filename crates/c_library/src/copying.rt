@@ -1,11 +1,12 @@
 //! Copies into the buffers of a caller, as far as there is room.
 
-ghost use Rattle.std.specs.Prelude.{◌≡◌, length};
+ghost use Rattle.std.specs.Prelude.{◌≡◌, ℕ, ◌<◌, ◌≤◌, length, slice_index_or};
 ghost use Rattle.c_library.specs.Reports.{AreValues, IsFrontOf};
 
-/// Copies a text to the front of a buffer, as much of it as there is room for.
+/// Copies a text to the front of a buffer, as much of it as there is room for; what stands behind it stays.
 pub(crate) fn copy_front(buffer: &mut [u8], text: &[u8])
     ensures front { IsFrontOf text.now buffer.new }
+    ensures behind { (i : ℕ) → length text.now ≤ i → i < length buffer.new → slice_index_or buffer.new i 0 ≡ slice_index_or buffer.old i 0 }
     ensures room { length buffer.new ≡ length buffer.old }
 {
     let count = text.len().min(buffer.len());

@@ -4,12 +4,37 @@
 //! sign and two halves of its size. The header says what they stand for.
 
 ghost use Rattle.std.specs.Prelude.{◌≡◌};
-ghost use Rattle.c_library.specs.Reports.{IsFrontOf, IsNumber, Says, SaysBest, SaysConclusion, SaysLower, SaysUpper};
+ghost use Rattle.c_library.specs.Reports.{HasNoConclusion, HasNoFault, IsNumber, Says, SaysBest, SaysConclusion, SaysFault, SaysLower, SaysUpper};
 
 use super::copying::copy_front;
 use checker::Verdict;
 use kernel::Accepted;
 use proof_steps::{Conclusion, Lower, Upper};
+
+/// The statuses of a verdict, those that the command ends with.
+const ACCEPTED: u8 = 0;
+
+const REFUSED: u8 = 1;
+
+const BAD_PROBLEM: u8 = 2;
+
+const NO_MEMORY: u8 = 4;
+
+/// The conclusions; 0 is none, where nothing was accepted.
+const NONE: u8 = 1;
+
+const SAT: u8 = 2;
+
+const UNSAT: u8 = 3;
+
+const BOUNDS: u8 = 4;
+
+/// The kinds of a bound; 0 is no bound.
+const NUMBER: u8 = 1;
+
+const MINUS_INFINITY: u8 = 2;
+
+const INFINITY: u8 = 3;
 
 /// The room for the name of a fault, and the zeros behind it.
 pub const NAME_ROOM: usize = 32;
@@ -49,7 +74,9 @@ pub struct Report {
 }
 
 /// A bound that says nothing.
-fn no_bound() -> Bound {
+fn no_bound() -> Bound
+    ensures { result.kind ≡ 0 }
+{
     Bound {
         kind: 0,
         negative: false,
@@ -60,7 +87,9 @@ fn no_bound() -> Bound {
 
 /// A report that says this status alone.
 fn of_status(status: u8) -> Report
-    ensures { result.status ≡ status }
+    ensures status { result.status ≡ status }
+    ensures conclusion { HasNoConclusion result }
+    ensures fault { HasNoFault result }
 {
     Report {
         status,
@@ -84,7 +113,7 @@ fn of_number(number: i128) -> Bound
 {
     let size = number.unsigned_abs();
     Bound {
-        kind: 1,
+        kind: NUMBER,
         negative: number < 0,
         high: (size / HALF) as u64,
         low: (size % HALF) as u64,
@@ -102,9 +131,9 @@ fn of_lower(lower: Lower) -> Bound
     ensures { SaysLower lower result }
 {
     match lower {
-        Lower::MinusInf => of_kind(2),
+        Lower::MinusInf => of_kind(MINUS_INFINITY),
         Lower::At(bound) => of_number(bound),
-        Lower::Inf => of_kind(3),
+        Lower::Inf => of_kind(INFINITY),
     }
 }
 
@@ -113,7 +142,7 @@ fn of_upper(upper: Upper) -> Bound
 {
     match upper {
         Upper::At(bound) => of_number(bound),
-        Upper::Inf => of_kind(3),
+        Upper::Inf => of_kind(INFINITY),
     }
 }
 
@@ -121,14 +150,15 @@ fn of_upper(upper: Upper) -> Bound
 fn of_conclusion(conclusion: &Conclusion) -> Report
     ensures status { result.status ≡ 0 }
     ensures conclusion { SaysConclusion conclusion.now result }
+    ensures fault { HasNoFault result }
 {
-    let mut report = of_status(0);
+    let mut report = of_status(ACCEPTED);
     match conclusion {
-        Conclusion::Nothing => report.conclusion = 1,
-        Conclusion::Sat(_) => report.conclusion = 2,
-        Conclusion::Unsat => report.conclusion = 3,
+        Conclusion::Nothing => report.conclusion = NONE,
+        Conclusion::Sat(_) => report.conclusion = SAT,
+        Conclusion::Unsat => report.conclusion = UNSAT,
         Conclusion::Bounds(lower, upper, _) => {
-            report.conclusion = 4;
+            report.conclusion = BOUNDS;
             report.lower = of_lower(*lower);
             report.upper = of_upper(*upper);
         }
@@ -141,6 +171,7 @@ fn of_accepted(accepted: &Accepted) -> Report
     ensures status { result.status ≡ 0 }
     ensures conclusion { SaysConclusion accepted.now.conclusion result }
     ensures best { SaysBest accepted.now.best result }
+    ensures fault { HasNoFault result }
 {
     let mut report = of_conclusion(accepted.conclusion());
     match accepted.best() {
@@ -159,9 +190,8 @@ fn of_accepted(accepted: &Accepted) -> Report
 /// A fault at a line.
 fn of_fault(status: u8, line: u64, code: u8, name: &str) -> Report
     ensures status { result.status ≡ status }
-    ensures line { result.line ≡ line }
-    ensures code { result.code ≡ code }
-    ensures name { IsFrontOf name.now result.name }
+    ensures fault { SaysFault line code name.now result }
+    ensures conclusion { HasNoConclusion result }
 {
     let mut report = of_status(status);
     report.line = line;
@@ -176,8 +206,13 @@ pub(crate) fn report_of(verdict: &Verdict) -> Report
 {
     match verdict {
         Verdict::Accepted(accepted) => of_accepted(accepted),
-        Verdict::Refused { line, code } => of_fault(1, *line, code.number(), code.name()),
-        Verdict::BadProblem(fault) => of_fault(2, fault.line, fault.code.number(), fault.name()),
-        Verdict::NoMemory => of_status(4),
+        Verdict::Refused { line, code } => of_fault(REFUSED, *line, code.number(), code.name()),
+        Verdict::BadProblem(fault) => of_fault(
+            BAD_PROBLEM,
+            fault.line,
+            fault.code.number(),
+            fault.name(),
+        ),
+        Verdict::NoMemory => of_status(NO_MEMORY),
     }
 }

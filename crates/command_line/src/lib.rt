@@ -6,7 +6,7 @@
 ghost use Rattle.std.specs.Prelude.{◌≡◌, IfOk, IsErr, MatchResult};
 ghost use Rattle.std.specs.Process.{exit_status};
 ghost use Rattle.clap.specs.Values.{kind_of};
-ghost use Rattle.command_line.specs.Statuses.{IsStatusFor};
+ghost use Rattle.command_line.specs.Statuses.{IsMistake, IsStatusFor};
 
 use clap::Error;
 use clap::error::ErrorKind;
@@ -27,35 +27,28 @@ const COMMAND_LINE: &str = "command line";
 /// What messages call standard output.
 pub const STANDARD_OUTPUT: &str = "standard output";
 
-/// The status for a command line that is not taken: 0 for a call for help or the version, else that of a refused one.
-fn status_of(error: &Error) -> u8
-    ensures { IsStatusFor (kind_of error.now) result }
-{
-    match error.kind() {
-        ErrorKind::DisplayHelp | ErrorKind::DisplayVersion => 0,
-        _ => BAD_COMMAND,
-    }
-}
-
 /// Prints why a command line is not taken, help and the version on standard output, a mistake on standard error. The result
-/// is the exit status: 0 for help and the version, 64 for a mistake. Running out of memory is answered as a device's failure.
+/// is the exit status: 0 for help and the version, 64 for a mistake, also where standard error cannot be written. Help that
+/// cannot be written, and running out of memory, are answered as a device's failure.
 pub fn refused<R: Print + Eprint>(rt: &R, error: &Error) -> Result<u8, DeviceFailed>
     ensures status { IfOk result (IsStatusFor (kind_of error.now)) }
+    ensures mistake { IsMistake (kind_of error.now) → result ≡ Ok 64 }
     ensures memory { kind_of error.now ≡ ErrorKind.OutOfMemory → IsErr result }
 {
-    given_by(rt, COMMAND_LINE, printed(rt, error))
-}
-
-/// Prints why a command line is not taken, and gives the exit status.
-fn printed<R: Print + Eprint>(rt: &R, error: &Error) -> io::Result<u8>
-    ensures status { IfOk result (IsStatusFor (kind_of error.now)) }
-    ensures memory { kind_of error.now ≡ ErrorKind.OutOfMemory → IsErr result }
-{
-    if error.kind() == ErrorKind::OutOfMemory {
-        return Err(io::Error::from(io::ErrorKind::OutOfMemory));
+    match error.kind() {
+        ErrorKind::OutOfMemory => {
+            let failed = io::Error::from(io::ErrorKind::OutOfMemory);
+            Err(device_failed(rt, COMMAND_LINE, &failed))
+        }
+        ErrorKind::DisplayHelp | ErrorKind::DisplayVersion => {
+            given_by(rt, STANDARD_OUTPUT, error.print(rt))?;
+            Ok(0)
+        }
+        _ => {
+            let _ = error.print(rt);
+            Ok(BAD_COMMAND)
+        }
     }
-    error.print(rt)?;
-    Ok(status_of(error))
 }
 
 /// That a device failed, after it was told which one and how.
@@ -78,9 +71,16 @@ pub fn given_by<R: Eprint, T>(rt: &R, device: &str, given: io::Result<T>) -> Res
     }
 }
 
-/// The words of the command line.
-pub fn words<R: Env + Eprint + AllocGlobal>(rt: &R) -> Result<Vec<String>, DeviceFailed> {
-    given_by(rt, COMMAND_LINE, collected(rt))
+/// The words of the command line; none where one of them is not UTF-8, which is a mistake (64), and is said on standard error.
+pub fn words<R: Env + Eprint + AllocGlobal>(rt: &R) -> Result<Option<Vec<String>>, DeviceFailed> {
+    match collected(rt) {
+        Ok(words) => Ok(Some(words)),
+        Err(error) if error.kind() == io::ErrorKind::InvalidData => {
+            let _ = eprintln!(rt; "{COMMAND_LINE}: a word is not UTF-8");
+            Ok(None)
+        }
+        Err(error) => Err(device_failed(rt, COMMAND_LINE, &error)),
+    }
 }
 
 /// The words of the command line, or why there are none.

@@ -6,7 +6,9 @@ use checker::{
     Afterwards, StreamVerdict, Verdict, check_stream_then, verdict_status, verdict_text,
 };
 use clap::{Arg, ArgAction, Command, Error};
-use command_line::{DeviceFailed, STANDARD_OUTPUT, VERSION, ended, given_by, refused, words};
+use command_line::{
+    BAD_COMMAND, DeviceFailed, STANDARD_OUTPUT, VERSION, ended, given_by, refused, words,
+};
 use devices::ReaderSource;
 use std::alloc::Global;
 use std::io::{ErrorKind, Read, Write};
@@ -112,7 +114,9 @@ fn judge<R: Files + Input + Print + Eprint + AllocGlobal>(
 
 /// Takes the command line, and does what it asks for. The result is the exit status.
 fn run<R: Env + Files + Input + Print + Eprint + AllocGlobal>(rt: &R) -> Result<u8, DeviceFailed> {
-    let words = words(rt)?;
+    let Some(words) = words(rt)? else {
+        return Ok(BAD_COMMAND);
+    };
     let command = match command(rt.alloc()) {
         Ok(command) => command,
         Err(error) => return refused(rt, &error),

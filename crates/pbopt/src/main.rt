@@ -7,7 +7,8 @@ ghost use Rattle.std.specs.Prelude.{◌≡◌, IfOk, IfSome};
 
 use clap::{Arg, ArgAction, Command, Error};
 use command_line::{
-    DeviceFailed, STANDARD_OUTPUT, VERSION, device_failed, ended, given_by, refused, words,
+    BAD_COMMAND, DeviceFailed, STANDARD_OUTPUT, VERSION, device_failed, ended, given_by, refused,
+    words,
 };
 use devices::WriterSink;
 use pb_main::{RunFault, run, status};
@@ -179,7 +180,9 @@ fn solve(rt: &HostRuntime, wanted: &Wanted<'_>) -> Result<u8, DeviceFailed> {
 
 /// Takes the command line, and does what it asks for. The result is the exit status.
 fn take_command(rt: &HostRuntime) -> Result<u8, DeviceFailed> {
-    let words = words(rt)?;
+    let Some(words) = words(rt)? else {
+        return Ok(BAD_COMMAND);
+    };
     let command = match command(rt.alloc()) {
         Ok(command) => command,
         Err(error) => return refused(rt, &error),
