@@ -9,7 +9,7 @@ use normal_form::Normal;
 use propagate::{Decided, Id, Ids, Propagator, Reach, Retrace, Trace};
 use std::alloc::{AllocError, Global};
 use std::marker::Model;
-use substitution::{Substitution, apply, becomes_beyond, covers};
+use substitution::{Image, Substitution, apply, becomes_beyond, covers};
 
 /// Ids are below this number.
 const ID_LIMIT: u64 = 1 << 32;
@@ -36,7 +36,7 @@ impl<P: Propagator> Model for Database<P> {
 }
 
 impl<P: Propagator> Database<P> {
-    ghost use Rattle.kernel.specs.Redundance.{AddsVariable, IsTouched};
+    ghost use Rattle.kernel.specs.Redundance.{AddsTouched, IsTouched};
     ghost use Rattle.std.specs.Prelude.{◌≡◌, ◌↔◌, ◌<◌, ◌≤◌, [], ◌∷◌, ◌++◌, ℕ, IfOk, IsSome, IsSomeAnd, MatchOption, None, IsTrue, OnErr, OnOk};
     ghost use Rattle.normal_form.specs.Normal.{NormalConstraint};
     ghost use Rattle.propagate.specs.Chain.{IsRefuted};
@@ -148,23 +148,29 @@ impl<P: Propagator> Database<P> {
         Ok(ids)
     }
 
-    /// Adds the ids of the live constraints that have a variable to a set. Where memory runs out the set is gone.
-    fn with_variable(&mut self, variable: Var, ids: Ids) -> Result<Ids, AllocError>
+    /// Adds the ids of the live constraints that have a literal of a variable which the variable's image does not make true to a set. Where
+    /// memory runs out the set is gone.
+    fn with_touched(&mut self, variable: Var, image: Image, ids: Ids) -> Result<Ids, AllocError>
         ensures same { self.new ≡ self.old }
-        ensures added { IfOk result (AddsVariable self.old.live variable ids) }
+        ensures added { IfOk result (AddsTouched self.old.live variable image ids) }
     {
         let literal = Lit {
             var: variable,
             negated: false,
         };
-        let middle = self.constraints.with_occurrences(literal, ids)?;
-        let both = self
-            .constraints
-            .with_occurrences(literal.opposite(), middle)?;
-        Ok(both)
+        match image {
+            Image::Zero => self.constraints.with_occurrences(literal, ids),
+            Image::One => self.constraints.with_occurrences(literal.opposite(), ids),
+            Image::Lit(_) => {
+                let middle = self.constraints.with_occurrences(literal, ids)?;
+                self.constraints
+                    .with_occurrences(literal.opposite(), middle)
+            }
+        }
     }
 
-    /// The ids of the live constraints that have a variable of a witness.
+    /// The ids of the live constraints that have a literal which a witness changes and does not make true. The others show what they
+    /// become.
     pub(crate) fn touched(
         &mut self,
         alloc: Global,
@@ -175,7 +181,7 @@ impl<P: Propagator> Database<P> {
     {
         let mut ids = Ids::empty(alloc);
         for image in witness.as_slice() {
-            ids = self.with_variable(image.0, ids)?;
+            ids = self.with_touched(image.0, image.1, ids)?;
         }
         Ok(ids)
     }

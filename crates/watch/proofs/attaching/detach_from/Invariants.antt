@@ -1,6 +1,6 @@
 -- Places are left from the end, down to the number.
 use Rattle.std.proofs.Common.{◌≡◌, ◌≤◌, length, take}
-use Rattle.watch.proofs.extras.detach_from.Given as goal
+use Rattle.watch.proofs.attaching.detach_from.Given as goal
 
 abbrev pub invariant-loop-ledger : goal.invariant-loop-ledger
 invariant-loop-ledger l = record {

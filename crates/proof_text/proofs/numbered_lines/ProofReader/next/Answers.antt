@@ -3,7 +3,7 @@ use Rattle.std.proofs.lemmas.List.{nil_from_length}
 use Rattle.std.proofs.lemmas.Bool.Decides.{Decides-eqb}
 use Rattle.proof_text.specs.Lines.{Pending, counting_from}
 use Rattle.proof_text.proofs.LinesParted.{nothing_left}
-use Rattle.proof_text.proofs.reader.ProofReader.next.Goals as goal
+use Rattle.proof_text.proofs.numbered_lines.ProofReader.next.Goals as goal
 
 pub returns-clause-line : goal.returns-clause-line
 returns-clause-line c =

@@ -1,6 +1,6 @@
 use Rattle.std.proofs.Common.{◌≡◌, length}
 use Rattle.pb_text.specs.Lexeme.{begins_comment}
-use Rattle.proof_text.proofs.reader.is_comment.Given as goal
+use Rattle.proof_text.proofs.numbered_lines.is_comment.Given as goal
 
 -- the bytes that are passed stand before a comment as well
 abbrev pub invariant-loop-rest : goal.invariant-loop-rest

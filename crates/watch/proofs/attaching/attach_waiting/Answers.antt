@@ -3,7 +3,7 @@ use Rattle.std.proofs.Common.{◌≡◌, ◌++◌, ◌∷◌, [], ℕ, List, Opt
 use Rattle.normal_form.specs.Normal.{NormalConstraint}
 use Rattle.ledger.specs.Ledgers.{State}
 use Rattle.watch.proofs.Deciding.{looked_with_slot}
-use Rattle.watch.proofs.extras.attach_waiting.Goals as goal
+use Rattle.watch.proofs.attaching.attach_waiting.Goals as goal
 
 pub shrink-requires : goal.shrink-requires
 shrink-requires c = record { below = rw c.in_ok-grow.ensures.ok (λ k d h. omega (arith, c.reveal.ensures.below k d h)) }

@@ -2,7 +2,7 @@
 use Rattle.std.proofs.Common.{◌≡◌, ◌++◌, Some, length, map, take}
 use Rattle.ledger.specs.Ledgers.{shown}
 use Rattle.watch.specs.Looking.{AreLookedAt}
-use Rattle.watch.proofs.extras.attach_all.Given as goal
+use Rattle.watch.proofs.attaching.attach_all.Given as goal
 
 abbrev pub invariant-loop-extra : goal.invariant-loop-extra
 invariant-loop-extra l = record {

@@ -1,6 +1,6 @@
 use Rattle.std.proofs.Common.{◌≡◌, length}
 use Rattle.proof_text.specs.LinesAhead.{pending}
-use Rattle.proof_text.proofs.reader.ProofReader.next.Given as goal
+use Rattle.proof_text.proofs.numbered_lines.ProofReader.next.Given as goal
 
 -- what is passed does not count
 abbrev pub invariant-loop-at : goal.invariant-loop-at

@@ -2,7 +2,7 @@ use Rattle.std.proofs.Common.{ℕ, ◌+◌, List, take, ap, sym, ◌∙◌, arit
 use Rattle.std.proofs.lemmas.List.{take_rest}
 use Rattle.proof_text.specs.Lines.{Numbered, onto, counting_from, breaks}
 use Rattle.proof_text.proofs.LinesParted.{whole_unbroken, first_unbroken, last_line, last_breaks, ended_line, ended_breaks}
-use Rattle.proof_text.proofs.reader.LineCursor.line.Goals as goal
+use Rattle.proof_text.proofs.numbered_lines.LineCursor.line.Goals as goal
 
 pub returns-in-None-clause-lines : goal.returns-in-None-clause-lines
 returns-in-None-clause-lines c = last_line c.args.self.number c.args.self.rest.now c.in-None.ensures
