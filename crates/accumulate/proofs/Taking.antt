@@ -74,8 +74,5 @@ marked_permuted xs ys ns p m = record {
 pub kept_fits : (ns : List ℤ) (marks : List ℕ) (sum degree : ℕ) (ts : List NormalTerm) → ts ≡ terms_from 0 ns → IsKept ns marks sum degree → Fits (record { terms = ts; degree = degree })
 kept_fits ns marks sum degree ts e k = record { sum = omega (arith, ap total e, terms_total 0 ns, k.summed, k.small); degree = k.low }
 
-pub kept_permuted : (ns : List ℤ) (xs ys : List ℕ) (sum degree : ℕ) → IsPermutation xs ys → IsKept ns xs sum degree → IsKept ns ys sum degree
-kept_permuted ns xs ys sum degree p k = record { marked = marked_permuted xs ys ns p k.marked; summed = k.summed; small = k.small; low = k.low }
-
 pub same_taken : (n d : NormalConstraint) (ns : List ℤ) (degree : ℕ) (ts : List NormalTerm) → constraint_of ns degree ≡ d → ts ≡ terms_from 0 ns → n.terms ≡ ts → n.degree ≡ degree → n ≡ d
 same_taken n d ns degree ts is e t f = same_constraint n (constraint_of ns degree) (t ∙ e) f ∙ is

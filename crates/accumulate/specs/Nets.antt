@@ -1,6 +1,7 @@
 -- A constraint as an array: at each place the net coefficient of the variable of that number.
-use Rattle.std.specs.Prelude.{ℕ, suc, min, negsuc, ◌+◌, ◌*◌, ◌<◌, ◌≤◌, ◌≡◌, All, Contains, length, slice_index_or, ℤ, pos, neg_ℤ, ◌+ℤ◌, unsigned_abs, Bool, List, [], ◌∷◌, ◌++◌, if◌then◌else◌}
+use Rattle.std.specs.Prelude.{ℕ, suc, min, negsuc, ◌+◌, ◌*◌, ◌<◌, ◌≤◌, ◌==◌, ◌≡◌, All, Contains, length, slice_index_or, ℤ, pos, neg_ℤ, ◌+ℤ◌, unsigned_abs, Bool, true, not, List, [], ◌∷◌, ◌++◌, if◌then◌else◌}
 use Rattle.std.specs.Int.{div_ceil}
+use Rattle.std.specs.List.Sorted.{IsStrictlyIncreasing}
 use Rattle.normal_form.specs.Normal.{NormalConstraint, largest_sum}
 use Rattle.normal_form.specs.Balance.{net_term}
 use Rattle.normal_form.specs.declared.term.NormalTerm.{NormalTerm}
@@ -37,6 +38,16 @@ pub record IsMarkedAbove (level : ℕ) (marks : List ℕ) (nets : List ℤ) : Ty
 -- the marks name every variable with a net coefficient, and none past the array
 abbrev pub IsMarked : List ℕ → List ℤ → Type 0
 IsMarked marks nets = IsMarkedAbove 0 marks nets
+
+-- whether a variable has a net coefficient
+abbrev pub is_live : List ℤ → ℕ → Bool
+is_live nets v = not (unsigned_abs (slice_index_or nets v (pos 0)) == 0)
+
+-- marks in order: they name every variable with a net coefficient once, and no other
+pub record AreTidy (marks : List ℕ) (nets : List ℤ) : Type 0 where
+  pub marked : IsMarked marks nets
+  pub live : All (λ v. is_live nets v ≡ true) marks
+  pub rises : IsStrictlyIncreasing marks
 
 -- the marks name every variable of the terms
 abbrev pub NamesAll : List ℕ → List NormalTerm → Type 0

@@ -4,8 +4,8 @@
 //! coefficients of two signs, so cancelling is an addition of signed numbers. Beside it stand the coefficient sum, by
 //! which the degree falls with what cancels, and a list of marks: every variable with a coefficient is in it, so
 //! reading the sum off, and putting the array back to 0, costs what was added and not the number of all variables. A
-//! variable may be marked twice; that is found out when the marks are put in order, and costs less than to keep it
-//! from happening.
+//! variable may be marked twice; that is found out when the marks are tidied, and costs less than to keep it from
+//! happening.
 //!
 //! A constraint is added first, and taken back where the result is too large: so one pass is enough where it is not.
 
@@ -18,8 +18,9 @@ ghost use Rattle.accumulate.specs.Nets.{ScalesWithin, nothing, scaled};
 
 use super::capping::cap_all;
 use super::cells::{Change, apply, degree_after, fits, make_room, mark_reserved, note, prepare};
-use super::reading::{clear, collect, finished};
+use super::reading::{clear, collect};
 use super::scaling::{Scaling, scale_all, scaled, scaled_level};
+use super::tidying::tidy;
 use cut_rules::product_fits;
 use linear::Var;
 use normal_form::{CutFault, LARGEST_SUM, Normal};
@@ -159,7 +160,7 @@ impl Accumulator {
     {
         self.sum = cap_all(
             &mut self.nets,
-            &self.touched,
+            &mut self.touched,
             &self.recent,
             self.level,
             self.sum,
@@ -223,24 +224,22 @@ impl Accumulator {
         ensures normal { OnOk result (IsNormal self.new) }
         ensures unchanged { OnErr result (self.new ≡ self.old) }
     {
-        self.touched.sort()?;
+        tidy(&mut self.touched, &self.nets)?;
         self.sum = scale_all(&mut self.nets, &self.touched, scaling);
         self.degree = scaled(self.degree, scaling);
         self.level = scaled_level(self.level, scaling);
         Ok(())
     }
 
-    /// Hands over the constraint, and is empty then: without terms, of degree 0. After an error, which is that memory
-    /// ran out, it is as before.
-    pub fn take(&mut self, alloc: Global) -> Result<Normal, CutFault>
+    /// Hands over the constraint, and is empty then: without terms, of degree 0. After an error it is as before.
+    pub fn take(&mut self, alloc: Global) -> Result<Normal, AllocError>
         ensures value { IfOk result (λ n. n ≡ self.old) }
         ensures empty { OnOk result (self.new ≡ nothing) }
         ensures unchanged { OnErr result (self.new ≡ self.old) }
-        ensures others { OnErr result (IsErrOf result CutFault.OutOfMemory) }
     {
-        self.touched.sort()?;
+        tidy(&mut self.touched, &self.nets)?;
         let terms = collect(alloc, &self.nets, &self.touched)?;
-        let taken = finished(terms, self.degree)?;
+        let taken = terms.finish_fitting(self.degree);
         self.clear();
         Ok(taken)
     }

@@ -8,6 +8,8 @@ ghost use Rattle.std.specs.Prelude.{◌≡◌, ◌<◌, ◌≤◌, ℕ, List, po
 ghost use Rattle.normal_form.specs.Normal.{largest_sum};
 ghost use Rattle.accumulate.specs.Nets.{AreCapped, IsMarked, IsMarkedAbove, capped, sizes};
 
+use super::tidying::tidy;
+
 /// A net coefficient of at most this size, on the same side of 0.
 fn capped(net: i128, most: u128) -> i128
     requires { unsigned_abs net ≤ largest_sum }
@@ -56,26 +58,28 @@ fn cap(nets: &mut Vec<i128>, marks: &Vec<u32>, sum: u128, most: u128) -> u128
 }
 
 /// Caps all cells, where those that are above the level were marked lately: so where the level is no higher, only they are looked at.
+/// Else the marks are tidied first, as far as there is memory for that.
 pub(crate) fn cap_all(
     nets: &mut Vec<i128>,
-    touched: &Vec<u32>,
+    touched: &mut Vec<u32>,
     recent: &Vec<u32>,
     level: u128,
     sum: u128,
     most: u128,
 ) -> u128
-    requires touched { IsMarked touched.now.items nets.old.items }
+    requires touched { IsMarked touched.old.items nets.old.items }
     requires recent { IsMarkedAbove level recent.now.items nets.old.items }
     requires sum { sum ≡ sizes nets.old.items }
     requires small { sum ≤ largest_sum }
     ensures capped { AreCapped most nets.old.items nets.new.items }
-    ensures marks { IsMarked touched.now.items nets.new.items }
+    ensures marks { IsMarked touched.new.items nets.new.items }
     ensures sum { result ≡ sizes nets.new.items }
     ensures less { result ≤ sum }
 {
     if level <= most {
         cap(nets, recent, sum, most)
     } else {
+        let _ = tidy(touched, nets);
         cap(nets, touched, sum, most)
     }
 }

@@ -9,5 +9,6 @@ mod capping;
 mod cells;
 mod reading;
 mod scaling;
+mod tidying;
 
 pub use accumulator::Accumulator;

@@ -3,13 +3,13 @@
 //! The marks stand in order then. Between two of them all cells are 0, so the terms that are read rise and none is
 //! missed, and a mark that stands twice is passed over.
 
-ghost use Rattle.std.specs.Prelude.{◌≡◌, ℕ, ◌<◌, ◌≤◌, pos, unsigned_abs, OnErr, IsErrOf, IfOk, [], take, length, slice_index_or};
-ghost use Rattle.normal_form.specs.Normal.{largest_sum, Fits};
+ghost use Rattle.std.specs.Prelude.{◌≡◌, ℕ, ◌<◌, ◌≤◌, pos, unsigned_abs, IfOk, [], take, length, slice_index_or};
+ghost use Rattle.normal_form.specs.Normal.{largest_sum};
 ghost use Rattle.std.specs.List.Sorted.{IsNonDecreasingBy};
 ghost use Rattle.accumulate.specs.Nets.{terms_from, sizes, IsMarked};
 
 use linear::Var;
-use normal_form::{CutFault, Normal, NormalBuilder};
+use normal_form::NormalBuilder;
 use std::alloc::{AllocError, Global};
 
 /// Puts the term of a marked variable at the end, unless the variable was there before.
@@ -54,16 +54,6 @@ pub(crate) fn collect(
         next = push_cell(&mut terms, nets, next, *var)?;
     }
     Ok(terms)
-}
-
-/// The constraint of terms and a degree that are within the limits.
-pub(crate) fn finished(terms: NormalBuilder, degree: u128) -> Result<Normal, CutFault>
-    requires fits { Fits (record { terms = terms; degree = degree }) }
-    ensures terms { IfOk result (λ n. n.terms ≡ terms) }
-    ensures degree { IfOk result (λ n. n.degree ≡ degree) }
-    ensures others { OnErr result (IsErrOf result CutFault.OutOfMemory) }
-{
-    terms.finish(degree)
 }
 
 /// Sets the cells of the marked variables to 0.

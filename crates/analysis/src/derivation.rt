@@ -12,7 +12,7 @@ use linear::{Lit, Var};
 use normal_form::{CutFault, Normal};
 use proof_steps::Item;
 use propagate::Id;
-use std::alloc::Global;
+use std::alloc::{AllocError, Global};
 
 /// A constraint, and the items that write an expression whose value it is.
 #[derive(Debug, Drop)]
@@ -39,7 +39,7 @@ impl Derivation {
     ghost use Rattle.analysis.specs.Lines.{BeginsWith};
 
     /// The constraint of an id.
-    pub(crate) fn cited(alloc: Global, id: Id, constraint: &Normal) -> Result<Self, CutFault>
+    pub(crate) fn cited(alloc: Global, id: Id, constraint: &Normal) -> Result<Self, AllocError>
         ensures begins { IfOk result (λ d. BeginsWith id d.items.items) }
         ensures derived { (given : Given) → given (pos id) ≡ Some constraint.now
             → IfOk result (λ d. IsPostfixOf given d.items.items d.constraint) }
@@ -53,7 +53,7 @@ impl Derivation {
     }
 
     /// The axiom of a literal.
-    pub(crate) fn axiom(alloc: Global, literal: Lit) -> Result<Self, CutFault>
+    pub(crate) fn axiom(alloc: Global, literal: Lit) -> Result<Self, AllocError>
         ensures { (given : Given) → IfOk result (λ d. IsPostfixOf given d.items.items d.constraint) }
     {
         let mut items = Vec::new(alloc);
@@ -69,7 +69,7 @@ impl Derivation {
         alloc: Global,
         sum: &mut Accumulator,
         variables: &[Var],
-    ) -> Result<Self, CutFault>
+    ) -> Result<Self, AllocError>
         ensures derived { (given : Given) → IsPostfixOf given self.items.items self.constraint
             → IfOk result (λ d. IsPostfixOf given d.items.items d.constraint) }
         ensures others { (v : ℕ) (s : Bool) → All (λ x. x.0 ≢ v) variables.now

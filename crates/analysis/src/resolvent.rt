@@ -14,7 +14,7 @@ use linear::Var;
 use normal_form::{CutFault, Normal};
 use proof_steps::Item;
 use propagate::Id;
-use std::alloc::Global;
+use std::alloc::{AllocError, Global};
 
 /// A running sum, and the items that write an expression whose value it is.
 #[derive(Debug, Drop)]
@@ -43,7 +43,7 @@ impl Resolvent {
     }
 
     /// Becomes the constraint of an id.
-    pub(crate) fn begin(&mut self, id: Id, constraint: &Normal) -> Result<(), CutFault>
+    pub(crate) fn begin(&mut self, id: Id, constraint: &Normal) -> Result<(), AllocError>
         ensures begins { OnOk result (BeginsWith id self.new.items.items) }
         ensures derived { (given : Given) → given (pos id) ≡ Some constraint.now → OnOk result (IsPostfixOf given self.new.items.items self.new.sum) }
     {
@@ -78,7 +78,7 @@ impl Resolvent {
     }
 
     /// Saturates it; nothing is written where no coefficient is above the degree.
-    pub(crate) fn saturate(&mut self) -> Result<(), CutFault>
+    pub(crate) fn saturate(&mut self) -> Result<(), AllocError>
         ensures more { OnOk result (GoesOnFrom self.old.items.items self.new.items.items) }
         ensures derived { (given : Given) → IsPostfixOf given self.old.items.items self.old.sum → OnOk result (IsPostfixOf given self.new.items.items self.new.sum) }
     {

@@ -13,7 +13,6 @@ use super::resolvent::Resolvent;
 use super::stop::Stop;
 use super::trail::Trail;
 use accumulate::Accumulator;
-use cut_rules::divide_in_place;
 use linear::{Integer, Lit, Var};
 use proof_steps::Item;
 use std::alloc::{AllocError, Global};
@@ -100,16 +99,14 @@ impl Resolvent {
     }
 
     /// Becomes its quotient, rounded up.
-    fn divide(&mut self, alloc: Global, divisor: u128) -> Result<(), Stop>
+    fn divide(&mut self, divisor: u128) -> Result<(), Stop>
         requires { 0 < divisor }
         ensures more { OnOk result (GoesOnFrom self.old.items.items self.new.items.items) }
         ensures derived { (given : Given) → IsPostfixOf given self.old.items.items self.old.sum → OnOk result (IsPostfixOf given self.new.items.items self.new.sum) }
     {
         let written = written(divisor)?;
         self.items.push(Item::Divide(written))?;
-        let mut constraint = self.sum.take(alloc)?;
-        divide_in_place(&mut constraint, written)?;
-        self.sum.load(&constraint)?;
+        self.sum.divide(written)?;
         Ok(())
     }
 
@@ -124,6 +121,6 @@ impl Resolvent {
         let divisor = divisor_of(&self.sum);
         let open = open_variables(alloc, &self.sum, trail, place)?;
         self.give_up_all(alloc, open.as_slice(), divisor)?;
-        self.divide(alloc, divisor)
+        self.divide(divisor)
     }
 }

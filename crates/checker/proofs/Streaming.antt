@@ -1,16 +1,19 @@
 -- Lines that come from a source: what is judged by them is so of every text that begins as they do.
-use Rattle.std.proofs.Common.{◌≡◌, ◌⊎◌, inl, inr, ℕ, ◌+◌, Bool, true, false, Some, List, [], ◌∷◌, ◌++◌, refl, sym, ap, subst, ◌∙◌, arith}
+use Rattle.std.proofs.Common.{◌≡◌, ◌⊎◌, inl, inr, ℕ, ◌+◌, Bool, true, false, Err, IsErrOf, Some, List, [], ◌∷◌, ◌++◌, refl, sym, ap, subst, ◌∙◌, arith}
 use Rattle.std.proofs.lemmas.List.{append-nil, append_assoc}
 use Rattle.linear.specs.Opb.{Opb}
 use Rattle.kernel.specs.Accepted.{Judgement}
 use Rattle.pb_text.specs.Devices.{SourceState}
 use Rattle.proof_text.specs.Buffered.{Buffered, Comes, GoesOn, IsEmptied, PassesLines, lent}
 use Rattle.proof_text.specs.Lines.{Numbered, breaks, counting_from, lines_of}
+use Rattle.proof_text.specs.declared.line_buffer.LineFault.{LineFault}
+use Rattle.proof_text.specs.declared.line_buffer.LineFault.TheVariants as faults
 use Rattle.proof_text.proofs.LinesBuffered.{passes_on}
 use Rattle.proof_text.proofs.LinesParted.{nothing_left}
 use Rattle.checker.specs.Stopped.{IsStopped, IsTruncated}
 use Rattle.checker.specs.StopsBy.{StopsBy}
-use Rattle.checker.specs.Streamed.{OfStream}
+use Rattle.checker.specs.Streamed.{OfStream, StreamStopsBy}
+use Rattle.checker.specs.StreamStops.{stop_of}
 use Rattle.checker.specs.Verdicts.{IsProved}
 use Rattle.checker.specs.Walk.{IsOver, Position, Reaches}
 use Rattle.checker.specs.declared.stop.Stop.{Stop}
@@ -62,6 +65,11 @@ of_stream_so s t H K brings of = record { pulled = of.pulled; given = of.given; 
     by : ((t.at_end ≡ true) × H of.pulled) ⊎ ((more : List ℕ) → H (of.pulled ++ more)) → ((t.at_end ≡ true) × K of.pulled) ⊎ ((more : List ℕ) → K (of.pulled ++ more))
     by (inl (end, h)) = inl (end, brings of.pulled h)
     by (inr h) = inr (λ more. brings (of.pulled ++ more) (h more))
+
+-- no line comes
+pub stream_fails : (p : Opb) (before source after : SourceState) (fault : LineFault) → source.failures ≡ before.failures → (IsErrOf {T = Bool} (Err fault) faults.ReadFailed → after.failures ≡ source.failures + 1) → StreamStopsBy p before after (stop_of fault)
+stream_fails p before source after faults.ReadFailed same failed = failed refl ∙ ap (λ n. n + 1) same
+stream_fails p before source after faults.OutOfMemory same failed = tt
 
 -- judging stops at this line of what came
 abbrev pub StopsInStream : Opb → SourceState → SourceState → ℕ → Code → Type 0

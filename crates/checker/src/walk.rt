@@ -40,10 +40,7 @@ impl<'a, P: Propagator> Walk<'a, P> {
         ensures begins { IfOk result (λ walk. Reaches problem.now [] (position_of walk)) }
         ensures memory { IfErr result (λ stop. stop ≡ Stop.NoMemory) }
     {
-        let kernel = match Kernel::new(alloc, problem) {
-            Ok(kernel) => kernel,
-            Err(_) => return Err(Stop::NoMemory),
-        };
+        let kernel = Kernel::new(alloc, problem)?;
         Ok(Walk {
             allocator: alloc,
             section: Section::Header,

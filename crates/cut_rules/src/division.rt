@@ -41,15 +41,15 @@ fn divided(alloc: Global, constraint: &Normal, divisor: u128) -> Result<NormalBu
 }
 
 /// The quotient of a constraint.
-fn quotient(alloc: Global, constraint: &Normal, divisor: u128) -> Result<Normal, CutFault>
+fn quotient(alloc: Global, constraint: &Normal, divisor: u128) -> Result<Normal, AllocError>
     requires { 0 < divisor }
     ensures quotient { IfOk result (IsQuotient divisor constraint.now) }
     ensures normal { IfOk result IsNormal }
     ensures keeps { IfOk result (λ r. (a : Valuation) → Holds a constraint.now → Holds a r) }
-    ensures others { OnErr result (IsErrOf result CutFault.OutOfMemory) }
 {
     let terms = divided(alloc, constraint, divisor)?;
-    terms.finish(divided_up(constraint.degree(), divisor))
+    let degree = divided_up(constraint.degree(), divisor);
+    Ok(terms.finish_fitting(degree))
 }
 
 /// All coefficients and the degree divided by a divisor, each rounded up. `BadFactor` comes exactly for a divisor
@@ -64,7 +64,7 @@ pub fn divide(alloc: Global, constraint: &Normal, divisor: i128) -> Result<Norma
     if divisor < 1 {
         return Err(CutFault::BadFactor);
     }
-    quotient(alloc, constraint, divisor.unsigned_abs())
+    Ok(quotient(alloc, constraint, divisor.unsigned_abs())?)
 }
 
 /// Divides each coefficient by a divisor where it stands, rounding up.

@@ -4,14 +4,14 @@
 //! a false one counts for nothing in both. Smaller coefficients make the same constraint force more after additions. No number
 //! becomes greater, so a constraint that nobody else has is saturated where it stands.
 
-ghost use Rattle.std.specs.Prelude.{◌≡◌, ◌<◌, min, IfOk, OnErr, IsErrOf};
+ghost use Rattle.std.specs.Prelude.{◌≡◌, ◌<◌, min, IfOk};
 ghost use Rattle.linear.specs.Valuation.{Valuation};
 ghost use Rattle.normal_form.specs.Normal.{IsNormal, Holds};
 ghost use Rattle.cut_rules.specs.Rules.{IsSaturation};
 ghost use Rattle.cut_rules.specs.Steps.{changed};
 
 use super::changes::push_kept;
-use normal_form::{CutFault, Normal, NormalBuilder};
+use normal_form::{Normal, NormalBuilder};
 use std::alloc::{AllocError, Global};
 
 /// The terms, each coefficient at most the cap.
@@ -28,15 +28,14 @@ fn capped(alloc: Global, constraint: &Normal, cap: u128) -> Result<NormalBuilder
 
 /// Each coefficient becomes the less of itself and the degree; terms that become 0 go. The result is always
 /// within the limits.
-pub fn saturate(alloc: Global, constraint: &Normal) -> Result<Normal, CutFault>
+pub fn saturate(alloc: Global, constraint: &Normal) -> Result<Normal, AllocError>
     ensures saturation { IfOk result (IsSaturation constraint.now) }
     ensures normal { IfOk result IsNormal }
     ensures keeps { IfOk result (λ r. (a : Valuation) → Holds a constraint.now → Holds a r) }
-    ensures others { OnErr result (IsErrOf result CutFault.OutOfMemory) }
 {
     let degree = constraint.degree();
     let terms = capped(alloc, constraint, degree)?;
-    terms.finish(degree)
+    Ok(terms.finish_fitting(degree))
 }
 
 /// Caps each coefficient where it stands.

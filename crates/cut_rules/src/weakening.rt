@@ -3,7 +3,7 @@
 //! It is the sum with the axiom of the opposite literal, as often as the coefficient says: the literals cancel, and
 //! each time the degree falls by 1. Whatever the variable is worth, the other literals make up the rest.
 
-ghost use Rattle.std.specs.Prelude.{◌≡◌, ◌+◌, false, true, IfOk, OnErr, IsErrOf};
+ghost use Rattle.std.specs.Prelude.{◌≡◌, ◌+◌, false, true, IfOk};
 ghost use Rattle.linear.specs.Valuation.{Valuation};
 ghost use Rattle.normal_form.specs.Normal.{IsNormal, Holds, coefficient};
 ghost use Rattle.cut_rules.specs.Rules.{IsWeakening};
@@ -11,7 +11,7 @@ ghost use Rattle.cut_rules.specs.Steps.{changed, less};
 
 use super::changes::push_kept;
 use linear::Var;
-use normal_form::{CutFault, Normal, NormalBuilder, NormalTerm};
+use normal_form::{Normal, NormalBuilder, NormalTerm};
 use std::alloc::{AllocError, Global};
 
 /// The terms without a variable, and the coefficient that went.
@@ -46,13 +46,12 @@ fn without(alloc: Global, constraint: &Normal, var: Var) -> Result<Weakened, All
 
 /// The term of a variable goes, and the degree falls by its coefficient, not below 0; a constraint without the
 /// variable stays as it is. The result is always within the limits.
-pub fn weaken(alloc: Global, constraint: &Normal, var: Var) -> Result<Normal, CutFault>
+pub fn weaken(alloc: Global, constraint: &Normal, var: Var) -> Result<Normal, AllocError>
     ensures weakening { IfOk result (IsWeakening (var.0) constraint.now) }
     ensures normal { IfOk result IsNormal }
     ensures keeps { IfOk result (λ r. (a : Valuation) → Holds a constraint.now → Holds a r) }
-    ensures others { OnErr result (IsErrOf result CutFault.OutOfMemory) }
 {
     let weakened = without(alloc, constraint, var)?;
     let degree = constraint.degree().saturating_sub(weakened.gone);
-    weakened.terms.finish(degree)
+    Ok(weakened.terms.finish_fitting(degree))
 }

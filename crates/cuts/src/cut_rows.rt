@@ -64,9 +64,7 @@ impl CutRows {
             self.left.push(id)?;
             return Ok(());
         }
-        let Ok(saturated) = saturate(self.alloc, constraint) else {
-            return Err(AllocError);
-        };
+        let saturated = saturate(self.alloc, constraint)?;
         self.cuts.reserve(1)?;
         let row = match self.places.pop() {
             Some(place) => sources.replace_row(relaxation, place, id, &saturated)?,

@@ -32,7 +32,7 @@ fn run_item(alloc: Global, stack: &mut Stack<'_>, item: Item) -> Result<(), Step
 {
     match item {
         Item::Id(_) => Err(StepFault::DeadId),
-        Item::Axiom(literal) => stack.push_axiom(alloc, literal),
+        Item::Axiom(literal) => Ok(stack.push_axiom(alloc, literal)?),
         Item::Add => stack.add_top_two(alloc),
         Item::Multiply(factor) => stack.multiply_top(alloc, factor),
         Item::Divide(divisor) => stack.divide_top(alloc, divisor),

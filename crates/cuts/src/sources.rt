@@ -80,10 +80,7 @@ fn add_saturated(
     if !exceeds_degree(constraint) {
         return relaxation.add_row(constraint);
     }
-    match saturate(alloc, constraint) {
-        Ok(saturated) => relaxation.add_row(&saturated),
-        Err(_) => Err(AllocError),
-    }
+    relaxation.add_row(&saturate(alloc, constraint)?)
 }
 
 impl Sources {

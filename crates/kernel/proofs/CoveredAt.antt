@@ -43,6 +43,10 @@ some_and P (Some n) h = (n, refl, h)
 and_some : (P : NormalConstraint → Type 0) (o : Option NormalConstraint) (n : NormalConstraint) → o ≡ Some n → P n → IsSomeAnd o P
 and_some P o n is p = subst (λ (x : Option NormalConstraint). IsSomeAnd x P) (sym is) p
 
+-- what one constraint covers is covered
+pub covered_by_one : (live : Live) (id : ℕ) (n : NormalConstraint) → IsSomeAnd (map.get live id) (λ e. Covers e n) → Any (λ e. Covers e n) (map.values live)
+covered_by_one live id n covered = let e = some_and (λ x. Covers x n) (map.get live id) covered in Any-from_get (λ x. Covers x n) live id e.0 e.1 e.2
+
 pub asking_more : (live : Live) (l : Lit) (n : NormalConstraint) (ids new : IdSet) (id : ℕ) → IsAsking live l n ids → new ≡ set.remove ids id → (IsSomeAnd (map.get live id) (λ e. Covers e n) → ⊥) → IsAsking live l n new
 asking_more live l n ids new id asking is none = subst (IsAsking live l n) (sym is) (record {
   has = λ k h. asking.has k (removed_keeps ids id k h);

@@ -1,5 +1,5 @@
 -- What the steps of a block do, in the words of the kernel's fields.
-use Rattle.std.proofs.Common.{◌≡◌, ℕ, ◌<◌, ◌≤◌, ℤ, Bool, true, false, List, [], ◌++◌, Result, Ok, Err, OnOk, Option, Some, None, MatchOption, IfSome, IsSomeAnd, refl, sym, ap, subst, ◌∙◌, arith}
+use Rattle.std.proofs.Common.{◌≡◌, ℕ, ℤ, Bool, true, false, List, [], ◌++◌, Result, Ok, Err, OnOk, Option, Some, None, MatchOption, IfSome, IsSomeAnd, refl, sym, ap, subst, ◌∙◌, arith}
 use Rattle.std.specs.Result.{is_err}
 use Rattle.std.proofs.lemmas.Bool.{false≢true}
 use Rattle.std.proofs.lemmas.List.{append-nil}
@@ -20,7 +20,7 @@ use Rattle.proof_rules.specs.declared.fault.StepFault.{StepFault}
 use Rattle.proof_rules.specs.declared.fault.StepFault.TheVariants as faults
 use Rattle.proof_rules.specs.Redundant.{IsShownUnder, IsShownNotRaised}
 use Rattle.kernel.specs.Redundance.{AreAskedShown, IsOpenLive}
-use Rattle.proof_rules.specs.Block.{AreLiveShown, Asks, IsUnopened}
+use Rattle.proof_rules.specs.Block.{AreLiveShown, IsUnopened}
 use Rattle.proof_rules.specs.Fault.{OrMemory, IsInsideFault, IsProofGoalFault, IsRedBeginFault, IsUnopenedFault}
 use Rattle.proof_rules.specs.RuleFault.{of_rule}
 use Rattle.proof_rules.specs.Shown.{IsAdmitted, IsShown}

@@ -1,5 +1,5 @@
 -- What is refused outside blocks, in the words of a step that may stand nowhere else.
-use Rattle.std.proofs.Common.{◌≡◌, ◌≢◌, Result, IfErr, None}
+use Rattle.std.proofs.Common.{Result, IfErr}
 use Rattle.std.proofs.lemmas.Result.{IfErr-weaker}
 use Rattle.proof_rules.specs.declared.fault.StepFault.{StepFault}
 use Rattle.proof_rules.specs.declared.fault.StepFault.TheVariants as faults

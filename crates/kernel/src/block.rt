@@ -125,15 +125,14 @@ impl<'a, P: Propagator> Kernel<'a, P> {
     }
 
     /// What a name asks for in a block, if it asks for something there.
-    fn asked_in(&self, block: &OpenBlock, name: GoalName) -> Result<Option<Normal>, StepFault>
+    fn asked_in(&self, block: &OpenBlock, name: GoalName) -> Result<Option<Normal>, AllocError>
         ensures asked { IfOk result (IsAskedIn self.now.problem self.now.state block.now name) }
         ensures within { IfOk result (λ goal. IfSome goal (λ _. IsNameWithin self.now.state.next name)) }
-        ensures memory { OnErr result (IsErrOf result StepFault.OutOfMemory) }
     {
         self.reveal();
         match name {
-            GoalName::Live(number) => Ok(self.live_goal(block, number)?),
-            GoalName::Itself => Ok(block.own_goal(self.allocator)?),
+            GoalName::Live(number) => self.live_goal(block, number),
+            GoalName::Itself => block.own_goal(self.allocator),
             GoalName::Objective => objective_goal(self.allocator, &self.objective, block),
         }
     }
@@ -293,16 +292,15 @@ fn objective_goal(
     alloc: Global,
     objective: &NetObjective,
     block: &OpenBlock,
-) -> Result<Option<Normal>, StepFault>
+) -> Result<Option<Normal>, AllocError>
     ensures opened { block.now.objective ≡ true → IfOk result (λ goal. goal ≡ None) }
     ensures goal { block.now.objective ≡ false → IfOk result (λ goal. MatchOption objective.now (goal ≡ None)
         (λ terms. IsSomeAnd goal (IsObjectiveGoal terms block.now.images))) }
-    ensures memory { OnErr result (IsErrOf result StepFault.OutOfMemory) }
 {
     if block.objective {
         return Ok(None);
     }
-    Ok(objective.goal(alloc, &block.witness)?)
+    objective.goal(alloc, &block.witness)
 }
 
 /// Whether a goal is shown from the live constraints, if one is asked.
@@ -310,10 +308,9 @@ fn shows_asked<P: Propagator>(
     alloc: Global,
     database: &mut Database<P>,
     goal: &Option<Normal>,
-) -> Result<bool, StepFault>
+) -> Result<bool, AllocError>
     ensures same { database.new ≡ database.old }
     ensures shown { IfOk result (λ yes. IsTrue yes ↔ IfSome goal.now (IsShown (map.values database.old.live))) }
-    ensures memory { OnErr result (IsErrOf result StepFault.OutOfMemory) }
 {
     let Some(goal) = goal else {
         return Ok(true);

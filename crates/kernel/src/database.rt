@@ -4,12 +4,13 @@
 ghost use Rattle.std.specs.Prelude.{◌≡◌, ◌≤◌, MatchOption};
 ghost use Rattle.proof_rules.specs.State.{id_limit, id_of};
 
+use super::twins::Twins;
 use linear::{Integer, Lit, Var};
 use normal_form::Normal;
 use propagate::{Decided, Id, Ids, Propagator, Reach, Retrace, Trace};
 use std::alloc::{AllocError, Global};
 use std::marker::Model;
-use substitution::{Substitution, apply, becomes_beyond, covers};
+use substitution::{Image, Substitution, apply, becomes_beyond, covers};
 
 /// Ids are below this number.
 const ID_LIMIT: u64 = 1 << 32;
@@ -19,6 +20,7 @@ const ID_LIMIT: u64 = 1 << 32;
 pub(crate) struct Database<P: Propagator> {
     constraints: P,
     next_id: u64,
+    twins: Twins,
 }
 
 impl<P: Propagator> Model for Database<P> {
@@ -36,8 +38,8 @@ impl<P: Propagator> Model for Database<P> {
 }
 
 impl<P: Propagator> Database<P> {
-    ghost use Rattle.kernel.specs.Redundance.{AddsVariable, IsTouched};
-    ghost use Rattle.std.specs.Prelude.{◌≡◌, ◌↔◌, ◌<◌, ◌≤◌, [], ◌∷◌, ◌++◌, ℕ, IfOk, IsSome, IsSomeAnd, MatchOption, None, IsTrue, OnErr, OnOk};
+    ghost use Rattle.kernel.specs.Redundance.{AddsTouched, IsTouched};
+    ghost use Rattle.std.specs.Prelude.{◌≡◌, ◌↔◌, ◌<◌, ◌≤◌, [], ◌∷◌, ◌++◌, ℕ, Any, IfOk, IsSome, IsSomeAnd, MatchOption, None, IsTrue, OnErr, OnOk};
     ghost use Rattle.normal_form.specs.Normal.{NormalConstraint};
     ghost use Rattle.propagate.specs.Chain.{IsRefuted};
     ghost use Rattle.propagate.specs.Content.{AreDecided, AreTaken, HasLiteral, IsTrace};
@@ -59,6 +61,7 @@ impl<P: Propagator> Database<P> {
         Database {
             constraints: P::empty(alloc),
             next_id: 1,
+            twins: Twins::new(alloc),
         }
     }
 
@@ -96,8 +99,9 @@ impl<P: Propagator> Database<P> {
         requires { 1 < self.old.next }
         ensures { self.new ≡ taken_back self.old }
     {
+        self.remove_id((self.next_id - 1) as u32);
         self.next_id -= 1;
-        self.constraints.remove(self.next_id as u32);
+        self.twins.go_back(self.next_id);
     }
 
     /// Takes out the live constraint that a number in a step means.
@@ -106,7 +110,7 @@ impl<P: Propagator> Database<P> {
         ensures { self.new ≡ removed (id_of self.old.next number) self.old }
     {
         if let Some(id) = id_of(self.next_id, number) {
-            self.constraints.remove(id);
+            self.remove_id(id);
         }
     }
 
@@ -125,7 +129,9 @@ impl<P: Propagator> Database<P> {
     fn remove_id(&mut self, id: Id)
         ensures { self.new ≡ removed id self.old }
     {
-        self.constraints.remove(id);
+        if let Some(constraint) = self.constraints.remove(id) {
+            self.twins.forget(&constraint, id);
+        }
     }
 
     /// Whether the constraint of an id, if there is one, covers another.
@@ -138,6 +144,50 @@ impl<P: Propagator> Database<P> {
         }
     }
 
+    /// Whether a constraint has as many terms as the live one of an id.
+    fn is_as_long(&self, id: Id, constraint: &Normal) -> bool {
+        match self.constraints.get(id) {
+            Some(live) => live.len() == constraint.len(),
+            None => false,
+        }
+    }
+
+    /// Whether what the live constraint of an id has become is seen to be a live one too. Where it is shorter, since literals are fixed, that
+    /// is not looked at.
+    pub(crate) fn has_become_live(&mut self, id: Id, goal: &Normal) -> Result<bool, AllocError>
+        ensures same { self.new ≡ self.old }
+        ensures covered { IfOk result (λ yes. IsTrue yes → Any (λ e. Covers e goal.now) (map.values self.old.live)) }
+    {
+        if !self.is_as_long(id, goal) {
+            return Ok(false);
+        }
+        self.has_twin(goal)
+    }
+
+    /// Whether the newest live constraint with the fingerprint of another covers it, as one that is the same does.
+    pub(crate) fn has_twin(&mut self, constraint: &Normal) -> Result<bool, AllocError>
+        ensures same { self.new ≡ self.old }
+        ensures covered { IfOk result (λ yes. IsTrue yes → Any (λ e. Covers e constraint.now) (map.values self.old.live)) }
+    {
+        self.enter_twins()?;
+        match self.twins.of(constraint) {
+            Some(id) => Ok(self.is_covering(id, constraint)),
+            None => Ok(false),
+        }
+    }
+
+    /// Enters the live constraints that came since that was done last among those that may be twins.
+    fn enter_twins(&mut self) -> Result<(), AllocError>
+        ensures { self.new ≡ self.old }
+    {
+        for id in self.twins.end()..self.next_id {
+            if let Some(constraint) = self.constraints.get(id as u32) {
+                self.twins.enter(constraint, id as u32)?;
+            }
+        }
+        Ok(())
+    }
+
     /// The ids of the live constraints that have a literal.
     pub(crate) fn having(&mut self, alloc: Global, literal: Lit) -> Result<Ids, AllocError>
         ensures same { self.new ≡ self.old }
@@ -148,23 +198,29 @@ impl<P: Propagator> Database<P> {
         Ok(ids)
     }
 
-    /// Adds the ids of the live constraints that have a variable to a set. Where memory runs out the set is gone.
-    fn with_variable(&mut self, variable: Var, ids: Ids) -> Result<Ids, AllocError>
+    /// Adds the ids of the live constraints that have a literal of a variable which the variable's image does not make true to a set. Where
+    /// memory runs out the set is gone.
+    fn with_touched(&mut self, variable: Var, image: Image, ids: Ids) -> Result<Ids, AllocError>
         ensures same { self.new ≡ self.old }
-        ensures added { IfOk result (AddsVariable self.old.live variable ids) }
+        ensures added { IfOk result (AddsTouched self.old.live variable image ids) }
     {
         let literal = Lit {
             var: variable,
             negated: false,
         };
-        let middle = self.constraints.with_occurrences(literal, ids)?;
-        let both = self
-            .constraints
-            .with_occurrences(literal.opposite(), middle)?;
-        Ok(both)
+        match image {
+            Image::Zero => self.constraints.with_occurrences(literal, ids),
+            Image::One => self.constraints.with_occurrences(literal.opposite(), ids),
+            Image::Lit(_) => {
+                let middle = self.constraints.with_occurrences(literal, ids)?;
+                self.constraints
+                    .with_occurrences(literal.opposite(), middle)
+            }
+        }
     }
 
-    /// The ids of the live constraints that have a variable of a witness.
+    /// The ids of the live constraints that have a literal which a witness changes and does not make true. The others show what they
+    /// become.
     pub(crate) fn touched(
         &mut self,
         alloc: Global,
@@ -175,7 +231,7 @@ impl<P: Propagator> Database<P> {
     {
         let mut ids = Ids::empty(alloc);
         for image in witness.as_slice() {
-            ids = self.with_variable(image.0, ids)?;
+            ids = self.with_touched(image.0, image.1, ids)?;
         }
         Ok(ids)
     }

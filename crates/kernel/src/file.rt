@@ -1,7 +1,7 @@
 //! The constraints of a problem's file as the first live ones: one of a `>=`, and two of an equality, the `>=` direction
 //! first. They take the ids 1, 2, .. in order.
 
-ghost use Rattle.std.specs.Prelude.{◌+◌, ◌≤◌, IfOk, OnOk, OnErr, IsErrOf, unsigned_abs};
+ghost use Rattle.std.specs.Prelude.{◌+◌, ◌≤◌, IfOk, OnOk, unsigned_abs};
 ghost use Rattle.linear.specs.Limits.{IsWithin};
 ghost use Rattle.normal_form.specs.Normal.{largest_sum};
 ghost use Rattle.normal_form.specs.NormalOf.{size_sum};
@@ -11,18 +11,16 @@ ghost use Rattle.kernel.specs.File.{AreOfFile, AddsForms};
 use super::database::Database;
 use linear::{Problem, Relation, Signed};
 use normal_form::Normalizer;
-use proof_rules::StepFault;
 use propagate::Propagator;
-use std::alloc::Global;
+use std::alloc::{AllocError, Global};
 
-/// The constraints of a problem's file under their ids. Running out of memory is the only fault.
+/// The constraints of a problem's file under their ids.
 pub(crate) fn constraints_of_file<P: Propagator>(
     alloc: Global,
     problem: &Problem,
-) -> Result<Database<P>, StepFault>
+) -> Result<Database<P>, AllocError>
     ensures file { IfOk result (AreOfFile problem.now.constraints) }
     ensures within { IsWithin problem.now }
-    ensures others { OnErr result (IsErrOf result StepFault.OutOfMemory) }
 {
     let mut database = Database::empty(alloc);
     let mut normalizer = Normalizer::new(alloc);
@@ -37,18 +35,17 @@ fn push_forms<P: Propagator>(
     normalizer: &mut Normalizer,
     database: &mut Database<P>,
     constraint: &Signed,
-) -> Result<(), StepFault>
+) -> Result<(), AllocError>
     requires small { size_sum constraint.now.terms + unsigned_abs constraint.now.right ≤ largest_sum }
     requires room { database.old.next + 2 ≤ id_limit }
-    ensures ok { OnOk result (AddsForms constraint.now database.old database.new) }
-    ensures others { OnErr result (IsErrOf result StepFault.OutOfMemory) }
+    ensures { OnOk result (AddsForms constraint.now database.old database.new) }
 {
     match constraint.relation {
         Relation::AtLeast => {
-            database.push(normalizer.normalize(constraint)?)?;
+            database.push(normalizer.normalize_fitting(constraint)?)?;
         }
         Relation::Equal => {
-            let (at_least, at_most) = normalizer.both(constraint)?;
+            let (at_least, at_most) = normalizer.both_fitting(constraint)?;
             database.push(at_least)?;
             database.push(at_most)?;
         }

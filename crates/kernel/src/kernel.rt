@@ -13,7 +13,7 @@ use pol_stack::Accumulator;
 use proof_rules::StepFault;
 use proof_steps::Step;
 use propagate::{Id, Propagator};
-use std::alloc::Global;
+use std::alloc::{AllocError, Global};
 use std::marker::Model;
 use substitution::NetObjective;
 
@@ -63,11 +63,10 @@ impl<'a, P: Propagator> Kernel<'a, P> {
     ghost use Rattle.proof_rules.specs.State.{IsStart, HasRoom, IsOutside, constraints, with_constraint};
     ghost use Rattle.kernel.specs.Held.{IsKept, HasAtLeast, given_id};
 
-    /// The kernel of a problem's file. Running out of memory is the only fault.
-    pub fn new(alloc: Global, problem: &'a Problem) -> Result<Self, StepFault>
+    /// The kernel of a problem's file.
+    pub fn new(alloc: Global, problem: &'a Problem) -> Result<Self, AllocError>
         ensures problem { IfOk result (λ k. k.problem ≡ problem.now) }
         ensures start { IfOk result (λ k. IsStart problem.now k.state) }
-        ensures others { OnErr result (IsErrOf result StepFault.OutOfMemory) }
     {
         let database = constraints_of_file(alloc, problem)?;
         let problem_ids = database.next_id() - 1;
@@ -155,9 +154,8 @@ impl<'a, P: Propagator> Kernel<'a, P> {
 
     /// Has what the live constraints force by themselves found, where no question did so. A propagator keeps that from question to question;
     /// what it finds first in a block it would give up at the block's end, and find anew in the next one.
-    fn settle(&mut self) -> Result<(), StepFault>
-        ensures same { self.new ≡ self.old }
-        ensures memory { OnErr result (IsErrOf result StepFault.OutOfMemory) }
+    fn settle(&mut self) -> Result<(), AllocError>
+        ensures { self.new ≡ self.old }
     {
         let _is_refuted = self.database.refute(&[])?;
         Ok(())
@@ -177,11 +175,10 @@ impl<'a, P: Propagator> Kernel<'a, P> {
         Ok(Applied { id: Some(id) })
     }
 
-    /// Whether a constraint is shown from the live ones. Running out of memory is the only fault.
-    pub(crate) fn shows(&mut self, constraint: &Normal) -> Result<bool, StepFault>
+    /// Whether a constraint is shown from the live ones.
+    pub(crate) fn shows(&mut self, constraint: &Normal) -> Result<bool, AllocError>
         ensures same { self.new ≡ self.old }
         ensures shown { IfOk result (λ found. IsTrue found ↔ IsShown (constraints self.old.state) constraint.now) }
-        ensures memory { OnErr result (IsErrOf result StepFault.OutOfMemory) }
     {
         let mut beside = Vec::new(self.allocator);
         is_shown(self.allocator, &mut self.database, &mut beside, constraint)

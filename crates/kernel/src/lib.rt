@@ -22,6 +22,7 @@ mod redundance;
 mod rup;
 mod shown;
 mod solution;
+mod twins;
 mod values;
 
 pub use accepted::Accepted;

@@ -3,7 +3,7 @@
 //! A better solution is one whose objective is at most some number; written as `>=`, the same terms with their signs changed.
 //! What an improving solution adds and what a lower bound has to show are both such a constraint, so they are made here.
 
-ghost use Rattle.std.specs.Prelude.{◌≡◌, ◌+◌, ◌-ℤ◌, ◌≤◌, IfErr, IfOk, IsErrOf, OnErr, map, pos, unsigned_abs};
+ghost use Rattle.std.specs.Prelude.{◌≡◌, ◌+◌, ◌-ℤ◌, ◌≤◌, IfErr, IfOk, map, pos, unsigned_abs};
 ghost use Rattle.normal_form.specs.Normal.{Fits, IsNormal, largest_sum};
 ghost use Rattle.normal_form.specs.NormalOf.{IsNormalOf, sign_changed, size_sum};
 ghost use Rattle.linear.specs.Largest.{largest_objective};
@@ -12,16 +12,15 @@ ghost use Rattle.proof_rules.specs.Fault.{OrMemory};
 ghost use Rattle.kernel.specs.Held.{IsUnfit};
 
 use linear::{Integer, Relation, Seq, Signed, Term};
-use normal_form::{Normal, normalize};
+use normal_form::{Normal, normalize, normalize_fitting};
 use proof_rules::StepFault;
 use std::alloc::{AllocError, Global};
 
 /// `objective <= value - 1`, which asks for what is worth less. It is always within the limits.
-pub(crate) fn below(alloc: Global, objective: &[Term], value: Integer) -> Result<Normal, StepFault>
+pub(crate) fn below(alloc: Global, objective: &[Term], value: Integer) -> Result<Normal, AllocError>
     requires objective { size_sum objective.now ≤ largest_objective }
     requires value { unsigned_abs value ≤ largest_objective }
-    ensures form { IfOk result (IsNormalOf (at_most objective.now (value -ℤ pos 1))) }
-    ensures memory { OnErr result (IsErrOf result StepFault.OutOfMemory) }
+    ensures { IfOk result (IsNormalOf (at_most objective.now (value -ℤ pos 1))) }
 {
     let constraint = Signed {
         terms: Seq::from_vec(negated(alloc, objective)?),
@@ -62,13 +61,12 @@ fn form(alloc: Global, constraint: &Signed) -> Result<Normal, StepFault>
 }
 
 /// The normal form of a constraint that is small enough to have one within the limits.
-fn small_form(alloc: Global, constraint: &Signed) -> Result<Normal, StepFault>
+fn small_form(alloc: Global, constraint: &Signed) -> Result<Normal, AllocError>
     requires relation { constraint.now.relation ≡ Relation.AtLeast }
     requires small { size_sum constraint.now.terms + unsigned_abs constraint.now.right ≤ largest_sum }
-    ensures form { IfOk result (IsNormalOf constraint.now) }
-    ensures memory { OnErr result (IsErrOf result StepFault.OutOfMemory) }
+    ensures { IfOk result (IsNormalOf constraint.now) }
 {
-    Ok(normalize(alloc, constraint)?)
+    normalize_fitting(alloc, constraint)
 }
 
 /// Terms with their signs changed.

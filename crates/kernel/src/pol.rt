@@ -101,7 +101,7 @@ fn apply_item<'a, P: Propagator>(
 {
     match item {
         Item::Id(id) => cite(database, stack, id),
-        Item::Axiom(literal) => stack.push_axiom(alloc, literal),
+        Item::Axiom(literal) => Ok(stack.push_axiom(alloc, literal)?),
         Item::Add => stack.add_top_two(alloc),
         Item::Multiply(factor) => stack.multiply_top(alloc, factor),
         Item::Divide(divisor) => stack.divide_top(alloc, divisor),

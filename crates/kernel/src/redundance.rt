@@ -1,11 +1,11 @@
 //! `red`: a constraint is added that need not follow, where a witness turns every solution that it forbids into one that is
 //! no worse (redundance-based strengthening, after the VeriPB format). The goals are judged in order: the live constraints by
 //! rising id, the new one, the objective; each is shown from the live ones beside the negation of the new one. Most live
-//! constraints have no variable of the witness, and become themselves. They are not looked at: the propagator says which ones
-//! have a variable, so that a step costs what its witness touches, however large the database is; and of a long constraint that shows
-//! what it becomes, its terms of the witness' variables alone are looked at.
+//! constraints have no literal that the witness makes false or another one. These become themselves or less, and are not looked at: the
+//! propagator says which ones have such a literal, so that a step costs what its witness touches, however large the database is. Of a
+//! long constraint that shows what it becomes, its terms of the witness' variables alone are looked at.
 
-ghost use Rattle.std.specs.Prelude.{◌≡◌, ◌↔◌, ◌++◌, false, Some, All, IfOk, IfErr, IsErrOf, IsTrue, OnErr, OnOk};
+ghost use Rattle.std.specs.Prelude.{◌≡◌, ◌↔◌, ◌++◌, false, Some, All, IfOk, IfErr, IsTrue, OnErr, OnOk};
 ghost use Rattle.std.specs.FinMap as map;
 ghost use Rattle.linear.specs.declared.constraint.Relation.TheVariants.{AtLeast};
 ghost use Rattle.normal_form.specs.Normal.{NormalConstraint, Rises};
@@ -13,6 +13,7 @@ ghost use Rattle.proof_rules.specs.Fault.{OrMemory, IsRedFault};
 ghost use Rattle.proof_rules.specs.Legal.{LegalRed};
 ghost use Rattle.proof_rules.specs.State.{IsOutside};
 ghost use Rattle.proof_rules.specs.Redundant.{IsShownUnder};
+ghost use Rattle.proof_rules.specs.Shown.{IsShown};
 ghost use Rattle.kernel.specs.Redundance.{AreAskedShown, AreGoalsShown, IsAsked, IsGoalOpen, IsOpenLive};
 
 use super::admission::admitted;
@@ -23,7 +24,7 @@ use linear::Signed;
 use normal_form::{Normal, negate};
 use proof_rules::StepFault;
 use propagate::{Id, Ids, Propagator};
-use std::alloc::Global;
+use std::alloc::{AllocError, Global};
 use substitution::{Substitution, apply};
 
 impl<'a, P: Propagator> Kernel<'a, P> {
@@ -87,8 +88,7 @@ impl<'a, P: Propagator> Kernel<'a, P> {
 }
 
 /// Judges what live constraints become under the witness, by rising id: those under ids below an end whose goals were not opened
-/// in a block; `red` asks it of all. Only those that have a variable of the witness are
-/// looked at: the others become themselves.
+/// in a block; `red` asks it of all. Only those that the witness touches are looked at: the others show what they become.
 pub(crate) fn judge_live<P: Propagator>(
     alloc: Global,
     database: &mut Database<P>,
@@ -121,14 +121,13 @@ fn shows_asked<P: Propagator>(
     witness: &Substitution,
     end: u64,
     opened: &Ids,
-) -> Result<bool, StepFault>
+) -> Result<bool, AllocError>
     ensures same { database.new ≡ database.old }
     ensures beside { beside.new.items ≡ beside.old.items }
     ensures shown { IfOk result (λ yes. (n : NormalConstraint) → map.get database.old.live id ≡ Some n → IsTrue yes → IsAsked end opened.now id
         → IsShownUnder (map.values database.old.live ++ beside.old.items) witness.now n) }
     ensures unshown { IfOk result (λ yes. yes ≡ false → IsAsked end opened.now id × ((n : NormalConstraint) → map.get database.old.live id ≡ Some n
         → IsShownUnder (map.values database.old.live ++ beside.old.items) witness.now n → ⊥)) }
-    ensures memory { OnErr result (IsErrOf result StepFault.OutOfMemory) }
 {
     if u64::from(id) >= end || opened.contains(id) {
         return Ok(true);
@@ -143,15 +142,33 @@ fn shows_live<P: Propagator>(
     beside: &mut Vec<Normal>,
     id: Id,
     witness: &Substitution,
-) -> Result<bool, StepFault>
+) -> Result<bool, AllocError>
     ensures same { database.new ≡ database.old }
     ensures beside { beside.new.items ≡ beside.old.items }
     ensures shown { IfOk result (λ yes. (n : NormalConstraint) → map.get database.old.live id ≡ Some n
         → IsTrue yes ↔ IsShownUnder (map.values database.old.live ++ beside.old.items) witness.now n) }
-    ensures memory { OnErr result (IsErrOf result StepFault.OutOfMemory) }
 {
     let Some(goal) = database.becoming(alloc, id, witness)? else {
         return Ok(true);
     };
-    is_shown(alloc, database, beside, &goal)
+    shows_goal(alloc, database, beside, id, &goal)
+}
+
+/// Whether a goal is shown, that comes from the live constraint of an id. A symmetry makes a live constraint of it, which is seen before
+/// anything is propagated.
+fn shows_goal<P: Propagator>(
+    alloc: Global,
+    database: &mut Database<P>,
+    beside: &mut Vec<Normal>,
+    id: Id,
+    goal: &Normal,
+) -> Result<bool, AllocError>
+    ensures same { database.new ≡ database.old }
+    ensures beside { beside.new.items ≡ beside.old.items }
+    ensures shown { IfOk result (λ yes. IsTrue yes ↔ IsShown (map.values database.old.live ++ beside.old.items) goal.now) }
+{
+    if database.has_become_live(id, goal)? {
+        return Ok(true);
+    }
+    is_shown(alloc, database, beside, goal)
 }

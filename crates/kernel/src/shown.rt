@@ -4,7 +4,7 @@
 //! shows most of what is written. What it does not show may be covered, by a constraint that shares literals with the wanted
 //! one: those are asked, literal by literal, and no others. The database is asked, and never copied.
 
-ghost use Rattle.std.specs.Prelude.{◌≡◌, ◌↔◌, ◌<◌, ◌++◌, ◌∷◌, [], Any, IfOk, OnErr, IsErrOf, IsTrue};
+ghost use Rattle.std.specs.Prelude.{◌≡◌, ◌↔◌, ◌<◌, ◌++◌, ◌∷◌, [], Any, IfOk, IsTrue};
 ghost use Rattle.std.specs.FinMap as map;
 ghost use Rattle.propagate.specs.Chain.{IsRefuted};
 ghost use Rattle.substitution.specs.Covering.{Covers};
@@ -13,23 +13,21 @@ ghost use Rattle.kernel.specs.Covered.{HasContradiction, IsCoveredAt};
 
 use super::database::Database;
 use linear::Lit;
-use normal_form::{Normal, negate};
-use proof_rules::StepFault;
+use normal_form::{Normal, negate_above_zero};
 use propagate::Propagator;
-use std::alloc::Global;
+use std::alloc::{AllocError, Global};
 use substitution::covers;
 
-/// Whether a constraint is shown from the live constraints and those beside them. Running out of memory is the only fault.
+/// Whether a constraint is shown from the live constraints and those beside them.
 pub(crate) fn is_shown<P: Propagator>(
     alloc: Global,
     database: &mut Database<P>,
     beside: &mut Vec<Normal>,
     constraint: &Normal,
-) -> Result<bool, StepFault>
+) -> Result<bool, AllocError>
     ensures same { database.new ≡ database.old }
     ensures beside { beside.new.items ≡ beside.old.items }
     ensures shown { IfOk result (λ yes. IsTrue yes ↔ IsShown (map.values database.old.live ++ beside.old.items) constraint.now) }
-    ensures memory { OnErr result (IsErrOf result StepFault.OutOfMemory) }
 {
     if constraint.degree() == 0 {
         return Ok(true);
@@ -37,7 +35,7 @@ pub(crate) fn is_shown<P: Propagator>(
     if is_covered_by(beside.as_slice(), constraint) {
         return Ok(true);
     }
-    let negation = negate(alloc, constraint)?;
+    let negation = negate_above_zero(alloc, constraint)?;
     if is_refuted_beside(database, beside, negation)? {
         return Ok(true);
     }
@@ -48,13 +46,12 @@ pub(crate) fn is_shown<P: Propagator>(
 fn is_refuted_with<P: Propagator>(
     database: &mut Database<P>,
     last: Normal,
-) -> Result<bool, StepFault>
+) -> Result<bool, AllocError>
     ensures same { database.new ≡ database.old }
     ensures refuted { IfOk result (λ yes. IsTrue yes ↔ IsRefuted (map.values database.old.live ++ last ∷ [])) }
-    ensures memory { OnErr result (IsErrOf result StepFault.OutOfMemory) }
 {
     let alone = [last];
-    Ok(database.refute(&alone)?)
+    database.refute(&alone)
 }
 
 /// Whether the live constraints are refuted beside some others and one more. Outside blocks there are no others, and then no list
@@ -63,11 +60,10 @@ fn is_refuted_beside<P: Propagator>(
     database: &mut Database<P>,
     beside: &mut Vec<Normal>,
     last: Normal,
-) -> Result<bool, StepFault>
+) -> Result<bool, AllocError>
     ensures same { database.new ≡ database.old }
     ensures beside { beside.new.items ≡ beside.old.items }
     ensures refuted { IfOk result (λ yes. IsTrue yes ↔ IsRefuted ((map.values database.old.live ++ beside.old.items) ++ last ∷ [])) }
-    ensures memory { OnErr result (IsErrOf result StepFault.OutOfMemory) }
 {
     if beside.is_empty() {
         return is_refuted_with(database, last);
@@ -90,19 +86,35 @@ fn is_covered_by(constraints: &[Normal], constraint: &Normal) -> bool
     false
 }
 
-/// Whether a live constraint covers this one, where none is a contradiction by itself. What a constraint has in common with one
-/// that it covers is worth at least the degree of that one, so a few literals may be passed over: those of the first variables,
-/// which stand in most constraints as a rule, while those that the proof itself has brought in come last.
+/// Whether a live constraint covers this one, where none is a contradiction by itself. One that is the same is found at once.
 fn is_covered<P: Propagator>(
     alloc: Global,
     database: &mut Database<P>,
     constraint: &Normal,
-) -> Result<bool, StepFault>
+) -> Result<bool, AllocError>
     requires degree { 0 < constraint.now.degree }
     requires consistent { HasContradiction (map.values database.old.live) → ⊥ }
     ensures same { database.new ≡ database.old }
     ensures covered { IfOk result (λ yes. IsTrue yes ↔ Any (λ e. Covers e constraint.now) (map.values database.old.live)) }
-    ensures memory { OnErr result (IsErrOf result StepFault.OutOfMemory) }
+{
+    if database.has_twin(constraint)? {
+        return Ok(true);
+    }
+    is_covered_at_literals(alloc, database, constraint)
+}
+
+/// The same, by those that share literals with it. What a constraint has in common with one that it covers is worth at least the degree of
+/// that one, so a few literals may be passed over: those of the first variables, which stand in most constraints as a rule, while those that
+/// the proof itself has brought in come last.
+fn is_covered_at_literals<P: Propagator>(
+    alloc: Global,
+    database: &mut Database<P>,
+    constraint: &Normal,
+) -> Result<bool, AllocError>
+    requires degree { 0 < constraint.now.degree }
+    requires consistent { HasContradiction (map.values database.old.live) → ⊥ }
+    ensures same { database.new ≡ database.old }
+    ensures covered { IfOk result (λ yes. IsTrue yes ↔ Any (λ e. Covers e constraint.now) (map.values database.old.live)) }
 {
     let mut place = constraint.len();
     let mut unasked = constraint.sum();
@@ -123,10 +135,9 @@ fn is_covered_at<P: Propagator>(
     database: &mut Database<P>,
     literal: Lit,
     constraint: &Normal,
-) -> Result<bool, StepFault>
+) -> Result<bool, AllocError>
     ensures same { database.new ≡ database.old }
     ensures covered { IfOk result (λ yes. IsTrue yes ↔ IsCoveredAt (map.values database.old.live) literal constraint.now) }
-    ensures memory { OnErr result (IsErrOf result StepFault.OutOfMemory) }
 {
     let mut ids = database.having(alloc, literal)?;
     while let Some(id) = ids.pop_first() {

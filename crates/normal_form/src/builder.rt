@@ -110,4 +110,14 @@ impl NormalBuilder {
     {
         Normal::from_parts(self.terms, self.capped_sum, degree)
     }
+
+    /// The same where both are within the limits: neither the sum of the terms nor the degree is above `2^120`.
+    pub fn finish_fitting(self, degree: u128) -> Normal
+        requires { Fits (record { terms = self; degree = degree }) }
+        ensures terms { result.terms ≡ self }
+        ensures degree { result.degree ≡ degree }
+        ensures normal { IsNormal result }
+    {
+        Normal::from_fitting(self.terms, self.capped_sum, degree)
+    }
 }

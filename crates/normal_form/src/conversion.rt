@@ -20,7 +20,7 @@ use super::merging::{merge, sizes_fit};
 use super::normal::Normal;
 use super::opposites::flip;
 use linear::{Relation, Signed, Term};
-use std::alloc::Global;
+use std::alloc::{AllocError, Global};
 
 /// The form of a constraint read as `>=`, of its merged terms.
 fn at_least(merged: NormalBuilder, constraint: &Signed) -> Result<Normal, CutFault>
@@ -120,6 +120,34 @@ impl Normalizer {
         let turned = flip(self.allocator, merged.terms())?;
         Ok((at_least(merged, constraint)?, at_most(turned, constraint)?))
     }
+
+    /// The normal form of a constraint with `>=` that is within the limits.
+    pub fn normalize_fitting(&mut self, constraint: &Signed) -> Result<Normal, AllocError>
+        requires relation { constraint.now.relation ≡ Relation.AtLeast }
+        requires fits { IsTooLarge constraint.now → ⊥ }
+        ensures form { IfOk result (IsNormalOf constraint.now) }
+        ensures normal { IfOk result IsNormal }
+        ensures same { IfOk result (λ n. (a : Valuation) → Holds a n ↔ Meets a constraint.now) }
+    {
+        match self.normalize(constraint) {
+            Ok(form) => Ok(form),
+            Err(_) => Err(AllocError),
+        }
+    }
+
+    /// The two normal forms of an equality of which the sizes of the coefficients and of the right side together are at most `2^120`.
+    pub fn both_fitting(&mut self, constraint: &Signed) -> Result<(Normal, Normal), AllocError>
+        requires relation { constraint.now.relation ≡ Relation.Equal }
+        requires small { size_sum constraint.now.terms + unsigned_abs constraint.now.right ≤ largest_sum }
+        ensures form { IfOk result (λ p. IsBothOf constraint.now p.0 p.1) }
+        ensures normal { IfOk result (λ p. IsNormal p.0 × IsNormal p.1) }
+        ensures same { IfOk result (λ p. (a : Valuation) → (Holds a p.0 × Holds a p.1) ↔ Meets a constraint.now) }
+    {
+        match self.both(constraint) {
+            Ok(forms) => Ok(forms),
+            Err(_) => Err(AllocError),
+        }
+    }
 }
 
 /// The normal form of a constraint with `>=`, of whoever makes one alone.
@@ -135,6 +163,18 @@ pub fn normalize(alloc: Global, constraint: &Signed) -> Result<Normal, CutFault>
 {
     let mut normalizer = Normalizer::new(alloc);
     normalizer.normalize(constraint)
+}
+
+/// The normal form of a constraint with `>=` that is within the limits, of whoever makes one alone.
+pub fn normalize_fitting(alloc: Global, constraint: &Signed) -> Result<Normal, AllocError>
+    requires relation { constraint.now.relation ≡ Relation.AtLeast }
+    requires fits { IsTooLarge constraint.now → ⊥ }
+    ensures form { IfOk result (IsNormalOf constraint.now) }
+    ensures normal { IfOk result IsNormal }
+    ensures same { IfOk result (λ n. (a : Valuation) → Holds a n ↔ Meets a constraint.now) }
+{
+    let mut normalizer = Normalizer::new(alloc);
+    normalizer.normalize_fitting(constraint)
 }
 
 /// The two normal forms of an equality, of whoever makes them alone.

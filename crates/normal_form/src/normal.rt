@@ -56,11 +56,23 @@ impl Normal {
         if capped_sum > LARGEST_SUM || degree > LARGEST_SUM {
             return Err(CutFault::TooLarge);
         }
-        Ok(Normal {
+        Ok(Normal::from_fitting(terms, capped_sum, degree))
+    }
+
+    /// The constraint of these terms with this degree, which are within the limits.
+    pub(crate) fn from_fitting(terms: Terms, capped_sum: u128, degree: u128) -> Normal
+        requires rises { Rises 0 terms }
+        requires sum { capped_sum ≡ min (total terms) (2 ^ 128 - 1) }
+        requires fits { Fits (record { terms = terms; degree = degree }) }
+        ensures terms { result.terms ≡ terms }
+        ensures degree { result.degree ≡ degree }
+        ensures normal { IsNormal result }
+    {
+        Normal {
             terms,
             coefficient_sum: capped_sum,
             bound: degree,
-        })
+        }
     }
 
     /// How many terms it has: as many as variables occur.

@@ -5,7 +5,7 @@
 
 use cut_rules::{divide, divide_in_place, multiply, saturate, saturate_in_place};
 use normal_form::{CutFault, Normal};
-use std::alloc::Global;
+use std::alloc::{AllocError, Global};
 
 /// A constraint on the stack.
 #[derive(Debug, Drop)]
@@ -93,11 +93,10 @@ impl<'a> Operand<'a> {
         }
     }
 
-    /// Saturates it. Running out of memory is the only fault, and after it all is as before.
-    pub(crate) fn saturate(&mut self, alloc: Global) -> Result<(), CutFault>
+    /// Saturates it. After an error it is as before.
+    pub(crate) fn saturate(&mut self, alloc: Global) -> Result<(), AllocError>
         ensures saturation { OnOk result (IsSaturation (operand_value self.old) (operand_value self.new)) }
         ensures err { OnErr result (operand_value self.new ≡ operand_value self.old) }
-        ensures memory { OnErr result (IsErrOf result CutFault.OutOfMemory) }
     {
         match self {
             Operand::Live(lent) => {

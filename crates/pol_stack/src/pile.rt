@@ -17,9 +17,9 @@ ghost use Rattle.pol_stack.specs.Stack.{stack_of, with_sum, stacked};
 use super::operand::Operand;
 use accumulate::Accumulator;
 use linear::Var;
-use normal_form::{CutFault, Normal};
+use normal_form::Normal;
 use proof_rules::StepFault;
-use std::alloc::Global;
+use std::alloc::{AllocError, Global};
 use std::marker::Model;
 
 /// What the accumulator of a pile holds.
@@ -65,10 +65,9 @@ fn read_off<'a>(
     held: &mut Held,
     sum: &mut Accumulator,
     below: &mut Vec<Operand<'a>>,
-) -> Result<(), CutFault>
+) -> Result<(), AllocError>
     ensures same { with_sum held.new sum.new (stack_of below.new.items) ≡ with_sum held.old sum.old (stack_of below.old.items) }
     ensures held { OnOk result (held.new ≡ Held.Nothing) }
-    ensures memory { OnErr result (IsErrOf result CutFault.OutOfMemory) }
 {
     match *held {
         Held::Nothing => Ok(()),
@@ -89,11 +88,10 @@ fn put_away<'a>(
     sum: &mut Accumulator,
     above: &mut Vec<Operand<'a>>,
     below: &mut Vec<Operand<'a>>,
-) -> Result<(), CutFault>
+) -> Result<(), AllocError>
     ensures same { stacked above.new.items held.new sum.new below.new.items ≡ stacked above.old.items held.old sum.old below.old.items }
     ensures above { OnOk result (above.new.items ≡ []) }
     ensures held { OnOk result (held.new ≡ Held.Nothing) }
-    ensures memory { OnErr result (IsErrOf result CutFault.OutOfMemory) }
 {
     read_off(alloc, held, sum, below)?;
     below.append(above)?;
@@ -138,11 +136,10 @@ impl<'a> Pile<'a> {
         }
     }
 
-    /// Takes the operand on top. A running sum there is read off; running out of memory for that is the only fault.
-    pub(crate) fn pop(&mut self, alloc: Global) -> Result<Option<Operand<'a>>, CutFault>
+    /// Takes the operand on top. A running sum there is read off, which takes memory.
+    pub(crate) fn pop(&mut self, alloc: Global) -> Result<Option<Operand<'a>>, AllocError>
         ensures top { IfOk result (λ top. MatchOption top ((self.old ≡ []) × (self.new ≡ [])) (λ o. self.old ≡ operand_value o ∷ self.new)) }
         ensures err { OnErr result (self.new ≡ self.old) }
-        ensures memory { OnErr result (IsErrOf result CutFault.OutOfMemory) }
     {
         if let Some(operand) = self.above.pop() {
             return Ok(Some(operand));
@@ -219,10 +216,9 @@ impl<'a> Pile<'a> {
         alloc: Global,
         constraint: &Normal,
         var: Var,
-    ) -> Result<(), CutFault>
+    ) -> Result<(), AllocError>
         ensures ok { OnOk result (IsWeakeningOnTop (var.0) constraint.now self.old self.new) }
         ensures err { OnErr result (self.new ≡ self.old) }
-        ensures memory { OnErr result (IsErrOf result CutFault.OutOfMemory) }
     {
         put_away(
             alloc,

@@ -3,7 +3,7 @@
 //! The two operands on top are held in hands, and the others stand on a pile. So most lines, which have no more than two at a time, need no
 //! memory for their stack, and an operand that a rule refuses goes back into the hand that it came from: a refusal changes nothing.
 
-ghost use Rattle.std.specs.Prelude.{◌≡◌, ◌↔◌, None, ◌∷◌, ◌++◌, [], IsTrue, MatchOption, IfOk, IfErr, OnOk, OnErr, IsErrOf};
+ghost use Rattle.std.specs.Prelude.{◌≡◌, ◌↔◌, None, ◌∷◌, ◌++◌, [], IsTrue, MatchOption, IfOk, IfErr, OnOk, OnErr};
 ghost use Rattle.pol_stack.specs.Stack.{operand_value, in_hand, with_hands, IsAddedOnTop, IsSumOnTop, IsSumFault, IsWeakeningOnTop};
 ghost use Rattle.proof_rules.specs.Fault.{OrMemory, IsAddFault};
 
@@ -12,7 +12,7 @@ use super::pile::Pile;
 use accumulate::Accumulator;
 use cut_rules::{add, axiom, weaken};
 use linear::{Lit, Var};
-use normal_form::{CutFault, Normal};
+use normal_form::Normal;
 use proof_rules::StepFault;
 use std::alloc::{AllocError, Global};
 use std::marker::Model;
@@ -35,14 +35,13 @@ impl<'a> Model for Stack<'a> {
     ghost view = { λ s. with_hands s.top s.under s.pile };
 }
 
-/// Takes the operand on top: out of a hand, or else from the pile. A running sum there is read off; running out of memory for that is the
-/// only fault.
+/// Takes the operand on top: out of a hand, or else from the pile. A running sum there is read off, which takes memory.
 fn take_top<'a>(
     alloc: Global,
     top: &mut Option<Operand<'a>>,
     under: &mut Option<Operand<'a>>,
     pile: &mut Pile<'a>,
-) -> Result<Option<Operand<'a>>, CutFault>
+) -> Result<Option<Operand<'a>>, AllocError>
     ensures taken { IfOk result (λ taken. MatchOption
         taken
         ((with_hands top.old under.old pile.old ≡ []) × (with_hands top.new under.new pile.new ≡ []))
@@ -50,7 +49,6 @@ fn take_top<'a>(
     ensures top { top.new ≡ None }
     ensures under { top.old ≡ None → under.new ≡ None }
     ensures err { OnErr result (with_hands top.new under.new pile.new ≡ with_hands top.old under.old pile.old) }
-    ensures memory { OnErr result (IsErrOf result CutFault.OutOfMemory) }
 {
     if let Some(operand) = top.take() {
         return Ok(Some(operand));
@@ -74,6 +72,7 @@ fn add_apart<'a>(
 {
     if pile.is_cheap_to_copy(left, right) {
         let made = add(alloc, left.constraint(), right.constraint())?;
+        pile.count_copy(made.len());
         return Ok(Some(Operand::Sum(made)));
     }
     pile.start_sum(alloc, left.constraint(), right.constraint())?;
@@ -114,14 +113,13 @@ fn take_under<'a>(
     alloc: Global,
     under: &mut Option<Operand<'a>>,
     pile: &mut Pile<'a>,
-) -> Result<Option<Operand<'a>>, CutFault>
+) -> Result<Option<Operand<'a>>, AllocError>
     ensures taken { IfOk result (λ taken. MatchOption
         taken
         ((in_hand under.old ++ pile.old ≡ []) × (in_hand under.new ++ pile.new ≡ []))
         (λ o. in_hand under.old ++ pile.old ≡ operand_value o ∷ pile.new)) }
     ensures under { under.new ≡ None }
     ensures err { OnErr result (in_hand under.new ++ pile.new ≡ in_hand under.old ++ pile.old) }
-    ensures memory { OnErr result (IsErrOf result CutFault.OutOfMemory) }
 {
     if let Some(operand) = under.take() {
         return Ok(Some(operand));
@@ -134,10 +132,9 @@ fn is_empty<'a>(
     alloc: Global,
     under: &mut Option<Operand<'a>>,
     pile: &mut Pile<'a>,
-) -> Result<bool, CutFault>
+) -> Result<bool, AllocError>
     ensures same { in_hand under.new ++ pile.new ≡ in_hand under.old ++ pile.old }
     ensures empty { IfOk result (λ yes. IsTrue yes ↔ (in_hand under.old ++ pile.old ≡ [])) }
-    ensures memory { OnErr result (IsErrOf result CutFault.OutOfMemory) }
 {
     match take_under(alloc, under, pile)? {
         None => Ok(true),
@@ -155,14 +152,13 @@ fn weaken_apart<'a>(
     pile: &mut Pile<'a>,
     operand: &Operand<'a>,
     var: Var,
-) -> Result<Option<Operand<'a>>, CutFault>
+) -> Result<Option<Operand<'a>>, AllocError>
     ensures ok { IfOk result (λ held. IsWeakeningOnTop
         (var.0)
         (operand_value operand.now)
         (in_hand under.old ++ pile.old)
         (in_hand held ++ (in_hand under.new ++ pile.new))) }
     ensures err { OnErr result (in_hand under.new ++ pile.new ≡ in_hand under.old ++ pile.old) }
-    ensures memory { OnErr result (IsErrOf result CutFault.OutOfMemory) }
 {
     if !pile.is_cheap_to_weaken(operand) {
         put_down(under, pile)?;
@@ -215,7 +211,7 @@ impl<'a> Stack<'a> {
         self.pile.into_accumulator()
     }
 
-    /// Puts an operand on top. Running out of memory is the only fault, and after it all is as before.
+    /// Puts an operand on top. After an error all is as before.
     pub fn push(&mut self, operand: Operand<'a>) -> Result<(), AllocError>
         ensures { MatchResult result (λ _. self.new ≡ operand_value operand.entry ∷ self.old) (λ _. self.new ≡ self.old) }
     {
@@ -225,15 +221,13 @@ impl<'a> Stack<'a> {
         Ok(())
     }
 
-    /// Puts the axiom of a literal on top. Running out of memory is the only fault, and after it all is as before.
-    pub fn push_axiom(&mut self, alloc: Global, literal: Lit) -> Result<(), StepFault>
+    /// Puts the axiom of a literal on top. After an error all is as before.
+    pub fn push_axiom(&mut self, alloc: Global, literal: Lit) -> Result<(), AllocError>
         ensures ok { (given : Given) → OnOk result (AppliesItem given (items.Axiom literal) self.old self.new) }
         ensures err { OnErr result (self.new ≡ self.old) }
-        ensures fault { IfErr result (λ f. OrMemory f ⊥) }
     {
         let made = axiom(alloc, literal)?;
-        self.push(Operand::Made(made))?;
-        Ok(())
+        self.push(Operand::Made(made))
     }
 
     /// Adds the two on top: to the running sum, where it is one of them. `StackShape` where there are fewer than two;

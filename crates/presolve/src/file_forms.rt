@@ -4,7 +4,7 @@
 //! looked at, and what each becomes is looked up, however many constraints there are. A constraint that has neither stays
 //! as it is.
 
-ghost use Rattle.std.specs.Prelude.{◌≡◌, ◌↔◌, ◌+◌, ◌<◌, ◌≤◌, List, [], All, IfOk, IsErrOf, IsTrue, OnOk, OnErr, length, slice_index_or, unsigned_abs};
+ghost use Rattle.std.specs.Prelude.{◌≡◌, ◌↔◌, ◌+◌, ◌<◌, ◌≤◌, List, [], All, IfOk, IsTrue, OnOk, length, slice_index_or, unsigned_abs};
 ghost use Rattle.normal_form.specs.Normal.{largest_sum};
 ghost use Rattle.normal_form.specs.NormalOf.{size_sum};
 ghost use Rattle.presolve.specs.Forms.{Adds, AreKeysOf, ArePlacesOf, HasExchange, HasExchangeAt, IsIndexed, NotesPlace, NotesTerms, constraint_of, constraints_of, places_at};
@@ -17,7 +17,7 @@ use super::form::Form;
 use super::weights::weights_of;
 use indexmap::IndexSet;
 use linear::{Problem, Relation, Signed, Var};
-use normal_form::{CutFault, Normal, NormalTerm, both, normalize};
+use normal_form::{Normal, NormalTerm, Normalizer};
 use std::alloc::{AllocError, Global};
 
 /// The normal constraints of a file, none twice, and for each variable the places of those that have it, and its greatest
@@ -38,15 +38,19 @@ fn add(alloc: Global, keys: &mut IndexSet<Form>, normal: &Normal) -> Result<(), 
 }
 
 /// Adds the normal constraints of a signed one.
-fn add_forms(alloc: Global, keys: &mut IndexSet<Form>, constraint: &Signed) -> Result<(), CutFault>
+fn add_forms(
+    alloc: Global,
+    normalizer: &mut Normalizer,
+    keys: &mut IndexSet<Form>,
+    constraint: &Signed,
+) -> Result<(), AllocError>
     requires small { size_sum constraint.now.terms + unsigned_abs constraint.now.right ≤ largest_sum }
-    ensures ok { OnOk result (Adds (IsFormOf constraint.now) keys.old.keys keys.new.keys) }
-    ensures memory { OnErr result (IsErrOf result CutFault.OutOfMemory) }
+    ensures { OnOk result (Adds (IsFormOf constraint.now) keys.old.keys keys.new.keys) }
 {
     match constraint.relation {
-        Relation::AtLeast => add(alloc, keys, &normalize(alloc, constraint)?)?,
+        Relation::AtLeast => add(alloc, keys, &normalizer.normalize_fitting(constraint)?)?,
         Relation::Equal => {
-            let (at_least, at_most) = both(alloc, constraint)?;
+            let (at_least, at_most) = normalizer.both_fitting(constraint)?;
             add(alloc, keys, &at_least)?;
             add(alloc, keys, &at_most)?;
         }
@@ -55,13 +59,13 @@ fn add_forms(alloc: Global, keys: &mut IndexSet<Form>, constraint: &Signed) -> R
 }
 
 /// The normal constraints of a problem's file.
-fn keys_of(alloc: Global, problem: &Problem) -> Result<IndexSet<Form>, CutFault>
-    ensures keys { IfOk result (λ set. AreKeysOf problem.now.constraints set.keys) }
-    ensures memory { OnErr result (IsErrOf result CutFault.OutOfMemory) }
+fn keys_of(alloc: Global, problem: &Problem) -> Result<IndexSet<Form>, AllocError>
+    ensures { IfOk result (λ set. AreKeysOf problem.now.constraints set.keys) }
 {
+    let mut normalizer = Normalizer::new(alloc);
     let mut keys = IndexSet::new(alloc);
     for constraint in problem.constraints() {
-        add_forms(alloc, &mut keys, constraint)?;
+        add_forms(alloc, &mut normalizer, &mut keys, constraint)?;
     }
     Ok(keys)
 }
@@ -115,11 +119,10 @@ fn places_of(alloc: Global, keys: &[Form], count: usize) -> Result<Vec<Vec<usize
 
 impl FileForms {
     /// The normal constraints of a problem's file.
-    pub(crate) fn of(alloc: Global, problem: &Problem) -> Result<FileForms, CutFault>
+    pub(crate) fn of(alloc: Global, problem: &Problem) -> Result<FileForms, AllocError>
         ensures keys { IfOk result (λ forms. AreKeysOf problem.now.constraints forms.keys.keys) }
         ensures count { IfOk result (λ forms. length forms.places.items ≡ length problem.now.names) }
         ensures indexed { IfOk result IsIndexed }
-        ensures memory { OnErr result (IsErrOf result CutFault.OutOfMemory) }
     {
         let keys = keys_of(alloc, problem)?;
         let count = problem.names().len();

@@ -3,7 +3,7 @@
 //! Where the opposite of a literal stands in no normal constraint of the file, whatever satisfies the file still does once
 //! the literal is true. Where its truth does not raise the objective either, nothing is lost by making it true.
 
-ghost use Rattle.std.specs.Prelude.{◌≡◌, ◌↔◌, ◌<◌, ◌≤◌, ◌++◌, ℕ, Bool, not, false, length, option_to_list, IfOk, IsErrOf, OnOk, OnErr};
+ghost use Rattle.std.specs.Prelude.{◌≡◌, ◌↔◌, ◌<◌, ◌≤◌, ◌++◌, ℕ, Bool, not, false, length, option_to_list, IfOk, OnOk};
 ghost use Rattle.linear.specs.Largest.{most_variables};
 ghost use Rattle.presolve.specs.Fixing.{AreFixed, CostsNothing};
 ghost use Rattle.presolve.specs.Standing.{StandsNowhere};
@@ -11,15 +11,13 @@ ghost use Rattle.presolve.specs.Uses.{AreTakenBelow, IsTakenOf, stands};
 
 use super::uses::{Uses, note_file, note_objective};
 use linear::{Lit, Problem, Var};
-use normal_form::CutFault;
 use std::alloc::{AllocError, Global};
 
 /// The literals that must not be false: those that stand in the file, and those whose falsehood would raise the objective.
-fn wanted(alloc: Global, problem: &Problem) -> Result<Vec<Uses>, CutFault>
+fn wanted(alloc: Global, problem: &Problem) -> Result<Vec<Uses>, AllocError>
     ensures count { IfOk result (λ table. length table.items ≡ length problem.now.names) }
     ensures few { length problem.now.names ≤ most_variables }
     ensures wanted { IfOk result (λ table. (v : ℕ) (s : Bool) → v < length problem.now.names → (stands table.items v s ≡ false) ↔ (StandsNowhere problem.now.constraints v s × CostsNothing problem.now.objective v (not s))) }
-    ensures memory { OnErr result (IsErrOf result CutFault.OutOfMemory) }
 {
     let mut table = vec![in alloc; Uses::NONE; problem.names().len()]?;
     note_file(alloc, table.as_mut_slice(), problem)?;
@@ -71,9 +69,8 @@ fn all_taken(alloc: Global, wanted: &[Uses], count: u32) -> Result<Vec<Lit>, All
 /// The literals that may be made true before any search, by rising variable: the opposite stands in no normal constraint of
 /// the file, and the truth does not raise the objective. Of a variable whose literals both may be, the one without `~`. Want
 /// of memory is the only fault.
-pub fn fixable(alloc: Global, problem: &Problem) -> Result<Vec<Lit>, CutFault>
-    ensures fixed { IfOk result (λ ls. AreFixed problem.now ls.items) }
-    ensures memory { OnErr result (IsErrOf result CutFault.OutOfMemory) }
+pub fn fixable(alloc: Global, problem: &Problem) -> Result<Vec<Lit>, AllocError>
+    ensures { IfOk result (λ ls. AreFixed problem.now ls.items) }
 {
     let wanted = wanted(alloc, problem)?;
     let count = problem.names().len() as u32;

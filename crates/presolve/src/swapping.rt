@@ -5,7 +5,7 @@
 //! pair need not survive the exchange of another one that shares a variable. Pairs are tried in rising order, and so many at
 //! most that a problem with many variables does not wait for it.
 
-ghost use Rattle.std.specs.Prelude.{◌≡◌, ◌≢◌, ◌↔◌, ◌+◌, ◌-◌, ◌<◌, ◌++◌, ◌∷◌, ℕ, false, List, [], IfOk, IsErrOf, IsTrue, MatchOption, OnOk, OnErr, length, slice_index_or};
+ghost use Rattle.std.specs.Prelude.{◌≡◌, ◌≢◌, ◌↔◌, ◌+◌, ◌-◌, ◌<◌, ◌++◌, ◌∷◌, ℕ, false, List, [], IfOk, IsTrue, MatchOption, OnOk, length, slice_index_or};
 ghost use Rattle.linear.specs.declared.term.Lit.{Lit};
 ghost use Rattle.presolve.specs.Pairs.{AreTaken, IsChosen, IsPartner, IsReady};
 ghost use Rattle.presolve.specs.Swapping.{AreUsed, IsSwappable, IsWithout, most_tried, pairs_before};
@@ -13,7 +13,6 @@ ghost use Rattle.presolve.specs.Swapping.{AreUsed, IsSwappable, IsWithout, most_
 use super::costs::costs_of;
 use super::file_forms::FileForms;
 use linear::{Lit, Problem, Var};
-use normal_form::CutFault;
 use std::alloc::{AllocError, Global};
 
 /// How many pairs are tried at most.
@@ -36,10 +35,9 @@ struct Symmetries<'a> {
 
 impl<'a> Symmetries<'a> {
     /// What is kept of a problem.
-    fn of(alloc: Global, problem: &'a Problem) -> Result<Self, CutFault>
+    fn of(alloc: Global, problem: &'a Problem) -> Result<Self, AllocError>
         ensures problem { IfOk result (λ kept. kept.problem.now ≡ problem.now) }
         ensures ready { IfOk result (λ kept. IsReady kept.problem.now kept.forms kept.costs.items) }
-        ensures memory { OnErr result (IsErrOf result CutFault.OutOfMemory) }
     {
         Ok(Symmetries {
             problem,
@@ -155,10 +153,9 @@ impl Chosen {
 }
 
 /// The pairs of variables that are used: those that may change places, of the first 65,536 pairs in rising order, none of whose
-/// variables is fixed or in an earlier pair that is used. Running out of memory is the only fault.
-pub fn swappable(alloc: Global, problem: &Problem, fixed: &[Lit]) -> Result<Vec<Swap>, CutFault>
-    ensures used { IfOk result (λ swaps. AreUsed problem.now fixed.now swaps.items) }
-    ensures memory { OnErr result (IsErrOf result CutFault.OutOfMemory) }
+/// variables is fixed or in an earlier pair that is used.
+pub fn swappable(alloc: Global, problem: &Problem, fixed: &[Lit]) -> Result<Vec<Swap>, AllocError>
+    ensures { IfOk result (λ swaps. AreUsed problem.now fixed.now swaps.items) }
 {
     let symmetries = Symmetries::of(alloc, problem)?;
     let count = problem.names().len() as u32;

@@ -4,7 +4,7 @@
 //! know it of all literals. An objective is read as the constraint that asks for less of it: what must not be made false
 //! for the sake of the objective stands there.
 
-ghost use Rattle.std.specs.Prelude.{◌≡◌, ◌||◌, ◌+◌, ◌<◌, ◌≤◌, ℕ, Bool, not, pos, ◌≤ℤ◌, IsErrOf, OnOk, OnErr, length, unsigned_abs};
+ghost use Rattle.std.specs.Prelude.{◌≡◌, ◌||◌, ◌+◌, ◌<◌, ◌≤◌, ℕ, Bool, not, pos, ◌≤ℤ◌, OnOk, length, unsigned_abs};
 ghost use Rattle.normal_form.specs.Normal.{largest_sum, only, same_sign};
 ghost use Rattle.normal_form.specs.NormalOf.{size_sum};
 ghost use Rattle.presolve.specs.Fixing.{price};
@@ -12,8 +12,8 @@ ghost use Rattle.presolve.specs.Standing.{IsAbsent, StandsNowhere};
 ghost use Rattle.presolve.specs.Uses.{side, stands, Notes, NotesForm};
 
 use linear::{Problem, Relation, Seq, Signed, Term, Var};
-use normal_form::{CutFault, Normal, both, normalize};
-use std::alloc::Global;
+use normal_form::{Normal, Normalizer};
+use std::alloc::{AllocError, Global};
 
 /// Which literals of a variable stand.
 #[derive(Clone, Copy, Debug, PartialEq, Eq)]
@@ -61,15 +61,18 @@ fn note_form(table: &mut [Uses], form: &Normal)
 }
 
 /// Notes the literals of the normal constraints of a signed one.
-fn note_forms(alloc: Global, table: &mut [Uses], constraint: &Signed) -> Result<(), CutFault>
+fn note_forms(
+    normalizer: &mut Normalizer,
+    table: &mut [Uses],
+    constraint: &Signed,
+) -> Result<(), AllocError>
     requires small { size_sum constraint.now.terms + unsigned_abs constraint.now.right ≤ largest_sum }
-    ensures ok { OnOk result (Notes (λ v s. IsAbsent v s constraint.now) table.old table.new) }
-    ensures memory { OnErr result (IsErrOf result CutFault.OutOfMemory) }
+    ensures { OnOk result (Notes (λ v s. IsAbsent v s constraint.now) table.old table.new) }
 {
     match constraint.relation {
-        Relation::AtLeast => note_form(table, &normalize(alloc, constraint)?),
+        Relation::AtLeast => note_form(table, &normalizer.normalize_fitting(constraint)?),
         Relation::Equal => {
-            let (at_least, at_most) = both(alloc, constraint)?;
+            let (at_least, at_most) = normalizer.both_fitting(constraint)?;
             note_form(table, &at_least);
             note_form(table, &at_most);
         }
@@ -82,12 +85,12 @@ pub(crate) fn note_file(
     alloc: Global,
     table: &mut [Uses],
     problem: &Problem,
-) -> Result<(), CutFault>
-    ensures ok { OnOk result (Notes (λ v s. StandsNowhere problem.now.constraints v s) table.old table.new) }
-    ensures memory { OnErr result (IsErrOf result CutFault.OutOfMemory) }
+) -> Result<(), AllocError>
+    ensures { OnOk result (Notes (λ v s. StandsNowhere problem.now.constraints v s) table.old table.new) }
 {
+    let mut normalizer = Normalizer::new(alloc);
     for constraint in problem.constraints() {
-        note_forms(alloc, table, constraint)?;
+        note_forms(&mut normalizer, table, constraint)?;
     }
     Ok(())
 }
@@ -97,10 +100,9 @@ pub(crate) fn note_objective(
     alloc: Global,
     table: &mut [Uses],
     objective: &[Term],
-) -> Result<(), CutFault>
+) -> Result<(), AllocError>
     requires small { size_sum objective.now ≤ largest_sum }
-    ensures ok { OnOk result (Notes (λ v s. price objective.now v (not s) ≤ℤ pos 0) table.old table.new) }
-    ensures memory { OnErr result (IsErrOf result CutFault.OutOfMemory) }
+    ensures { OnOk result (Notes (λ v s. price objective.now v (not s) ≤ℤ pos 0) table.old table.new) }
 {
     let terms = Vec::from_slice(alloc, objective)?;
     let equality = Signed {
@@ -108,7 +110,7 @@ pub(crate) fn note_objective(
         relation: Relation::Equal,
         right: 0,
     };
-    let (_, less) = both(alloc, &equality)?;
+    let (_, less) = Normalizer::new(alloc).both_fitting(&equality)?;
     note_form(table, &less);
     Ok(())
 }

@@ -175,10 +175,7 @@ impl<'a, P: Propagator> Log<'a, P> {
         ensures conclusion { IfOk result (λ l. l.conclusion ≡ Conclusion.Nothing) }
         ensures asking { IfOk result (λ l. l.asking ≡ None) }
     {
-        let kernel = match Kernel::new(alloc, problem) {
-            Ok(kernel) => kernel,
-            Err(fault) => return Err(want_of_memory(fault)),
-        };
+        let kernel = Kernel::new(alloc, problem)?;
         // That the problem is within the limits is known by its type; this makes it known here.
         problem.reveal();
         let mut text = Vec::new(alloc);

@@ -1,8 +1,8 @@
 -- Of the code, not of the format: the lines that a reader stands for.
 use Rattle.std.specs.Prelude.{◌+◌}
 use Rattle.proof_text.specs.Lines.{Numbered, Pending, counting_from, breaks}
-use Rattle.proof_text.specs.declared.reader.NumberedLine.{NumberedLine}
-use Rattle.proof_text.specs.declared.reader.LineCursor.{LineCursor}
+use Rattle.proof_text.specs.declared.numbered_lines.NumberedLine.{NumberedLine}
+use Rattle.proof_text.specs.declared.numbered_lines.LineCursor.{LineCursor}
 
 -- a line of the code as a numbered line
 abbrev pub numbered_of : NumberedLine → Numbered

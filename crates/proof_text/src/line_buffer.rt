@@ -9,7 +9,7 @@ ghost use Rattle.std.specs.Prelude.{◌≡◌, ◌≤◌, true, length, take};
 ghost use Rattle.proof_text.specs.Lines.{has_no_break};
 ghost use Rattle.proof_text.specs.Buffered.{IsFirstLine};
 
-use super::reader::{NumberedLine, counts};
+use super::numbered_lines::{NumberedLine, counts};
 use memchr::memchr;
 use pb_text::{DeviceFault, Source};
 use std::alloc::{AllocError, Global};

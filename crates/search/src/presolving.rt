@@ -7,15 +7,12 @@
 
 ghost use Rattle.std.specs.Prelude.{◌≡◌, ◌≢◌, ◌<◌, All, map, IfOk, OnErr, OnOk};
 ghost use Rattle.kernel.specs.Held.{HasAtLeast};
-ghost use Rattle.presolve.specs.Fixing.{AreFixed};
-ghost use Rattle.presolve.specs.Swapping.{AreUsed};
 ghost use Rattle.proof_log.specs.Kept.{Spares};
 ghost use Rattle.proof_log.specs.Log.{CanBeWritten, ImprovesIfAsked, ImprovesNothing, StandsAlone};
 ghost use Rattle.proof_log.specs.Named.{AreNamed};
 ghost use Rattle.search.specs.Presolving.{IsNamedPair, IsPresolved, Tries, TriesAll, exchange, fixing, in_order, is_true, made_true, swapping, variable};
 
-use linear::{Lit, Problem, Relation, Seq, Signed, Term, Var};
-use normal_form::CutFault;
+use linear::{Lit, Relation, Seq, Signed, Term, Var};
 use presolve::{Swap, fixable, swappable};
 use proof_log::Log;
 use proof_rules::StepFault;
@@ -165,36 +162,6 @@ fn order<'a, P: Propagator>(
     Ok(())
 }
 
-/// Want of memory, which is the only fault where literals and pairs are looked for.
-fn want_of_memory(fault: &CutFault) -> AllocError
-    requires { fault.now ≡ CutFault.OutOfMemory }
-{
-    match fault {
-        CutFault::OutOfMemory => AllocError,
-        _ => unreachable!(),
-    }
-}
-
-/// The literals that are fixed. Running out of memory is the only fault.
-fn fixed_literals(alloc: Global, problem: &Problem) -> Result<Vec<Lit>, AllocError>
-    ensures fixed { IfOk result (λ ls. AreFixed problem.now ls.items) }
-{
-    match fixable(alloc, problem) {
-        Ok(literals) => Ok(literals),
-        Err(fault) => Err(want_of_memory(&fault)),
-    }
-}
-
-/// The pairs that are put in order. Running out of memory is the only fault.
-fn used_pairs(alloc: Global, problem: &Problem, fixed: &[Lit]) -> Result<Vec<Swap>, AllocError>
-    ensures used { IfOk result (λ swaps. AreUsed problem.now fixed.now swaps.items) }
-{
-    match swappable(alloc, problem, fixed) {
-        Ok(swaps) => Ok(swaps),
-        Err(fault) => Err(want_of_memory(&fault)),
-    }
-}
-
 /// Fixes the literals of the problem that may be made true before any search, and asks for an order of the variables that may
 /// change places.
 pub(crate) fn presolve<'a, P: Propagator>(
@@ -205,8 +172,8 @@ pub(crate) fn presolve<'a, P: Propagator>(
     ensures biting { OnOk result (log.new.biting ≡ log.old.biting) }
     ensures tried { OnOk result (IsPresolved log.old log.new) }
 {
-    let literals = fixed_literals(alloc, log.problem())?;
+    let literals = fixable(alloc, log.problem())?;
     fix(alloc, log, literals.as_slice())?;
-    let swaps = used_pairs(alloc, log.problem(), literals.as_slice())?;
+    let swaps = swappable(alloc, log.problem(), literals.as_slice())?;
     order(alloc, log, swaps.as_slice())
 }

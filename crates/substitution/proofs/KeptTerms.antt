@@ -24,7 +24,7 @@ abbrev pub kept : List ℕ → List NormalTerm → List NormalTerm
 kept vs [] = []
 kept vs (t ∷ ts) = cond (is_among vs (t.var.0)) (t ∷ kept vs ts) (kept vs ts)
 
-lower_rises : (low high : ℕ) (ts : List NormalTerm) → low ≤ high → Rises high ts → Rises low ts
+pub lower_rises : (low high : ℕ) (ts : List NormalTerm) → low ≤ high → Rises high ts → Rises low ts
 lower_rises low high [] h r = tt
 lower_rises low high (t ∷ ts) h r = (omega (arith, h, r.0), r.1, r.2)
 

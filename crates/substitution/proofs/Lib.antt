@@ -17,3 +17,4 @@ pub mod Gathering
 pub mod KeptTerms
 pub mod PartImages
 pub mod BothExcesses
+pub mod Bettered

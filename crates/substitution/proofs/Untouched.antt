@@ -16,7 +16,7 @@ use Rattle.substitution.specs.declared.image.Image.TheVariants.{Lit}
 use Rattle.substitution.specs.Images.{Images, itself, image_of, opposite_image, image_of_literal}
 use Rattle.substitution.specs.Under.{IsUntouched, term_at, constant_at, terms_under, constant_under, signed_term, substituted, IsUnder}
 
-passed : (v w : ℕ) (i rest : Image) → (w ≡ v → ⊥) → cond (v == w) i rest ≡ rest
+pub passed : (v w : ℕ) (i rest : Image) → (w ≡ v → ⊥) → cond (v == w) i rest ≡ rest
 passed v w i rest h = let other : (v == w) ≡ false = grind (arith, nat_tests) in ap (λ (b : Bool). cond b i rest) other
 
 pub stays : (images : Images) (v : ℕ) → All (λ p. p.0.0 ≢ v) images → image_of images v ≡ itself v

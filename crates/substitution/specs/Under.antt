@@ -1,5 +1,5 @@
 -- A constraint under a substitution: the normal form of its terms with images put in.
-use Rattle.std.specs.Prelude.{◌≢◌, ℤ, pos, ◌+ℤ◌, ◌-ℤ◌, List, [], ◌∷◌, ◌++◌, All, map}
+use Rattle.std.specs.Prelude.{◌≡◌, ◌≢◌, ℤ, pos, ◌+ℤ◌, ◌-ℤ◌, Bool, List, [], ◌∷◌, ◌++◌, All, map, if◌then◌else◌}
 use Rattle.linear.specs.declared.term.Term.{Term}
 use Rattle.linear.specs.declared.constraint.Relation.TheVariants.{AtLeast}
 use Rattle.linear.specs.declared.constraint.Signed.{Signed}
@@ -8,7 +8,7 @@ use Rattle.normal_form.specs.Normal.{NormalConstraint}
 use Rattle.normal_form.specs.NormalOf.{IsNormalOf}
 use Rattle.substitution.specs.declared.image.Image.{Image}
 use Rattle.substitution.specs.declared.image.Image.TheVariants.{Lit, Zero, One}
-use Rattle.substitution.specs.Images.{Images, image_of_literal}
+use Rattle.substitution.specs.Images.{Images, image_of_literal, opposite_image}
 
 -- a coefficient at an image: a term where the image is a literal, nothing where it is 0 or 1
 abbrev pub term_at : ℤ → Image → List Term
@@ -52,3 +52,11 @@ IsUnder n images r = IsNormalOf (substituted n images) r
 -- the constraint has no variable that is given an image
 abbrev pub IsUntouched : NormalConstraint → Images → Type 0
 IsUntouched n images = All (λ t. All (λ p. p.0.0 ≢ t.var.0) images) n.terms
+
+-- what an image of a variable makes of its literal: of `~x` the opposite
+abbrev pub signed_image : Image → Bool → Image
+signed_image i negated = if negated then opposite_image i else i
+
+-- each literal of the constraint that is given an image is given 1, if any
+abbrev pub IsBettered : NormalConstraint → Images → Type 0
+IsBettered n images = All (λ t. All (λ p. p.0.0 ≡ t.var.0 → signed_image p.1 t.negated ≡ One) images) n.terms

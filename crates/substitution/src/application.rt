@@ -15,7 +15,7 @@ ghost use Rattle.substitution.specs.Under.{term_at, constant_at, terms_under, co
 use super::image::Image;
 use super::substitution::Substitution;
 use linear::{Integer, Relation, Seq, Signed, Term};
-use normal_form::{CutFault, Normal, normalize};
+use normal_form::{Normal, normalize_fitting};
 use std::alloc::{AllocError, Global};
 
 /// Terms with images put in so far, and what is constant of them.
@@ -94,10 +94,6 @@ pub fn apply(
     ensures degree { IfOk result (λ r. r.degree ≤ constraint.now.degree) }
 {
     let signed = substituted(alloc, constraint, substitution)?;
-    match normalize(alloc, &signed) {
-        Ok(under) => Ok(under),
-        Err(CutFault::OutOfMemory) => Err(AllocError),
-        Err(CutFault::TooLarge) => unreachable!(),
-        Err(CutFault::BadFactor) => unreachable!(),
-    }
+    let under = normalize_fitting(alloc, &signed)?;
+    Ok(under)
 }

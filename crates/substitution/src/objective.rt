@@ -19,7 +19,7 @@ ghost use Rattle.substitution.specs.Objective.{AreNetsOf, IsObjectiveGoal, net_t
 use super::application::Partial;
 use super::substitution::Substitution;
 use linear::{Integer, Problem, Relation, Seq, Signed, Term, Var};
-use normal_form::{CutFault, Normal, normalize};
+use normal_form::{Normal, normalize_fitting};
 use std::alloc::{AllocError, Global};
 use std::marker::Model;
 
@@ -67,11 +67,10 @@ impl<'a> NetObjective<'a> {
         &self,
         alloc: Global,
         substitution: &Substitution,
-    ) -> Result<Option<Normal>, CutFault>
+    ) -> Result<Option<Normal>, AllocError>
         ensures goal { IfOk result (λ goal. MatchOption self.now (goal ≡ None)
             (λ objective. IsSomeAnd goal (IsObjectiveGoal objective substitution.now))) }
         ensures normal { IfOk result (λ goal. IfSome goal IsNormal) }
-        ensures others { OnErr result (IsErrOf result CutFault.OutOfMemory) }
     {
         // That the objective is within the limits, and that no variable is given two images, is known by the types; this
         // makes it known here.
@@ -82,7 +81,7 @@ impl<'a> NetObjective<'a> {
         };
         let terms = net_terms(alloc, self.nets.as_slice(), substitution)?;
         let signed = difference(alloc, terms.as_slice(), substitution)?;
-        Ok(Some(normalize(alloc, &signed)?))
+        Ok(Some(normalize_fitting(alloc, &signed)?))
     }
 }
 
@@ -195,11 +194,10 @@ pub fn objective_goal(
     alloc: Global,
     problem: &Problem,
     substitution: &Substitution,
-) -> Result<Option<Normal>, CutFault>
+) -> Result<Option<Normal>, AllocError>
     ensures goal { IfOk result (λ goal. MatchOption problem.now.objective (goal ≡ None)
         (λ objective. IsSomeAnd goal (IsObjectiveGoal objective substitution.now))) }
     ensures normal { IfOk result (λ goal. IfSome goal IsNormal) }
-    ensures others { OnErr result (IsErrOf result CutFault.OutOfMemory) }
 {
     NetObjective::of(alloc, problem)?.goal(alloc, substitution)
 }

@@ -94,8 +94,5 @@ pub(crate) fn part_of(
 {
     let degree = constraint.degree();
     let terms = terms_of(alloc, constraint, variables)?;
-    match terms.finish(degree) {
-        Ok(part) => Ok(part),
-        Err(_) => unreachable!(),
-    }
+    Ok(terms.finish_fitting(degree))
 }

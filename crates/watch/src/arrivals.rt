@@ -12,7 +12,7 @@ ghost use Rattle.ledger.specs.Ledgers.{shown};
 ghost use Rattle.watch.specs.Keeping.{IsKept};
 ghost use Rattle.watch.specs.Looking.{AreLookedAt};
 
-use super::extras::attach_waiting;
+use super::attaching::attach_waiting;
 use ledger::{Ledger, Queue};
 use normal_form::Normal;
 use std::alloc::{AllocError, Global};

@@ -10,12 +10,12 @@
 
 mod arrivals;
 mod ascent;
+mod attaching;
 mod chain;
 mod closure;
 mod continuing;
 mod cubes;
 mod extension;
-mod extras;
 mod following;
 mod giving;
 mod lending;

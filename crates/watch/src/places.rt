@@ -83,6 +83,11 @@ impl Places {
         }
     }
 
+    /// How many rows there are, empty ones too: what it costs to make the table anew, beside what is in it.
+    pub(crate) fn row_count(&self) -> usize {
+        self.rows.len()
+    }
+
     /// The place of an id, if it has one.
     pub(crate) fn get(&self, id: Id) -> Option<usize>
         ensures { result ≡ place_of self.now id }

@@ -13,8 +13,8 @@ ghost use Rattle.watch.specs.Cubes.{IsCube};
 ghost use Rattle.watch.specs.Looking.{GoesOn};
 ghost use Rattle.watch.specs.Roots.{IsRoot};
 
+use super::attaching::{attach_all, detach_from};
 use super::cubes::{are_cubes, give_cubes};
-use super::extras::{attach_all, detach_from};
 use super::walk::{backtrack_quietly, propagate_all};
 use ledger::{Ledger, Queue};
 use normal_form::Normal;

@@ -108,11 +108,12 @@ impl WatchPropagator {
         Ok(anew)
     }
 
-    /// Makes the places anew where more stands empty than not, the lists of literals counted in.
+    /// Makes the places anew where more stands empty than not, the lists of literals and the rows of ids counted in.
     fn close_gaps(&mut self) -> Result<(), AllocError>
         ensures { self.new ≡ self.old }
     {
-        if self.vacant > self.occupied.max(self.closure.variable_count()) {
+        let lists = self.closure.variable_count().max(self.places.row_count());
+        if self.vacant > self.occupied.max(lists) {
             *self = self.made_anew()?;
         }
         Ok(())

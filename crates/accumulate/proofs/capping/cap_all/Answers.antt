@@ -9,4 +9,4 @@ pub returns-then-level-most-clause-marks : goal.returns-then-level-most-clause-m
 returns-then-level-most-clause-marks c = c.cap.ensures.marks 0 c.args.touched.now.items c.requires.touched
 
 pub returns-else-level-most-clause-marks : goal.returns-else-level-most-clause-marks
-returns-else-level-most-clause-marks c = c.cap-else-level-most.ensures.marks 0 c.args.touched.now.items c.requires.touched
+returns-else-level-most-clause-marks c = c.cap-else-level-most.ensures.marks 0 c.tidy.new.touched.items c.tidy.ensures.marks

@@ -4,7 +4,7 @@ use Rattle.proof_text.specs.Buffered.{lent}
 use Rattle.proof_text.proofs.LinesBuffered.{passes_none}
 use Rattle.checker.specs.Walk.{Advances}
 use Rattle.checker.specs.WalkOf.{position_of}
-use Rattle.checker.proofs.Streaming.{IsFresh, came, came_to_end, stream_proved, stream_short, stream_stop}
+use Rattle.checker.proofs.Streaming.{IsFresh, came, came_to_end, stream_fails, stream_proved, stream_short, stream_stop}
 use Rattle.checker.proofs.Walking.{reaches_on}
 use Rattle.checker.proofs.stream.judge_stream.Goals as goal
 
@@ -24,6 +24,13 @@ loop-lines-preserved g c =
     let on = subst (λ r. Advances r line old new) kept.0 there in
     let passes = came c.in_ok-advance.field-0 c.new-lines.result c.loop-lines.lines c.advance.new.self (g.S.Source.state c.args.source.now) (g.S.Source.state c.loop-lines.source) (g.S.Source.state c.advance.new.source) kept.1.0 kept.1.2 c.in_ok-advance.ensures.comes c.if-branch.true in
     (c.in_ok-take.ensures.problem ∙ kept.0, (kept.1.0 ++ line ∷ [], reaches_on p kept.1.0 line old new kept.1.1 on, passes))
+
+pub returns-in_err-advance-clause-stop : goal.returns-in_err-advance-clause-stop
+returns-in_err-advance-clause-stop g c =
+    let s = g.S.Source.state c.args.source.now in
+    let u = g.S.Source.state c.advance.new.source in
+    let e = err_from_is_err_and c.from_residual-in_err-advance.result c.from_residual-in_err-advance.ensures.1 in
+    rw (e.1, e.2) (stream_fails c.args.problem.now s (g.S.Source.state c.loop-lines.source) u c.in_err-advance.field-0.0 c.loop-lines.invariant.1.2.failures c.in_err-advance.ensures.failed)
 
 pub returns-in_err-take-clause-stop : goal.returns-in_err-take-clause-stop
 returns-in_err-take-clause-stop g c =

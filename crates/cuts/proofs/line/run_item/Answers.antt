@@ -5,9 +5,9 @@ use Rattle.proof_steps.specs.declared.step.Item.TheVariants as items
 use Rattle.proof_rules.specs.Running.{AppliesItem}
 use Rattle.cuts.proofs.line.run_item.Goals as goal
 
-pub returns-in-Axiom : goal.returns-in-Axiom
-returns-in-Axiom c given =
-    subst (λ i. OnOk c.push_axiom.result (AppliesItem given i c.args.stack.now c.push_axiom.new.self)) (sym c.in-Axiom.is) (c.push_axiom.ensures.ok given)
+pub returns-in_ok-push_axiom-in-Axiom : goal.returns-in_ok-push_axiom-in-Axiom
+returns-in_ok-push_axiom-in-Axiom c given =
+    subst (λ i. AppliesItem given i c.args.stack.now c.push_axiom.new.self) (sym c.in-Axiom.is) (c.in_ok-push_axiom-in-Axiom.ensures.ok given)
 
 pub returns-in-Add : goal.returns-in-Add
 returns-in-Add c given =

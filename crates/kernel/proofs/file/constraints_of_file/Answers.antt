@@ -33,7 +33,7 @@ loop-constraint-preserved g c =
     let new = c.push_forms.new.database in
     let h : i < length p.constraints = subst (λ xs. i < length xs) c.constraints-constraint-items.ensures.constraints c.loop-constraint-test.true in
     let is = read_constraint p.constraints c.constraints-constraint-items.result.now item i c.constraints-constraint-items.ensures.constraints c.constraint-item.is in
-    let here : AddsForms (get_or p.constraints i item) old new = subst (λ x. AddsForms x old new) is c.in_ok-push_forms.ensures.ok in
+    let here : AddsForms (get_or p.constraints i item) old new = subst (λ x. AddsForms x old new) is c.in_ok-push_forms.ensures in
     file_more p.constraints i item old new h here c.loop-constraint.invariant
 
 pub returns-clause-file : goal.returns-clause-file

@@ -20,9 +20,9 @@ turned v h =
     let inner : to_z w128 (of_z w128 v) ≡ v = number_kept v h in
     rw inner (omega (arith, ints, h))
 
-pub returns-clause-form : goal.returns-clause-form
-returns-clause-form c =
+pub returns : goal.returns
+returns c =
     let terms = c.from_vec.ensures ∙ c.in_ok-negated.ensures in
     subst (λ x. IfOk c.small_form.result (IsNormalOf x))
     (same_signed c.from_vec.result (map sign_changed c.args.objective.now) _ (pos 0 -ℤ (c.args.value -ℤ pos 1)) terms (turned c.args.value c.requires.value))
-    c.small_form.ensures.form
+    c.small_form.ensures

@@ -6,10 +6,10 @@ use Rattle.proof_rules.specs.Running.{AppliesItem}
 use Rattle.kernel.specs.Database.{found}
 use Rattle.kernel.proofs.pol.apply_item.Goals as goal
 
-pub returns-in-Axiom-clause-ok : goal.returns-in-Axiom-clause-ok
-returns-in-Axiom-clause-ok g c =
+pub returns-in_ok-push_axiom-in-Axiom-clause-ok : goal.returns-in_ok-push_axiom-in-Axiom-clause-ok
+returns-in_ok-push_axiom-in-Axiom-clause-ok g c =
     let given = found c.args.database.now in
-    subst (λ i. OnOk c.push_axiom.result (AppliesItem given i c.args.stack.now c.push_axiom.new.self)) (sym c.in-Axiom.is) (c.push_axiom.ensures.ok given)
+    subst (λ i. AppliesItem given i c.args.stack.now c.push_axiom.new.self) (sym c.in-Axiom.is) (c.in_ok-push_axiom-in-Axiom.ensures.ok given)
 
 pub returns-in-Add-clause-ok : goal.returns-in-Add-clause-ok
 returns-in-Add-clause-ok g c =

@@ -1,4 +1,4 @@
-use Rattle.std.proofs.Common.{◌++◌, true, List, refl, sym, ◌∙◌}
+use Rattle.std.proofs.Common.{◌++◌, List, refl, ◌∙◌}
 use Rattle.std.specs.FinMap as map
 use Rattle.normal_form.specs.Normal.{NormalConstraint}
 use Rattle.kernel.specs.Database.{Constraints}

@@ -23,7 +23,7 @@ returns-clause-shown g c =
     let beside : List NormalConstraint = c.args.beside.now.items in
     let images = c.args.witness.now in
     let r = c.in-Some.goal in
-    IfOk-weaker c.is_shown.result (λ yes. IsTrue yes ↔ IsShown (map.values live ++ beside) r)
+    IfOk-weaker c.shows_goal.result (λ yes. IsTrue yes ↔ IsShown (map.values live ++ beside) r)
     (λ yes. (n : NormalConstraint) → map.get live c.args.id ≡ Some n → IsTrue yes ↔ IsShownUnder (map.values live ++ beside) images n)
     (λ yes shown n is. shown_under (map.values live ++ beside) images n r yes (subst (BecomesBeyond n images) c.in-Some.is (c.in_ok-goal.ensures n is)).0 shown)
-    c.is_shown.ensures.shown
+    c.shows_goal.ensures.shown

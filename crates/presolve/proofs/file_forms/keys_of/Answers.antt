@@ -28,10 +28,10 @@ loop-constraint-preserved c =
     let new = c.add_forms.new.keys.keys in
     let h : i < length cs = subst (λ xs. i < length xs) c.constraints-constraint-items.ensures.constraints c.loop-constraint-test.true in
     let is = read_constraint cs c.constraints-constraint-items.result.now item i c.constraints-constraint-items.ensures.constraints c.constraint-item.is in
-    keys_more cs i item old new h c.loop-constraint.invariant (subst (λ (x : Signed). Adds (IsFormOf x) old new) is c.in_ok-add_forms.ensures.ok)
+    keys_more cs i item old new h c.loop-constraint.invariant (subst (λ (x : Signed). Adds (IsFormOf x) old new) is c.in_ok-add_forms.ensures)
 
-pub returns-clause-keys : goal.returns-clause-keys
-returns-clause-keys c =
+pub returns : goal.returns
+returns c =
     let cs = c.args.problem.now.constraints in
     let end : length cs ≤ c.loop-constraint.constraint-index = subst (λ xs. length xs ≤ c.loop-constraint.constraint-index) c.constraints-constraint-items.ensures.constraints c.loop-constraint-test.false in
     subst (λ xs. AreKeysOf xs c.loop-constraint.keys.keys) (take_all c.loop-constraint.constraint-index cs end) c.loop-constraint.invariant

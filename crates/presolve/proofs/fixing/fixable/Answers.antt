@@ -4,8 +4,8 @@ use Rattle.presolve.specs.declared.uses.Uses.{Uses}
 use Rattle.presolve.proofs.Taking.{taken_fixed}
 use Rattle.presolve.proofs.fixing.fixable.Goals as goal
 
-pub returns-clause-fixed : goal.returns-clause-fixed
-returns-clause-fixed c =
+pub returns : goal.returns
+returns c =
     let p = c.args.problem.now in
     let ls = c.in_ok-all_taken.field-0.items in
     let count = c.len-count.ensures.len ∙ ap length c.names.ensures.names in

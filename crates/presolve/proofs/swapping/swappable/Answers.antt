@@ -18,8 +18,8 @@ loop-number-preserved c =
       chosen,
     )
 
-pub returns-clause-used : goal.returns-clause-used
-returns-clause-used c =
+pub returns : goal.returns
+returns c =
     let p : Opb = c.args.problem.now in
     let count : c.len-count.result ≡ length p.names = search rules in
     all_used p c.args.fixed.now c.loop-number.number c.loop-number.chosen.swaps.items (omega (arith, c.loop-number-test.false, count)) c.loop-number.invariant.2.pairs

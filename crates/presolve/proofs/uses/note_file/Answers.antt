@@ -27,11 +27,11 @@ loop-constraint-preserved c =
     let new = c.note_forms.new.table in
     let h : i < length p.constraints = subst (λ xs. i < length xs) c.constraints-constraint-items.ensures.constraints c.loop-constraint-test.true in
     let is = read_constraint p.constraints c.constraints-constraint-items.result.now item i c.constraints-constraint-items.ensures.constraints c.constraint-item.is in
-    let here = subst (λ (x : Signed). Notes (λ v s. IsAbsent v s x) old new) is c.in_ok-note_forms.ensures.ok in
+    let here = subst (λ (x : Signed). Notes (λ v s. IsAbsent v s x) old new) is c.in_ok-note_forms.ensures in
     file_more p.constraints i item c.args.table.now old new h c.loop-constraint.auto.table c.loop-constraint.invariant here
 
-pub returns-clause-ok : goal.returns-clause-ok
-returns-clause-ok c =
+pub returns : goal.returns
+returns c =
     let cs = c.args.problem.now.constraints in
     let end : length cs ≤ c.loop-constraint.constraint-index = subst (λ xs. length xs ≤ c.loop-constraint.constraint-index) c.constraints-constraint-items.ensures.constraints c.loop-constraint-test.false in
     subst (λ xs. Notes (λ v s. StandsNowhere xs v s) c.args.table.now c.loop-constraint.table) (take_all c.loop-constraint.constraint-index cs end) c.loop-constraint.invariant

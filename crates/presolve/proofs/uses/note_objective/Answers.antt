@@ -8,8 +8,8 @@ use Rattle.presolve.specs.Uses.{Notes}
 use Rattle.presolve.proofs.Noting.{less_noted}
 use Rattle.presolve.proofs.uses.note_objective.Goals as goal
 
-pub returns-clause-ok : goal.returns-clause-ok
-returns-clause-ok c =
+pub returns : goal.returns
+returns c =
     let old = c.args.table.now in
     let new = c.note_form.new.table in
     let equality : Signed = record { terms = c.from_vec.result; relation = Equal; right = pos 0 } in

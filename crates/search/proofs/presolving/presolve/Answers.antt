@@ -17,7 +17,7 @@ order-requires g c =
     let ss : List Swap = c.in_ok-swaps.swaps.items in
     let l : Logbook = c.fix.new.log in
     subst (All (IsNamedPair l)) (sym c.as_slice-3.ensures.value) (λ i d h.
-    let used = (c.in_ok-swaps.ensures.used.exact (get_or ss i d)).0 (Contains-get_or ss i d h) in
+    let used = (c.in_ok-swaps.ensures.exact (get_or ss i d)).0 (Contains-get_or ss i d h) in
     record { order = used.swappable.order; named = subst (λ (q : Opb). (get_or ss i d).second.0 < length q.names) c.problem-2.ensures used.swappable.variable })
 
 pub fix-requires : goal.fix-requires
@@ -25,7 +25,7 @@ fix-requires g c =
     let l : Logbook = c.args.log.now in
     let ls : List Lit = c.in_ok-literals.literals.items in
     subst (AreNamed l) (sym c.as_slice.ensures.value) (λ i d h.
-    let fixed = (c.in_ok-literals.ensures.fixed.exact (get_or ls i d)).0 (Contains-get_or ls i d h) in
+    let fixed = (c.in_ok-literals.ensures.exact (get_or ls i d)).0 (Contains-get_or ls i d h) in
     subst (λ (q : Opb). (get_or ls i d).var.0 < length q.names) c.problem.ensures fixed.fixable.variable)
 
 pub returns-clause-tried : goal.returns-clause-tried
@@ -36,8 +36,8 @@ returns-clause-tried g c =
     let old : Logbook = c.args.log.now in
     let mid : Logbook = c.fix.new.log in
     let new : Logbook = c.order.new.log in
-    let fixed : AreFixed p ls = subst (λ q. AreFixed q ls) c.problem.ensures c.in_ok-literals.ensures.fixed in
-    let used : AreUsed p ls ss = subst (λ q. AreUsed q ls ss) (c.problem-2.ensures ∙ c.in_ok-fix.ensures.problem) (subst (λ us. AreUsed c.problem-2.result.now us ss) c.as_slice-2.ensures.value c.in_ok-swaps.ensures.used) in
+    let fixed : AreFixed p ls = subst (λ q. AreFixed q ls) c.problem.ensures c.in_ok-literals.ensures in
+    let used : AreUsed p ls ss = subst (λ q. AreUsed q ls ss) (c.problem-2.ensures ∙ c.in_ok-fix.ensures.problem) (subst (λ us. AreUsed c.problem-2.result.now us ss) c.as_slice-2.ensures.value c.in_ok-swaps.ensures) in
     let first : TriesAll (map fixing ls) old mid = subst (λ us. TriesAll (map fixing us) old mid) c.as_slice.ensures.value c.in_ok-fix.ensures.tried in
     on_ok_weaker c.order.result
     (λ tried. record {

@@ -1,22 +1,21 @@
--- The marks are put in order, and each cell is scaled.
+-- The marks are tidied, and each cell is scaled.
 use Rattle.std.proofs.Common.{◌≡◌, ◌≤◌, ℕ, List, ap, sym, subst, ◌∙◌, arith}
 use Rattle.std.specs.Prelude.{ℤ}
-use Rattle.std.proofs.lemmas.List.Sorted.{IsNonDecreasingBy-from_sort}
 use Rattle.normal_form.specs.Normal.{NormalConstraint, coefficient, largest_sum, total}
 use Rattle.accumulate.specs.Nets.{ScalesWithin, constraint_of, scaled, sizes}
 use Rattle.accumulate.specs.declared.scaling.Scaling.{Scaling}
 use Rattle.accumulate.proofs.NetTerms.{terms_total}
 use Rattle.accumulate.proofs.Resized.{resized_coefficients, resized_marked}
 use Rattle.accumulate.proofs.Scaled.{none_of, scaled_small, zero_stays}
-use Rattle.accumulate.proofs.Taking.{marked_permuted}
+use Rattle.accumulate.proofs.Tidied.{in_order}
 use Rattle.accumulate.proofs.Totals.{added_normal}
 use Rattle.accumulate.proofs.accumulator.Accumulator.scale.Goals as goal
 
 pub scale_all-self-inside-requires-clause-marks : goal.scale_all-self-inside-requires-clause-marks
-scale_all-self-inside-requires-clause-marks c = marked_permuted c.self.inside.touched.items c.sort.new.self.items c.self.inside.nets.items c.sort.ensures.permutation c.self.invariant.0.marked
+scale_all-self-inside-requires-clause-marks c = c.tidy.ensures.marks
 
 pub scale_all-self-inside-requires-clause-order : goal.scale_all-self-inside-requires-clause-order
-scale_all-self-inside-requires-clause-order c = IsNonDecreasingBy-from_sort (λ (x : ℕ). x) c.sort.new.self.items c.in_ok-sort.ensures.sorted
+scale_all-self-inside-requires-clause-order c = in_order c.tidy.new.touched.items c.self.inside.nets.items c.in_ok-tidy.ensures.tidy
 
 pub scale_all-self-inside-requires-clause-within : goal.scale_all-self-inside-requires-clause-within
 scale_all-self-inside-requires-clause-within c = subst (ScalesWithin c.args.scaling) (ap (λ (d : NormalConstraint). total d.terms) (sym c.self.view_is) ∙ terms_total 0 c.self.inside.nets.items) c.requires.sum
@@ -29,9 +28,9 @@ invariant_of-self-2 c =
     let zero : scaled c.args.scaling 0 ≡ 0 = zero_stays c.args.scaling c.args.self.now.degree c.requires.degree in
     let small : sizes c.scale_all-self-inside.new.nets.items ≤ largest_sum = omega (arith, c.scale_all-self-inside.ensures.sum, c.scale_all-self-inside.ensures.small) in (
       record {
-        marked = resized_marked (scaled c.args.scaling) 0 0 c.sort.new.self.items c.self.inside.nets.items c.scale_all-self-inside.new.nets.items c.scale_all-self-inside.ensures.same_length c.scale_all-self-inside.ensures.scaled small
+        marked = resized_marked (scaled c.args.scaling) 0 0 c.tidy.new.touched.items c.self.inside.nets.items c.scale_all-self-inside.new.nets.items c.scale_all-self-inside.ensures.same_length c.scale_all-self-inside.ensures.scaled small
             (λ n h l. none_of (scaled c.args.scaling) zero n h)
-            (marked_permuted c.self.inside.touched.items c.sort.new.self.items c.self.inside.nets.items c.sort.ensures.permutation c.self.invariant.0.marked);
+            c.tidy.ensures.marks;
         summed = c.scale_all-self-inside.ensures.sum;
         small = c.scale_all-self-inside.ensures.small;
         low = low_of c.args.scaling c.self.inside.degree c.scaled-self-inside.result c.self.inside.nets.items c.args.self.now c.self.view_is c.self.invariant.0.low c.requires.degree c.scaled-self-inside.ensures;

@@ -1,4 +1,4 @@
-use Rattle.std.proofs.Common.{sym, ap, ◌∙◌, arith}
+use Rattle.std.proofs.Common.{sym, ap, ◌∙◌}
 use Rattle.kernel.specs.Database.{removed}
 use Rattle.kernel.proofs.Between.{none_between, one_between}
 use Rattle.kernel.proofs.database.Database.remove_between.Goals as goal

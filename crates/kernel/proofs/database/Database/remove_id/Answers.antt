@@ -7,3 +7,8 @@ pub invariant_of-self : goal.invariant_of-self
 invariant_of-self g c =
     let d = c.self.inside in
     subst (λ m. AreNumbered m d.next_id) (sym c.remove.ensures.removed) (numbered_less (g.P.Propagator.content d.constraints) d.next_id c.args.id c.self.invariant)
+
+pub invariant_of-self-in_default : goal.invariant_of-self-in_default
+invariant_of-self-in_default g c =
+    let d = c.self.inside in
+    subst (λ m. AreNumbered m d.next_id) (sym c.remove.ensures.removed) (numbered_less (g.P.Propagator.content d.constraints) d.next_id c.args.id c.self.invariant)

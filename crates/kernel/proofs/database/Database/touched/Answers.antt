@@ -6,7 +6,7 @@ use Rattle.substitution.specs.declared.image.Image.{Image}
 use Rattle.substitution.specs.declared.image.Image.TheVariants.{Lit}
 use Rattle.substitution.specs.Images.{Images}
 use Rattle.kernel.specs.Database.{Constraints}
-use Rattle.kernel.specs.Redundance.{AddsVariable}
+use Rattle.kernel.specs.Redundance.{AddsTouched}
 use Rattle.kernel.proofs.Touched.{IsGatheringTouched, gathering_none, gathering_next, gathered_all}
 use Rattle.kernel.proofs.database.Database.touched.Goals as goal
 
@@ -25,8 +25,8 @@ loop-image-preserved g c =
     let i = c.loop-image.image-index in
     let count = ap length c.as_slice-image-items.ensures.images in
     let same = c.loop-image.invariant.0 in
-    let adds = subst (λ (images : Images). AddsVariable c.loop-image.self.live (get_or images i d).0 c.loop-image.ids c.in_ok-ids.ids) c.as_slice-image-items.ensures.images c.in_ok-ids.ensures.added in
-    let adds_live = subst (λ (s : Constraints). AddsVariable s.live (get_or c.args.witness.now i d).0 c.loop-image.ids c.in_ok-ids.ids) same adds in (
+    let adds = subst (λ (images : Images). AddsTouched c.loop-image.self.live (get_or images i d).0 (get_or images i d).1 c.loop-image.ids c.in_ok-ids.ids) c.as_slice-image-items.ensures.images c.in_ok-ids.ensures.added in
+    let adds_live = subst (λ (s : Constraints). AddsTouched s.live (get_or c.args.witness.now i d).0 (get_or c.args.witness.now i d).1 c.loop-image.ids c.in_ok-ids.ids) same adds in (
       c.in_ok-ids.ensures.same ∙ same,
       gathering_next live c.args.witness.now i d c.loop-image.ids c.in_ok-ids.ids (omega (arith, count)) c.loop-image.invariant.1 adds_live,
     )

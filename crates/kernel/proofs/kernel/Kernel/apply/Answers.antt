@@ -1,5 +1,5 @@
 use Rattle.std.proofs.Common.{IfErr, sym, subst}
-use Rattle.proof_rules.specs.Fault.{OrMemory, IsStepFault, IsOutsideFault, IsRedFault, IsRedBeginFault, IsSolFault, IsSoliFault, IsDelFault}
+use Rattle.proof_rules.specs.Fault.{OrMemory, IsStepFault, IsOutsideFault, IsRedFault, IsSolFault, IsSoliFault, IsDelFault}
 use Rattle.proof_rules.proofs.StepJudged.{no_red_fault}
 use Rattle.kernel.specs.Held.{Held}
 use Rattle.kernel.proofs.Standing.{refused_outside}

@@ -1,4 +1,4 @@
-use Rattle.std.proofs.Common.{◌≡◌, None, Some, IfSome, sym, ap, subst, ◌∙◌}
+use Rattle.std.proofs.Common.{IfSome, sym, ap, subst, ◌∙◌}
 use Rattle.proof_rules.specs.State.{Block}
 use Rattle.kernel.specs.Held.{Held}
 use Rattle.kernel.specs.Place.{IsAskedIn, IsNameWithin}

@@ -4,7 +4,7 @@ use Rattle.proof_steps.specs.declared.step.Step.TheVariants as steps
 use Rattle.proof_rules.specs.Block.{EndsOpen, closed}
 use Rattle.proof_rules.specs.Fault.{IsEndFault}
 use Rattle.proof_rules.specs.Shown.{IsShown, absurdity}
-use Rattle.proof_rules.specs.State.{State, Block, constraints, up_to}
+use Rattle.proof_rules.specs.State.{Block, constraints, up_to}
 use Rattle.proof_rules.specs.declared.fault.StepFault.TheVariants as faults
 use Rattle.kernel.specs.Database.{Constraints, without_between}
 use Rattle.kernel.specs.Held.{Held, IsKept, Keeps, state_with}

@@ -1,4 +1,4 @@
-use Rattle.std.proofs.Common.{◌≡◌, ℤ, FitsSigned, to_z, of_z, IsSome, None, [], ◌∷◌, refl, sym, subst, rules}
+use Rattle.std.proofs.Common.{◌≡◌, ℤ, FitsSigned, IsSome, None, [], ◌∷◌, refl, sym, subst, rules}
 use mir.Syntax.{w128}
 use Rattle.std.proofs.lemmas.Int.{to_z-of_z}
 use Rattle.std.proofs.lemmas.Result.{err_from_is_err_and}

@@ -1,9 +1,8 @@
-use Rattle.std.proofs.Common.{◌≡◌, ◌++◌, false, List, Option, Some, IfSome, refl, sym, ap, subst, ◌∙◌}
+use Rattle.std.proofs.Common.{◌≡◌, ◌++◌, false, List, Some, IfSome, refl, sym, ap, subst, ◌∙◌}
 use Rattle.std.proofs.lemmas.Bool.{false≢true}
 use Rattle.std.proofs.lemmas.List.{append-nil}
 use Rattle.std.proofs.lemmas.Result.{err_from_is_err_and}
 use Rattle.std.specs.FinMap as map
-use Rattle.linear.specs.declared.term.Term.{Term}
 use Rattle.normal_form.specs.Normal.{NormalConstraint}
 use Rattle.proof_rules.specs.Block.{AreLiveShown}
 use Rattle.proof_rules.specs.Fault.{IsUnopenedFault}

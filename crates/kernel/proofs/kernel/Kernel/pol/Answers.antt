@@ -1,11 +1,9 @@
-use Rattle.std.proofs.Common.{refl, subst}
+use Rattle.std.proofs.Common.{subst}
 use Rattle.std.proofs.lemmas.Result.{err_from_is_err_and}
-use Rattle.proof_steps.specs.declared.step.Step.TheVariants as steps
 use Rattle.proof_rules.specs.Fault.{OrMemory, IsWritingFault, IsPolFault}
-use Rattle.proof_rules.specs.State.{State, HasRoom, constraint_of, with_constraint}
+use Rattle.proof_rules.specs.State.{State, constraint_of}
 use Rattle.proof_rules.proofs.PolFaults.{or_memory, writing_pol}
 use Rattle.kernel.specs.Held.{Held, state_with}
-use Rattle.kernel.proofs.Keeping.{kept_step}
 use Rattle.kernel.proofs.kernel.Kernel.pol.Goals as goal
 
 pub returns-in_err-value-clause-fault : goal.returns-in_err-value-clause-fault

@@ -57,7 +57,7 @@ improve-requires-clause-kept g c =
     let size : unsigned_abs c.value-value.result ≤ largest_objective = subst (λ z. unsigned_abs z ≤ largest_objective) (sym value) small in
     let better = assembled k p (state_with c.self-2.inside.database c.self-2.inside.log c.self-2.inside.block) c.args.assigned.now solution c.in-Some.objective.now c.as_slice.result.now n
     c.value-value.result _ (ap (λ (x : Held). x.problem) c.self.view_is) (ap (λ (x : Held). x.state) (c.self-2.view_is ∙ same)) c.in-Some.ensures c.as_slice.ensures
-    c.in_ok-solution.ensures.logs value (number_kept c.value-value.result size) (c.if-not-improves.ensures.0 refl) c.in_ok-better.ensures.form (c.if-not-has_room.ensures.0 refl) in
+    c.in_ok-solution.ensures.logs value (number_kept c.value-value.result size) (c.if-not-improves.ensures.0 refl) c.in_ok-better.ensures (c.if-not-has_room.ensures.0 refl) in
     let kept : IsKept k = subst IsKept c.self.view_is c.self.invariant.kept in
     let after = kept_step k.problem k.state (with_improvement k.problem solution n k.state) (steps.Soli c.args.assigned.now) kept
     (c.requires.outside, (c.in-Some.objective.now, solution, n, better, refl)) in
@@ -75,7 +75,7 @@ returns-clause-ok g c =
     let size : unsigned_abs c.value-value.result ≤ largest_objective = subst (λ z. unsigned_abs z ≤ largest_objective) (sym value) small in
     let better = assembled k p (state_with c.self-2.inside.database c.self-2.inside.log c.self-2.inside.block) c.args.assigned.now solution c.in-Some.objective.now c.as_slice.result.now n
     c.value-value.result _ (ap (λ (x : Held). x.problem) c.self.view_is) (ap (λ (x : Held). x.state) (c.self-2.view_is ∙ same)) c.in-Some.ensures c.as_slice.ensures
-    c.in_ok-solution.ensures.logs value (number_kept c.value-value.result size) (c.if-not-improves.ensures.0 refl) c.in_ok-better.ensures.form (c.if-not-has_room.ensures.0 refl) in
+    c.in_ok-solution.ensures.logs value (number_kept c.value-value.result size) (c.if-not-improves.ensures.0 refl) c.in_ok-better.ensures (c.if-not-has_room.ensures.0 refl) in
     on_ok_weaker c.improve.result
     (λ is. (c.in-Some.objective.now, solution, n, better, is ∙ ap (λ (x : Held). with_improvement x.problem solution n x.state) same))
     c.improve.ensures.ok

@@ -11,7 +11,7 @@ use Rattle.proof_log.proofs.log.Log.new.Goals as goal
 
 pub invariant_of-result : goal.invariant_of-result
 invariant_of-result g c =
-    let kernel = c.in-Ok in
+    let kernel = c.in_ok-kernel in
     let p : Opb = c.args.problem.now in
     let count : c.problem_ids.result ≡ problem_ids p.constraints = c.problem_ids.ensures ∙ ap (λ (q : Opb). problem_ids q.constraints) kernel.ensures.problem in
     let small : c.problem_ids.result ≤ largest_number = omega arith in
@@ -21,7 +21,3 @@ invariant_of-result g c =
     let proof = starts p kernel.kernel.state c.write_start.new.out.items c.new-2.result.items text c.new-2.ensures.items c.reveal.ensures.table few kernel.ensures.start in
     let live = kept_first (logbook p c.write_start.new.out.items kernel.kernel.state c.new-2.result.items 0 Nothing None) kernel.ensures.start in
     (kernel.ensures.problem, proof, live, start_named p kernel.kernel.state c.reveal.ensures kernel.ensures.start)
-
-pub want_of_memory-requires : goal.want_of_memory-requires
-want_of_memory-requires g c =
-    let refused = c.in-Err.ensures.others in (cc)

@@ -1,9 +1,0 @@
-use Rattle.std.proofs.Common.{subst, sym}
-use Rattle.proof_rules.specs.State.{AreNumbered}
-use Rattle.proof_rules.proofs.Numbering.{numbered_less}
-use Rattle.kernel.proofs.database.Database.remove.Goals as goal
-
-pub invariant_of-self : goal.invariant_of-self
-invariant_of-self g c =
-    let d = c.self.inside in
-    subst (λ m. AreNumbered m d.next_id) (sym c.remove.ensures.removed) (numbered_less (g.P.Propagator.content d.constraints) d.next_id c.in-Some.id c.self.invariant)
