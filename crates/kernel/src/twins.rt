@@ -41,8 +41,7 @@ impl Twins {
         Ok(())
     }
 
-    /// Forgets a constraint that is taken out, if it was entered, and that those with its id or a greater one were looked at where the id
-    /// is given once more.
+    /// Forgets a constraint that is taken out, where it is the newest one of its fingerprint that was entered.
     pub(crate) fn forget(&mut self, constraint: &Normal, id: Id) {
         if u64::from(id) >= self.end {
             return;
