@@ -1,5 +1,5 @@
 # The door for people. `make` proves what both programs stand on and builds them into bin/, from nothing too; `make bin/pbcheck`
-# does so for the checker alone; `make test` runs the gate: every proof from nothing, the edits that must fail, and the tests;
+# does so for the checker alone; `make test` runs the gate: every proof that it has not passed before, the edits that must fail, and the tests;
 # `make demo` finds an optimum and has its proof checked, and runs the checker on three pigeons in two holes, an optimum, a
 # symmetry, a new name and a subproof; `make install` puts both programs and their manual pages under PREFIX.
 .PHONY: FORCE all test demo check install dist dist-check library demo-embed layout refused-growths statuses bench differential fuzz optima pigeons families wrong-edits wrong-definitions wrong-bodies gate-minutes links picture sizes shared-names
@@ -96,7 +96,7 @@ optima: all
 pigeons: all
 	scripts/pigeons
 
-# Solves problems of nineteen kinds, each with its proof checked.
+# Solves problems of thirty-one kinds, each with its proof checked.
 families: all
 	scripts/families
 

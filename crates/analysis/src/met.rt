@@ -34,8 +34,7 @@ impl Met {
     pub fn clear(&mut self) {
         self.variables.clear();
         self.ids.clear();
-        self.literals = usize::MAX;
-        self.levels = u32::MAX;
+        self.note_unlearned();
     }
 
     /// One constraint more, as it is added: that of an id, or what is left of it.
@@ -45,6 +44,12 @@ impl Met {
             self.variables.push(constraint.term(place).var)?;
         }
         Ok(())
+    }
+
+    /// Notes that nothing was learned: what an analysis came to was not taken.
+    pub fn note_unlearned(&mut self) {
+        self.literals = usize::MAX;
+        self.levels = u32::MAX;
     }
 
     /// Notes how many literals what was learned has, and of how many levels they are.

@@ -71,7 +71,7 @@ impl Adviser {
         };
         if let (Some(value), Some(constraint)) = (kernel.least_value(), kernel.constraint(id)) {
             self.relaxed.sources.improve(id, value, constraint);
-            self.schedule.end_dive();
+            self.schedule.note_solution();
         }
     }
 
@@ -247,7 +247,8 @@ impl Adviser {
         self.leanings.preferred()
     }
 
-    /// The bound of the last relaxation at the root, rounded down, if there was one. It may be wrong: for progress lines alone.
+    /// The bound of the last relaxation at the root, rounded down, if there was one. It may be wrong: for progress lines, and to begin anew where a
+    /// solution is about as good.
     pub fn bound(&self) -> Option<Integer> {
         self.bound
     }

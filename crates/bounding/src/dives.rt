@@ -2,14 +2,14 @@
 //!
 //! A search that follows its conflicts comes to a good solution by way of many bad ones, and pays a conflict for each. The best point of the
 //! relaxation is near a good one. So until there is a solution a call stands before each decision, and of the variables that its point has
-//! between their bounds the one that is nearest to 1 becomes true (fractional diving, as solvers of mixed integer programs do it: Achterberg,
-//! 2007). A dive begins at the root, and goes on behind some conflicts, which teach as others do. Dives for better solutions, at restarts,
+//! between their bounds the one that is nearest to 1 becomes true (a kind of fractional diving: Achterberg, 2007; there each goes to the
+//! bound that it is nearest to). A dive begins at the root, and goes on behind some conflicts, which teach as others do. Dives for better solutions, at restarts,
 //! were tried, and brought nothing.
 
 use super::advice::Node;
 use relaxation::Limits;
 
-/// After so many conflicts a dive ends that has not come to a solution.
+/// So many conflicts a dive may meet before it comes to a solution.
 const MOST_CONFLICTS: u64 = 20;
 
 /// Dives may do so many times what the calls at the root have done,

@@ -2,9 +2,10 @@
 //!
 //! One call costs as much as thousands of propagations, and on many problems it says nothing that propagation does not. So it has a
 //! share of the work, which rises where it ends a descent and falls where it does not. At the root, where a bound serves the whole search,
-//! it may do more: once at the start, and then, where the search has not ended soon, at restarts, ever more seldom. What it does there, with
-//! the rounds of cuts, has a share of its own, so that a root that took long does not keep the relaxation from the nodes below. All of this is
-//! counted and not timed: multiplications of the relaxation beside terms that the search has looked at, about.
+//! it may do more: once at the start, and then, where the search has not ended soon, at restarts, ever more seldom but for the next one behind
+//! a better solution, by which more is fixed there. What it does there, with the rounds of cuts, has a share of its own, so that a root that
+//! took long does not keep the relaxation from the nodes below. All of this is counted and not timed: multiplications of the relaxation
+//! beside terms that the search has looked at, about.
 
 use super::advice::Node;
 use relaxation::Limits;
@@ -124,6 +125,11 @@ impl Effort {
             steps: ROOT_STEPS,
             work,
         })
+    }
+
+    /// Has a call at the root due again, as soon as the search has done enough: a better solution is known, by which a bound fixes more there.
+    pub(crate) fn ask_root(&mut self) {
+        self.next_root = 0;
     }
 
     /// How many conflicts come between the last call at the root and the next one: one behind the first call, since cuts come only then.

@@ -19,7 +19,7 @@ const TIMES_BEFORE: u64 = 20;
 /// and so much more.
 const LEAST_WORK: u64 = 1_000_000;
 
-/// After so many rounds without a better bound the rounds end.
+/// So many rounds may pass without a better bound before they end.
 const MOST_STALLED: u32 = 4;
 
 /// The rounds that are left, and what they may do.

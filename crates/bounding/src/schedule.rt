@@ -58,9 +58,10 @@ impl Schedule {
         self.dives.are_open(node)
     }
 
-    /// Ends a dive: there is a solution.
-    pub(crate) fn end_dive(&mut self) {
+    /// Takes note of a better solution: a dive ends, and a call at the root is due.
+    pub(crate) fn note_solution(&mut self) {
         self.dives.end();
+        self.effort.ask_root();
     }
 
     /// Whether rounds of cuts may begin with a call at a node. A problem that is solved without a conflict wants no cuts, so none begin before

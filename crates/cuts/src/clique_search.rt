@@ -22,7 +22,7 @@ const MOST_MEMBERS: usize = 48;
 /// How many cliques are looked for at most.
 const MOST_CLIQUES: usize = 60;
 
-/// A literal that is in so many cliques begins no more.
+/// A literal that is in more cliques than so many begins no more.
 const MOST_USES: u8 = 2;
 
 /// How many terms of sets are looked at.

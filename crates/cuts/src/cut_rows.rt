@@ -11,7 +11,7 @@ use relaxation::{Relaxation, Row};
 use std::alloc::{AllocError, Global};
 use std::mem;
 
-/// After so many rounds with slack a cut leaves.
+/// So many rounds a cut may have slack before it leaves.
 const PATIENCE: u32 = 8;
 
 /// How many terms the rows of cuts may have together.

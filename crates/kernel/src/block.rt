@@ -232,11 +232,11 @@ impl<'a, P: Propagator> Kernel<'a, P> {
             &block.opened,
         )?;
         let own = block.own_goal(self.allocator)?;
-        if !shows_asked(self.allocator, &mut self.database, &own)? {
+        if !shows_if_asked(self.allocator, &mut self.database, &own)? {
             return Err(StepFault::GoalOpenSelf);
         }
         let objective = objective_goal(self.allocator, &self.objective, block)?;
-        if !shows_asked(self.allocator, &mut self.database, &objective)? {
+        if !shows_if_asked(self.allocator, &mut self.database, &objective)? {
             return Err(StepFault::GoalOpenObjective);
         }
         Ok(())
@@ -304,7 +304,7 @@ fn objective_goal(
 }
 
 /// Whether a goal is shown from the live constraints, if one is asked.
-fn shows_asked<P: Propagator>(
+fn shows_if_asked<P: Propagator>(
     alloc: Global,
     database: &mut Database<P>,
     goal: &Option<Normal>,

@@ -4,7 +4,7 @@
 ghost use Rattle.std.specs.Prelude.{◌≡◌, ◌≤◌, MatchOption};
 ghost use Rattle.proof_rules.specs.State.{id_limit, id_of};
 
-use super::twins::Twins;
+use super::duplicates::Duplicates;
 use linear::{Integer, Lit, Var};
 use normal_form::Normal;
 use propagate::{Decided, Id, Ids, Propagator, Reach, Retrace, Trace};
@@ -20,7 +20,7 @@ const ID_LIMIT: u64 = 1 << 32;
 pub(crate) struct Database<P: Propagator> {
     constraints: P,
     next_id: u64,
-    twins: Twins,
+    duplicates: Duplicates,
 }
 
 impl<P: Propagator> Model for Database<P> {
@@ -61,7 +61,7 @@ impl<P: Propagator> Database<P> {
         Database {
             constraints: P::empty(alloc),
             next_id: 1,
-            twins: Twins::new(alloc),
+            duplicates: Duplicates::new(alloc),
         }
     }
 
@@ -101,7 +101,7 @@ impl<P: Propagator> Database<P> {
     {
         self.remove_id((self.next_id - 1) as u32);
         self.next_id -= 1;
-        self.twins.go_back(self.next_id);
+        self.duplicates.go_back(self.next_id);
     }
 
     /// Takes out the live constraint that a number in a step means.
@@ -130,7 +130,7 @@ impl<P: Propagator> Database<P> {
         ensures { self.new ≡ removed id self.old }
     {
         if let Some(constraint) = self.constraints.remove(id) {
-            self.twins.forget(&constraint, id);
+            self.duplicates.forget(&constraint, id);
         }
     }
 
@@ -161,30 +161,31 @@ impl<P: Propagator> Database<P> {
         if !self.is_as_long(id, goal) {
             return Ok(false);
         }
-        self.has_twin(goal)
+        self.has_duplicate(goal)
     }
 
-    /// Whether the newest live constraint with the fingerprint of another covers it, as one that is the same does.
-    pub(crate) fn has_twin(&mut self, constraint: &Normal) -> Result<bool, AllocError>
+    /// Whether the newest live constraint with the fingerprint of another covers it, as a duplicate does.
+    pub(crate) fn has_duplicate(&mut self, constraint: &Normal) -> Result<bool, AllocError>
         ensures same { self.new ≡ self.old }
         ensures covered { IfOk result (λ yes. IsTrue yes → Any (λ e. Covers e constraint.now) (map.values self.old.live)) }
     {
-        self.enter_twins()?;
-        match self.twins.of(constraint) {
+        self.enter_fingerprints()?;
+        match self.duplicates.of(constraint) {
             Some(id) => Ok(self.is_covering(id, constraint)),
             None => Ok(false),
         }
     }
 
-    /// Enters the live constraints that came since that was done last among those that may be twins.
-    fn enter_twins(&mut self) -> Result<(), AllocError>
+    /// Enters the live constraints that came since that was done last by their fingerprints.
+    fn enter_fingerprints(&mut self) -> Result<(), AllocError>
         ensures { self.new ≡ self.old }
     {
-        for id in self.twins.end()..self.next_id {
+        for id in self.duplicates.end()..self.next_id {
             if let Some(constraint) = self.constraints.get(id as u32) {
-                self.twins.enter(constraint, id as u32)?;
+                self.duplicates.enter(constraint, id as u32)?;
             }
         }
+        self.duplicates.pass(self.next_id);
         Ok(())
     }
 

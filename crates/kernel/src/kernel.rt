@@ -136,7 +136,10 @@ impl<'a, P: Propagator> Kernel<'a, P> {
                 self.settle()?;
                 self.begin(constraint, witness)
             }
-            Step::Goal(name) => self.open_goal(*name),
+            Step::Goal(name) => {
+                self.settle()?;
+                self.open_goal(*name)
+            }
             Step::End => self.end(),
         }
     }
@@ -153,7 +156,7 @@ impl<'a, P: Propagator> Kernel<'a, P> {
     }
 
     /// Has what the live constraints force by themselves found, where no question did so. A propagator keeps that from question to question;
-    /// what it finds first in a block it would give up at the block's end, and find anew in the next one.
+    /// what it finds first in a block, or in a goal of one, it would give up at the end of that, and find anew in the next one.
     fn settle(&mut self) -> Result<(), AllocError>
         ensures { self.new ≡ self.old }
     {

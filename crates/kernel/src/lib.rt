@@ -9,6 +9,7 @@ mod conclusion;
 mod consistency;
 mod database;
 mod deletion;
+mod duplicates;
 mod file;
 mod holdings;
 mod kernel;
@@ -22,7 +23,6 @@ mod redundance;
 mod rup;
 mod shown;
 mod solution;
-mod twins;
 mod values;
 
 pub use accepted::Accepted;

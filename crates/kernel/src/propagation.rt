@@ -36,7 +36,7 @@ impl<'a, P: Propagator> Kernel<'a, P> {
     }
 
     /// The same, told by what is new: how many of the literals that are known stay, the first ones, and those that stand behind them, each with the
-    /// id of a constraint that forces it, as far as one is named. What is told of a conflict is the way to it.
+    /// id of a constraint that is said to force it, where one is named: no clause says that it does.
     pub fn retrace(&mut self, given: &[Lit], known: &[Lit]) -> Result<Retrace, AllocError>
         ensures same { self.new ≡ self.old }
         ensures value { IfOk result (IsRetrace (constraints self.old.state) given.now known.now) }
@@ -55,8 +55,9 @@ impl<'a, P: Propagator> Kernel<'a, P> {
     }
 
     /// The same for literals that are decided one after another behind an assignment, where what follows from the assignment alone may be left
-    /// out. So whoever asks about some literals after others is told of each what it forces. The first one is decided in any case; of the others
-    /// some are, in their order, but none that stands by then or whose opposite does.
+    /// out. So whoever asks about some literals after others is told of each what it forces. The first one is decided
+    /// in any case. Which of the others are is up to the propagator, and whoever asks looks each one up: that they come in their order, free, and
+    /// none behind a conflict, is in no clause.
     pub fn trace_each(
         &mut self,
         before: &[Lit],

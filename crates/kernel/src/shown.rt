@@ -97,7 +97,7 @@ fn is_covered<P: Propagator>(
     ensures same { database.new ≡ database.old }
     ensures covered { IfOk result (λ yes. IsTrue yes ↔ Any (λ e. Covers e constraint.now) (map.values database.old.live)) }
 {
-    if database.has_twin(constraint)? {
+    if database.has_duplicate(constraint)? {
         return Ok(true);
     }
     is_covered_at_literals(alloc, database, constraint)

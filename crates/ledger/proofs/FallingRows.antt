@@ -68,6 +68,7 @@ watched_without : (slots : Slots) (assigned : List Lit) (variables : ℕ) (falle
 watched_without slots assigned variables fallen w index place a number low is elsewhere = record {
   size = omega (arith, a.size, length-set w.rows (code fallen) (swap_remove (row_of w fallen) index place));
   within = a.within;
+  there = a.there;
   each = λ k n p there pair.
       let i = a.each k n p there pair in
       let gone : k ≡ place → IsOneOf p fallen → ⊥ = λ e. elsewhere n p (ap (λ (j : ℕ). get_or slots j None) (sym e) ∙ there, ap (λ (j : ℕ). get_or w.pairs j None) (sym e) ∙ pair) in
@@ -155,6 +156,10 @@ rewatched slots assigned variables fallen w new queue index place n p to f withi
         within = λ k s pair. elim (cases_eq k place) [
           | inl e ↦ subst (IsPairWithin variables) (sym (here k s e pair)) (first_below, second_below)
           | inr other ↦ f.watched.within k s (there k s other pair)
+        ];
+        there = λ k s pair. elim (cases_eq k place) [
+          | inl e ↦ (n, ap (λ (j : ℕ). get_or slots j None) e ∙ at.0)
+          | inr other ↦ f.watched.there k s (there k s other pair)
         ];
         each = λ k m s slot pair. elim (cases_eq k place) [
           | inl e ↦

@@ -14,26 +14,31 @@ use Rattle.ledger.proofs.WatchMoves.{beside_some}
 use Rattle.ledger.proofs.WatchedQuiet.{whole}
 
 -- two literals watch the clause, and its list begins with them
-pub record IsWatchedHere (slots : List (Option NormalConstraint)) (assigned : List Lit) (variables : ℕ) (w : Watching) (place : ℕ) (fallen other : Lit) (ls : List Lit) (n : NormalConstraint) : Type 0 where
+pub record IsWatchedHere (slots : List (Option NormalConstraint)) (assigned : List Lit) (variables : ℕ) (w : Watching) (place : ℕ) (fallen other : Lit) (ls : List Lit) : Type 0 where
+  pub clause : NormalConstraint
   pub pair : Pair
-  pub at : IsAt slots w.pairs place n pair
+  pub at : IsAt slots w.pairs place clause pair
   pub beside : IsBeside (Some pair) fallen other
   pub first_two : pair_of ls ≡ Some pair
   pub same : ls ≡ get_or w.literals place []
-  pub listed : AreLiteralsOf n ls
-  pub of_it : IsPairOf n pair
-  pub tell : Tell assigned n pair
+  pub listed : AreLiteralsOf clause ls
+  pub of_it : IsPairOf clause pair
+  pub tell : Tell assigned clause pair
   pub within : AreWithin variables ls
 
-pub watched_here : (slots : List (Option NormalConstraint)) (assigned : List Lit) (variables : ℕ) (w : Watching) (inside : List (List Lit)) (place : ℕ) (fallen other : Lit) (ls : List Lit) (n : NormalConstraint) → AreWatched slots assigned variables w
-    → ((k : ℕ) (m : NormalConstraint) → get_or slots k None ≡ Some m → variable_bound m.terms ≤ variables) → map pair_of inside ≡ w.pairs → inside ≡ w.literals → ls ≡ get_or inside place [] → get_or slots place None ≡ Some n → IsBeside (get_or w.pairs place None) fallen other
-    → IsWatchedHere slots assigned variables w place fallen other ls n
-watched_here slots assigned variables w inside place fallen other ls n a within pairs lists is slot beside =
+pub watched_here : (slots : List (Option NormalConstraint)) (assigned : List Lit) (variables : ℕ) (w : Watching) (inside : List (List Lit)) (place : ℕ) (fallen other : Lit) (ls : List Lit) → AreWatched slots assigned variables w
+    → ((k : ℕ) (m : NormalConstraint) → get_or slots k None ≡ Some m → variable_bound m.terms ≤ variables) → map pair_of inside ≡ w.pairs → inside ≡ w.literals → ls ≡ get_or inside place [] → IsBeside (get_or w.pairs place None) fallen other
+    → IsWatchedHere slots assigned variables w place fallen other ls
+watched_here slots assigned variables w inside place fallen other ls a within pairs lists is beside =
     let found = beside_some (get_or w.pairs place None) fallen other beside in
+    let clause = a.there place found.0 found.1 in
+    let n : NormalConstraint = clause.0 in
+    let slot = clause.1 in
     let i = a.each place n found.0 slot found.1 in
     let same : ls ≡ get_or w.literals place [] = is ∙ ap (λ (xs : List (List Lit)). get_or xs place []) lists in
     let listed : AreLiteralsOf n ls = subst (AreLiteralsOf n) (sym same) (a.listed place n found.0 slot found.1) in
     record {
+      clause = n;
       pair = found.0;
       at = (slot, found.1);
       beside = found.2;

@@ -128,20 +128,24 @@ put_there rows new m place low e = subst (λ (xs : Rows). StandsIn xs m place) (
 pub put_length : (rows new : Rows) (m : Lit) (place : ℕ) → IsPut rows m place new → length new ≡ length rows
 put_length rows new m place e = ap (length {A = List ℕ}) e ∙ length-set rows (code m) _
 
+-- the same, where the row may have been left as it is
+pub put_or_not : {T E : Type 0} → (r : Result T E) (rows new : Rows) (m : Lit) (place : ℕ) → code m < length rows → OnOk r (IsPut rows m place new) → OnErr r (new ≡ rows) → (l : Lit) (k : ℕ) → StandsIn rows l k → StandsIn new l k
+put_or_not (Ok x) rows new m place low ok err l k s = put_still rows new m place low ok l k s
+put_or_not (Err e) rows new m place low ok err l k s = subst (λ (xs : Rows). StandsIn xs l k) (sym err) s
+
+pub put_ok : {T E : Type 0} → (r : Result T E) (rows new : Rows) (m : Lit) (place : ℕ) → code m < length rows → OnOk r (IsPut rows m place new) → OnOk r (StandsIn new m place)
+put_ok (Ok x) rows new m place low ok = put_there rows new m place low ok
+put_ok (Err e) rows new m place low ok = tt
+
+pub put_as_many : {T E : Type 0} → (r : Result T E) (rows new : Rows) (m : Lit) (place : ℕ) → OnOk r (IsPut rows m place new) → OnErr r (new ≡ rows) → length new ≡ length rows
+put_as_many (Ok x) rows new m place ok err = put_length rows new m place ok
+put_as_many (Err e) rows new m place ok err = ap (length {A = List ℕ}) err
+
 -- a place in the rows of two literals
 pub record AreTwoPut (rows new : Rows) (p : Pair) (place : ℕ) : Type 0 where
   pub kept : (l : Lit) (k : ℕ) → StandsIn rows l k → StandsIn new l k
   pub first : StandsIn new p.first place
   pub second : StandsIn new p.second place
-
-pub two_put : (rows mid new : Rows) (p : Pair) (place : ℕ) → code p.first < length rows → code p.second < length rows → IsPut rows p.first place mid → IsPut mid p.second place new → AreTwoPut rows new p place
-two_put rows mid new p place a b e f =
-    let low : code p.second < length mid = omega (arith, b, put_length rows mid p.first place e) in
-    record {
-      kept = λ l k s. put_still mid new p.second place low f l k (put_still rows mid p.first place a e l k s);
-      first = put_still mid new p.second place low f p.first place (put_there rows mid p.first place a e);
-      second = put_there mid new p.second place low f;
-    }
 
 pub on_ok_anyway : {T E P : Type 0} → (r : Result T E) → P → OnOk r P
 on_ok_anyway (Ok x) p = p

@@ -239,7 +239,7 @@ nowhere = record {
 }
 
 nobody : AreWatched [] [] 0 (record { rows = []; pairs = []; literals = [] })
-nobody = record { size = omega arith; within = λ k p e. absurd (cc); each = λ k n p e f. absurd (cc); listed = λ k n p e f. absurd (cc) }
+nobody = record { size = omega arith; within = λ k p e. absurd (cc); there = λ k p e. absurd (cc); each = λ k n p e f. absurd (cc); listed = λ k n p e f. absurd (cc) }
 
 no_constraint : (n : NormalConstraint) → None ≡ Some n → ⊥
 no_constraint n e = cc

@@ -45,6 +45,12 @@ new_within w assigned variables place s None p i e = absurd (none_is_not_some p 
 new_within w assigned variables place None (Some q) p i e = absurd i
 new_within w assigned variables place (Some n) (Some q) p i e = subst (IsPairWithin variables) (some_same q p (Some q) refl e) i.1
 
+-- at a new place that is watched there is a clause
+new_there : (w : Watching) (assigned : List Lit) (variables place : ℕ) (s : Option NormalConstraint) (o : Option Pair) (p : Pair) → IsNewWatch w assigned variables place s o → o ≡ Some p → (n : NormalConstraint) × (s ≡ Some n)
+new_there w assigned variables place s None p i e = absurd (none_is_not_some p e)
+new_there w assigned variables place None (Some q) p i e = absurd i
+new_there w assigned variables place (Some n) (Some q) p i e = (n, refl)
+
 new_watch : (w : Watching) (assigned : List Lit) (variables place : ℕ) (s : Option NormalConstraint) (n : NormalConstraint) (o : Option Pair) (p : Pair) → IsNewWatch w assigned variables place s o → s ≡ Some n → o ≡ Some p → IsWatched w.rows assigned place n p × AreLiteralsOf n (get_or w.literals place [])
 new_watch w assigned variables place s n None p i e f = absurd (none_is_not_some p f)
 new_watch w assigned variables place None n (Some q) p i e f = absurd i
@@ -66,6 +72,14 @@ watched_more slots assigned variables w new s o a many e long kept lists watch =
       within = λ k p f. elim (pair_cases w.pairs o p k (at k p f)) [
         | inl before ↦ a.within k p before.1
         | inr last ↦ new_within new assigned variables (length w.pairs) s o p watch last.1
+      ];
+      there = λ k p f. elim (pair_cases w.pairs o p k (at k p f)) [
+        | inl before ↦
+            let was = a.there k p before.1 in
+            (was.0, get_or_append_left slots (s ∷ []) None k (omega (arith, before.0, many)) ∙ was.1)
+        | inr last ↦
+            let new_one = new_there new assigned variables (length w.pairs) s o p watch last.1 in
+            (new_one.0, get_or_push slots s None k (omega (arith, last.0, many)) ∙ new_one.1)
       ];
       each = λ k m p slot f. elim (place_cases slots s m k slot) [
         | inl before ↦ elim (pair_cases w.pairs o p k (at k p f)) [
@@ -98,6 +112,7 @@ pub watched_kept : (slots : Slots) (assigned : List Lit) (variables : ℕ) (w ne
 watched_kept slots assigned variables w new a e long kept lists = record {
   size = omega (arith, a.size, long);
   within = λ k p f. a.within k p (ap (λ (xs : List (Option Pair)). get_or xs k None) (sym e) ∙ f);
+  there = λ k p f. a.there k p (ap (λ (xs : List (Option Pair)). get_or xs k None) (sym e) ∙ f);
   each = λ k n p slot f.
       let i = a.each k n p slot (ap (λ (xs : List (Option Pair)). get_or xs k None) (sym e) ∙ f) in
       record { of_it = i.of_it; first = kept p.first k i.first; second = kept p.second k i.second; tell = i.tell };
@@ -111,6 +126,7 @@ pub watched_wider : (slots : Slots) (assigned : List Lit) (variables more : ℕ)
 watched_wider slots assigned variables more w new a e lists up long same = record {
   size = long;
   within = λ k p f. let i = a.within k p (ap (λ (xs : List (Option Pair)). get_or xs k None) (sym e) ∙ f) in (omega (arith, i.0, up), omega (arith, i.1, up));
+  there = λ k p f. a.there k p (ap (λ (xs : List (Option Pair)). get_or xs k None) (sym e) ∙ f);
   each = λ k n p slot f.
       let i = a.each k n p slot (ap (λ (xs : List (Option Pair)). get_or xs k None) (sym e) ∙ f) in
       record { of_it = i.of_it; first = stands p.first k i.first; second = stands p.second k i.second; tell = i.tell };
@@ -134,6 +150,10 @@ watched_fewer slots rest assigned variables w new n e many pairs rows lists a =
     record {
       size = omega (arith, a.size, ap (length {A = List ℕ}) rows);
       within = λ k p f. a.within k p (at k p f);
+      there = λ k p f.
+          let found = a.there k p (at k p f) in
+          let low : k < length rest = omega (arith, some_there (take (length w.pairs - 1) w.pairs) k p (ap (λ (xs : List (Option Pair)). get_or xs k None) (sym pairs) ∙ f), short, many, ap (length {A = Option NormalConstraint}) e, length-append rest (Some n ∷ [])) in
+          (found.0, sym (get_or_append_left rest (Some n ∷ []) None k low) ∙ ap (λ (os : Slots). get_or os k None) (sym e) ∙ found.1);
       each = λ k m p slot f. subst (λ (xs : List (List ℕ)). IsWatched xs assigned k m p) (sym rows) (a.each k m p (was k m slot) (at k p f));
       listed = λ k m p slot f.
           let low : k + 1 < length w.pairs = omega (arith, some_there (take (length w.pairs - 1) w.pairs) k p (ap (λ (xs : List (Option Pair)). get_or xs k None) (sym pairs) ∙ f), short) in
@@ -146,6 +166,7 @@ pub watched_without : (slots : Slots) (place : ℕ) (assigned : List Lit) (varia
 watched_without slots place assigned variables w new low there pairs rows lists a = record {
   size = omega (arith, a.size, ap (length {A = List ℕ}) rows);
   within = λ k p f. a.within k p (at k p f);
+  there = λ k p f. let found = a.there k p (at k p f) in (found.0, get_or-set_other slots place k None None (elsewhere k p f) ∙ found.1);
   each = λ k n p slot f. subst (λ (xs : List (List ℕ)). IsWatched xs assigned k n p) (sym rows) (a.each k n p (was k n slot) (at k p f));
   listed = λ k n p slot f. subst (AreLiteralsOf n) (sym (lists k (elsewhere k p f))) (a.listed k n p (was k n slot) (at k p f));
 }

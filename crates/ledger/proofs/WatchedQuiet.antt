@@ -138,6 +138,7 @@ pub fallen_watched : (slots : Slots) (assigned : List Lit) (variables : ℕ) (w 
 fallen_watched slots assigned variables w new fallen queue a is handled = record {
   size = a.size;
   within = a.within;
+  there = a.there;
   each = λ k n p there pair.
       let i = a.each k n p there pair in
       record {
@@ -192,6 +193,7 @@ pub watched_back : (slots : Slots) (longer assigned : List Lit) (variables : ℕ
 watched_back slots longer assigned variables w l e a = record {
   size = a.size;
   within = a.within;
+  there = a.there;
   each = λ k n p there pair.
       let i = a.each k n p there pair in
       record {

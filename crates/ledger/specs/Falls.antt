@@ -14,6 +14,7 @@ use Rattle.linear.specs.Literal.{code}
 use Rattle.ledger.specs.Trails.{on_trail}
 use Rattle.ledger.specs.Watched.{AreOthersFalse, AreWatched, IsOpen, IsPairOf, Watching, pair_of}
 
+-- one of two literals is true
 abbrev pub IsOneTrue : List Lit → Pair → Type 0
 IsOneTrue assigned p = (lists assigned p.first ≡ true) ⊎ (lists assigned p.second ≡ true)
 

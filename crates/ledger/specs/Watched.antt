@@ -1,5 +1,5 @@
 -- Clauses that are watched by two of their literals.
-use Rattle.std.specs.Prelude.{◌≡◌, ◌⊎◌, ℕ, ◌*◌, ◌<◌, ◌≤◌, true, false, List, [], ◌∷◌, Option, Some, None, Contains, length, take, is_some, slice_index_or, slice_set}
+use Rattle.std.specs.Prelude.{◌≡◌, ◌⊎◌, ℕ, ◌-◌, ◌*◌, ◌<◌, ◌≤◌, true, false, List, [], ◌∷◌, Option, Some, None, Contains, length, take, is_some, slice_index_or, slice_set}
 use Rattle.linear.specs.declared.term.Lit.{Lit}
 use Rattle.normal_form.specs.declared.term.NormalTerm.{NormalTerm}
 use Rattle.normal_form.specs.Normal.{NormalConstraint}
@@ -76,6 +76,11 @@ OutlastsTerm assigned terms k other = (d : NormalTerm) → Outlasts assigned (li
 abbrev pub StandsIn : List (List ℕ) → Lit → ℕ → Type 0
 StandsIn rows l place = Contains (slice_index_or rows (code l) []) place
 
+-- the row of a literal ends with a place
+abbrev pub EndsWith : List (List ℕ) → Lit → ℕ → Type 0
+EndsWith rows l place =
+    (0 < length (slice_index_or rows (code l) [])) × (slice_index_or (slice_index_or rows (code l) []) (length (slice_index_or rows (code l) []) - 1) place ≡ place)
+
 -- Either literal leads to the clause at a place. The two tell of it under each beginning of the assignment: so nothing is to be
 -- mended where literals are backtracked.
 pub record IsWatched (rows : List (List ℕ)) (assigned : List Lit) (place : ℕ) (n : NormalConstraint) (p : Pair) : Type 0 where
@@ -110,10 +115,11 @@ pub record Watching : Type 0 where
 abbrev pub IsPairWithin : ℕ → Pair → Type 0
 IsPairWithin variables p = (p.first.var.0 < variables) × (p.second.var.0 < variables)
 
--- the clauses at places with two literals are watched
+-- places with two literals have a clause, and these are watched
 pub record AreWatched (slots : List (Option NormalConstraint)) (assigned : List Lit) (variables : ℕ) (w : Watching) : Type 0 where
   pub size : 2 * variables ≤ length w.rows
   pub within : (k : ℕ) (p : Pair) → slice_index_or w.pairs k None ≡ Some p → IsPairWithin variables p
+  pub there : (k : ℕ) (p : Pair) → slice_index_or w.pairs k None ≡ Some p → (n : NormalConstraint) × (slice_index_or slots k None ≡ Some n)
   pub each : (k : ℕ) (n : NormalConstraint) (p : Pair) → slice_index_or slots k None ≡ Some n → slice_index_or w.pairs k None ≡ Some p
       → IsWatched w.rows assigned k n p
   pub listed : (k : ℕ) (n : NormalConstraint) (p : Pair) → slice_index_or slots k None ≡ Some n → slice_index_or w.pairs k None ≡ Some p

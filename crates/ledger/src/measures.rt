@@ -1,4 +1,5 @@
-//! What is measured of a constraint when it comes in.
+//! The open sum and the largest coefficient of a constraint: a counter and its limit begin with them, and the sum stands in for the
+//! counter of a clause, which has none.
 
 ghost use Rattle.std.specs.Prelude.{◌≡◌, ◌+◌, ◌≤◌, ◌<◌, length, take};
 ghost use Rattle.linear.specs.declared.term.Lit.{Lit};

@@ -10,7 +10,7 @@
 //! was not propagated, and what its row would tell is not asked for before it is propagated anew. For that all literals
 //! that are assigned are asked, also those behind it: so of many copies of a clause whose literals all fall at once one is looked at.
 
-ghost use Rattle.std.specs.Prelude.{◌≡◌, ◌+◌, ◌-◌, ◌<◌, ◌≤◌, ◌⊎◌, ◌++◌, ◌∷◌, [], ℕ, false, true, Contains, IfOk};
+ghost use Rattle.std.specs.Prelude.{◌≡◌, ◌↔◌, ◌+◌, ◌-◌, ◌<◌, ◌≤◌, ◌⊎◌, ◌++◌, ◌∷◌, [], ℕ, false, true, Contains, IfOk, IsTrue};
 ghost use Rattle.std.specs.Prelude.{MatchOption, None, OnErr, OnOk, Some, length, slice_index_or, slice_set, take};
 ghost use Rattle.std.specs.List.{swap_remove};
 ghost use Rattle.linear.specs.declared.term.Lit.{Lit};
@@ -21,7 +21,7 @@ ghost use Rattle.ledger.specs.Trails.{on_trail};
 ghost use Rattle.ledger.specs.declared.pair.Pair.{Pair};
 ghost use Rattle.ledger.specs.Falls.{IsBeside, IsFalling, IsFound, IsNearer, IsOneOf, IsPassed, IsRowEnd};
 ghost use Rattle.linear.specs.Literal.{code};
-ghost use Rattle.ledger.specs.Watched.{AreLiteralsOf, AreSameKinds, AreWatched, IsOpen, IsPairOf, IsPairWithin, StandsIn, exchanged};
+ghost use Rattle.ledger.specs.Watched.{AreLiteralsOf, AreSameKinds, AreWatched, EndsWith, IsOpen, IsPairOf, IsPairWithin, StandsIn, exchanged};
 
 use super::arena::Arena;
 use super::assignment::Assignment;
@@ -100,6 +100,35 @@ impl Watchers {
         self.rows.push(literal.code(), place)
     }
 
+    /// Whether the row of a literal ends with a place.
+    fn ends_with(&self, literal: Lit, place: usize) -> bool
+        requires { code literal < length self.now.rows }
+        ensures { IsTrue result ↔ EndsWith self.now.rows literal place }
+    {
+        let row = self.rows.row(literal.code());
+        let Some(last) = row.len().checked_sub(1) else {
+            return false;
+        };
+        row[last] == place
+    }
+
+    /// Puts a place into the row of a literal that does not end with it: where clauses come and go at one place, as those of questions do,
+    /// what they left in a row serves the next one.
+    fn put_once(&mut self, literal: Lit, place: usize) -> Result<(), AllocError>
+        requires { code literal < length self.old.rows }
+        ensures pairs { self.new.pairs ≡ self.old.pairs }
+        ensures literals { self.new.literals ≡ self.old.literals }
+        ensures length { length self.new.rows ≡ length self.old.rows }
+        ensures kept { (l : Lit) (k : ℕ) → StandsIn self.old.rows l k → StandsIn self.new.rows l k }
+        ensures there { OnOk result (StandsIn self.new.rows literal place) }
+        ensures still { EndsWith self.old.rows literal place → self.new.rows ≡ self.old.rows }
+    {
+        if self.ends_with(literal, place) {
+            return Ok(());
+        }
+        self.put(literal, place)
+    }
+
     /// Has a clause watched by two of its literals, at the next place.
     pub(crate) fn watch(&mut self, clause: &Normal, pair: Pair) -> Result<(), AllocError>
         requires pair { IsPairOf clause.now pair }
@@ -116,8 +145,8 @@ impl Watchers {
         ensures second_there { OnOk result (StandsIn self.new.rows pair.second (length self.old.pairs)) }
     {
         let place = self.literals.len();
-        self.put(pair.first, place)?;
-        self.put(pair.second, place)?;
+        self.put_once(pair.first, place)?;
+        self.put_once(pair.second, place)?;
         self.literals.push(clause, pair)
     }
 
@@ -160,27 +189,25 @@ impl Watchers {
         self.pair(place)?.beside(fallen)
     }
 
-    /// What is found of the clause at a place when a literal falls.
+    /// What is found of the clause at a place when a literal falls. A place with two literals has a clause, so the slots stand here for
+    /// the contract alone.
     fn look(
         &self,
-        slots: &[Option<Normal>],
+        _slots: &[Option<Normal>],
         trail: &Assignment,
         starts: &mut Starts,
         fallen: Lit,
         place: usize,
     ) -> Finding
-        requires watched { AreWatched slots.now trail.now.0 trail.now.1 self.now }
-        requires within { (k : ℕ) (n : NormalConstraint) → slice_index_or slots.now k None ≡ Some n
+        requires watched { AreWatched _slots.now trail.now.0 trail.now.1 self.now }
+        requires within { (k : ℕ) (n : NormalConstraint) → slice_index_or _slots.now k None ≡ Some n
             → variable_bound n.terms ≤ trail.now.1 }
         requires unset { lists trail.now.0 fallen ≡ false }
         requires unfallen { IsOpen trail.now.0 fallen }
         requires falls { lists (on_trail trail.now) (opposite fallen) ≡ true }
-        ensures { IsFound slots.now trail.now self.now place fallen result }
+        ensures { IsFound _slots.now trail.now self.now place fallen result }
     {
         let Some(other) = self.beside(place, fallen) else {
-            return Finding::Elsewhere;
-        };
-        let Some(Some(_)) = slots.get(place) else {
             return Finding::Elsewhere;
         };
         if trail.has(other) {

@@ -1,8 +1,8 @@
 //! One pass over all constraints: what each forces is listed, until one is falsified.
 //!
 //! A constraint's slack does not change by the literals that it forces itself, since no opposite of them stands in it. So
-//! all that it forces is listed at once, with its slack computed once; assignment one literal and beginning anew would read a
-//! long constraint as often as it has literals.
+//! all that it forces is listed at once, with its slack computed once; to list one literal and begin anew would read a long
+//! constraint as often as it has literals.
 
 ghost use Rattle.std.specs.Prelude.{◌≡◌, ◌+◌, ◌<◌, ◌≤◌, ◌↔◌, ◌++◌, ◌∷◌, [], false, true, All, IfOk, IsTrue, MatchOption, OnOk, length, map};
 ghost use Rattle.normal_form.specs.Normal.{sum_over, variable_bound};

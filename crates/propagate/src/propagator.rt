@@ -74,8 +74,8 @@ pub trait Propagator: Drop {
         ensures content { content self.new ≡ content self.old }
         ensures value { IfOk result (IsReach (map.values (content self.old)) given.now) };
 
-    /// The same, told by what is new: how many of the literals that are known stay, the first ones, and those that stand behind them, with
-    /// reasons as far as they are named. What is told of a conflict is the way to it.
+    /// The same, told by what is new: how many of the literals that are known stay, the first ones, and those that stand behind them. No clause
+    /// says which ids are named beside them, or with a conflict.
     fn retrace(&mut self, given: &[Lit], known: &[Lit]) -> Result<Retrace, AllocError>
         ensures content { content self.new ≡ content self.old }
         ensures value { IfOk result (IsRetrace (map.values (content self.old)) given.now known.now) };
@@ -89,9 +89,9 @@ pub trait Propagator: Drop {
 
     /// The same for literals that are decided one after another behind an assignment, where what follows from the assignment alone may be left
     /// out: so where the literals of the assignment were asked about before, a propagator that keeps what it found tells what each decision
-    /// forces, and no more. The first one is decided in any case. Which of the others are is up to the propagator, in their order: none that
-    /// stands by then, or whose opposite does, and none behind a conflict. A search that asks about many at a time has its assignment gone
-    /// over once for all of them.
+    /// forces, and no more. The first one is decided in any case. Which of the others are decided is up to the propagator, and whoever asks
+    /// looks each one up: that they come in their order, free, and none behind a conflict, is in no clause. A search that asks about many at a
+    /// time has its assignment gone over once for all of them.
     fn trace_each(
         &mut self,
         before: &[Lit],

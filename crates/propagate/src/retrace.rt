@@ -20,9 +20,9 @@ use std::alloc::{AllocError, Global};
 pub enum Extent {
     /// To all that it forces.
     Closed,
-    /// To a conflict: the constraint of this id has negative slack under what is told.
+    /// To a conflict: the constraint of this id is said to have negative slack under what is told: no clause says that it has.
     Falsified(Id),
-    /// To a conflict of which no constraint is named: a literal is given whose opposite is given or forced.
+    /// To a conflict of which no constraint is named, as where a literal is given whose opposite is given or forced.
     Clash,
 }
 
@@ -31,7 +31,8 @@ pub enum Extent {
 pub struct Retrace {
     /// How many of the literals that were known stay: the first ones.
     pub kept: usize,
-    /// The literals behind them, each with the id of a constraint that forces it, where one is named. A given literal has none.
+    /// The literals behind them, each with the id of a constraint that is said to force it, where one is named: no clause says that it does, nor
+    /// that a given literal has none.
     pub rest: Seq<(Lit, Option<Id>)>,
     pub extent: Extent,
 }

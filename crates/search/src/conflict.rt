@@ -69,6 +69,7 @@ impl<'a, P: Propagator> Run<'a, P> {
             &mut self.advisers.brancher,
         )?;
         if !is_learned {
+            self.analyser.met.note_unlearned();
             learn_clause(
                 self.alloc,
                 &mut self.log,

@@ -29,10 +29,13 @@ pub goes_on_of_more : (ns extras : List NormalConstraint) (given assigned : List
 goes_on_of_more ns extras given assigned g = (g.0, chain_of_more ns (ns ++ extras) (λ n h. Contains-append_left ns extras n h) given g.0 g.1, g.2)
 
 -- where all is propagated, nothing has to wait
-pub looked_when_fixpoint : (ns : List NormalConstraint) (assigned : List Lit) (w : List ℕ) → IsFixpoint ns assigned → AreLookedAt ns assigned w
-looked_when_fixpoint ns assigned w s k low =
+pub quiet_when_fixpoint : (ns : List NormalConstraint) (assigned : List Lit) (k : ℕ) → IsFixpoint ns assigned → k < length ns → IsQuiet assigned (constraint_at ns k)
+quiet_when_fixpoint ns assigned k s low =
     let n : NormalConstraint = constraint_at ns k in
-    inl (λ b. s.no_conflict (k, n, low, get_or_default ns k n nothing low, b), λ l f. s.nothing_forced l (k, n, low, get_or_default ns k n nothing low, f))
+    (λ b. s.no_conflict (k, n, low, get_or_default ns k n nothing low, b), λ l f. s.nothing_forced l (k, n, low, get_or_default ns k n nothing low, f))
+
+pub looked_when_fixpoint : (ns : List NormalConstraint) (assigned : List Lit) (w : List ℕ) → IsFixpoint ns assigned → AreLookedAt ns assigned w
+looked_when_fixpoint ns assigned w s k low = inl (quiet_when_fixpoint ns assigned k s low)
 
 -- one constraint more, which waits
 looked_with_one : (ns : List NormalConstraint) (n : NormalConstraint) (assigned : List Lit) (w w' : List ℕ) → AreLookedAt ns assigned w → ((k : ℕ) → Contains w k → Contains w' k) → Contains w' (length ns) → AreLookedAt (ns ++ n ∷ []) assigned w'

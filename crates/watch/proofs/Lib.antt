@@ -25,4 +25,5 @@ pub mod ToldTrail
 pub mod Underlying
 pub mod Walking
 pub mod WideEnough
+pub mod Resting
 pub mod Retraced

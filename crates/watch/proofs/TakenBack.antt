@@ -75,21 +75,24 @@ some_take (p ∷ ps) (suc k) = ap (λ (rs : List (Option ℕ)). Some p ∷ rs) (
 pub forced_first : (rs new : List (Option ℕ)) (k : ℕ) → new ≡ take k rs → AllForced rs → AllForced new
 forced_first rs new k e a = (take k a.0, e ∙ ap (λ (os : List (Option ℕ)). take k os) a.1 ∙ some_take a.0 k)
 
--- a constraint that was taken out has nothing to be looked at
+-- a constraint that was taken out is quiet, and the others are as they were
+pub quiet_without : (slots : List (Option NormalConstraint)) (place : ℕ) (assigned : List Lit) (k : ℕ) → k < length slots → IsQuiet assigned (constraint_at (shown slots) k) → IsQuiet assigned (constraint_at (shown (set slots place None)) k)
+quiet_without slots place assigned k many quiet = elim (cases_eq k place) [
+  | inl e ↦
+      let gone : get_or (set slots place None) k None ≡ None = ap (λ (j : ℕ). get_or (set slots place None) j None) e ∙ get_or-set_same slots place None None (omega (arith, e, many)) in
+      let says : constraint_at (shown (set slots place None)) k ≡ nothing = shown_at (set slots place None) k ∙ ap constraint_in gone in
+      subst (λ (n : NormalConstraint). IsQuiet assigned n) (sym says) (quiet_nothing assigned)
+  | inr other ↦
+      let same : constraint_at (shown (set slots place None)) k ≡ constraint_at (shown slots) k = shown_at (set slots place None) k ∙ ap constraint_in (get_or-set_other slots place k None None other) ∙ sym (shown_at slots k) in
+      subst (λ (n : NormalConstraint). IsQuiet assigned n) (sym same) quiet
+]
+
 pub looked_without : (slots : List (Option NormalConstraint)) (place : ℕ) (assigned : List Lit) (w : List ℕ) → AreLookedAt (shown slots) assigned w → AreLookedAt (shown (set slots place None)) assigned w
 looked_without slots place assigned w all k low =
     let many : k < length slots = omega (arith, low, length-map (set slots place None) constraint_in, length-set slots place None) in
-    elim (cases_eq k place) [
-      | inl e ↦
-          let gone : get_or (set slots place None) k None ≡ None = ap (λ (j : ℕ). get_or (set slots place None) j None) e ∙ get_or-set_same slots place None None (omega (arith, e, many)) in
-          let says : constraint_at (shown (set slots place None)) k ≡ nothing = shown_at (set slots place None) k ∙ ap constraint_in gone in
-          inl (subst (λ (n : NormalConstraint). IsQuiet assigned n) (sym says) (quiet_nothing assigned))
-      | inr other ↦
-          let same : constraint_at (shown (set slots place None)) k ≡ constraint_at (shown slots) k = shown_at (set slots place None) k ∙ ap constraint_in (get_or-set_other slots place k None None other) ∙ sym (shown_at slots k) in
-          elim (all k (omega (arith, many, length-map slots constraint_in))) [
-            | inl quiet ↦ inl (subst (λ (n : NormalConstraint). IsQuiet assigned n) (sym same) quiet)
-            | inr waits ↦ inr waits
-          ]
+    elim (all k (omega (arith, many, length-map slots constraint_in))) [
+      | inl quiet ↦ inl (quiet_without slots place assigned k many quiet)
+      | inr waits ↦ inr waits
     ]
 
 pub root_without : (old new : State) (place : ℕ) (w : List ℕ) (count : ℕ) → new ≡ record old { slots = set old.slots place None } → IsRoot old w count → IsRoot new w count

@@ -10,7 +10,9 @@ ghost use Rattle.std.specs.Option.{option_copied};
 ghost use Rattle.linear.specs.declared.term.Lit.{Lit};
 ghost use Rattle.ledger.specs.Ledgers.{shown};
 ghost use Rattle.watch.specs.Keeping.{IsKept};
+ghost use Rattle.watch.specs.declared.rest.Rest.{Rest};
 ghost use Rattle.watch.specs.Looking.{AreLookedAt};
+ghost use Rattle.watch.specs.Rests.{IsRest};
 
 use super::attaching::attach_waiting;
 use ledger::{Ledger, Queue};
@@ -95,6 +97,7 @@ impl Arrivals {
         requires looked_at { AreLookedAt (shown ledger.old.slots) ledger.old.propagated queue.old.0 }
         ensures kept { (levels : List Lit × List ℕ × List ℕ) → IsKept ledger.old levels queue.old.0 queue.old.1
             → IsKept ledger.new levels queue.new.0 queue.new.1 }
+        ensures rest { (rest : Rest) → IsRest (shown ledger.old.slots) ledger.old.propagated rest → IsRest (shown ledger.new.slots) ledger.new.propagated rest }
         ensures same { ledger.new.slots ++ self.new ≡ ledger.old.slots ++ self.old }
         ensures none { OnOk result (self.new ≡ []) }
         ensures all { OnOk result (ledger.new.slots ≡ ledger.old.slots ++ self.old) }

@@ -5,8 +5,8 @@
 //! from where they part, and a question without given literals takes them back.
 //! It is found when something is asked: a constraint that comes in only stands behind the others, so that reading a database costs no
 //! walk. A constraint that goes takes with it what was given, and what was found from nothing by way of it and after
-//! that. Its place stays empty, and its entries in the lists of literals stay and cost a little, until the places are
-//! made anew.
+//! that, or since a question about the constraints alone (`rest`). Its place stays empty, and its entries in the lists of literals stay and
+//! cost a little, until the places are made anew.
 
 ghost use Rattle.std.specs.Prelude.{◌≡◌, ◌↔◌, ◌<◌, ◌++◌, ◌∷◌, [], ℕ, List, IfOk};
 ghost use Rattle.std.specs.Prelude.{IsTrue, None, OnErr, OnOk, Some, length, slice_index_or, slice_set};
@@ -23,11 +23,11 @@ use super::arrivals::Arrivals;
 use super::chain::Chain;
 use super::continuing::traces_of_each;
 use super::extension::reach_over;
-use super::following::go_back;
 use super::lending::Occurrences;
 use super::levels::Levels;
 use super::refutation::refute_anew;
 use super::release::release;
+use super::rest::{Rest, go_down};
 use super::retracing::retrace_over;
 use super::tracing::chain_over;
 use ledger::{Ledger, Queue};
@@ -43,6 +43,8 @@ pub(crate) struct Closure {
     ledger: Ledger,
     queue: Queue,
     levels: Levels,
+    /// Where a question about the constraints alone ended last.
+    rest: Rest,
     /// What came since something was asked last, at the places behind those of the ledger.
     arrivals: Arrivals,
     alloc: Global,
@@ -51,13 +53,15 @@ pub(crate) struct Closure {
 impl Model for Closure {
     ghost use Rattle.std.specs.Prelude.{◌++◌, List, Option};
     ghost use Rattle.normal_form.specs.Normal.{NormalConstraint};
+    ghost use Rattle.ledger.specs.Ledgers.{shown};
     ghost use Rattle.watch.specs.Keeping.{IsKept};
+    ghost use Rattle.watch.specs.Rests.{IsRest};
 
     ghost Value = { List (Option NormalConstraint) };
 
     ghost view = { λ c. c.ledger.slots ++ c.arrivals };
 
-    ghost invariant = { λ c. IsKept c.ledger c.levels c.queue.0 c.queue.1 };
+    ghost invariant = { λ c. IsKept c.ledger c.levels c.queue.0 c.queue.1 × IsRest (shown c.ledger.slots) c.ledger.propagated c.rest };
 }
 
 impl Closure {
@@ -69,6 +73,7 @@ impl Closure {
             ledger: Ledger::new(alloc),
             queue: Queue::new(alloc),
             levels: Levels::new(alloc),
+            rest: Rest::nothing(),
             arrivals: Arrivals::new(alloc),
             alloc,
         }
@@ -136,9 +141,20 @@ impl Closure {
     {
         self.arrivals
             .attach_to(self.alloc, &mut self.ledger, &mut self.queue)?;
-        go_back(&mut self.ledger, &mut self.queue, &mut self.levels, 0);
+        go_down(
+            &mut self.ledger,
+            &mut self.queue,
+            &mut self.levels,
+            &mut self.rest,
+        );
         self.ledger.reveal();
-        let answer = refute_anew(self.alloc, &mut self.ledger, &mut self.queue, extras);
+        let answer = refute_anew(
+            self.alloc,
+            &mut self.ledger,
+            &mut self.queue,
+            &mut self.rest,
+            extras,
+        );
         self.ledger.reveal();
         answer
     }
@@ -151,6 +167,7 @@ impl Closure {
     {
         self.arrivals
             .attach_to(self.alloc, &mut self.ledger, &mut self.queue)?;
+        self.rest = Rest::nothing();
         reach_over(
             self.alloc,
             &mut self.ledger,
@@ -172,6 +189,7 @@ impl Closure {
     {
         self.arrivals
             .attach_to(self.alloc, &mut self.ledger, &mut self.queue)?;
+        self.rest = Rest::nothing();
         retrace_over(
             self.alloc,
             &mut self.ledger,
@@ -193,9 +211,14 @@ impl Closure {
         if place >= count {
             return self.arrivals.take(place - count);
         }
-        go_back(&mut self.ledger, &mut self.queue, &mut self.levels, 0);
+        go_down(
+            &mut self.ledger,
+            &mut self.queue,
+            &mut self.levels,
+            &mut self.rest,
+        );
         self.ledger.reveal();
-        release(&mut self.ledger, &mut self.queue, place);
+        release(&mut self.ledger, &mut self.queue, &mut self.rest, place);
         self.ledger.reveal();
         self.ledger.take_out(place)
     }
@@ -208,6 +231,7 @@ impl Closure {
     {
         self.arrivals
             .attach_to(self.alloc, &mut self.ledger, &mut self.queue)?;
+        self.rest = Rest::nothing();
         chain_over(
             self.alloc,
             &mut self.ledger,
@@ -235,6 +259,7 @@ impl Closure {
     {
         self.arrivals
             .attach_to(self.alloc, &mut self.ledger, &mut self.queue)?;
+        self.rest = Rest::nothing();
         traces_of_each(
             self.alloc,
             &mut self.ledger,

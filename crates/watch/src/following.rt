@@ -26,7 +26,7 @@ use propagate::literal_count;
 use std::alloc::{AllocError, Global};
 
 /// Queues the constraints from a place on.
-fn queue_from(ledger: &Ledger, queue: &mut Queue, first: usize)
+pub(crate) fn queue_from(ledger: &Ledger, queue: &mut Queue, first: usize)
     requires { queue.old.1 ≡ length ledger.now.slots }
     ensures count { queue.new.1 ≡ queue.old.1 }
     ensures queued { (k : ℕ) → first ≤ k → k < length ledger.now.slots → Contains queue.new.0 k }

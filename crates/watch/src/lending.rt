@@ -1,7 +1,8 @@
-//! The ids of the constraints that have a literal, read from the lists that are kept for it.
+//! The ids of the constraints that have a literal, put into a set.
 //!
-//! Nothing is copied: the two lists, of constraints that are counted and of clauses that are watched, have an entry for each
-//! one that ever came with the literal, and those of constraints that are gone are passed over.
+//! They are read from the lists that are kept for the literal. These two, of constraints that are counted and of clauses that are
+//! watched, have an entry for each one that ever came with the literal, and those of constraints that are gone are passed over. The lists
+//! are not copied, and each id goes into the set as it comes.
 
 ghost use Rattle.std.specs.Prelude.{◌≡◌, ◌+◌, ◌<◌, ◌≤◌, ◌^◌, ◌∷◌, [], All, IfOk, IfSome, MatchOption, drop, length, slice_index_or};
 ghost use Rattle.occurrences.specs.declared.occurrence.Occurrence.{Occurrence};
@@ -13,7 +14,7 @@ use propagate::{Id, Ids};
 use std::alloc::AllocError;
 use std::marker::Model;
 
-/// The ids of constraints that are still to come.
+/// The entries that are still to be gone through, as the ids of those constraints of them that are there.
 #[derive(Drop)]
 pub(crate) struct Occurrences<'a> {
     entries: Entries<'a>,
@@ -53,7 +54,7 @@ fn first_live(entries: Entries<'_>, from: usize, ledger: &Ledger) -> Option<usiz
 }
 
 impl<'a> Occurrences<'a> {
-    /// The ids of the constraints at the places of entries.
+    /// The ids of the constraints at the places of entries, where one is there. All are still to come.
     pub(crate) fn of(entries: Entries<'a>, ledger: &'a Ledger, ids: &'a [Id]) -> Self
         requires places { All (λ e. e.place < length ledger.now.slots) (all_of entries) }
         requires ids { length ids.now ≡ length ledger.now.slots }
@@ -76,7 +77,7 @@ impl<'a> Occurrences<'a> {
         Some(self.ids[self.entries.place(index)])
     }
 
-    /// Adds those that are still to come to a set.
+    /// Adds those that are still to come to a set, and answers it. Where memory runs out the set is gone.
     pub(crate) fn add_to(self, ids: Ids) -> Result<Ids, AllocError>
         ensures { IfOk result (AreAdded self.entry ids) }
     {

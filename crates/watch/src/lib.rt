@@ -24,6 +24,7 @@ mod naming;
 mod places;
 mod refutation;
 mod release;
+mod rest;
 mod retracing;
 mod row;
 mod telling;

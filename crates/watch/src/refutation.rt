@@ -11,10 +11,12 @@ ghost use Rattle.propagate.specs.Chain.{IsRefuted, IsFixpoint};
 ghost use Rattle.ledger.specs.Ledgers.{shown};
 ghost use Rattle.watch.specs.Cubes.{IsCube};
 ghost use Rattle.watch.specs.Looking.{GoesOn};
+ghost use Rattle.watch.specs.Rests.{IsRest};
 ghost use Rattle.watch.specs.Roots.{IsRoot};
 
 use super::attaching::{attach_all, detach_from};
 use super::cubes::{are_cubes, give_cubes};
+use super::rest::{Rest, note};
 use super::walk::{backtrack_quietly, propagate_all};
 use ledger::{Ledger, Queue};
 use normal_form::Normal;
@@ -116,6 +118,7 @@ fn refute_beside(
     requires fixpoint { IsFixpoint (shown ledger.old.slots) ledger.old.assigned }
     requires propagated { ledger.old.propagated ≡ ledger.old.assigned }
     ensures slots { ledger.new.slots ≡ ledger.old.slots }
+    ensures propagated { ledger.new.propagated ≡ ledger.old.propagated }
     ensures root { IsRoot ledger.new queue.new.0 queue.new.1 }
     ensures value { IfOk result (λ yes. IsTrue yes ↔ IsRefuted (shown ledger.old.slots ++ extras.now)) }
 {
@@ -128,20 +131,24 @@ fn refute_beside(
     answer
 }
 
-/// Whether the constraints are refuted beside others. What they force from nothing is then found.
+/// Whether the constraints are refuted beside others. What they force from nothing is then found, and noted where there are no others.
 pub(crate) fn refute_anew(
     alloc: Global,
     ledger: &mut Ledger,
     queue: &mut Queue,
+    rest: &mut Rest,
     extras: &[Normal],
 ) -> Result<bool, AllocError>
-    requires { IsRoot ledger.old queue.old.0 queue.old.1 }
+    requires root { IsRoot ledger.old queue.old.0 queue.old.1 }
+    requires rest { IsRest (shown ledger.old.slots) ledger.old.propagated rest.old }
     ensures slots { ledger.new.slots ≡ ledger.old.slots }
     ensures root { IsRoot ledger.new queue.new.0 queue.new.1 }
+    ensures rest { IsRest (shown ledger.new.slots) ledger.new.propagated rest.new }
     ensures value { IfOk result (λ yes. IsTrue yes ↔ IsRefuted (shown ledger.old.slots ++ extras.now)) }
 {
     if propagate_root(ledger, queue)? {
         return Ok(true);
     }
+    note(ledger, rest, extras);
     refute_beside(alloc, ledger, queue, extras)
 }

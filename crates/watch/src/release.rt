@@ -4,15 +4,21 @@
 //! before the first that stands on the constraint are a chain without it, so they stay; the first and all after it
 //! go, for they may stand on one another. A constraint that did not wait is still quiet then, unless a literal that
 //! goes is one of its own: it may force that one again. So these are queued, and nothing is made anew. What a constraint
-//! forced is one of its own literals, so those are looked at, and not the trail.
+//! forced is one of its own literals, so those are looked at, and not the trail. Where all was quiet not far below, the trail is cut there, and
+//! only the constraints that came since are queued.
 
-ghost use Rattle.std.specs.Prelude.{◌≡◌, ◌-◌, ◌<◌, ◌≤◌, ℕ, Some, None, length, slice_index_or, take};
+ghost use Rattle.std.specs.Prelude.{◌≡◌, ◌-◌, ◌<◌, ◌≤◌, ℕ, IsTrue, Some, None, length, slice_index_or, take};
 ghost use Rattle.linear.specs.declared.term.Lit.{Lit};
 ghost use Rattle.ledger.specs.Ledgers.{constraint_at, shown, term_at};
 ghost use Rattle.watch.specs.Looking.{AreLookedAt};
+ghost use Rattle.watch.specs.Rests.{IsRest};
 ghost use Rattle.watch.specs.Roots.{IsRoot};
 
+use super::rest::{Rest, back_to};
 use ledger::{Ledger, Queue};
+
+/// So many constraints and literals are soon looked at, sooner than all constraints that have one.
+const FEW: usize = 256;
 
 /// Takes the last literal back, if there is one, and queues the constraints that may force it, where it was propagated.
 fn backtrack_one(ledger: &mut Ledger, queue: &mut Queue)
@@ -88,15 +94,37 @@ fn count_before(ledger: &Ledger, place: usize) -> usize
     count
 }
 
+/// Whether a rest stands near below so many literals, and little has come since, beside what is taken back in any case.
+fn is_near(ledger: &Ledger, rest: Rest, count: usize) -> bool
+    requires { count ≤ length ledger.now.assigned }
+    ensures { IsTrue result → rest.height ≤ count }
+{
+    if rest.height > count {
+        return false;
+    }
+    let since = ledger.count().saturating_sub(rest.count);
+    since.saturating_add(count - rest.height) <= FEW.saturating_add(ledger.len() - count)
+}
+
 /// Takes literals back, so that the constraint of a place is nobody's reason.
-pub(crate) fn release(ledger: &mut Ledger, queue: &mut Queue, place: usize)
+pub(crate) fn release(ledger: &mut Ledger, queue: &mut Queue, rest: &mut Rest, place: usize)
     requires root { IsRoot ledger.old queue.old.0 queue.old.1 }
+    requires rest { IsRest (shown ledger.old.slots) ledger.old.propagated rest.old }
     requires place { place < length ledger.old.slots }
     ensures slots { ledger.new.slots ≡ ledger.old.slots }
     ensures root { IsRoot ledger.new queue.new.0 queue.new.1 }
+    ensures rest { IsRest (shown ledger.old.slots) ledger.new.propagated rest.new }
     ensures reasons { (k : ℕ) → k < length ledger.new.assigned
         → slice_index_or ledger.new.reasons k None ≡ Some place → ⊥ }
 {
     let count = count_before(ledger, place);
+    if count == ledger.len() {
+        return;
+    }
+    if is_near(ledger, *rest, count) {
+        back_to(ledger, queue, *rest);
+        return;
+    }
     backtrack_to(ledger, queue, count);
+    *rest = Rest::nothing();
 }

@@ -16,3 +16,14 @@ returns-clause-root c =
       looked_at = subst (λ (os : List (Option NormalConstraint)). AreLookedAt (shown os) new.propagated c.backtrack_to.new.queue.0) (sym t.slots) t.looked_at;
       forced = forced_first old.reasons new.reasons c.count_before-count.result t.reasons c.requires.root.forced;
     }
+
+pub returns-then-is_near-clause-root : goal.returns-then-is_near-clause-root
+returns-then-is_near-clause-root c =
+    let old = c.args.ledger.now in
+    let new = c.back_to.new.ledger in
+    let t = c.back_to.ensures in
+    record {
+      places = t.places ∙ c.requires.root.places ∙ ap length (sym t.slots);
+      looked_at = subst (λ (os : List (Option NormalConstraint)). AreLookedAt (shown os) new.propagated c.back_to.new.queue.0) (sym t.slots) t.looked_at;
+      forced = forced_first old.reasons new.reasons c.args.rest.now.height t.reasons c.requires.root.forced;
+    }

@@ -1,4 +1,6 @@
-use Rattle.std.proofs.Common.{IfErr, sym, subst}
+use Rattle.std.proofs.Common.{IfErr, OnOk, sym, subst}
+use Rattle.proof_rules.specs.Legal.{Legal}
+use Rattle.proof_rules.specs.Block.{LegalGoal}
 use Rattle.proof_rules.specs.Fault.{OrMemory, IsStepFault, IsOutsideFault, IsRedFault, IsSolFault, IsSoliFault, IsDelFault}
 use Rattle.proof_rules.proofs.StepJudged.{no_red_fault}
 use Rattle.kernel.specs.Held.{Held}
@@ -31,3 +33,9 @@ returns-in_ok-stand_outside-in-Red-clause-fault g c =
     let k : Held = c.args.self.now in
     subst (λ x. IfErr c.red.result (λ f. OrMemory f (IsStepFault k.problem k.state x f))) (sym c.in-Red.is)
     (refused_outside k.state (IsRedFault k.problem k.state c.in-Red.constraint c.in-Red.witness) c.red.result c.in_ok-stand_outside-in-Red.ensures.outside (no_red_fault k.problem k.state c.in-Red.constraint c.in-Red.witness) c.red.ensures.fault)
+
+pub returns-in_ok-settle-in-Goal-clause-ok : goal.returns-in_ok-settle-in-Goal-clause-ok
+returns-in_ok-settle-in-Goal-clause-ok g c =
+    let k : Held = c.args.self.now in
+    subst (λ x. OnOk c.open_goal.result (Legal k.problem k.state x c.open_goal.new.self.state)) (sym c.in-Goal.is)
+    (subst (λ h. OnOk c.open_goal.result (LegalGoal h.problem h.state c.in-Goal.name c.open_goal.new.self.state)) c.settle-in-Goal.ensures c.open_goal.ensures.ok)

@@ -52,7 +52,7 @@ returns-then-not-branch-clause-fault g c j here =
     let each : AreLiveShown k.state b = each_shown k.state b _ d.live c.from.result items live c.new-beside.ensures.items c.block.view_is c.from.ensures c.in_ok-judge_live.ensures.shown in
     let then : map.values c.judge_live.new.database.live ≡ constraints k.state = ap (λ (x : Constraints). map.values x.live) c.in_ok-judge_live.ensures.same ∙ ap (map.values) live in
     let own = own_unshown (constraints k.state) b c.in_ok-own.own c.in_ok-own.ensures
-    (λ h. false≢true (sym c.if-not-branch.true ∙ c.in_ok-shows_asked.ensures.shown.1 (subst (λ xs. IfSome c.in_ok-own.own (IsShown xs)) (sym then) h))) in
+    (λ h. false≢true (sym c.if-not-branch.true ∙ c.in_ok-shows_if_asked.ensures.shown.1 (subst (λ xs. IfSome c.in_ok-own.own (IsShown xs)) (sym then) h))) in
     subst (λ x. IsUnopenedFault k.problem k.state x faults.GoalOpenSelf) (one_block k.state.block b j some here) (each, own.0, own.1)
 
 pub returns-then-not-branch-2-clause-fault : goal.returns-then-not-branch-2-clause-fault
@@ -66,11 +66,11 @@ returns-then-not-branch-2-clause-fault g c j here =
     let each : AreLiveShown k.state b = each_shown k.state b _ d.live c.from.result items live c.new-beside.ensures.items c.block.view_is c.from.ensures c.in_ok-judge_live.ensures.shown in
     let then : map.values c.judge_live.new.database.live ≡ constraints k.state = ap (λ (x : Constraints). map.values x.live) c.in_ok-judge_live.ensures.same ∙ ap (map.values) live in
     let own = own_shown (constraints k.state) b c.in_ok-own.own c.in_ok-own.ensures
-    (subst (λ xs. IfSome c.in_ok-own.own (IsShown xs)) then (c.in_ok-shows_asked.ensures.shown.0 c.if-not-branch.false)) in
-    let last : map.values c.shows_asked.new.database.live ≡ constraints k.state = ap (λ (x : Constraints). map.values x.live) c.in_ok-shows_asked.ensures.same ∙ then in
+    (subst (λ xs. IfSome c.in_ok-own.own (IsShown xs)) then (c.in_ok-shows_if_asked.ensures.shown.0 c.if-not-branch.false)) in
+    let last : map.values c.shows_if_asked.new.database.live ≡ constraints k.state = ap (λ (x : Constraints). map.values x.live) c.in_ok-shows_if_asked.ensures.same ∙ then in
     let objective : c.self.inside.objective ≡ k.problem.objective = c.self.invariant.objective_is ∙ ap (λ (x : Held). x.problem.objective) c.self.view_is in
     let open_goal = objective_unshown (constraints k.state) b c.self.inside.objective c.in_ok-objective.objective b.objective refl c.in_ok-objective.ensures.opened c.in_ok-objective.ensures.goal
-    (λ h. false≢true (sym c.if-not-branch-2.true ∙ c.in_ok-shows_asked-2.ensures.shown.1 (subst (λ xs. IfSome c.in_ok-objective.objective (IsShown xs)) (sym last) h))) in
+    (λ h. false≢true (sym c.if-not-branch-2.true ∙ c.in_ok-shows_if_asked-2.ensures.shown.1 (subst (λ xs. IfSome c.in_ok-objective.objective (IsShown xs)) (sym last) h))) in
     subst (λ x. IsUnopenedFault k.problem k.state x faults.GoalOpenObjective) (one_block k.state.block b j some here)
     (each, own, open_goal.0, (open_goal.1.0, sym objective ∙ open_goal.1.1, open_goal.1.2))
 
@@ -85,12 +85,12 @@ returns-clause-shown g c j here =
     let each : AreLiveShown k.state b = each_shown k.state b _ d.live c.from.result items live c.new-beside.ensures.items c.block.view_is c.from.ensures c.in_ok-judge_live.ensures.shown in
     let then : map.values c.judge_live.new.database.live ≡ constraints k.state = ap (λ (x : Constraints). map.values x.live) c.in_ok-judge_live.ensures.same ∙ ap (map.values) live in
     let own = own_shown (constraints k.state) b c.in_ok-own.own c.in_ok-own.ensures
-    (subst (λ xs. IfSome c.in_ok-own.own (IsShown xs)) then (c.in_ok-shows_asked.ensures.shown.0 c.if-not-branch.false)) in
-    let last : map.values c.shows_asked.new.database.live ≡ constraints k.state = ap (λ (x : Constraints). map.values x.live) c.in_ok-shows_asked.ensures.same ∙ then in
+    (subst (λ xs. IfSome c.in_ok-own.own (IsShown xs)) then (c.in_ok-shows_if_asked.ensures.shown.0 c.if-not-branch.false)) in
+    let last : map.values c.shows_if_asked.new.database.live ≡ constraints k.state = ap (λ (x : Constraints). map.values x.live) c.in_ok-shows_if_asked.ensures.same ∙ then in
     let objective : c.self.inside.objective ≡ k.problem.objective = c.self.invariant.objective_is ∙ ap (λ (x : Held). x.problem.objective) c.self.view_is in
     let not_raised : b.objective ≡ false → IfSome k.problem.objective (IsShownNotRaised (constraints k.state) b.images) =
     λ unopened. subst (λ o. IfSome o (IsShownNotRaised (constraints k.state) b.images)) objective
     (objective_shown (constraints k.state) b c.self.inside.objective c.in_ok-objective.objective c.in_ok-objective.ensures.goal
-    (subst (λ xs. IfSome c.in_ok-objective.objective (IsShown xs)) last (c.in_ok-shows_asked-2.ensures.shown.0 c.if-not-branch-2.false)) unopened) in
+    (subst (λ xs. IfSome c.in_ok-objective.objective (IsShown xs)) last (c.in_ok-shows_if_asked-2.ensures.shown.0 c.if-not-branch-2.false)) unopened) in
     let all : AreUnopenedShown k.problem k.state b = record { each_live = each; itself = own; objective = not_raised } in
     subst (AreUnopenedShown k.problem k.state) (one_block k.state.block b j some here) all

@@ -1,5 +1,5 @@
 -- Another open literal watches the clause of the place, or it is falsified.
-use Rattle.std.proofs.Common.{◌≡◌, ◌⊎◌, inl, inr, true, false, Some, None, List, ℕ, get_or, ap, sym, subst, ◌∙◌, arith, rules}
+use Rattle.std.proofs.Common.{◌≡◌, ◌⊎◌, inl, inr, true, false, List, ℕ, get_or, ap, sym, subst, ◌∙◌, arith}
 use Rattle.std.proofs.lemmas.Bool.{false≢true}
 use Rattle.std.proofs.lemmas.List.{get_or_default}
 use Rattle.linear.specs.declared.term.Lit.{Lit}
@@ -20,21 +20,19 @@ use Rattle.ledger.proofs.watchers.Watchers.look.Goals as goal
 pub open_beside-requires-clause-within : goal.open_beside-requires-clause-within
 open_beside-requires-clause-within c =
     let t = c.args.trail.now in
-    let n : NormalConstraint = c.in-Some-Some.field-0-0 in
     let ls : List Lit = c.row-literals.result.now in
     let q : Pair = record { first = c.args.fallen; second = c.in-Some.other } in
-    let slot : get_or c.args.slots.now c.args.place None ≡ Some n = search rules in
-    let i = watched_here c.args.slots.now t.0 t.1 c.args.self.now c.self.inside.literals c.args.place c.args.fallen c.in-Some.other ls n c.requires.watched c.requires.within (ap (λ (w : Watching). w.pairs) c.self.view_is) (ap (λ (w : Watching). w.literals) c.self.view_is) c.row-literals.ensures slot c.in-Some.ensures.none in
+    let i = watched_here c.args._slots.now t.0 t.1 c.args.self.now c.self.inside.literals c.args.place c.args.fallen c.in-Some.other ls c.requires.watched c.requires.within (ap (λ (w : Watching). w.pairs) c.self.view_is) (ap (λ (w : Watching). w.literals) c.self.view_is) c.row-literals.ensures c.in-Some.ensures.none in
+    let n : NormalConstraint = i.clause in
     i.within
 
 pub assigns-requires : goal.assigns-requires
 assigns-requires c =
     let t = c.args.trail.now in
-    let n : NormalConstraint = c.in-Some-Some.field-0-0 in
     let ls : List Lit = c.row-literals.result.now in
     let q : Pair = record { first = c.args.fallen; second = c.in-Some.other } in
-    let slot : get_or c.args.slots.now c.args.place None ≡ Some n = search rules in
-    let i = watched_here c.args.slots.now t.0 t.1 c.args.self.now c.self.inside.literals c.args.place c.args.fallen c.in-Some.other ls n c.requires.watched c.requires.within (ap (λ (w : Watching). w.pairs) c.self.view_is) (ap (λ (w : Watching). w.literals) c.self.view_is) c.row-literals.ensures slot c.in-Some.ensures.none in
+    let i = watched_here c.args._slots.now t.0 t.1 c.args.self.now c.self.inside.literals c.args.place c.args.fallen c.in-Some.other ls c.requires.watched c.requires.within (ap (λ (w : Watching). w.pairs) c.self.view_is) (ap (λ (w : Watching). w.literals) c.self.view_is) c.row-literals.ensures c.in-Some.ensures.none in
+    let n : NormalConstraint = i.clause in
     let d : Lit = record { var = record { 0 = 0 }; negated = false } in
     grind (arith, i.within c.in-Some-open_beside.index d c.in-Some-open_beside.ensures.value.below, c.opposite-then-fell.ensures)
 
@@ -46,25 +44,23 @@ all_fall xs ls p index d (inr out) falls = out
 pub returns-then-assigns : goal.returns-then-assigns
 returns-then-assigns c =
     let t = c.args.trail.now in
-    let n : NormalConstraint = c.in-Some-Some.field-0-0 in
     let ls : List Lit = c.row-literals.result.now in
     let q : Pair = record { first = c.args.fallen; second = c.in-Some.other } in
-    let slot : get_or c.args.slots.now c.args.place None ≡ Some n = search rules in
-    let i = watched_here c.args.slots.now t.0 t.1 c.args.self.now c.self.inside.literals c.args.place c.args.fallen c.in-Some.other ls n c.requires.watched c.requires.within (ap (λ (w : Watching). w.pairs) c.self.view_is) (ap (λ (w : Watching). w.literals) c.self.view_is) c.row-literals.ensures slot c.in-Some.ensures.none in
+    let i = watched_here c.args._slots.now t.0 t.1 c.args.self.now c.self.inside.literals c.args.place c.args.fallen c.in-Some.other ls c.requires.watched c.requires.within (ap (λ (w : Watching). w.pairs) c.self.view_is) (ap (λ (w : Watching). w.literals) c.self.view_is) c.row-literals.ensures c.in-Some.ensures.none in
+    let n : NormalConstraint = i.clause in
     let d : Lit = record { var = record { 0 = 0 }; negated = false } in
     let chosen : lists (on_trail t) (opposite (get_or ls c.in-Some-open_beside.index d)) ≡ true = ap (lists (on_trail t)) (sym c.opposite-then-fell.ensures) ∙ sym c.assigns.ensures ∙ c.if-assigns.true in
     let fell : lists (on_trail t) (opposite c.in-Some.other) ≡ true = ap (lists (on_trail t)) (sym c.opposite.ensures) ∙ sym c.assigns-fell.ensures ∙ c.if-fell.true in
     let rest : AreRestFalse (on_trail t) ls q = all_fall (on_trail t) ls q c.in-Some-open_beside.index d c.in-Some-open_beside.ensures.last chosen in
-    (n, slot, falsified_others (on_trail t) n c.args.fallen c.in-Some.other i.of_it.asks (others_of_rest (on_trail t) n ls i.pair c.args.fallen c.in-Some.other i.listed i.first_two i.beside rest) c.requires.falls fell)
+    (n, i.at.0, falsified_others (on_trail t) n c.args.fallen c.in-Some.other i.of_it.asks (others_of_rest (on_trail t) n ls i.pair c.args.fallen c.in-Some.other i.listed i.first_two i.beside rest) c.requires.falls fell)
 
 pub returns-else-fell : goal.returns-else-fell
 returns-else-fell c =
     let t = c.args.trail.now in
-    let n : NormalConstraint = c.in-Some-Some.field-0-0 in
     let ls : List Lit = c.row-literals.result.now in
     let q : Pair = record { first = c.args.fallen; second = c.in-Some.other } in
-    let slot : get_or c.args.slots.now c.args.place None ≡ Some n = search rules in
-    let i = watched_here c.args.slots.now t.0 t.1 c.args.self.now c.self.inside.literals c.args.place c.args.fallen c.in-Some.other ls n c.requires.watched c.requires.within (ap (λ (w : Watching). w.pairs) c.self.view_is) (ap (λ (w : Watching). w.literals) c.self.view_is) c.row-literals.ensures slot c.in-Some.ensures.none in
+    let i = watched_here c.args._slots.now t.0 t.1 c.args.self.now c.self.inside.literals c.args.place c.args.fallen c.in-Some.other ls c.requires.watched c.requires.within (ap (λ (w : Watching). w.pairs) c.self.view_is) (ap (λ (w : Watching). w.literals) c.self.view_is) c.row-literals.ensures c.in-Some.ensures.none in
+    let n : NormalConstraint = i.clause in
     let d : Lit = record { var = record { 0 = 0 }; negated = false } in
     let index : ℕ = c.in-Some-open_beside.index in
     let unset = c.in-Some-open_beside.ensures.value in
@@ -80,23 +76,21 @@ returns-else-fell c =
 pub returns-in-None : goal.returns-in-None
 returns-in-None c =
     let t = c.args.trail.now in
-    let n : NormalConstraint = c.in-Some-Some.field-0-0 in
     let ls : List Lit = c.row-literals.result.now in
     let q : Pair = record { first = c.args.fallen; second = c.in-Some.other } in
-    let slot : get_or c.args.slots.now c.args.place None ≡ Some n = search rules in
-    let i = watched_here c.args.slots.now t.0 t.1 c.args.self.now c.self.inside.literals c.args.place c.args.fallen c.in-Some.other ls n c.requires.watched c.requires.within (ap (λ (w : Watching). w.pairs) c.self.view_is) (ap (λ (w : Watching). w.literals) c.self.view_is) c.row-literals.ensures slot c.in-Some.ensures.none in
+    let i = watched_here c.args._slots.now t.0 t.1 c.args.self.now c.self.inside.literals c.args.place c.args.fallen c.in-Some.other ls c.requires.watched c.requires.within (ap (λ (w : Watching). w.pairs) c.self.view_is) (ap (λ (w : Watching). w.literals) c.self.view_is) c.row-literals.ensures c.in-Some.ensures.none in
+    let n : NormalConstraint = i.clause in
     let fell : lists (on_trail t) (opposite c.in-Some.other) ≡ true = ap (lists (on_trail t)) (sym c.opposite.ensures) ∙ sym c.assigns-fell.ensures ∙ c.if-fell-2.true in
     let out = others_longer t.0 t.2 n q (others_of_rest t.0 n ls i.pair c.args.fallen c.in-Some.other i.listed i.first_two i.beside c.in-None.ensures.value) in
-    (n, slot, falsified_others (on_trail t) n c.args.fallen c.in-Some.other i.of_it.asks out c.requires.falls fell)
+    (n, i.at.0, falsified_others (on_trail t) n c.args.fallen c.in-Some.other i.of_it.asks out c.requires.falls fell)
 
 pub returns-in-None-2 : goal.returns-in-None-2
 returns-in-None-2 c =
     let t = c.args.trail.now in
-    let n : NormalConstraint = c.in-Some-Some.field-0-0 in
     let ls : List Lit = c.row-literals.result.now in
     let q : Pair = record { first = c.args.fallen; second = c.in-Some.other } in
-    let slot : get_or c.args.slots.now c.args.place None ≡ Some n = search rules in
-    let i = watched_here c.args.slots.now t.0 t.1 c.args.self.now c.self.inside.literals c.args.place c.args.fallen c.in-Some.other ls n c.requires.watched c.requires.within (ap (λ (w : Watching). w.pairs) c.self.view_is) (ap (λ (w : Watching). w.literals) c.self.view_is) c.row-literals.ensures slot c.in-Some.ensures.none in
+    let i = watched_here c.args._slots.now t.0 t.1 c.args.self.now c.self.inside.literals c.args.place c.args.fallen c.in-Some.other ls c.requires.watched c.requires.within (ap (λ (w : Watching). w.pairs) c.self.view_is) (ap (λ (w : Watching). w.literals) c.self.view_is) c.row-literals.ensures c.in-Some.ensures.none in
+    let n : NormalConstraint = i.clause in
     let unset : IsOpen (on_trail t) c.in-Some.other = ap (lists (on_trail t)) (sym c.opposite.ensures) ∙ sym c.assigns-fell.ensures ∙ c.if-fell-2.false in
     let out = others_of_rest t.0 n ls i.pair c.args.fallen c.in-Some.other i.listed i.first_two i.beside c.in-None.ensures.value in
     (n, i.pair, i.at, others_of t.0 n i.pair c.args.fallen c.in-Some.other i.beside out, λ l b. subst (IsOpen (on_trail t)) (same_beside n i.pair c.args.fallen c.in-Some.other l i.of_it i.beside b) unset)

@@ -1,5 +1,5 @@
 -- All clauses are listed, and then the entries of the literal are those of the constraints that have it.
-use Rattle.std.proofs.Common.{◌≡◌, ◌↔◌, ℕ, Contains, List, Option, ap, subst, sym, ◌∙◌}
+use Rattle.std.proofs.Common.{rules, ◌≡◌, ◌↔◌, ℕ, Contains, List, Option, ap, subst, sym, ◌∙◌}
 use Rattle.std.proofs.lemmas.Result.{IfOk-weaker}
 use Rattle.normal_form.specs.Normal.{NormalConstraint}
 use Rattle.ledger.specs.Entered.{all_of}
@@ -10,6 +10,7 @@ use Rattle.watch.specs.Lent.{AreAdded}
 use Rattle.watch.specs.Named.{AreNamed, content_at}
 use Rattle.watch.proofs.AddedIds.{occurrences_added}
 use Rattle.watch.proofs.LentIds.{lent_exactly}
+use Rattle.watch.proofs.Resting.{rest_same}
 use Rattle.watch.proofs.closure.Closure.with_occurrences.Goals as goal
 
 abbrev Slots : Type 0
@@ -28,3 +29,20 @@ returns-clause-added c =
     (lent_exactly slots places ids c.args.literal (all_of c.entries-entries.result) named c.entries-entries.ensures.value) in
     occurrences_added (content_at slots places) c.args.literal c.of.result c.args.gathered all exactly added))
     c.add_to.ensures
+
+pub invariant_of-self : goal.invariant_of-self
+invariant_of-self c = (c.attach_to.ensures.kept c.self.inside.levels c.self.invariant.0, c.attach_to.ensures.rest c.self.inside.rest c.self.invariant.1)
+
+pub invariant_of-self-in_err-list_clauses : goal.invariant_of-self-in_err-list_clauses
+invariant_of-self-in_err-list_clauses c =
+    let same = c.list_clauses.ensures.same in (
+      search rules,
+      rest_same c.attach_to.new.ledger c.list_clauses.new.self c.self.inside.rest (ap (λ (s : State). s.slots) same) (ap (λ (s : State). s.propagated) same) (c.attach_to.ensures.rest c.self.inside.rest c.self.invariant.1),
+    )
+
+pub invariant_of-self-2 : goal.invariant_of-self-2
+invariant_of-self-2 c =
+    let same = c.list_clauses.ensures.same in (
+      search rules,
+      rest_same c.attach_to.new.ledger c.list_clauses.new.self c.self.inside.rest (ap (λ (s : State). s.slots) same) (ap (λ (s : State). s.propagated) same) (c.attach_to.ensures.rest c.self.inside.rest c.self.invariant.1),
+    )

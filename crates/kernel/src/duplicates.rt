@@ -1,4 +1,4 @@
-//! Which live constraint may be the same as another one: for each fingerprint the newest constraint that has it.
+//! Which live constraint may be a duplicate of another one: for each fingerprint the newest constraint that has it.
 //!
 //! A symmetry makes each constraint that it touches another live one, and a proof may repeat a constraint as often as it likes: what is
 //! the same is found here, without propagation and without a look at all that share a literal with it. No clause speaks of what is found:
@@ -14,16 +14,16 @@ const MULTIPLIER: u64 = 0x9e37_79b9_7f4a_7c15;
 
 /// Ids of live constraints by fingerprint.
 #[derive(Drop)]
-pub(crate) struct Twins {
+pub(crate) struct Duplicates {
     newest: HashMap<u64, Id>,
-    /// Live constraints with ids below this one are entered.
+    /// Live constraints with ids below this one were looked at.
     end: u64,
 }
 
-impl Twins {
+impl Duplicates {
     /// None is entered.
     pub(crate) fn new(alloc: Global) -> Self {
-        Twins {
+        Duplicates {
             newest: HashMap::new(alloc),
             end: 0,
         }
@@ -41,8 +41,12 @@ impl Twins {
         Ok(())
     }
 
-    /// Forgets a constraint that is taken out, if it was entered, and that those with its id or a greater one were looked at where the id
-    /// is given once more.
+    /// All ids below one were looked at. Where memory runs out on the way, they are up to the last one that was entered.
+    pub(crate) fn pass(&mut self, end: u64) {
+        self.end = end;
+    }
+
+    /// Forgets a constraint that is taken out, where it is the newest one of its fingerprint that was entered.
     pub(crate) fn forget(&mut self, constraint: &Normal, id: Id) {
         if u64::from(id) >= self.end {
             return;
