@@ -7,7 +7,7 @@
 PREFIX ?= /usr/local
 
 all:
-	@echo "make: proving what both programs stand on, each crate named as it is proved; from nothing this takes an hour on four processors"
+	@echo "make: proving what both programs stand on, each crate named as it is proved; from nothing this takes half an hour on four processors"
 	@scripts/prove pbcheck pbopt
 	@mkdir -p bin
 	cp crates/pbcheck/out/pbcheck crates/pbopt/out/pbopt bin/
