@@ -17,10 +17,10 @@ still_root old new before waiting places count height root same slots reasons lo
 
 pub returns-clause-root : goal.returns-clause-root
 returns-clause-root c =
-    let t = c.backtrack_to.ensures in
-    still_root c.args.ledger.now c.backtrack_to.new.ledger c.args.queue.now.0 c.backtrack_to.new.queue.0 c.args.queue.now.1 c.backtrack_to.new.queue.1 c.count_before-count.result c.requires.root t.places t.slots t.reasons t.looked_at
+    let t = c.backtrack_and_queue.ensures in
+    still_root c.args.ledger.now c.backtrack_and_queue.new.ledger c.args.queue.now.0 c.backtrack_and_queue.new.queue.0 c.args.queue.now.1 c.backtrack_and_queue.new.queue.1 c.count_before-count.result c.requires.root t.places t.slots t.reasons t.looked_at
 
 pub returns-then-is_near-clause-root : goal.returns-then-is_near-clause-root
 returns-then-is_near-clause-root c =
-    let t = c.back_to.ensures in
-    still_root c.args.ledger.now c.back_to.new.ledger c.args.queue.now.0 c.back_to.new.queue.0 c.args.queue.now.1 c.back_to.new.queue.1 c.args.rest.now.height c.requires.root t.places t.slots t.reasons t.looked_at
+    let t = c.backtrack_to_rest.ensures in
+    still_root c.args.ledger.now c.backtrack_to_rest.new.ledger c.args.queue.now.0 c.backtrack_to_rest.new.queue.0 c.args.queue.now.1 c.backtrack_to_rest.new.queue.1 c.args.rest.now.height c.requires.root t.places t.slots t.reasons t.looked_at
