@@ -2,7 +2,7 @@
 use Rattle.std.proofs.Common.{◌≡◌, ◌≤◌, length, take}
 use Rattle.ledger.specs.Ledgers.{shown}
 use Rattle.watch.specs.Looking.{AreLookedAt}
-use Rattle.watch.proofs.release.backtrack_to.Given as goal
+use Rattle.watch.proofs.release.backtrack_and_queue.Given as goal
 
 abbrev pub invariant-loop-ledger : goal.invariant-loop-ledger
 invariant-loop-ledger l = record {

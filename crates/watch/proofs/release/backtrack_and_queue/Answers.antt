@@ -6,7 +6,7 @@ use Rattle.linear.specs.declared.term.Lit.{Lit}
 use Rattle.normal_form.specs.Normal.{NormalConstraint}
 use Rattle.ledger.specs.Ledgers.{shown}
 use Rattle.watch.specs.Looking.{AreLookedAt}
-use Rattle.watch.proofs.release.backtrack_to.Goals as goal
+use Rattle.watch.proofs.release.backtrack_and_queue.Goals as goal
 
 pub loop-ledger-init : goal.loop-ledger-init
 loop-ledger-init c =

@@ -2,7 +2,7 @@
 use Rattle.std.proofs.Common.{◌≤◌, List, length, length-append, ap, sym, ◌∙◌, arith}
 use Rattle.linear.specs.declared.term.Lit.{Lit}
 use Rattle.ledger.proofs.AssignedLiterals.{take_long}
-use Rattle.watch.proofs.walk.backtrack_quietly.Goals as goal
+use Rattle.watch.proofs.walk.backtrack.Goals as goal
 
 pub returns-clause-propagated : goal.returns-clause-propagated
 returns-clause-propagated c =

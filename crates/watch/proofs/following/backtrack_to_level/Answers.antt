@@ -2,7 +2,7 @@
 use Rattle.std.proofs.Common.{◌∙◌, ℕ, List, Option, ap, length, sym, arith}
 use Rattle.normal_form.specs.Normal.{NormalConstraint}
 use Rattle.watch.proofs.KeptLevels.{all_levels, kept_back}
-use Rattle.watch.proofs.following.go_back.Goals as goal
+use Rattle.watch.proofs.following.backtrack_to_level.Goals as goal
 
 pub returns-then-level-count-clause-levels : goal.returns-then-level-count-clause-levels
 returns-then-level-count-clause-levels c =
@@ -11,9 +11,9 @@ returns-then-level-count-clause-levels c =
 pub returns-clause-kept : goal.returns-clause-kept
 returns-clause-kept c =
     let old = c.args.ledger.now in
-    let new = c.backtrack_quietly.new.ledger in
+    let new = c.backtrack.new.ledger in
     let levels = c.args.levels.now in
-    let t = c.backtrack_quietly.ensures in
+    let t = c.backtrack.ensures in
     let q = c.queue_from.new.queue in
     let count = c.queue_from.ensures.count ∙ ap (λ (p : List ℕ × ℕ). p.1) c.clear.ensures ∙ c.count-2.ensures ∙ ap (length {A = Option NormalConstraint}) t.slots ∙ sym c.requires.kept.places in
     kept_back old new levels c.truncate.new.self c.args.level c.height.result c.args.queue.now.0 q.0 c.args.queue.now.1 q.1 (omega (arith, c.requires.level, c.if-level-count.false, c.count.ensures))

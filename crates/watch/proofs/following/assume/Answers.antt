@@ -4,9 +4,9 @@ use Rattle.linear.specs.declared.term.Lit.{Lit}
 use Rattle.normal_form.specs.Normal.{NormalConstraint}
 use Rattle.propagate.specs.Literals.{lists}
 use Rattle.ledger.specs.Ledgers.{shown}
-use Rattle.watch.specs.Keeping.{IsAscent}
+use Rattle.watch.specs.Keeping.{IsAssumed}
 use Rattle.propagate.proofs.Assignments.{among_head, among_right}
-use Rattle.watch.proofs.following.step_up.Goals as goal
+use Rattle.watch.proofs.following.assume.Goals as goal
 
 pub returns-then-has-clause-end : goal.returns-then-has-clause-end
 returns-then-has-clause-end c =
@@ -30,5 +30,5 @@ returns-clause-end c =
     let new = c.propagate_kept.new.ledger in
     let levels = c.open_level.new.levels in
     let end = c.propagate_kept.ensures.end levels c.open_level.ensures.kept in
-    subst (λ (xs : List Lit). IfOk c.propagate_kept.result (IsAscent (shown c.args.ledger.now.slots) xs new.assigned)) c.in_ok-open_level.ensures.levels
-    (subst (λ (os : List (Option NormalConstraint)). IfOk c.propagate_kept.result (IsAscent (shown os) levels.0 new.assigned)) c.open_level.ensures.slots end)
+    subst (λ (xs : List Lit). IfOk c.propagate_kept.result (IsAssumed (shown c.args.ledger.now.slots) xs new.assigned)) c.in_ok-open_level.ensures.levels
+    (subst (λ (os : List (Option NormalConstraint)). IfOk c.propagate_kept.result (IsAssumed (shown os) levels.0 new.assigned)) c.open_level.ensures.slots end)

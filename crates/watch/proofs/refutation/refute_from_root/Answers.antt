@@ -2,7 +2,7 @@
 use Rattle.std.proofs.Common.{refl}
 use Rattle.watch.proofs.Deciding.{refuted_beside}
 use Rattle.watch.proofs.Resting.{rest_on}
-use Rattle.watch.proofs.refutation.refute_anew.Goals as goal
+use Rattle.watch.proofs.refutation.refute_from_root.Goals as goal
 
 pub returns-then-branch-clause-value : goal.returns-then-branch-clause-value
 returns-then-branch-clause-value c = (

@@ -3,7 +3,7 @@ use Rattle.std.proofs.Common.{refl}
 use Rattle.ledger.specs.Ledgers.{shown}
 use Rattle.watch.proofs.Deciding.{reached}
 use Rattle.watch.proofs.GivenCubes.{decided_beside, falsified_beside}
-use Rattle.watch.proofs.refutation.decide_given.Goals as goal
+use Rattle.watch.proofs.refutation.refute_given.Goals as goal
 
 pub returns-then-branch-clause-value : goal.returns-then-branch-clause-value
 returns-then-branch-clause-value c =

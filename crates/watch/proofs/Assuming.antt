@@ -1,4 +1,4 @@
--- Where a way up over given literals ends, against chains from what is given alone.
+-- What assuming given literals comes to, against chains from what is given alone.
 use Rattle.std.proofs.Common.{◌≡◌, ℕ, zero, suc, ◌+◌, ◌<◌, ◌≤◌, inl, inr, true, false, Option, None, Some, List, [], ◌∷◌, ◌++◌, length, get_or, take, refl, ap, sym, subst, ◌∙◌, arith}
 use Rattle.std.proofs.lemmas.Bool.{false≢true}
 use Rattle.std.proofs.lemmas.List.{get_or_default, take_more}
@@ -16,10 +16,10 @@ use Rattle.propagate.proofs.Chains.{another, falsified_more, chain_stays, no_con
 use Rattle.propagate.proofs.Assignments.{among_cases}
 use Rattle.propagate.proofs.ReasonedChains.{conflict_at}
 use Rattle.propagate.proofs.SearchEnds.{one_end_or_conflict}
-use Rattle.watch.specs.declared.ascent.Ascent.{Ascent}
-use Rattle.watch.specs.declared.ascent.Ascent.TheVariants as ascents
+use Rattle.watch.specs.declared.assumed.Assumed.{Assumed}
+use Rattle.watch.specs.declared.assumed.Assumed.TheVariants as outcomes
 use Rattle.watch.specs.Givens.{IsWholeEnd}
-use Rattle.watch.specs.Keeping.{IsAscent, falsified_place}
+use Rattle.watch.specs.Keeping.{IsAssumed, falsified_place}
 use Rattle.ledger.specs.Ledgers.{AreReasons, IsReason, constraint_at, nothing}
 use Rattle.watch.specs.Steps.{AreGiven, Clashes}
 use Rattle.watch.proofs.GivenOnes.{never_against, one_within}
@@ -74,7 +74,7 @@ clash_impossible ns assigned reasons given r a c = elim (one_end_or_conflict ns 
       ]
 ]
 
-pub whole_end : (ns : List NormalConstraint) (assigned : List Lit) (reasons : List (Option ℕ)) (given : List Lit) → AreReasons ns assigned reasons → AreGiven assigned reasons given → IsAscent ns given assigned ascents.Whole → IsWholeEnd ns given assigned
+pub whole_end : (ns : List NormalConstraint) (assigned : List Lit) (reasons : List (Option ℕ)) (given : List Lit) → AreReasons ns assigned reasons → AreGiven assigned reasons given → IsAssumed ns given assigned outcomes.Whole → IsWholeEnd ns given assigned
 whole_end ns assigned reasons given r a w =
     let h : Within (among given) (among assigned) = by_set given assigned w.0 in
     let closure : IsClosure ns given assigned = elim (one_end_or_conflict ns given) [
@@ -89,19 +89,19 @@ whole_end ns assigned reasons given r a w =
     ] in
     record { fixpoint = w.1; has_given = w.0; closure = closure }
 
-pub no_way : (ns : List NormalConstraint) (assigned : List Lit) (reasons : List (Option ℕ)) (given : List Lit) (a : Ascent) → AreReasons ns assigned reasons → AreGiven assigned reasons given → (a ≡ ascents.Whole → ⊥) → IsAscent ns given assigned a → IsImpossible ns given
-no_way ns assigned reasons given ascents.Whole r g other h = absurd (other refl)
-no_way ns assigned reasons given (ascents.Falsified place) r g other h = inr (falsified_impossible ns assigned reasons given place r g h)
-no_way ns assigned reasons given ascents.Clash r g other h = clash_impossible ns assigned reasons given r g h
+pub no_way : (ns : List NormalConstraint) (assigned : List Lit) (reasons : List (Option ℕ)) (given : List Lit) (a : Assumed) → AreReasons ns assigned reasons → AreGiven assigned reasons given → (a ≡ outcomes.Whole → ⊥) → IsAssumed ns given assigned a → IsImpossible ns given
+no_way ns assigned reasons given outcomes.Whole r g other h = absurd (other refl)
+no_way ns assigned reasons given (outcomes.Falsified place) r g other h = inr (falsified_impossible ns assigned reasons given place r g h)
+no_way ns assigned reasons given outcomes.Clash r g other h = clash_impossible ns assigned reasons given r g h
 
 -- the end of a chain that is told
-pub told_end : (ns : List NormalConstraint) (given assigned : List Lit) (a : Ascent) → IsAscent ns given assigned a → HasEnd ns given assigned (falsified_place a)
-told_end ns given assigned ascents.Whole h = inr h
-told_end ns given assigned (ascents.Falsified place) h = h
-told_end ns given assigned ascents.Clash h = inl h
+pub told_end : (ns : List NormalConstraint) (given assigned : List Lit) (a : Assumed) → IsAssumed ns given assigned a → HasEnd ns given assigned (falsified_place a)
+told_end ns given assigned outcomes.Whole h = inr h
+told_end ns given assigned (outcomes.Falsified place) h = h
+told_end ns given assigned outcomes.Clash h = inl h
 
 -- what is given at first, and what more
-pub other_end : (ns : List NormalConstraint) (given more assigned : List Lit) (a : Ascent) → (a ≡ ascents.Whole → ⊥) → ((l : Lit) → lists given l ≡ true → lists more l ≡ true) → IsAscent ns given assigned a → IsAscent ns more assigned a
-other_end ns given more assigned ascents.Whole other h e = absurd (other refl)
-other_end ns given more assigned (ascents.Falsified place) other h e = e
-other_end ns given more assigned ascents.Clash other h e = (e.0, h e.0 e.1, e.2)
+pub other_end : (ns : List NormalConstraint) (given more assigned : List Lit) (a : Assumed) → (a ≡ outcomes.Whole → ⊥) → ((l : Lit) → lists given l ≡ true → lists more l ≡ true) → IsAssumed ns given assigned a → IsAssumed ns more assigned a
+other_end ns given more assigned outcomes.Whole other h e = absurd (other refl)
+other_end ns given more assigned (outcomes.Falsified place) other h e = e
+other_end ns given more assigned outcomes.Clash other h e = (e.0, h e.0 e.1, e.2)

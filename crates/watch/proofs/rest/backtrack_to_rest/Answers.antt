@@ -7,13 +7,13 @@ use Rattle.watch.specs.Looking.{AreLookedAt}
 use Rattle.watch.specs.Rests.{IsRest}
 use Rattle.watch.proofs.Resting.{rest_back}
 use Rattle.watch.proofs.Settling.{looked_late}
-use Rattle.watch.proofs.rest.back_to.Goals as goal
+use Rattle.watch.proofs.rest.backtrack_to_rest.Goals as goal
 
 pub returns-clause-looked_at : goal.returns-clause-looked_at
 returns-clause-looked_at c =
     let old = c.args.ledger.now in
     let rest = c.args.rest in
-    let t = c.backtrack_quietly.ensures in
+    let t = c.backtrack.ensures in
     let waiting = c.queue_from.new.queue.0 in
     subst (λ (xs : List Lit). AreLookedAt (shown old.slots) xs waiting) (sym t.propagated)
     (looked_late old.slots old.propagated (rest.height ∷ []) (rest.count ∷ []) 0 rest.height waiting refl
@@ -23,4 +23,4 @@ pub returns-clause-rest : goal.returns-clause-rest
 returns-clause-rest c =
     let old = c.args.ledger.now in
     let rest = c.args.rest in
-    subst (λ (xs : List Lit). IsRest (shown old.slots) xs rest) (sym c.backtrack_quietly.ensures.propagated) (rest_back (shown old.slots) old.propagated rest rest.height (omega arith) c.requires.rest)
+    subst (λ (xs : List Lit). IsRest (shown old.slots) xs rest) (sym c.backtrack.ensures.propagated) (rest_back (shown old.slots) old.propagated rest rest.height (omega arith) c.requires.rest)

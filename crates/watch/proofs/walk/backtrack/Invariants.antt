@@ -1,6 +1,6 @@
 -- The first literals stay.
 use Rattle.std.proofs.Common.{◌≡◌, ◌≤◌, length, take}
-use Rattle.watch.proofs.walk.backtrack_quietly.Given as goal
+use Rattle.watch.proofs.walk.backtrack.Given as goal
 
 abbrev pub invariant-loop-ledger : goal.invariant-loop-ledger
 invariant-loop-ledger l = record {

@@ -3,7 +3,7 @@ use Rattle.std.proofs.Common.{◌≡◌, take}
 use Rattle.propagate.specs.Chain.{IsFixpoint}
 use Rattle.watch.specs.Keeping.{IsKept}
 use Rattle.ledger.specs.Ledgers.{shown}
-use Rattle.watch.proofs.following.climb.Given as goal
+use Rattle.watch.proofs.following.assume_rest.Given as goal
 
 abbrev pub invariant-loop-index : goal.invariant-loop-index
 invariant-loop-index l = record {
