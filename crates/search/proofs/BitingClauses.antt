@@ -21,7 +21,7 @@ use Rattle.propagate.proofs.Consistency.{only_here}
 use Rattle.propagate.proofs.SearchEnds.{one_end_or_conflict}
 use Rattle.propagate.proofs.Assignments.{among_cases, among_head, among_left, among_right}
 use Rattle.search.specs.Clause.{negated_clause}
-use Rattle.search.specs.Conflicts.{TakesLast}
+use Rattle.descent.specs.Conflicts.{TakesLast}
 use Rattle.search.proofs.Clauses.{clause_degree, clause_has, clause_lacks}
 
 -- a set counts no more than another one that has all of its literals which occur
@@ -124,16 +124,6 @@ clause_bites live before closed d n consistent form possible closure unset = (
   },
 )
 
--- so does the clause of a beginning of decisions, where the beginning before its last one is closed
-pub take_consistent : (n : ℕ) (items : List Lit) → IsConsistent items → IsConsistent (take n items)
-take_consistent n items consistent (l, here, opposed) =
-    let whole = take-append-drop n items in
-    consistent (
-      l,
-      ap (λ xs. lists xs l) (sym whole) ∙ among_left (take n items) (drop n items) (l.var.0) l.negated here,
-      ap (λ xs. lists xs (opposite l)) (sym whole) ∙ among_left (take n items) (drop n items) (l.var.0) (not l.negated) opposed,
-    )
-
 -- so does the clause of all decisions, where a conflict takes the last one
 pub decisions_bite : (live : List NormalConstraint) (items : List Lit) (c : Signed) → items ≢ [] → IsConsistent items → TakesLast live items → c ≡ negated_clause items
     → (m : NormalConstraint) × IsNormalOf c m × Bites live m
@@ -153,17 +143,3 @@ decisions_bite live (first ∷ more) c some consistent takes is =
           let unset : lists closed (opposite d) ≡ false = is_none (lists closed (opposite d)) (λ h. needed.1 (λ e. subst (λ x. IsReached live (take k items) (opposite x)) (sym (other e)) ((closure (opposite d)).0 h))) in
           (m, form_is c, clause_bites live (take k items) closed d m (subst IsConsistent split consistent) formed needed.0 closure unset)
     ]
-
--- what forces something under a closure bites
-pub fixpoint_bites : (live : List NormalConstraint) (given closed : List Lit) (n : NormalConstraint) → IsReach live given (reaches.Closed closed)
-    → (IsFalsified closed n ⊎ ((l : Lit) × IsForced closed l n)) → Bites live n
-fixpoint_bites live given closed n reach bites = (
-  given,
-  closed,
-  record {
-    consistent = λ c. reach.0 (inl c);
-    no_conflict = λ c. reach.0 (inr c);
-    closure = reach.1;
-    bites = bites;
-  },
-)

@@ -12,7 +12,7 @@ use Rattle.proof_steps.specs.declared.step.Step.TheVariants as kinds
 use Rattle.proof_rules.specs.Expression.{IsPostfixOf}
 use Rattle.proof_rules.specs.State.{HasRoom, IsOutside, constraint_of, with_constraint}
 use Rattle.proof_rules.proofs.NotLegal.{none_some}
-use Rattle.search.specs.Descents.{IsSettled}
+use Rattle.descent.specs.Descents.{IsSettled}
 use Rattle.proof_log.specs.Kept.{KeepsLive}
 use Rattle.proof_log.specs.Log.{IsLegal, Logbook}
 use Rattle.search.proofs.Solutions.{fixpoint_sol, fixpoint_soli}

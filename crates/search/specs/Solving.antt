@@ -8,7 +8,7 @@ use Rattle.proof_steps.specs.declared.conclusion.Upper.TheVariants as uppers
 use Rattle.search.specs.declared.found.Found.{Found}
 use Rattle.search.specs.declared.found.Found.TheVariants as founds
 use Rattle.search.specs.declared.found.Unfinished.TheVariants as reasons
-use Rattle.search.specs.Conflicts.{MeetsConflict}
+use Rattle.descent.specs.Conflicts.{MeetsConflict}
 use Rattle.proof_log.specs.Log.{Logbook}
 use Rattle.search.specs.Presolving.{BeginsPresolved}
 

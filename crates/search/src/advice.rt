@@ -8,10 +8,10 @@
 
 ghost use Rattle.std.specs.Prelude.{◌≡◌};
 
-use super::advisers::{Effect, Line};
 use super::cutting::variables_of;
 use super::run::Run;
 use analysis::{Bite, bite_on};
+use descent::{Effect, Line};
 use linear::Var;
 use propagate::{Id, Propagator};
 use std::alloc::{AllocError, Global};
@@ -31,9 +31,9 @@ struct Advised {
 impl<'a, P: Propagator> Run<'a, P> {
     ghost use Rattle.std.specs.Prelude.{◌≡◌, OnOk};
     ghost use Rattle.proof_rules.specs.State.{HasRoom};
-    ghost use Rattle.search.specs.Advised.{IsDerived};
+    ghost use Rattle.descent.specs.Advised.{IsDerived};
     ghost use Rattle.proof_log.specs.Log.{GoesOn};
-    ghost use Rattle.search.specs.Decisions.{AreDecisions};
+    ghost use Rattle.descent.specs.Decisions.{AreDecisions};
     ghost use Rattle.search.specs.Solving.{TakesId};
 
     /// What is to be known of the constraint that was logged last.
@@ -120,7 +120,6 @@ impl<'a, P: Propagator> Run<'a, P> {
             return self.keep(advised, LEVELS_OF_FORCING);
         };
         self.decisions.truncate(bite.level as usize);
-        self.go_back();
         if bite.is_falsified {
             self.passing = Some(advised.id);
             return Ok(());

@@ -8,9 +8,9 @@ ghost use Rattle.normal_form.specs.Normal.{largest_sum};
 ghost use Rattle.propagate.specs.Chain.{LeadsToConflict};
 ghost use Rattle.proof_rules.specs.State.{HasRoom, constraints};
 ghost use Rattle.search.specs.Clause.{negated_clause, opposite_term};
-ghost use Rattle.search.specs.Conflicts.{LeadsAtLast};
+ghost use Rattle.descent.specs.Conflicts.{LeadsAtLast};
 ghost use Rattle.proof_log.specs.Log.{GoesOn, StepBites};
-ghost use Rattle.search.specs.Decisions.{AreDecisions};
+ghost use Rattle.descent.specs.Decisions.{AreDecisions};
 ghost use Rattle.search.specs.Solving.{TakesId};
 ghost use Rattle.search.specs.Undoing.{IsUndone};
 

@@ -15,9 +15,9 @@ use std::alloc::AllocError;
 impl<'a, P: Propagator> Run<'a, P> {
     ghost use Rattle.std.specs.Prelude.{◌≡◌, ◌≢◌, ◌<◌, ◌+◌, [], IfOk, IfSome, IsNone, OnOk};
     ghost use Rattle.proof_rules.specs.State.{HasRoom, constraints};
-    ghost use Rattle.search.specs.Conflicts.{LeadsAtLast};
+    ghost use Rattle.descent.specs.Conflicts.{LeadsAtLast};
     ghost use Rattle.proof_log.specs.Log.{GoesOn};
-    ghost use Rattle.search.specs.Decisions.{AreDecisions};
+    ghost use Rattle.descent.specs.Decisions.{AreDecisions};
     ghost use Rattle.search.specs.Solving.{BearsOut, TakesId};
     ghost use Rattle.search.specs.Undoing.{IsUndone};
 
@@ -77,7 +77,6 @@ impl<'a, P: Propagator> Run<'a, P> {
                 &mut self.advisers.brancher,
             )?;
         }
-        self.go_back();
         Ok(())
     }
 

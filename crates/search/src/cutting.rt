@@ -8,14 +8,13 @@
 ghost use Rattle.std.specs.Prelude.{◌≡◌, ◌+◌, IfOk, IsTrue, OnOk, false};
 ghost use Rattle.proof_rules.specs.State.{HasRoom};
 ghost use Rattle.proof_log.specs.Log.{GoesOn};
-ghost use Rattle.search.specs.Decisions.{AreDecisions};
+ghost use Rattle.descent.specs.Decisions.{AreDecisions};
 ghost use Rattle.search.specs.Solving.{TakesId};
 ghost use Rattle.search.specs.Undoing.{IsUndone};
 
-use super::retracing::is_new_under;
-use super::standing::Standing;
 use analysis::{Analyser, Learned};
 use branching::Brancher;
+use descent::{Standing, is_new_under};
 use linear::{Lit, Var};
 use normal_form::Normal;
 use proof_log::Log;

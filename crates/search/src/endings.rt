@@ -3,7 +3,7 @@
 ghost use Rattle.std.specs.Prelude.{◌≡◌, ◌≢◌, ℕ, [], ◌+◌, ◌<◌, false, IfOk, IsTrue, None, OnOk};
 ghost use Rattle.propagate.specs.Chain.{IsRefuted};
 ghost use Rattle.proof_rules.specs.State.{HasRoom, constraints};
-ghost use Rattle.search.specs.Conflicts.{MeetsConflict};
+ghost use Rattle.descent.specs.Conflicts.{MeetsConflict};
 ghost use Rattle.proof_log.specs.Log.{GoesOn, IsEntitled, with_conclusion};
 ghost use Rattle.search.specs.Solving.{BearsOut, MayStop};
 

@@ -7,30 +7,22 @@
 #![tactic(auto)]
 
 mod advice;
-mod advisers;
 pub mod cases;
-mod choice;
 mod clause;
 mod conflict;
 mod cutting;
-mod descent;
 mod endings;
 mod forgetting;
 mod found;
 pub mod laws;
 mod learned;
 mod outdone;
-mod overtaken;
 mod presolving;
 mod progress;
 mod restarts;
-mod retracing;
 mod run;
-mod searched;
 mod solution;
 mod solver;
-mod standing;
-mod values;
 
 pub use branching::{Activity, Brancher, First, Progress, Value};
 pub use found::{Found, Unfinished};

@@ -64,7 +64,7 @@ impl Restarts {
 
 impl<'a, P: Propagator> Run<'a, P> {
     ghost use Rattle.std.specs.Prelude.{◌≡◌};
-    ghost use Rattle.search.specs.Decisions.{AreDecisions};
+    ghost use Rattle.descent.specs.Decisions.{AreDecisions};
 
     /// Whether the best solution is worth about as much as the bound: then there is likely none that is better, which the relaxation shows at
     /// the root.
@@ -83,7 +83,6 @@ impl<'a, P: Propagator> Run<'a, P> {
     {
         if self.is_near_bound() {
             self.decisions.clear();
-            self.go_back();
         }
     }
 
@@ -95,7 +94,6 @@ impl<'a, P: Propagator> Run<'a, P> {
     {
         if self.restarts.is_due() {
             self.decisions.clear();
-            self.go_back();
             self.advisers.brancher.restarted();
         }
     }

@@ -1,13 +1,13 @@
 //! A run of the search: what it keeps between two turns, and a turn.
 //!
-//! A turn decides until there is a conflict, a line of an adviser or a solution, or undoes decisions that a conflict does not take (`descent`).
-//! From a decision to what its conflict teaches it goes in this order:
+//! A turn decides until there is a conflict, a line of an adviser or a solution, or undoes decisions that a conflict does not take (the crate
+//! `descent`). From a decision to what its conflict teaches it goes in this order:
 //!
-//! 1. `descent` brings what stands in step with the open decisions (`retracing`), decides a literal, and notes what it forces (`standing`), up to
-//!    the conflict. Where decisions that stood before lead to it, `overtaken` undoes those that it does not take, and that is the turn.
+//! 1. `descend` brings what stands in step with the open decisions, decides a literal, and notes what it forces, up to the conflict. Where
+//!    decisions that stood before lead to it, those that it does not take are undone, and that is the turn.
 //! 2. `endings`: with no decision open the search is at its end, and at the last conflict that it may meet it stops.
 //! 3. `conflict` has `cutting` learn what the analysis derives, or else `clause` that the decisions do not all hold: either writes a line, and
-//!    undoes decisions. What came with these is taken off (`go_back`).
+//!    undoes decisions. What came with these is taken off when the next turn begins.
 //! 4. `conflict` counts it. As far as that is due it is told how far the search has come (`progress`), half of what was learned is forgotten
 //!    (`forgetting`, over `learned`), all decisions are undone (`restarts`), and what is outdone goes (`forgetting`, over `outdone`).
 //!
@@ -16,15 +16,13 @@
 //! Each turn takes an id of the log or leaves fewer decisions open with all else as it was, and ids are numbered below a limit; so a run ends,
 //! whatever its advisers say.
 
-use super::advisers::Advisers;
-use super::descent::{Descent, descend};
 use super::endings::end_stopped;
 use super::found::Found;
 use super::learned::LearnedConstraints;
 use super::outdone::Outdone;
 use super::restarts::Restarts;
-use super::standing::Standing;
 use analysis::Analyser;
+use descent::{Advisers, Descent, Standing, descend};
 use linear::Lit;
 use proof_log::Log;
 use propagate::{Id, Propagator};
@@ -53,7 +51,7 @@ pub(crate) struct Run<'a, P: Propagator> {
 impl<'a, P: Propagator> Run<'a, P> {
     ghost use Rattle.std.specs.Prelude.{◌≡◌, ◌<◌, [], IfOk, IfSome, IsNone, OnOk, length};
     ghost use Rattle.proof_log.specs.Log.{GoesOn};
-    ghost use Rattle.search.specs.Decisions.{AreDecisions};
+    ghost use Rattle.descent.specs.Decisions.{AreDecisions};
     ghost use Rattle.search.specs.Solving.{BearsOut};
     ghost use Rattle.search.specs.Undoing.{NearsEnd};
 
@@ -79,15 +77,6 @@ impl<'a, P: Propagator> Run<'a, P> {
             advisers,
             passing: None,
         })
-    }
-
-    /// Takes off what came with decisions that are undone.
-    pub(crate) fn go_back(&mut self)
-        ensures log { self.new.log ≡ self.old.log }
-        ensures decisions { self.new.decisions.items ≡ self.old.decisions.items }
-    {
-        let count = self.decisions.len();
-        self.standing.go_back(count, &mut self.advisers.brancher);
     }
 
     /// How many variables the file has.
@@ -140,10 +129,7 @@ impl<'a, P: Propagator> Run<'a, P> {
                 let ended = self.meet_conflict(conflict, limit)?;
                 Ok(ended)
             }
-            Descent::Undone => {
-                self.go_back();
-                Ok(None)
-            }
+            Descent::Undone => Ok(None),
             Descent::Advised(line) => {
                 if !self.log.has_room() {
                     return Ok(Some(end_stopped(&mut self.log, limit)?));

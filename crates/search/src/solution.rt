@@ -13,8 +13,8 @@ use std::alloc::AllocError;
 
 impl<'a, P: Propagator> Run<'a, P> {
     ghost use Rattle.std.specs.Prelude.{◌≡◌, IfOk, IfSome, IsNone, OnOk};
-    ghost use Rattle.search.specs.Decisions.{AreDecisions};
-    ghost use Rattle.search.specs.Descents.{IsSettled};
+    ghost use Rattle.descent.specs.Decisions.{AreDecisions};
+    ghost use Rattle.descent.specs.Descents.{IsSettled};
     ghost use Rattle.proof_log.specs.Log.{CanBeWritten, GoesOn, IsLegal};
     ghost use Rattle.search.specs.Solving.{BearsOut, TakesId};
 

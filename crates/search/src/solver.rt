@@ -6,11 +6,11 @@
 ghost use Rattle.std.specs.Prelude.{◌≤◌, IfOk};
 ghost use Rattle.search.specs.Solving.{IsSolved};
 
-use super::advisers::Advisers;
 use super::found::{Found, Unfinished};
 use super::presolving::presolve;
 use super::run::Run;
 use branching::Brancher;
+use descent::Advisers;
 use linear::Problem;
 use proof_log::Log;
 use propagate::Propagator;

@@ -4,9 +4,9 @@ use Rattle.linear.specs.declared.term.Lit.{Lit}
 use Rattle.propagate.specs.Chain.{LeadsToConflict}
 use Rattle.proof_rules.specs.State.{constraints}
 use Rattle.search.specs.Clause.{negated_clause}
-use Rattle.search.specs.Decisions.{AreDecisions}
+use Rattle.descent.specs.Decisions.{AreDecisions}
 use Rattle.search.proofs.BitingClauses.{decisions_bite}
-use Rattle.search.proofs.Decisions.{decisions_on, first_decisions}
+use Rattle.descent.proofs.Decisions.{decisions_on, first_decisions}
 use Rattle.search.proofs.clause.learn_clause.Goals as goal
 
 pub log_clause-requires-clause-conflict : goal.log_clause-requires-clause-conflict

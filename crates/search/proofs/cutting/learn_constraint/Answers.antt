@@ -4,8 +4,8 @@ use Rattle.proof_rules.specs.Expression.{IsPostfixOf}
 use Rattle.proof_rules.specs.State.{HasRoom, State, constraints, constraint_of}
 use Rattle.proof_steps.specs.declared.step.Step.TheVariants as kinds
 use Rattle.proof_log.specs.Log.{IsValueOf, Logbook}
-use Rattle.search.specs.Decisions.{AreDecisions}
-use Rattle.search.proofs.Decisions.{decisions_on, first_decisions}
+use Rattle.descent.specs.Decisions.{AreDecisions}
+use Rattle.descent.proofs.Decisions.{decisions_on, first_decisions}
 use Rattle.search.proofs.GoingOn.{goes_on_same}
 use Rattle.search.proofs.cutting.learn_constraint.Goals as goal
 

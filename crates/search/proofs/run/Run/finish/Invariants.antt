@@ -1,7 +1,7 @@
 use Rattle.std.proofs.Common.{◌<◌, ◌-◌, ◌*◌, ◌+◌, length}
 use Rattle.proof_rules.specs.State.{id_limit}
 use Rattle.proof_log.specs.Log.{GoesOn}
-use Rattle.search.specs.Decisions.{AreDecisions}
+use Rattle.descent.specs.Decisions.{AreDecisions}
 use Rattle.search.proofs.run.Run.finish.Given as goal
 
 abbrev pub invariant-turns : goal.invariant-turns

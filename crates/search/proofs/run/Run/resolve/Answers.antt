@@ -2,7 +2,7 @@
 use Rattle.std.proofs.Common.{List, sym, subst}
 use Rattle.linear.specs.declared.term.Lit.{Lit}
 use Rattle.proof_rules.specs.State.{constraints}
-use Rattle.search.specs.Conflicts.{LeadsAtLast}
+use Rattle.descent.specs.Conflicts.{LeadsAtLast}
 use Rattle.proof_log.specs.Log.{Logbook}
 use Rattle.search.proofs.run.Run.resolve.Goals as goal
 

@@ -1,8 +1,8 @@
 -- The first of decisions are decisions.
 use Rattle.std.proofs.Common.{sym, subst, ◌∙◌}
 use Rattle.proof_log.specs.Log.{Logbook}
-use Rattle.search.specs.Decisions.{AreDecisions}
-use Rattle.search.proofs.Decisions.{first_decisions}
+use Rattle.descent.specs.Decisions.{AreDecisions}
+use Rattle.descent.proofs.Decisions.{first_decisions}
 use Rattle.search.proofs.run.Run.take_conflict.Goals as goal
 
 pub returns-then-bite-clause-decisions : goal.returns-then-bite-clause-decisions

@@ -2,9 +2,9 @@
 use Rattle.std.proofs.Common.{List, sym, subst}
 use Rattle.linear.specs.declared.term.Lit.{Lit}
 use Rattle.proof_rules.specs.State.{constraints}
-use Rattle.search.specs.Advised.{IsDerived}
-use Rattle.search.specs.Conflicts.{LeadsAtLast}
-use Rattle.search.specs.Descents.{IfAdvised, IfConflict, IfFixpoint, IsAdvisedUnder, IsSettled}
+use Rattle.descent.specs.Advised.{IsDerived}
+use Rattle.descent.specs.Conflicts.{LeadsAtLast}
+use Rattle.descent.specs.Descents.{IfAdvised, IfConflict, IfFixpoint, IsAdvisedUnder, IsSettled}
 use Rattle.proof_log.specs.Log.{Logbook}
 use Rattle.search.proofs.run.Run.turn.Goals as goal
 

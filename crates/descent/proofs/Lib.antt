@@ -1,0 +1,9 @@
+pub mod Biting
+pub mod Choices
+pub mod Taking
+pub mod Decisions
+pub mod Deciding
+pub mod Descending
+pub mod Extending
+pub mod Settling
+pub mod TakenOff

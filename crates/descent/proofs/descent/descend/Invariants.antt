@@ -1,0 +1,13 @@
+use Rattle.std.proofs.Common.{◌≡◌, length}
+use Rattle.propagate.specs.Content.{IsEnd}
+use Rattle.descent.specs.Decisions.{AreDecisions}
+use Rattle.descent.specs.Values.{unlisted_below}
+use Rattle.descent.proofs.descent.descend.Given as goal
+
+abbrev pub invariant-decisions : goal.invariant-decisions
+invariant-decisions g l =
+    (l.log ≡ l.initial.log) × AreDecisions l.log l.decisions.items × (length l.standing.1 ≡ l.count)
+    × IsEnd l.log.state.live l.decisions.items l.standing.0
+
+abbrev pub decreases-decisions : goal.decreases-decisions
+decreases-decisions g l = unlisted_below l.count l.decisions.items
