@@ -45,7 +45,7 @@ fn give_term(ledger: &mut Ledger, cube: &Normal, index: usize) -> bool
     ledger.has(literal.opposite())
 }
 
-/// How many clauses the opposite of a literal may watch that is given before others.
+/// A literal whose opposite watches fewer clauses than this is given before the others.
 const FEW: usize = 4;
 
 /// Assigns the literal of a cube's term where its opposite watches few clauses, unless its opposite is assigned; whether that is so, and the cube
