@@ -1,12 +1,13 @@
 //! The clause arena: the literals of clauses by place, all in one array.
 //!
-//! A list of its own would cost each clause a block of memory. Clauses come and go at the end alone, as a stack, so the literals of the last one
+//! A list of its own would cost each clause a block of memory, and a look at a clause reads where its list begins, so that is said in eight bytes. Clauses come and go at the end alone, as a stack, so the literals of the last one
 //! are the last of the array. Those of a clause that is taken out stay where they are until the places are made anew.
 
 ghost use Rattle.std.specs.Prelude.{◌≡◌, ◌-◌, ◌<◌, ◌++◌, ◌∷◌, [], List, OnErr, OnOk, Some, length, slice_index_or, slice_set, take};
 ghost use Rattle.linear.specs.declared.term.Lit.{Lit};
 ghost use Rattle.ledger.specs.Watched.{AreLiteralsOf, IsPairOf, pair_of};
 
+use super::narrow::narrow;
 use super::pair::Pair;
 use super::watched_first::append_literals;
 use linear::Lit;
@@ -17,8 +18,8 @@ use std::marker::Model;
 /// Where a list begins in the array, and how long it is.
 #[derive(Clone, Copy, Debug)]
 pub(crate) struct Span {
-    start: usize,
-    len: usize,
+    start: u32,
+    len: u32,
 }
 
 /// A list of literals for each place, empty where its clause is not watched.
@@ -64,8 +65,8 @@ impl Arena {
     {
         match self.spans.get(place) {
             Some(span) => {
-                let behind = &self.literals[span.start..];
-                &behind[..span.len]
+                let behind = &self.literals[span.start as usize..];
+                &behind[..span.len as usize]
             }
             None => &[],
         }
@@ -78,9 +79,10 @@ impl Arena {
         ensures err { OnErr result (self.new ≡ self.old) }
     {
         self.spans.reserve(1)?;
-        let start = self.literals.len();
+        let before = self.literals.len();
+        let start = narrow(before)?;
         append_literals(&mut self.literals, clause, pair)?;
-        let len = self.literals.len() - start;
+        let len = narrow(self.literals.len() - before)?;
         self.spans.push_reserved(Span { start, len });
         Ok(())
     }
@@ -90,7 +92,7 @@ impl Arena {
         ensures ok { OnOk result (self.new ≡ self.old ++ [] ∷ []) }
         ensures err { OnErr result (self.new ≡ self.old) }
     {
-        let start = self.literals.len();
+        let start = narrow(self.literals.len())?;
         self.spans.push(Span { start, len: 0 })?;
         Ok(())
     }
@@ -100,7 +102,7 @@ impl Arena {
         ensures { self.new ≡ take (length self.old - 1) self.old }
     {
         if let Some(span) = self.spans.pop() {
-            self.literals.truncate(span.start);
+            self.literals.truncate(span.start as usize);
         }
     }
 
@@ -118,7 +120,7 @@ impl Arena {
         requires index { index < length (slice_index_or self.old place []) }
         ensures { self.new ≡ slice_set self.old place (slice_set (slice_index_or self.old place []) index literal) }
     {
-        let start = self.spans[place].start;
+        let start = self.spans[place].start as usize;
         self.literals[start + index] = literal;
     }
 }

@@ -242,6 +242,11 @@ impl Ledger {
         self.watchers.queue_last(&self.trail, literal, queue);
     }
 
+    /// How many clauses a literal watches, or watched and was not asked about since. It is a measure for the order of work, so no clause speaks of it.
+    pub fn watch_count(&self, literal: Lit) -> usize {
+        self.watchers.count(literal)
+    }
+
     /// What is open in the constraint of a place: it is counted, or added up where it is watched.
     fn open(&self, place: usize, constraint: &Normal) -> u128
         requires { slice_index_or self.now.slots place None ≡ Some constraint.now }

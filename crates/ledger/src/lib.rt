@@ -20,6 +20,7 @@ mod hint;
 mod ledger;
 mod lowering;
 mod measures;
+mod narrow;
 mod order;
 mod orders;
 mod pair;

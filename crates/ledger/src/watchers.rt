@@ -26,6 +26,7 @@ ghost use Rattle.ledger.specs.Watched.{AreLiteralsOf, AreSameKinds, AreWatched, 
 use super::arena::Arena;
 use super::assignment::Assignment;
 use super::finding::{Finding, Move, Progress};
+use super::narrow::narrow;
 use super::pair::Pair;
 use super::queue::Queue;
 use super::replacing::open_beside;
@@ -39,7 +40,7 @@ use std::marker::Model;
 /// Rows of places by literal, and the literals of the clause of each place, where it is watched: the two that watch it first.
 #[derive(Drop)]
 pub(crate) struct Watchers {
-    rows: Table<usize>,
+    rows: Table<u32>,
     literals: Arena,
 }
 
@@ -74,6 +75,11 @@ impl Watchers {
         self.rows.widen(alloc, bound)
     }
 
+    /// How many entries the row of a literal has.
+    pub(crate) fn count(&self, literal: Lit) -> usize {
+        self.rows.row_or_none(literal.code()).len()
+    }
+
     /// How many places there are, watched or not.
     pub(crate) fn len(&self) -> usize
         ensures { result ≡ length self.now.pairs }
@@ -89,6 +95,7 @@ impl Watchers {
     }
 
     /// Puts a place into the row of a literal.
+    #[inline(always)]
     fn put(&mut self, literal: Lit, place: usize) -> Result<(), AllocError>
         requires { code literal < length self.old.rows }
         ensures pairs { self.new.pairs ≡ self.old.pairs }
@@ -97,7 +104,7 @@ impl Watchers {
             (slice_index_or self.old.rows (code literal) [] ++ place ∷ [])) }
         ensures err { OnErr result (self.new.rows ≡ self.old.rows) }
     {
-        self.rows.push(literal.code(), place)
+        self.rows.push(literal.code(), narrow(place)?)
     }
 
     /// Whether the row of a literal ends with a place.
@@ -109,7 +116,7 @@ impl Watchers {
         let Some(last) = row.len().checked_sub(1) else {
             return false;
         };
-        row[last] == place
+        row[last] as usize == place
     }
 
     /// Puts a place into the row of a literal that does not end with it: where clauses come and go at one place, as those of questions do,
@@ -293,7 +300,7 @@ impl Watchers {
         ensures count { queue.new.1 ≡ queue.old.1 }
         ensures kept { (k : ℕ) → Contains queue.old.0 k → Contains queue.new.0 k }
     {
-        let place = self.rows.row(fallen.code())[index];
+        let place = self.rows.row(fallen.code())[index] as usize;
         match self.look(slots, trail, starts, fallen, place) {
             Finding::Satisfied => Ok(Progress::At(index + 1)),
             Finding::Falsified => Ok(Progress::Falsified(place)),
@@ -359,7 +366,7 @@ impl Watchers {
         ensures kept { (k : ℕ) → Contains queue.old.0 k → Contains queue.new.0 k }
     {
         for place in self.rows.row(literal.code()) {
-            self.queue_at(trail, literal, *place, queue);
+            self.queue_at(trail, literal, *place as usize, queue);
         }
     }
 

@@ -11,7 +11,7 @@ use command_line::{
     words,
 };
 use devices::WriterSink;
-use pb_main::{RunFault, run, status};
+use pb_main::{Outcome, RunFault, run, status};
 use reporting::Reporting;
 use search::{Activity, Brancher};
 use std::alloc::{AllocError, Global};
@@ -145,7 +145,47 @@ fn brancher(rt: &HostRuntime, wanted: &Wanted<'_>) -> Result<Box<Reporting>, All
     Ok(Box::new(rt.alloc(), rules)?)
 }
 
+/// What could not be written.
+#[derive(Clone, Copy, Debug)]
+enum Unwritten {
+    Answer,
+    Proof,
+}
+
+/// The exit status of an outcome.
+fn finished(outcome: Outcome) -> u8 {
+    status(&outcome)
+}
+
+/// What a run did not write.
+fn failed_write(fault: RunFault) -> Unwritten {
+    match fault {
+        RunFault::AnswerWrite(_) => Unwritten::Answer,
+        RunFault::ProofWrite => Unwritten::Proof,
+    }
+}
+
 /// Solves a problem, and writes the proof and then the answer. The result is the exit status.
+// What a run answers is dropped elsewhere, since each place where it may be dropped is to be proved, and here with all that is known of a run.
+fn status_of<W: Write + Drop, F: Write + Drop>(
+    alloc: Global,
+    wanted: &Wanted<'_>,
+    opb: &[u8],
+    brancher: Box<dyn Brancher>,
+    out: &mut WriterSink<W>,
+    proof_out: &mut Option<WriterSink<F>>,
+) -> Result<u8, Unwritten>
+    requires out { out.old.failures ≡ 0 }
+    requires proof_out { IfSome proof_out.old (λ sink. sink.failures ≡ 0) }
+{
+    let limit = wanted.limit.max(1);
+    match run(alloc, opb, limit, brancher, out, proof_out) {
+        Ok(outcome) => Ok(finished(outcome)),
+        Err(fault) => Err(failed_write(fault)),
+    }
+}
+
+/// Solves a problem, writes the proof and then the answer, and says which device failed, if one did. The result is the exit status.
 fn answer<F: Write + Drop>(
     rt: &HostRuntime,
     wanted: &Wanted<'_>,
@@ -157,11 +197,10 @@ fn answer<F: Write + Drop>(
 {
     let mut proof_out = proof_out;
     let mut out = WriterSink::new(io::writer(rt));
-    let limit = wanted.limit.max(1);
-    match run(rt.alloc(), opb, limit, brancher, &mut out, &mut proof_out) {
-        Ok(outcome) => Ok(status(&outcome)),
-        Err(RunFault::AnswerWrite(_)) => Err(write_failed(rt, STANDARD_OUTPUT, out)),
-        Err(RunFault::ProofWrite) => match (wanted.proof, proof_out) {
+    match status_of(rt.alloc(), wanted, opb, brancher, &mut out, &mut proof_out) {
+        Ok(status) => Ok(status),
+        Err(Unwritten::Answer) => Err(write_failed(rt, STANDARD_OUTPUT, out)),
+        Err(Unwritten::Proof) => match (wanted.proof, proof_out) {
             (Some(path), Some(sink)) => Err(write_failed(rt, path, sink)),
             _ => Err(DeviceFailed),
         },

@@ -67,7 +67,6 @@ pub struct Relaxation {
     pub(crate) steps_since_made: Option<u32>,
     /// What it took to make them.
     pub(crate) work_of_making: u64,
-    pub(crate) steps: u64,
     pub(crate) work: Work,
 }
 
@@ -96,7 +95,6 @@ impl Relaxation {
             pivots: 0,
             steps_since_made: None,
             work_of_making: 0,
-            steps: 0,
             work: Work::new(),
         };
         relaxation.widen(variables)?;
@@ -176,8 +174,7 @@ impl Relaxation {
 
     /// The reduced cost of a variable: what the scaled bound grows by for each unit that the variable is off its better bound, below 0 where
     /// that is 1.
-    pub fn reduced_cost(&self, variable: Var) -> Fixed {
-        let place = variable.0 as usize;
+    fn reduced_cost(&self, place: usize) -> Fixed {
         self.duals
             .reduced_cost(place)
             .minus(self.costs.added(place))
@@ -191,10 +188,7 @@ impl Relaxation {
         };
         let gap = cutoff.saturating_sub(self.bound);
         for place in 0..self.domains.len() {
-            let cost = self
-                .duals
-                .reduced_cost(place)
-                .minus(self.costs.added(place));
+            let cost = self.reduced_cost(place);
             if domain_of(self.domains.as_slice(), place).is_free()
                 && i128::from(cost.size().units()) > gap
             {
@@ -204,7 +198,8 @@ impl Relaxation {
         false
     }
 
-    /// The bound of the last call on the objective's value, rounded down. It may be wrong: for progress lines alone.
+    /// The bound of the last call on the objective's value, rounded down. It may be wrong: for progress lines, and to begin anew where a
+    /// solution is about as good.
     pub fn bound(&self) -> Integer {
         self.costs.value(self.bound)
     }
@@ -222,10 +217,5 @@ impl Relaxation {
     /// How much was done in all calls: multiplications, about.
     pub fn work_done(&self) -> u64 {
         self.work.done()
-    }
-
-    /// How many steps were made in all calls.
-    pub fn steps(&self) -> u64 {
-        self.steps
     }
 }

@@ -292,7 +292,6 @@ impl Relaxation {
 
     /// Counts a step.
     fn count_step(&mut self) {
-        self.steps = self.steps.saturating_add(1);
         self.steps_since_made = match self.steps_since_made {
             Some(steps) => steps.checked_add(1),
             None => None,

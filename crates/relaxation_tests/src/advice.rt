@@ -240,6 +240,18 @@ fn cut_of<'a, P: Propagator>(
     }
 }
 
+/// Whether a cut comes whose line is legal, and the bound is known that the relaxation had before it.
+fn cuts<'a, P: Propagator>(
+    kernel: &mut Kernel<'a, P>,
+    adviser: &mut Adviser,
+) -> Result<bool, StepFault> {
+    let Some(items) = cut_of(kernel, adviser)? else {
+        return Ok(false);
+    };
+    apply(kernel, items, &[])?;
+    Ok(adviser.bound() == Some(4))
+}
+
 /// Whether the corners lean to half once a cut is taken, and below one that is decided the two others; nothing is said where nothing has
 /// changed.
 fn leans<'a, P: Propagator>(
@@ -262,10 +274,7 @@ fn leans<'a, P: Propagator>(
 fn lean<'a, P: Propagator>(rt: &impl Abort, alloc: Global, problem: &'a Problem) {
     let (mut kernel, mut adviser) = adviser_of::<P>(rt, alloc, problem).expect(rt, "memory");
     assert!(rt; matches!(dives(&kernel, &mut adviser), Ok(true)));
-    let cut = cut_of(&kernel, &mut adviser).expect(rt, "memory");
-    let items = cut.expect(rt, "a cut");
-    assert_eq!(rt; adviser.bound(), Some(4));
-    apply(&mut kernel, items, &[]).expect(rt, "a legal line");
+    assert!(rt; matches!(cuts(&mut kernel, &mut adviser), Ok(true)));
     assert!(rt; matches!(leans(&kernel, &mut adviser), Ok(true)));
     let figures = adviser.figures();
     assert!(rt; figures.calls == 5 && figures.cuts == 1);

@@ -37,6 +37,23 @@ struct Tally {
     apart: u32,
 }
 
+impl Tally {
+    /// Counts an end that the exact sum does not bear out.
+    fn fail_if(&mut self, has_failed: bool) {
+        if has_failed {
+            self.failed = self.failed.saturating_add(1);
+        }
+    }
+}
+
+/// What is known of a call: the best of all assignments, at most what was asked for, and how it ended.
+#[derive(Clone, Copy)]
+struct Asked {
+    optimum: Option<i128>,
+    upper: Option<Integer>,
+    end: End,
+}
+
 /// The exact sum of some rows times whole numbers: `sum of coefficients >= right`, and how often the costs are in it.
 #[derive(Debug, Drop)]
 struct ExactSum {
@@ -167,7 +184,27 @@ fn is_feasible(problem: &PlainProblem, point: &[i128], fixed: &[Option<bool>]) -
         })
 }
 
-/// Looks at a call that ended with values: the point satisfies all, and what the multipliers prove of every point is about what it costs.
+/// Whether what the multipliers prove of every point is about what this one costs, and no more than the best of all assignments.
+fn is_about_its_bound(
+    rt: &impl Abort,
+    problem: &PlainProblem,
+    point: &[i128],
+    sum: &ExactSum,
+    fixed: &[Option<bool>],
+    optimum: Option<i128>,
+) -> bool {
+    let bound = sum.slack(fixed).saturating_neg();
+    let times = sum.of_costs;
+    assert!(rt; times > 0);
+    assert!(rt; optimum.is_none_or(|best| bound <= best.saturating_mul(times)));
+    let costs = problem.costs.as_slice();
+    let there = product(costs, point).saturating_mul(times);
+    let apart = bound.saturating_mul(1 << 32).saturating_sub(there);
+    let allowed = times.saturating_mul(sizes(costs)).saturating_mul(1 << 23);
+    apart.saturating_abs() <= allowed
+}
+
+/// Looks at a call that ended with values: the point satisfies all, and its cost is about its bound.
 fn look_at_values(
     rt: &impl Abort,
     alloc: Global,
@@ -177,24 +214,14 @@ fn look_at_values(
     optimum: Option<i128>,
 ) -> Result<bool, AllocError> {
     let point = point_of(alloc, relaxation, problem.count)?;
-    assert!(rt; is_feasible(problem, point.as_slice(), fixed));
-    let costs = sizes(problem.costs.as_slice());
-    if costs == 0 {
+    let point = point.as_slice();
+    assert!(rt; is_feasible(problem, point, fixed));
+    if sizes(problem.costs.as_slice()) == 0 {
         return Ok(true);
     }
+    assert!(rt; optimum.is_none_or(|best| relaxation.bound() <= best));
     let sum = sum_up(alloc, problem, relaxation, 32, 0)?;
-    let bound = sum.slack(fixed).saturating_neg();
-    let times = sum.of_costs;
-    assert!(rt; times > 0);
-    let cost = product(problem.costs.as_slice(), point.as_slice());
-    let there = cost.saturating_mul(times);
-    let apart = bound.saturating_mul(1 << 32).saturating_sub(there);
-    let allowed = times.saturating_mul(costs).saturating_mul(1 << 23);
-    if let Some(best) = optimum {
-        assert!(rt; bound <= best.saturating_mul(times));
-        assert!(rt; relaxation.bound() <= best);
-    }
-    Ok(apart.saturating_abs() <= allowed)
+    Ok(is_about_its_bound(rt, problem, point, &sum, fixed, optimum))
 }
 
 /// Whether the sum of the last call's multipliers is false.
@@ -221,7 +248,63 @@ fn upper_of(numbers: &mut Numbers, optimum: Option<i128>) -> Option<Integer> {
     }
 }
 
-/// Asks a relaxation once, and looks at what it answers.
+/// Whether a literal is forced that the exact sum does not bear out.
+fn forces_wrongly(
+    alloc: Global,
+    problem: &PlainProblem,
+    relaxation: &Relaxation,
+    fixed: &[Option<bool>],
+    upper: i128,
+) -> Result<bool, AllocError> {
+    let sum = sum_up(alloc, problem, relaxation, 32, upper)?;
+    Ok(!sum.says_something(fixed))
+}
+
+/// Looks at the end of a call beside what is fixed, which asked for at most `upper` where that is some number.
+fn look_at(
+    rt: &impl Abort,
+    alloc: Global,
+    problem: &PlainProblem,
+    relaxation: &Relaxation,
+    fixed: &[Option<bool>],
+    asked: Asked,
+    tally: &mut Tally,
+) -> Result<(), AllocError> {
+    let Asked {
+        optimum,
+        upper,
+        end,
+    } = asked;
+    let most = upper.unwrap_or(0);
+    match end {
+        End::Infeasible => {
+            tally.infeasible = tally.infeasible.saturating_add(1);
+            let is_false = is_false(alloc, problem, relaxation, fixed, 0)?;
+            assert!(rt; !is_false || optimum.is_none());
+            tally.fail_if(!is_false);
+        }
+        End::CutOff => {
+            tally.cut_off = tally.cut_off.saturating_add(1);
+            let is_false = is_false(alloc, problem, relaxation, fixed, most)?;
+            assert!(rt; !is_false || optimum.is_none_or(|best| best > most));
+            tally.fail_if(!is_false);
+        }
+        End::Values => {
+            tally.values = tally.values.saturating_add(1);
+            if !look_at_values(rt, alloc, problem, relaxation, fixed, optimum)? {
+                tally.apart = tally.apart.saturating_add(1);
+            }
+            if relaxation.forces_a_literal() {
+                tally.forcing = tally.forcing.saturating_add(1);
+                tally.fail_if(forces_wrongly(alloc, problem, relaxation, fixed, most)?);
+            }
+        }
+        End::Limit => tally.limit = tally.limit.saturating_add(1),
+    }
+    Ok(())
+}
+
+/// Fixes some variables and asks a relaxation once, and looks at what it answers.
 fn ask(
     rt: &impl Abort,
     alloc: Global,
@@ -235,40 +318,12 @@ fn ask(
     let optimum = problem.optimum(alloc, fixed)?;
     let upper = upper_of(numbers, optimum);
     let end = relaxation.solve(upper, AMPLE)?;
-    let most = upper.unwrap_or(0);
-    match end {
-        End::Infeasible => {
-            tally.infeasible = tally.infeasible.saturating_add(1);
-            if is_false(alloc, problem, relaxation, fixed, 0)? {
-                assert!(rt; optimum.is_none());
-            } else {
-                tally.failed = tally.failed.saturating_add(1);
-            }
-        }
-        End::CutOff => {
-            tally.cut_off = tally.cut_off.saturating_add(1);
-            if is_false(alloc, problem, relaxation, fixed, most)? {
-                assert!(rt; optimum.is_none_or(|best| best > most));
-            } else {
-                tally.failed = tally.failed.saturating_add(1);
-            }
-        }
-        End::Values => {
-            tally.values = tally.values.saturating_add(1);
-            if !look_at_values(rt, alloc, problem, relaxation, fixed, optimum)? {
-                tally.apart = tally.apart.saturating_add(1);
-            }
-            if relaxation.forces_a_literal() {
-                tally.forcing = tally.forcing.saturating_add(1);
-                let sum = sum_up(alloc, problem, relaxation, 32, most)?;
-                if !sum.says_something(fixed) {
-                    tally.failed = tally.failed.saturating_add(1);
-                }
-            }
-        }
-        End::Limit => tally.limit = tally.limit.saturating_add(1),
-    }
-    Ok(())
+    let asked = Asked {
+        optimum,
+        upper,
+        end,
+    };
+    look_at(rt, alloc, problem, relaxation, fixed, asked, tally)
 }
 
 #[test]

@@ -12,7 +12,7 @@ use proof_rules::StepFault;
 use proof_steps::Step;
 use propagate::{Id, Propagator, ScanPropagator};
 use relaxation::{End, Limits, Relaxation, Row};
-use std::alloc::Global;
+use std::alloc::{AllocError, Global};
 
 /// The corners of a triangle, of which each side wants one: two are wanted.
 const TRIANGLE: &str = "min: 2 x1 3 x2 4 x3 ;
@@ -232,43 +232,77 @@ fn row(alloc: Global, coefficients: &[i128], right: i128) -> Result<Normal, Step
     Ok(normal(alloc, &row)?)
 }
 
+/// The costs of three variables.
+const COSTS: [Term; 3] = [
+    Term {
+        coef: 1,
+        var: Var(0),
+        negated: false,
+    },
+    Term {
+        coef: 2,
+        var: Var(1),
+        negated: false,
+    },
+    Term {
+        coef: 3,
+        var: Var(2),
+        negated: false,
+    },
+];
+
+/// Adds a row.
+fn add(
+    alloc: Global,
+    relaxation: &mut Relaxation,
+    coefficients: &[i128],
+    right: i128,
+) -> Result<Row, StepFault> {
+    let row = row(alloc, coefficients, right)?;
+    Ok(relaxation.add_row(&row)?)
+}
+
+/// Puts a row in the place of one that left.
+fn replace(
+    alloc: Global,
+    relaxation: &mut Relaxation,
+    place: Row,
+    coefficients: &[i128],
+    right: i128,
+) -> Result<(), StepFault> {
+    let row = row(alloc, coefficients, right)?;
+    Ok(relaxation.replace_row(place, &row)?)
+}
+
 /// The bound once a row with slack has left and another one has taken its place: the tight row does not leave.
-fn bound_after_exchange(alloc: Global) -> Result<Option<Integer>, StepFault> {
-    let mut relaxation = Relaxation::new(alloc, 3)?;
-    let costs = [
-        Term {
-            coef: 1,
-            var: Var(0),
-            negated: false,
-        },
-        Term {
-            coef: 2,
-            var: Var(1),
-            negated: false,
-        },
-        Term {
-            coef: 3,
-            var: Var(2),
-            negated: false,
-        },
-    ];
-    relaxation.set_cost(&costs)?;
-    let tight = relaxation.add_row(&row(alloc, &[1, 1, 0], 1)?)?;
-    let slack = relaxation.add_row(&row(alloc, &[1, 0, -1], 0)?)?;
+fn bound_after_exchange(
+    alloc: Global,
+    relaxation: &mut Relaxation,
+) -> Result<Option<Integer>, StepFault> {
+    let tight = add(alloc, relaxation, &[1, 1, 0], 1)?;
+    let slack = add(alloc, relaxation, &[1, 0, -1], 0)?;
     let _ = relaxation.solve(None, LIMITS)?;
     if relaxation.is_slack(tight) || !relaxation.is_slack(slack) || relaxation.remove_row(tight) {
         return Ok(None);
     }
     let _ = relaxation.remove_row(slack);
-    relaxation.replace_row(slack, &row(alloc, &[0, 0, 1], 1)?)?;
+    replace(alloc, relaxation, slack, &[0, 0, 1], 1)?;
     match relaxation.solve(None, LIMITS)? {
         End::Values if slack == Row(1) => Ok(Some(relaxation.bound())),
         _ => Ok(None),
     }
 }
 
+/// The relaxation of three variables, with their costs and no row.
+fn with_costs(alloc: Global) -> Result<Relaxation, AllocError> {
+    let mut relaxation = Relaxation::new(alloc, 3)?;
+    relaxation.set_cost(&COSTS)?;
+    Ok(relaxation)
+}
+
 #[test]
 fn a_row_takes_the_place_of_another(rt: HostRuntime) {
-    let bound = bound_after_exchange(rt.alloc()).expect(&rt, "memory");
+    let mut relaxation = with_costs(rt.alloc()).expect(&rt, "memory");
+    let bound = bound_after_exchange(rt.alloc(), &mut relaxation).expect(&rt, "memory");
     assert_eq!(&rt; bound, Some(4));
 }

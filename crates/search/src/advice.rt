@@ -120,7 +120,6 @@ impl<'a, P: Propagator> Run<'a, P> {
             return self.keep(advised, LEVELS_OF_FORCING);
         };
         self.decisions.truncate(bite.level as usize);
-        self.go_back();
         if bite.is_falsified {
             self.passing = Some(advised.id);
             return Ok(());

@@ -77,7 +77,6 @@ impl<'a, P: Propagator> Run<'a, P> {
                 &mut self.advisers.brancher,
             )?;
         }
-        self.go_back();
         Ok(())
     }
 

@@ -83,7 +83,6 @@ impl<'a, P: Propagator> Run<'a, P> {
     {
         if self.is_near_bound() {
             self.decisions.clear();
-            self.go_back();
         }
     }
 
@@ -95,7 +94,6 @@ impl<'a, P: Propagator> Run<'a, P> {
     {
         if self.restarts.is_due() {
             self.decisions.clear();
-            self.go_back();
             self.advisers.brancher.restarted();
         }
     }

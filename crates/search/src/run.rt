@@ -7,7 +7,7 @@
 //!    the conflict. Where decisions that stood before lead to it, `overtaken` undoes those that it does not take, and that is the turn.
 //! 2. `endings`: with no decision open the search is at its end, and at the last conflict that it may meet it stops.
 //! 3. `conflict` has `cutting` learn what the analysis derives, or else `clause` that the decisions do not all hold: either writes a line, and
-//!    undoes decisions. What came with these is taken off (`go_back`).
+//!    undoes decisions. What came with these is taken off when the next turn begins (`retracing`).
 //! 4. `conflict` counts it. As far as that is due it is told how far the search has come (`progress`), half of what was learned is forgotten
 //!    (`forgetting`, over `learned`), all decisions are undone (`restarts`), and what is outdone goes (`forgetting`, over `outdone`).
 //!
@@ -57,37 +57,28 @@ impl<'a, P: Propagator> Run<'a, P> {
     ghost use Rattle.search.specs.Solving.{BearsOut};
     ghost use Rattle.search.specs.Undoing.{NearsEnd};
 
-    /// A run that begins, with no decision.
+    /// A run that begins, with no decision, and nothing that stands.
     pub(crate) fn new(
         alloc: Global,
         log: Log<'a, P>,
+        standing: Standing,
         advisers: Advisers,
-    ) -> Result<Self, AllocError>
-        ensures log { IfOk result (λ run. run.log ≡ log.entry) }
-        ensures decisions { IfOk result (λ run. run.decisions.items ≡ []) }
+    ) -> Self
+        ensures log { result.log ≡ log.entry }
+        ensures decisions { result.decisions.items ≡ [] }
     {
-        let count = log.names().len();
-        Ok(Run {
+        Run {
             alloc,
             log,
             decisions: Vec::new(alloc),
-            standing: Standing::new(alloc, count)?,
+            standing,
             restarts: Restarts::new(),
             learned: LearnedConstraints::new(alloc),
             outdone: Outdone::new(alloc),
             analyser: Analyser::new(alloc),
             advisers,
             passing: None,
-        })
-    }
-
-    /// Takes off what came with decisions that are undone.
-    pub(crate) fn go_back(&mut self)
-        ensures log { self.new.log ≡ self.old.log }
-        ensures decisions { self.new.decisions.items ≡ self.old.decisions.items }
-    {
-        let count = self.decisions.len();
-        self.standing.go_back(count, &mut self.advisers.brancher);
+        }
     }
 
     /// How many variables the file has.
@@ -140,10 +131,7 @@ impl<'a, P: Propagator> Run<'a, P> {
                 let ended = self.meet_conflict(conflict, limit)?;
                 Ok(ended)
             }
-            Descent::Undone => {
-                self.go_back();
-                Ok(None)
-            }
+            Descent::Undone => Ok(None),
             Descent::Advised(line) => {
                 if !self.log.has_room() {
                     return Ok(Some(end_stopped(&mut self.log, limit)?));

@@ -3,13 +3,15 @@
 //! All that is known stands in one log, which is a legal proof by its type, so that nothing here can make a false answer: a
 //! turn may choose badly, and costs time alone.
 
-ghost use Rattle.std.specs.Prelude.{◌≤◌, IfOk};
+ghost use Rattle.std.specs.Prelude.{◌≡◌, ◌<◌, ◌≤◌, [], IfOk};
+ghost use Rattle.search.specs.Presolving.{BeginsPresolved};
 ghost use Rattle.search.specs.Solving.{IsSolved};
 
 use super::advisers::Advisers;
 use super::found::{Found, Unfinished};
 use super::presolving::presolve;
 use super::run::Run;
+use super::standing::Standing;
 use branching::Brancher;
 use linear::Problem;
 use proof_log::Log;
@@ -24,7 +26,34 @@ pub struct Solved<'a, P: Propagator> {
     pub log: Option<Log<'a, P>>,
 }
 
+/// The log of a problem, presolved.
+fn begin<'a, P: Propagator>(alloc: Global, problem: &'a Problem) -> Result<Log<'a, P>, AllocError>
+    ensures problem { IfOk result (λ log. log.problem ≡ problem.now) }
+    ensures biting { IfOk result (λ log. log.biting ≡ 0) }
+    ensures presolved { IfOk result (BeginsPresolved problem.now) }
+{
+    let mut log = Log::new(alloc, problem)?;
+    presolve(alloc, &mut log)?;
+    Ok(log)
+}
+
+/// Takes a run that begins to its end, and hands out what was found with the log that bears it out.
+fn finish<'a, P: Propagator>(run: Run<'a, P>, limit: u64) -> Result<Solved<'a, P>, AllocError>
+    requires decisions { run.decisions.items ≡ [] }
+    requires within { run.log.biting < limit }
+    requires presolved { BeginsPresolved run.log.problem run.log }
+    ensures { IfOk result (λ solved. IsSolved run.entry.log.problem limit solved.found solved.log) }
+{
+    let mut run = run;
+    let found = run.finish(limit)?;
+    Ok(Solved {
+        found,
+        log: Some(run.log),
+    })
+}
+
 /// Searches, and hands out what was found with the log that bears it out.
+// In three functions, since what each holds may be dropped at each of its ways out, and that is dear to prove.
 fn search<'a, P: Propagator>(
     alloc: Global,
     problem: &'a Problem,
@@ -34,15 +63,10 @@ fn search<'a, P: Propagator>(
     requires { 1 ≤ limit }
     ensures { IfOk result (λ solved. IsSolved problem.now limit solved.found solved.log) }
 {
-    let mut log = Log::new(alloc, problem)?;
-    presolve(alloc, &mut log)?;
+    let log = begin(alloc, problem)?;
+    let standing = Standing::new(alloc, log.names().len())?;
     let advisers = Advisers::new(alloc, &log, brancher)?;
-    let mut run = Run::new(alloc, log, advisers)?;
-    let found = run.finish(limit)?;
-    Ok(Solved {
-        found,
-        log: Some(run.log),
-    })
+    finish(Run::new(alloc, log, standing, advisers), limit)
 }
 
 /// Searches problems.

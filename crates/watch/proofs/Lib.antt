@@ -1,6 +1,6 @@
 pub mod AddedIds
 pub mod Arriving
-pub mod Ascents
+pub mod Assuming
 pub mod Deciding
 pub mod Forcing
 pub mod GivenCubes

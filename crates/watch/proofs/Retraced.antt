@@ -9,12 +9,12 @@ use Rattle.propagate.specs.declared.retrace.Extent.TheVariants as extents
 use Rattle.propagate.specs.declared.retrace.Retrace.{Retrace}
 use Rattle.propagate.specs.Literals.{IsConsistent, IsOnce}
 use Rattle.propagate.specs.Reach.{IsReach, IsRetrace, reach_told, told}
-use Rattle.watch.specs.declared.ascent.Ascent.{Ascent}
-use Rattle.watch.specs.declared.ascent.Ascent.TheVariants as ascents
-use Rattle.watch.specs.Keeping.{IsAscent}
+use Rattle.watch.specs.declared.assumed.Assumed.{Assumed}
+use Rattle.watch.specs.declared.assumed.Assumed.TheVariants as outcomes
+use Rattle.watch.specs.Keeping.{IsAssumed}
 use Rattle.watch.specs.Steps.{AreGiven}
 use Rattle.ledger.specs.Ledgers.{AreReasons}
-use Rattle.watch.proofs.Ascents.{no_way, whole_end}
+use Rattle.watch.proofs.Assuming.{no_way, whole_end}
 use Rattle.watch.proofs.GivenOnes.{reach_of}
 
 abbrev pub Told : Type 0
@@ -30,12 +30,12 @@ told_more xs first k so_far new l reason same e low is =
     ∙ ap (λ (m : Lit). take k xs ++ m ∷ []) (sym is)
     ∙ sym (take_more xs k l low)
 
--- a way up to a conflict, or to all that an assignment forces
-pub retraced : (ns : List NormalConstraint) (given known assigned : List Lit) (reasons : List (Option ℕ)) (a : Ascent) (r : Retrace) → AreReasons ns assigned reasons → AreGiven assigned reasons given → IsAscent ns given assigned a → IsOnce assigned → IsConsistent assigned
-    → told known r ≡ assigned → (a ≡ ascents.Whole → r.extent ≡ extents.Closed) → ((a ≡ ascents.Whole → ⊥) → reach_told (told known r) r.extent ≡ reaches.Conflict) → IsRetrace ns given known r
-retraced ns given known assigned reasons ascents.Whole r has all end once apart e whole clash =
+-- assuming leads to a conflict, or to all that an assignment forces
+pub retraced : (ns : List NormalConstraint) (given known assigned : List Lit) (reasons : List (Option ℕ)) (a : Assumed) (r : Retrace) → AreReasons ns assigned reasons → AreGiven assigned reasons given → IsAssumed ns given assigned a → IsOnce assigned → IsConsistent assigned
+    → told known r ≡ assigned → (a ≡ outcomes.Whole → r.extent ≡ extents.Closed) → ((a ≡ outcomes.Whole → ⊥) → reach_told (told known r) r.extent ≡ reaches.Conflict) → IsRetrace ns given known r
+retraced ns given known assigned reasons outcomes.Whole r has all end once apart e whole clash =
     subst (λ (x : Extent). IsReach ns given (reach_told (told known r) x)) (sym (whole refl)) (reach_of ns given assigned (told known r) e (whole_end ns assigned reasons given has all end) once apart)
-retraced ns given known assigned reasons (ascents.Falsified place) r has all end once apart e whole clash =
-    subst (IsReach ns given) (sym (clash (λ same. cc))) (no_way ns assigned reasons given (ascents.Falsified place) has all (λ same. cc) end)
-retraced ns given known assigned reasons ascents.Clash r has all end once apart e whole clash =
-    subst (IsReach ns given) (sym (clash (λ same. cc))) (no_way ns assigned reasons given ascents.Clash has all (λ same. cc) end)
+retraced ns given known assigned reasons (outcomes.Falsified place) r has all end once apart e whole clash =
+    subst (IsReach ns given) (sym (clash (λ same. cc))) (no_way ns assigned reasons given (outcomes.Falsified place) has all (λ same. cc) end)
+retraced ns given known assigned reasons outcomes.Clash r has all end once apart e whole clash =
+    subst (IsReach ns given) (sym (clash (λ same. cc))) (no_way ns assigned reasons given outcomes.Clash has all (λ same. cc) end)

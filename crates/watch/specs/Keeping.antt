@@ -4,8 +4,8 @@ use Rattle.linear.specs.declared.term.Lit.{Lit}
 use Rattle.normal_form.specs.Normal.{NormalConstraint}
 use Rattle.propagate.specs.Chain.{IsFixpoint}
 use Rattle.propagate.specs.Walk.{IsFalsifiedAt, IsQuiet}
-use Rattle.watch.specs.declared.ascent.Ascent.{Ascent}
-use Rattle.watch.specs.declared.ascent.Ascent.TheVariants as ascents
+use Rattle.watch.specs.declared.assumed.Assumed.{Assumed}
+use Rattle.watch.specs.declared.assumed.Assumed.TheVariants as outcomes
 use Rattle.watch.specs.Givens.{HasAll}
 use Rattle.ledger.specs.Ledgers.{State, constraint_at, shown}
 use Rattle.watch.specs.Looking.{AreLookedAt}
@@ -41,17 +41,17 @@ pub record IsKept (s : State) (levels : List Lit × List ℕ × List ℕ) (waiti
   pub levels_are : AreLevels s.assigned s.reasons levels.0 levels.1
   pub settled : AreSettled (shown s.slots) s.propagated levels.1 levels.2
 
--- where a way up over given literals ended
-abbrev pub IsAscent : List NormalConstraint → List Lit → List Lit → Ascent → Type 0
-IsAscent constraints given assigned ascents.Whole = HasAll given assigned × IsFixpoint constraints assigned
-IsAscent constraints given assigned (ascents.Falsified place) = IsFalsifiedAt constraints assigned place
-IsAscent constraints given assigned ascents.Clash = Clashes given assigned
+-- what assuming given literals came to
+abbrev pub IsAssumed : List NormalConstraint → List Lit → List Lit → Assumed → Type 0
+IsAssumed constraints given assigned outcomes.Whole = HasAll given assigned × IsFixpoint constraints assigned
+IsAssumed constraints given assigned (outcomes.Falsified place) = IsFalsifiedAt constraints assigned place
+IsAssumed constraints given assigned outcomes.Clash = Clashes given assigned
 
 -- the place of what is falsified, if the way up ended there
-abbrev pub falsified_place : Ascent → Option ℕ
-falsified_place ascents.Whole = None
-falsified_place (ascents.Falsified place) = Some place
-falsified_place ascents.Clash = None
+abbrev pub falsified_place : Assumed → Option ℕ
+falsified_place outcomes.Whole = None
+falsified_place (outcomes.Falsified place) = Some place
+falsified_place outcomes.Clash = None
 
 -- all is propagated, or the constraint at this place is falsified
 abbrev pub IsFixpointOrFalsified : List NormalConstraint → List Lit → Option ℕ → Type 0

@@ -25,9 +25,9 @@ use super::continuing::traces_of_each;
 use super::extension::reach_over;
 use super::lending::Occurrences;
 use super::levels::Levels;
-use super::refutation::refute_anew;
+use super::refutation::refute_from_root;
 use super::release::release;
-use super::rest::{Rest, go_down};
+use super::rest::{Rest, backtrack_to_root};
 use super::retracing::retrace_over;
 use super::tracing::chain_over;
 use ledger::{Ledger, Queue};
@@ -141,14 +141,14 @@ impl Closure {
     {
         self.arrivals
             .attach_to(self.alloc, &mut self.ledger, &mut self.queue)?;
-        go_down(
+        backtrack_to_root(
             &mut self.ledger,
             &mut self.queue,
             &mut self.levels,
             &mut self.rest,
         );
         self.ledger.reveal();
-        let answer = refute_anew(
+        let answer = refute_from_root(
             self.alloc,
             &mut self.ledger,
             &mut self.queue,
@@ -211,7 +211,7 @@ impl Closure {
         if place >= count {
             return self.arrivals.take(place - count);
         }
-        go_down(
+        backtrack_to_root(
             &mut self.ledger,
             &mut self.queue,
             &mut self.levels,

@@ -68,11 +68,11 @@ fn chain_on(
     ensures value { IfOk result (IsFound (shown ledger.old.slots) (ledger.old.assigned ++ last ∷ [])) }
 {
     let from = ledger.len();
-    let ascent = decide(ledger, queue, levels, last)?;
+    let assumed = decide(ledger, queue, levels, last)?;
     ledger.reveal();
     Ok(Chain {
         steps: tell_behind(alloc, ledger, from)?,
-        falsified: falsified_place(ascent),
+        falsified: falsified_place(assumed),
     })
 }
 
@@ -216,8 +216,8 @@ pub(crate) fn traces_of_each(
     ensures taken { IfOk result (λ v. AreTaken first more.now v.items) }
 {
     ledger.widen(alloc, literal_count(more).max(first.var.0 as usize + 1))?;
-    let ascent = follow(alloc, ledger, queue, levels, before)?;
-    if !ascent.is_whole() || !ledger.leaves_free(first) {
+    let assumed = follow(alloc, ledger, queue, levels, before)?;
+    if !assumed.is_whole() || !ledger.leaves_free(first) {
         return decide_anew(alloc, ledger, queue, levels, before, first, ids);
     }
     ledger.reveal();

@@ -28,9 +28,9 @@ pub(crate) fn reach_over(
     ensures kept { IsKept ledger.new levels.new queue.new.0 queue.new.1 }
     ensures value { IfOk result (IsReach (shown ledger.old.slots) given.now) }
 {
-    let ascent = follow(alloc, ledger, queue, levels, given)?;
+    let assumed = follow(alloc, ledger, queue, levels, given)?;
     ledger.reveal();
-    if !ascent.is_whole() {
+    if !assumed.is_whole() {
         return Ok(Reach::Conflict);
     }
     Ok(Reach::Closed(Seq::from_vec(Vec::from_slice(alloc, ledger.literals())?)))

@@ -10,16 +10,16 @@ ghost use Rattle.linear.specs.Literal.{opposite};
 ghost use Rattle.propagate.specs.Literals.{lists};
 ghost use Rattle.watch.specs.Givens.{IsDecided, IsPushed};
 ghost use Rattle.watch.specs.Looking.{AreLookedAt, GoesOn};
-ghost use Rattle.watch.specs.Keeping.{IsAscent, IsKept, IsFixpointOrFalsified, falsified_place};
+ghost use Rattle.watch.specs.Keeping.{IsAssumed, IsKept, IsFixpointOrFalsified, falsified_place};
 ghost use Rattle.ledger.specs.Ledgers.{constraint_at, shown};
 ghost use Rattle.propagate.specs.Walk.{IsQuiet};
 ghost use Rattle.watch.specs.Steps.{AreGiven};
 ghost use Rattle.propagate.specs.Chain.{IsFixpoint};
 
-use super::ascent::Ascent;
+use super::assumed::Assumed;
 use super::giving::give;
 use super::levels::Levels;
-use super::walk::{backtrack_quietly, propagate_all};
+use super::walk::{backtrack, propagate_all};
 use ledger::{Ledger, Queue};
 use linear::Lit;
 use propagate::literal_count;
@@ -38,7 +38,12 @@ pub(crate) fn queue_from(ledger: &Ledger, queue: &mut Queue, first: usize)
 
 /// Takes back what stands above the first levels. What was settled when the next one began is settled again, and what came since
 /// waits.
-pub(crate) fn go_back(ledger: &mut Ledger, queue: &mut Queue, levels: &mut Levels, level: usize)
+pub(crate) fn backtrack_to_level(
+    ledger: &mut Ledger,
+    queue: &mut Queue,
+    levels: &mut Levels,
+    level: usize,
+)
     requires kept { IsKept ledger.old levels.old queue.old.0 queue.old.1 }
     requires level { level ≤ length levels.old.0 }
     ensures slots { ledger.new.slots ≡ ledger.old.slots }
@@ -49,14 +54,14 @@ pub(crate) fn go_back(ledger: &mut Ledger, queue: &mut Queue, levels: &mut Level
     if level == levels.count() {
         return;
     }
-    backtrack_quietly(ledger, levels.height(level));
+    backtrack(ledger, levels.height(level));
     queue.clear(ledger.count());
     queue_from(ledger, queue, levels.settled(level));
     levels.truncate(level);
 }
 
 /// Adds what is forced, up to a constraint that is falsified, whatever levels there are.
-fn propagate_kept(ledger: &mut Ledger, queue: &mut Queue) -> Result<Ascent, AllocError>
+fn propagate_kept(ledger: &mut Ledger, queue: &mut Queue) -> Result<Assumed, AllocError>
     requires count { queue.old.1 ≡ length ledger.old.slots }
     requires looked_at { AreLookedAt (shown ledger.old.slots) ledger.old.propagated queue.old.0 }
     ensures slots { ledger.new.slots ≡ ledger.old.slots }
@@ -66,14 +71,14 @@ fn propagate_kept(ledger: &mut Ledger, queue: &mut Queue) -> Result<Ascent, Allo
         → IsKept ledger.new levels queue.new.0 queue.new.1 }
     ensures falsified { IfOk result (λ a. IsFixpointOrFalsified (shown ledger.old.slots) ledger.new.assigned (falsified_place a)) }
     ensures end { (levels : List Lit × List ℕ × List ℕ) → IsKept ledger.old levels queue.old.0 queue.old.1
-        → IfOk result (IsAscent (shown ledger.old.slots) levels.0 ledger.new.assigned) }
+        → IfOk result (IsAssumed (shown ledger.old.slots) levels.0 ledger.new.assigned) }
 {
     ledger.reveal();
     let falsified = propagate_all(ledger, queue);
     ledger.reveal();
     match falsified? {
-        Some(place) => Ok(Ascent::Falsified(place)),
-        None => Ok(Ascent::Whole),
+        Some(place) => Ok(Assumed::Falsified(place)),
+        None => Ok(Assumed::Whole),
     }
 }
 
@@ -115,23 +120,23 @@ fn open_level(
 }
 
 /// Gives one literal more, with what is forced then.
-fn step_up(
+fn assume(
     ledger: &mut Ledger,
     queue: &mut Queue,
     levels: &mut Levels,
     literal: Lit,
-) -> Result<Ascent, AllocError>
+) -> Result<Assumed, AllocError>
     requires kept { IsKept ledger.old levels.old queue.old.0 queue.old.1 }
     requires variable { literal.var.0 < ledger.old.variables }
     ensures slots { ledger.new.slots ≡ ledger.old.slots }
     ensures variables { ledger.new.variables ≡ ledger.old.variables }
     ensures levels { (levels.new.0 ≡ levels.old.0) ⊎ (levels.new.0 ≡ levels.old.0 ++ literal ∷ []) }
     ensures kept { IsKept ledger.new levels.new queue.new.0 queue.new.1 }
-    ensures end { IfOk result (IsAscent (shown ledger.old.slots) (levels.old.0 ++ literal ∷ []) ledger.new.assigned) }
-    ensures whole { IfOk result (λ a. a ≡ Ascent.Whole → levels.new.0 ≡ levels.old.0 ++ literal ∷ []) }
+    ensures end { IfOk result (IsAssumed (shown ledger.old.slots) (levels.old.0 ++ literal ∷ []) ledger.new.assigned) }
+    ensures whole { IfOk result (λ a. a ≡ Assumed.Whole → levels.new.0 ≡ levels.old.0 ++ literal ∷ []) }
 {
     if ledger.has(literal.opposite()) {
-        return Ok(Ascent::Clash);
+        return Ok(Assumed::Clash);
     }
     open_level(ledger, queue, levels, literal)?;
     propagate_kept(ledger, queue)
@@ -143,7 +148,7 @@ pub(crate) fn decide(
     queue: &mut Queue,
     levels: &mut Levels,
     literal: Lit,
-) -> Result<Ascent, AllocError>
+) -> Result<Assumed, AllocError>
     requires kept { IsKept ledger.old levels.old queue.old.0 queue.old.1 }
     requires variable { literal.var.0 < ledger.old.variables }
     requires unset { lists ledger.old.assigned literal ≡ false }
@@ -159,12 +164,12 @@ pub(crate) fn decide(
 }
 
 /// Gives the literals of an assignment that are still to come.
-fn climb(
+fn assume_rest(
     ledger: &mut Ledger,
     queue: &mut Queue,
     levels: &mut Levels,
     given: &[Lit],
-) -> Result<Ascent, AllocError>
+) -> Result<Assumed, AllocError>
     requires kept { IsKept ledger.old levels.old queue.old.0 queue.old.1 }
     requires variables { All (λ l. l.var.0 < ledger.old.variables) given.now }
     requires short { length levels.old.0 ≤ length given.now }
@@ -174,15 +179,15 @@ fn climb(
     ensures variables { ledger.new.variables ≡ ledger.old.variables }
     ensures first { levels.new.0 ≡ take (length levels.new.0) given.now }
     ensures kept { IsKept ledger.new levels.new queue.new.0 queue.new.1 }
-    ensures end { IfOk result (IsAscent (shown ledger.old.slots) given.now ledger.new.assigned) }
+    ensures end { IfOk result (IsAssumed (shown ledger.old.slots) given.now ledger.new.assigned) }
 {
     for index in levels.count()..given.len() {
-        let ascent = step_up(ledger, queue, levels, given[index])?;
-        if !ascent.is_whole() {
-            return Ok(ascent);
+        let assumed = assume(ledger, queue, levels, given[index])?;
+        if !assumed.is_whole() {
+            return Ok(assumed);
         }
     }
-    Ok(Ascent::Whole)
+    Ok(Assumed::Whole)
 }
 
 /// Takes back what stands from where an assignment parts from the one before, and makes room for the variables of the rest of it. The
@@ -204,7 +209,7 @@ fn part(
     ensures kept { IsKept ledger.new levels.new queue.new.0 queue.new.1 }
 {
     let agreed = levels.agreement(given);
-    go_back(ledger, queue, levels, agreed);
+    backtrack_to_level(ledger, queue, levels, agreed);
     ledger.reveal();
     ledger.widen(alloc, literal_count(&given[agreed..]))
 }
@@ -216,23 +221,23 @@ pub(crate) fn follow(
     queue: &mut Queue,
     levels: &mut Levels,
     given: &[Lit],
-) -> Result<Ascent, AllocError>
+) -> Result<Assumed, AllocError>
     requires kept { IsKept ledger.old levels.old queue.old.0 queue.old.1 }
     ensures slots { ledger.new.slots ≡ ledger.old.slots }
     ensures more { ledger.old.variables ≤ ledger.new.variables }
     ensures variables { OnOk result (All (λ l. l.var.0 < ledger.new.variables) given.now) }
     ensures kept { IsKept ledger.new levels.new queue.new.0 queue.new.1 }
     ensures given { AreGiven ledger.new.assigned ledger.new.reasons given.now }
-    ensures end { IfOk result (IsAscent (shown ledger.old.slots) given.now ledger.new.assigned) }
+    ensures end { IfOk result (IsAssumed (shown ledger.old.slots) given.now ledger.new.assigned) }
 {
     part(alloc, ledger, queue, levels, given)?;
     let fixpoint = propagate_kept(ledger, queue);
     ledger.reveal();
-    let ascent = fixpoint?;
-    if !ascent.is_whole() {
-        return Ok(ascent);
+    let assumed = fixpoint?;
+    if !assumed.is_whole() {
+        return Ok(assumed);
     }
-    let answer = climb(ledger, queue, levels, given);
+    let answer = assume_rest(ledger, queue, levels, given);
     ledger.reveal();
     answer
 }

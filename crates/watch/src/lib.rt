@@ -9,7 +9,7 @@
 #![tactic(auto)]
 
 mod arrivals;
-mod ascent;
+mod assumed;
 mod attaching;
 mod chain;
 mod closure;

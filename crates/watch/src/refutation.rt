@@ -17,7 +17,7 @@ ghost use Rattle.watch.specs.Roots.{IsRoot};
 use super::attaching::{attach_all, detach_from};
 use super::cubes::{are_cubes, give_cubes};
 use super::rest::{Rest, note};
-use super::walk::{backtrack_quietly, propagate_all};
+use super::walk::{backtrack, propagate_all};
 use ledger::{Ledger, Queue};
 use normal_form::Normal;
 use std::alloc::{AllocError, Global};
@@ -38,7 +38,7 @@ fn propagate_root(ledger: &mut Ledger, queue: &mut Queue) -> Result<bool, AllocE
 }
 
 /// Attaches constraints, and decides whether all are refuted. What stood before comes first.
-fn decide_attached(
+fn refute_attached(
     alloc: Global,
     ledger: &mut Ledger,
     queue: &mut Queue,
@@ -59,7 +59,7 @@ fn decide_attached(
 }
 
 /// Assigns the literals of cubes, and decides whether all are refuted. What stood before comes first.
-fn decide_given(
+fn refute_given(
     alloc: Global,
     ledger: &mut Ledger,
     queue: &mut Queue,
@@ -85,7 +85,7 @@ fn decide_given(
 }
 
 /// Decides whether all are refuted, with constraints that are attached, or given where they are cubes. What stood before comes first.
-fn decide_beside(
+fn refute_with(
     alloc: Global,
     ledger: &mut Ledger,
     queue: &mut Queue,
@@ -101,9 +101,9 @@ fn decide_beside(
     ensures count { queue.new.1 ≡ length ledger.new.slots }
 {
     if are_cubes(extras) {
-        decide_given(alloc, ledger, queue, extras)
+        refute_given(alloc, ledger, queue, extras)
     } else {
-        decide_attached(alloc, ledger, queue, extras)
+        refute_attached(alloc, ledger, queue, extras)
     }
 }
 
@@ -124,15 +124,15 @@ fn refute_beside(
 {
     let root = ledger.len();
     let count = ledger.count();
-    let answer = decide_beside(alloc, ledger, queue, extras);
-    backtrack_quietly(ledger, root);
+    let answer = refute_with(alloc, ledger, queue, extras);
+    backtrack(ledger, root);
     detach_from(ledger, count);
     queue.clear(count);
     answer
 }
 
 /// Whether the constraints are refuted beside others. What they force from nothing is then found, and noted where there are no others.
-pub(crate) fn refute_anew(
+pub(crate) fn refute_from_root(
     alloc: Global,
     ledger: &mut Ledger,
     queue: &mut Queue,

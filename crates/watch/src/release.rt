@@ -14,7 +14,7 @@ ghost use Rattle.watch.specs.Looking.{AreLookedAt};
 ghost use Rattle.watch.specs.Rests.{IsRest};
 ghost use Rattle.watch.specs.Roots.{IsRoot};
 
-use super::rest::{Rest, back_to};
+use super::rest::{Rest, backtrack_to_rest};
 use ledger::{Ledger, Queue};
 
 /// So many constraints and literals are soon looked at, sooner than all constraints that have one.
@@ -43,7 +43,7 @@ fn backtrack_one(ledger: &mut Ledger, queue: &mut Queue)
 }
 
 /// Takes all literals but the first ones back, and queues the constraints that may force one of them.
-fn backtrack_to(ledger: &mut Ledger, queue: &mut Queue, count: usize)
+fn backtrack_and_queue(ledger: &mut Ledger, queue: &mut Queue, count: usize)
     requires count { count ≤ length ledger.old.assigned }
     requires places { queue.old.1 ≡ length ledger.old.slots }
     requires looked_at { AreLookedAt (shown ledger.old.slots) ledger.old.propagated queue.old.0 }
@@ -122,9 +122,9 @@ pub(crate) fn release(ledger: &mut Ledger, queue: &mut Queue, rest: &mut Rest, p
         return;
     }
     if is_near(ledger, *rest, count) {
-        back_to(ledger, queue, *rest);
+        backtrack_to_rest(ledger, queue, *rest);
         return;
     }
-    backtrack_to(ledger, queue, count);
+    backtrack_and_queue(ledger, queue, count);
     *rest = Rest::nothing();
 }

@@ -11,9 +11,9 @@ ghost use Rattle.watch.specs.Keeping.{IsKept};
 ghost use Rattle.watch.specs.Looking.{AreLookedAt};
 ghost use Rattle.watch.specs.Rests.{IsRest};
 
-use super::following::{go_back, queue_from};
+use super::following::{backtrack_to_level, queue_from};
 use super::levels::Levels;
-use super::walk::backtrack_quietly;
+use super::walk::backtrack;
 use ledger::{Ledger, Queue};
 use normal_form::Normal;
 
@@ -52,7 +52,12 @@ pub(crate) fn note(ledger: &Ledger, rest: &mut Rest, extras: &[Normal])
 }
 
 /// Takes back all that was given. Where something was, what was noted is forgotten.
-pub(crate) fn go_down(ledger: &mut Ledger, queue: &mut Queue, levels: &mut Levels, rest: &mut Rest)
+pub(crate) fn backtrack_to_root(
+    ledger: &mut Ledger,
+    queue: &mut Queue,
+    levels: &mut Levels,
+    rest: &mut Rest,
+)
     requires kept { IsKept ledger.old levels.old queue.old.0 queue.old.1 }
     requires rest { IsRest (shown ledger.old.slots) ledger.old.propagated rest.old }
     ensures slots { ledger.new.slots ≡ ledger.old.slots }
@@ -63,12 +68,12 @@ pub(crate) fn go_down(ledger: &mut Ledger, queue: &mut Queue, levels: &mut Level
     if levels.count() == 0 {
         return;
     }
-    go_back(ledger, queue, levels, 0);
+    backtrack_to_level(ledger, queue, levels, 0);
     *rest = Rest::nothing();
 }
 
 /// Takes back what stands above a rest. What came since waits.
-pub(crate) fn back_to(ledger: &mut Ledger, queue: &mut Queue, rest: Rest)
+pub(crate) fn backtrack_to_rest(ledger: &mut Ledger, queue: &mut Queue, rest: Rest)
     requires rest { IsRest (shown ledger.old.slots) ledger.old.propagated rest }
     requires low { rest.height ≤ length ledger.old.assigned }
     requires places { queue.old.1 ≡ length ledger.old.slots }
@@ -79,7 +84,7 @@ pub(crate) fn back_to(ledger: &mut Ledger, queue: &mut Queue, rest: Rest)
     ensures looked_at { AreLookedAt (shown ledger.old.slots) ledger.new.propagated queue.new.0 }
     ensures rest { IsRest (shown ledger.old.slots) ledger.new.propagated rest }
 {
-    backtrack_quietly(ledger, rest.height);
+    backtrack(ledger, rest.height);
     queue.clear(ledger.count());
     queue_from(ledger, queue, rest.count);
 }

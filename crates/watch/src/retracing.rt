@@ -9,7 +9,7 @@ ghost use Rattle.propagate.specs.Reach.{IsRetrace, reach_told};
 ghost use Rattle.ledger.specs.Ledgers.{shown};
 ghost use Rattle.watch.specs.Keeping.{IsKept};
 
-use super::ascent::Ascent;
+use super::assumed::Assumed;
 use super::following::follow;
 use super::levels::Levels;
 use ledger::{Ledger, Queue};
@@ -53,18 +53,18 @@ fn tell_from(
     Ok(told)
 }
 
-/// How far an assignment extends, where a way up over its literals ended so.
-fn extent_of(ascent: Ascent, ids: &[Id]) -> Extent
-    ensures whole { ascent ≡ Ascent.Whole → result ≡ Extent.Closed }
-    ensures conflict { (literals : List Lit) → (ascent ≡ Ascent.Whole → ⊥) → reach_told literals result ≡ Reach.Conflict }
+/// How far an assignment extends, where assuming its literals came to this.
+fn extent_of(assumed: Assumed, ids: &[Id]) -> Extent
+    ensures whole { assumed ≡ Assumed.Whole → result ≡ Extent.Closed }
+    ensures conflict { (literals : List Lit) → (assumed ≡ Assumed.Whole → ⊥) → reach_told literals result ≡ Reach.Conflict }
 {
-    match ascent {
-        Ascent::Whole => Extent::Closed,
-        Ascent::Falsified(place) => match ids.get(place) {
+    match assumed {
+        Assumed::Whole => Extent::Closed,
+        Assumed::Falsified(place) => match ids.get(place) {
             Some(id) => Extent::Falsified(*id),
             None => Extent::Clash,
         },
-        Ascent::Clash => Extent::Clash,
+        Assumed::Clash => Extent::Clash,
     }
 }
 
@@ -83,13 +83,13 @@ pub(crate) fn retrace_over(
     ensures kept { IsKept ledger.new levels.new queue.new.0 queue.new.1 }
     ensures value { IfOk result (IsRetrace (shown ledger.old.slots) given.now known.now) }
 {
-    let ascent = follow(alloc, ledger, queue, levels, given)?;
+    let assumed = follow(alloc, ledger, queue, levels, given)?;
     ledger.reveal();
     let kept = known_count(ledger.literals(), known);
     let rest = tell_from(alloc, ledger, kept, ids)?;
     Ok(Retrace {
         kept,
         rest: Seq::from_vec(rest),
-        extent: extent_of(ascent, ids),
+        extent: extent_of(assumed, ids),
     })
 }

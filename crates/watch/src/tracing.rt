@@ -6,7 +6,7 @@ ghost use Rattle.watch.specs.Keeping.{IsKept, falsified_place};
 ghost use Rattle.ledger.specs.Ledgers.{shown};
 ghost use Rattle.watch.specs.Steps.{IsFound};
 
-use super::ascent::Ascent;
+use super::assumed::Assumed;
 use super::chain::Chain;
 use super::following::follow;
 use super::levels::Levels;
@@ -29,13 +29,13 @@ fn with_end(told: Chain, falsified: Option<usize>) -> Chain
     }
 }
 
-/// The place of what is falsified at the end of a way up.
-pub(crate) fn falsified_place(ascent: Ascent) -> Option<usize>
-    ensures { result ≡ falsified_place ascent }
+/// The place of what is falsified where literals are assumed.
+pub(crate) fn falsified_place(assumed: Assumed) -> Option<usize>
+    ensures { result ≡ falsified_place assumed }
 {
-    match ascent {
-        Ascent::Falsified(place) => Some(place),
-        Ascent::Whole | Ascent::Clash => None,
+    match assumed {
+        Assumed::Falsified(place) => Some(place),
+        Assumed::Whole | Assumed::Clash => None,
     }
 }
 
@@ -54,7 +54,7 @@ pub(crate) fn chain_over(
     ensures kept { IsKept ledger.new levels.new queue.new.0 queue.new.1 }
     ensures value { IfOk result (IsFound (shown ledger.old.slots) given.now) }
 {
-    let ascent = follow(alloc, ledger, queue, levels, given)?;
+    let assumed = follow(alloc, ledger, queue, levels, given)?;
     let marks = marks_of(alloc, ledger.variable_count(), given)?;
-    Ok(with_end(tell_all(alloc, ledger, &marks)?, falsified_place(ascent)))
+    Ok(with_end(tell_all(alloc, ledger, &marks)?, falsified_place(assumed)))
 }

@@ -147,7 +147,7 @@ pub(crate) fn propagate_all(
 }
 
 /// Takes back all literals but the first ones.
-pub(crate) fn backtrack_quietly(ledger: &mut Ledger, count: usize)
+pub(crate) fn backtrack(ledger: &mut Ledger, count: usize)
     requires { count ≤ length ledger.old.assigned }
     ensures slots { ledger.new.slots ≡ ledger.old.slots }
     ensures variables { ledger.new.variables ≡ ledger.old.variables }

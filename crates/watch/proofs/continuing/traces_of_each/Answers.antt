@@ -5,8 +5,8 @@ use Rattle.linear.specs.declared.term.Lit.{Lit}
 use Rattle.normal_form.specs.Normal.{NormalConstraint}
 use Rattle.propagate.specs.Content.{AreDecided, AreTaken}
 use Rattle.ledger.specs.Ledgers.{shown}
-use Rattle.watch.specs.declared.ascent.Ascent.TheVariants as ascents
-use Rattle.watch.specs.Keeping.{IsAscent}
+use Rattle.watch.specs.declared.assumed.Assumed.TheVariants as outcomes
+use Rattle.watch.specs.Keeping.{IsAssumed}
 use Rattle.watch.specs.Named.{AreNamed, content_at}
 use Rattle.watch.specs.Steps.{Underlies}
 use Rattle.watch.proofs.KeptLevels.{kept_wider}
@@ -32,10 +32,10 @@ pub returns-clause-decided : goal.returns-clause-decided
 returns-clause-decided c =
     let before = c.args.before.now in
     let ids = c.args.ids.now in
-    let f = c.in_ok-ascent.ensures in
+    let f = c.in_ok-assumed.ensures in
     let s = c.follow.new.ledger in
     let same = f.slots ∙ c.widen.ensures.slots in
-    let whole : IsAscent (shown c.widen.new.self.slots) before s.assigned ascents.Whole = subst (IsAscent (shown c.widen.new.self.slots) before s.assigned) (c.is_whole.ensures.0 c.if-not-is_whole.false) f.end in
+    let whole : IsAssumed (shown c.widen.new.self.slots) before s.assigned outcomes.Whole = subst (IsAssumed (shown c.widen.new.self.slots) before s.assigned) (c.is_whole.ensures.0 c.if-not-is_whole.false) f.end in
     let under : Underlies before s = record { all = whole.0; others = f.given } in
     subst (λ (os : List (Option NormalConstraint)). IfOk c.decide_all.result (λ v. (places : List (ℕ × ℕ)) → AreNamed places ids os → AreDecided (content_at os places) before v.items)) same
     (IfOk-weaker c.decide_all.result (λ v. (places : List (ℕ × ℕ)) (first : List Lit) → AreNamed places ids s.slots → Underlies first s → AreDecided (content_at s.slots places) first v.items)

@@ -5,7 +5,10 @@ use Rattle.watch.proofs.GivenCubes.{all_assigned, each_more, given_then}
 use Rattle.watch.proofs.cubes.give_cube.Goals as goal
 
 pub returns-then-give_term-clause-given : goal.returns-then-give_term-clause-given
-returns-then-give_term-clause-given c = given_then (c.args.cube.now ∷ []) c.args.ledger.now c.loop-index.ledger c.give_term.new.ledger c.loop-index.invariant.given c.give_term.ensures.given
+returns-then-give_term-clause-given c =
+    let cubes = c.args.cube.now ∷ [] in
+    given_then cubes c.args.ledger.now c.loop-index.ledger c.give_term.new.ledger
+    (given_then cubes c.args.ledger.now c.give_short_ones.new.ledger c.loop-index.ledger c.give_short_ones.ensures.given c.loop-index.invariant.given) c.give_term.ensures.given
 
 pub loop-index-preserved : goal.loop-index-preserved
 loop-index-preserved c =
@@ -15,9 +18,12 @@ loop-index-preserved c =
     let end = subst (IsTermEnd c.give_term.new.ledger.assigned cube c.loop-index.index) c.if-give_term.false g.end in
     record {
       variables = g.variables ∙ i.variables;
-      given = given_then (cube ∷ []) c.args.ledger.now c.loop-index.ledger c.give_term.new.ledger i.given g.given;
+      given = given_then (cube ∷ []) c.give_short_ones.new.ledger c.loop-index.ledger c.give_term.new.ledger i.given g.given;
       each = each_more cube c.loop-index.index c.loop-index.ledger c.give_term.new.ledger g.given i.each end;
     }
 
 pub returns-clause-end : goal.returns-clause-end
 returns-clause-end c = all_assigned c.loop-index.ledger.assigned c.args.cube.now (λ k d low. c.loop-index.invariant.each k d (omega (arith, low, c.loop-index-test.false, c.len-index-end.ensures.value)))
+
+pub returns-clause-given : goal.returns-clause-given
+returns-clause-given c = given_then (c.args.cube.now ∷ []) c.args.ledger.now c.give_short_ones.new.ledger c.loop-index.ledger c.give_short_ones.ensures.given c.loop-index.invariant.given

@@ -11,7 +11,7 @@ use Rattle.watch.proofs.retracing.retrace_over.Goals as goal
 pub returns-clause-value : goal.returns-clause-value
 returns-clause-value c =
     let new = c.follow.new.ledger in
-    let f = c.in_ok-ascent.ensures in
+    let f = c.in_ok-assumed.ensures in
     let kept = c.known_count-kept.result in
     let known = c.args.known.now in
     let rest : List (Lit × Option ℕ) = c.from_vec.result in
@@ -22,4 +22,4 @@ returns-clause-value c =
     ∙ ap (λ (ls : List Lit). take kept ls ++ map (λ (p : Lit × Option ℕ). p.0) rest) c.literals.ensures.assigned
     ∙ ap (λ (ps : List (Lit × Option ℕ)). take kept new.assigned ++ map (λ (p : Lit × Option ℕ). p.0) ps) c.from_vec.ensures
     ∙ c.in_ok-rest.ensures in
-    retraced (shown c.args.ledger.now.slots) c.args.given.now known new.assigned new.reasons c.in_ok-ascent.ascent r reasons f.given f.end c.reveal.ensures.once c.reveal.ensures.consistent same c.extent_of.ensures.whole (λ no. c.extent_of.ensures.conflict (told known r) no)
+    retraced (shown c.args.ledger.now.slots) c.args.given.now known new.assigned new.reasons c.in_ok-assumed.assumed r reasons f.given f.end c.reveal.ensures.once c.reveal.ensures.consistent same c.extent_of.ensures.whole (λ no. c.extent_of.ensures.conflict (told known r) no)

@@ -8,11 +8,10 @@ use Rattle.search.proofs.run.Run.take_conflict.Goals as goal
 pub returns-then-bite-clause-decisions : goal.returns-then-bite-clause-decisions
 returns-then-bite-clause-decisions g c =
     let old : Logbook = c.args.self.now.log in
-    subst (λ (l : Logbook). AreDecisions l c.go_back.new.self.decisions.items) (sym c.go_back.ensures.log)
-    (subst (AreDecisions old) (sym (c.go_back.ensures.decisions ∙ c.truncate.ensures.items)) (first_decisions old c.in-Some.bite.level c.args.self.now.decisions.items c.requires))
+    subst (AreDecisions old) (sym c.truncate.ensures.items) (first_decisions old c.in-Some.bite.level c.args.self.now.decisions.items c.requires)
 
 pub count_conflict-requires : goal.count_conflict-requires
 count_conflict-requires g c =
     let old : Logbook = c.args.self.now.log in
-    subst (λ (l : Logbook). AreDecisions l c.keep-2.new.self.decisions.items) (sym (c.keep-2.ensures.log ∙ c.go_back.ensures.log))
-    (subst (AreDecisions old) (sym (c.keep-2.ensures.decisions ∙ c.go_back.ensures.decisions ∙ c.truncate.ensures.items)) (first_decisions old c.in-Some.bite.level c.args.self.now.decisions.items c.requires))
+    subst (λ (l : Logbook). AreDecisions l c.keep-2.new.self.decisions.items) (sym c.keep-2.ensures.log)
+    (subst (AreDecisions old) (sym (c.keep-2.ensures.decisions ∙ c.truncate.ensures.items)) (first_decisions old c.in-Some.bite.level c.args.self.now.decisions.items c.requires))

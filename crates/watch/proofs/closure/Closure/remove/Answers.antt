@@ -19,7 +19,7 @@ returns-then-place-count-clause-slots c =
 
 pub release-requires-clause-root : goal.release-requires-clause-root
 release-requires-clause-root c =
-    root_kept c.go_down.new.ledger c.go_down.new.levels c.go_down.new.queue.0 c.go_down.new.queue.1 c.reveal.ensures.reasons.as_many c.go_down.ensures.levels c.go_down.ensures.kept
+    root_kept c.backtrack_to_root.new.ledger c.backtrack_to_root.new.levels c.backtrack_to_root.new.queue.0 c.backtrack_to_root.new.queue.1 c.reveal.ensures.reasons.as_many c.backtrack_to_root.ensures.levels c.backtrack_to_root.ensures.kept
 
 pub invariant_of-self-2 : goal.invariant_of-self-2
 invariant_of-self-2 c =
@@ -29,7 +29,7 @@ invariant_of-self-2 c =
     ap (λ (s : State). length s.reasons) c.take_out.ensures.slots ∙ c.reveal-2.ensures.reasons.as_many ∙ sym (ap (λ (s : State). length s.assigned) c.take_out.ensures.slots) in
     let rest = c.release.new.rest in
     let still : IsRest (shown before.slots) before.propagated rest = subst (λ (os : List (Option NormalConstraint)). IsRest (shown os) before.propagated rest) (sym c.release.ensures.slots) c.release.ensures.rest in (
-      kept_root new c.go_down.new.levels c.release.new.queue.0 c.release.new.queue.1 many c.go_down.ensures.levels
+      kept_root new c.backtrack_to_root.new.levels c.release.new.queue.0 c.release.new.queue.1 many c.backtrack_to_root.ensures.levels
           (root_without before new c.args.place c.release.new.queue.0 c.release.new.queue.1 c.take_out.ensures.slots c.release.ensures.root),
       subst (λ (s : State). IsRest (shown s.slots) s.propagated rest) (sym c.take_out.ensures.slots) (rest_without before.slots c.args.place before.propagated rest still),
     )
@@ -39,9 +39,9 @@ returns-clause-slots c =
     let e = c.self.inside in
     let low : c.args.place < length e.ledger.slots = omega (arith, c.count-count.ensures, c.if-place-count.false) in
     ap (λ (s : State). s.slots ++ e.arrivals) c.take_out.ensures.slots
-    ∙ ap (λ (os : List (Option NormalConstraint)). set os c.args.place None ++ e.arrivals) (c.release.ensures.slots ∙ c.go_down.ensures.slots)
+    ∙ ap (λ (os : List (Option NormalConstraint)). set os c.args.place None ++ e.arrivals) (c.release.ensures.slots ∙ c.backtrack_to_root.ensures.slots)
     ∙ sym (set-append_left e.ledger.slots e.arrivals c.args.place None low)
     ∙ ap (λ (os : List (Option NormalConstraint)). set os c.args.place None) c.self.view_is
 
-pub go_down-requires-clause-rest : goal.go_down-requires-clause-rest
-go_down-requires-clause-rest c = c.self.invariant.1
+pub backtrack_to_root-requires-clause-rest : goal.backtrack_to_root-requires-clause-rest
+backtrack_to_root-requires-clause-rest c = c.self.invariant.1
