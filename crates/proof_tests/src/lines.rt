@@ -596,6 +596,14 @@ fn bounds_and_hints(rt: HostRuntime) -> Result<(), ProofFault> {
     Ok(())
 }
 
+/// Whether the next line is this one.
+fn is_next(reader: &mut ProofReader<'_>, number: u64, text: &[u8]) -> bool {
+    match reader.next() {
+        Some(line) => line.number == number && line.text == text,
+        None => false,
+    }
+}
+
 #[test]
 fn lines_that_count(rt: HostRuntime) {
     let mut reader = ProofReader::new(b"* a comment\n\r\n pol 1\n\t\n \t* x\n\r*\n;\nend");
@@ -606,16 +614,15 @@ fn lines_that_count(rt: HostRuntime) {
         (8, b"end".as_slice()),
     ];
     for (number, text) in &wanted {
-        if let Some(line) = reader.next() {
-            assert_eq!(&rt; line.number, *number);
-            assert_eq!(&rt; line.text, *text);
-        } else {
-            assert!(&rt; false);
-        }
+        assert!(&rt; is_next(&mut reader, *number, *text), "line {number}");
     }
     assert!(&rt; reader.next().is_none());
     assert!(&rt; reader.next().is_none());
     assert_eq!(&rt; reader.end_number(), 8);
+}
+
+#[test]
+fn the_end_stands_on_the_last_line(rt: HostRuntime) {
     assert_eq!(&rt; ProofReader::new(b"").end_number(), 1);
     assert_eq!(&rt; ProofReader::new(b"f 1\n").end_number(), 2);
 }

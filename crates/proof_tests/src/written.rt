@@ -243,6 +243,10 @@ fn written_ends(rt: HostRuntime) -> Result<(), ProofFault> {
     Ok(())
 }
 
+/// A proof, as it is written.
+const WRITTEN: &[u8] =
+    b"pseudo-Boolean proof version 2.0\nf 1\nsoli x1 ~x2\npol 1 2 +\noutput NONE\nconclusion BOUNDS 1 1\nend pseudo-Boolean proof\n";
+
 #[test]
 fn a_written_proof(rt: HostRuntime) -> Result<(), ProofFault> {
     let alloc = rt.alloc();
@@ -252,10 +256,21 @@ fn a_written_proof(rt: HostRuntime) -> Result<(), ProofFault> {
     rewrite_step(alloc, b"soli x1 ~x2 ;", &mut names, &mut out)?;
     rewrite_step(alloc, b"p +1 2 + ;", &mut names, &mut out)?;
     rewrite_end(alloc, b"conclusion BOUNDS 1 1", &mut names, &mut out)?;
-    let wanted =
-        b"pseudo-Boolean proof version 2.0\nf 1\nsoli x1 ~x2\npol 1 2 +\noutput NONE\nconclusion BOUNDS 1 1\nend pseudo-Boolean proof\n";
-    assert_eq!(&rt; out.as_slice(), wanted.as_slice());
-    let mut reader = ProofReader::new(wanted);
+    assert_eq!(&rt; out.as_slice(), WRITTEN);
+    Ok(())
+}
+
+/// Whether the next line can be read at a section.
+fn is_read_next(alloc: Global, reader: &mut ProofReader<'_>, section: Section) -> bool {
+    match reader.next() {
+        Some(line) => fault_at(alloc, section, line.text) == 0,
+        None => false,
+    }
+}
+
+#[test]
+fn sections_of_a_written_proof(rt: HostRuntime) {
+    let mut reader = ProofReader::new(WRITTEN);
     let sections = [
         Section::Header,
         Section::Count,
@@ -266,14 +281,9 @@ fn a_written_proof(rt: HostRuntime) -> Result<(), ProofFault> {
         Section::End,
     ];
     for section in &sections {
-        if let Some(line) = reader.next() {
-            assert_eq!(&rt; fault_at(alloc, *section, line.text), 0);
-        } else {
-            assert!(&rt; false);
-        }
+        assert!(&rt; is_read_next(rt.alloc(), &mut reader, *section));
     }
     assert!(&rt; reader.next().is_none());
-    Ok(())
 }
 
 /// A proof with a subproof, as it is written.

@@ -93,6 +93,11 @@ fn limits(rt: HostRuntime) {
     // the sizes count, not what is left of them
     let cancelling = at_least(alloc, &[(LIMIT, X, 0), (-1, X, 0)], 0);
     assert!(&rt; is_fault(cancelling, CutFault::TooLarge));
+}
+
+#[test]
+fn forms_at_the_limit(rt: HostRuntime) {
+    let alloc = rt.alloc();
     let last = at_least(alloc, &[(LIMIT, X, 0)], 0).expect(&rt, "a form");
     assert!(&rt; is_fault(negate(alloc, &last), CutFault::TooLarge));
     let highest = signed(alloc, &[], Relation::AtLeast, LIMIT).expect(&rt, "memory");

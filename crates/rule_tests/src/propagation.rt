@@ -2,7 +2,7 @@
 
 use super::support::{NOT, Written, X, at_least, not_x, x};
 use linear::Lit;
-use normal_form::CutFault;
+use normal_form::{CutFault, Normal};
 use propagate::{Extent, Id, Propagator, Reach, Retrace, ScanPropagator, Trace};
 use std::alloc::{AllocError, Global};
 use watch::WatchPropagator;
@@ -52,9 +52,25 @@ fn content(rt: HostRuntime) {
     }
     assert!(&rt; live.after(Id::MAX).is_none());
     assert!(&rt; live.get(3).is_some() && live.get(2).is_none());
+}
+
+#[test]
+fn what_is_removed_is_no_content(rt: HostRuntime) {
+    let mut live: ScanPropagator = three_clauses(rt.alloc()).expect(&rt, "a propagator");
     assert!(&rt; live.remove(3).is_some());
     assert!(&rt; live.remove(3).is_none() && live.get(3).is_none());
     assert!(&rt; live.after(1) == Some(8));
+}
+
+/// Whether three clauses are refuted beside a literal that they force, as long as all are there, and not without it.
+fn is_refuted_beside<P: Propagator>(live: &mut P, extras: &[Normal]) -> Result<bool, AllocError> {
+    let before = live.refute(&[])?;
+    let beside = live.refute(extras)?;
+    // the extra constraint is not kept, and what is removed counts no more
+    let behind = live.refute(&[])?;
+    let is_removed = live.remove(3).is_some();
+    let without = live.refute(extras)?;
+    Ok(!before && beside && !behind && is_removed && !without)
 }
 
 #[test]
@@ -63,12 +79,7 @@ fn refutations(rt: HostRuntime) {
     let mut live: ScanPropagator = three_clauses(alloc).expect(&rt, "a propagator");
     let last = at_least(alloc, &[(1, NOT, 3)], 1).expect(&rt, "a constraint");
     let extras = [last];
-    assert!(&rt; !live.refute(&[]).expect(&rt, "memory"));
-    assert!(&rt; live.refute(extras.as_slice()).expect(&rt, "memory"));
-    // the extra constraint is not kept, and what is removed counts no more
-    assert!(&rt; !live.refute(&[]).expect(&rt, "memory"));
-    assert!(&rt; live.remove(3).is_some());
-    assert!(&rt; !live.refute(extras.as_slice()).expect(&rt, "memory"));
+    assert!(&rt; is_refuted_beside(&mut live, extras.as_slice()).expect(&rt, "memory"));
 }
 
 /// 3 x1 2 x2 1 x3 >= 4 needs x1, and not x2.
@@ -108,25 +119,37 @@ fn assignments(rt: HostRuntime) {
     }
 }
 
+/// Whether the trace of a propagator is of these steps and this conflict.
+fn traces<P: Propagator>(
+    live: &mut P,
+    forced: &[(Lit, Id)],
+    conflict: Option<Id>,
+) -> Result<bool, AllocError> {
+    let trace = live.trace(&[])?;
+    Ok(is_trace(&trace, forced, conflict))
+}
+
 #[test]
-fn traces(rt: HostRuntime) {
+fn traces_end_at_a_conflict(rt: HostRuntime) {
     let alloc = rt.alloc();
     let mut live: ScanPropagator = three_clauses(alloc).expect(&rt, "a propagator");
     let chain = [(x(1), 8), (x(2), 3), (x(3), 1)];
-    let trace = live.trace(&[]).expect(&rt, "memory");
-    assert!(&rt; is_trace(&trace, chain.as_slice(), None));
+    assert!(&rt; traces(&mut live, &chain, None).expect(&rt, "memory"));
     // 1 ~x1 1 ~x4 >= 2 is falsified as soon as x1 is listed
     put(alloc, &mut live, 9, &[(1, NOT, 1), (1, NOT, 4)], 2).expect(&rt, "a constraint");
-    let trace = live.trace(&[]).expect(&rt, "memory");
-    assert!(&rt; is_trace(&trace, &[(x(1), 8)], Some(9)));
-    // all that a constraint forces is listed at once
+    assert!(&rt; traces(&mut live, &chain[..1], Some(9)).expect(&rt, "memory"));
+}
+
+/// All that a constraint forces is listed at once.
+#[test]
+fn what_is_forced_is_listed_at_once(rt: HostRuntime) {
+    let alloc = rt.alloc();
     let mut weighted = ScanPropagator::empty(alloc);
     let terms = [(3, X, 1), (2, X, 2), (1, X, 3)];
     put(alloc, &mut weighted, 1, &[(1, NOT, 4), (1, NOT, 3)], 1).expect(&rt, "a constraint");
     put(alloc, &mut weighted, 2, &terms, 6).expect(&rt, "a constraint");
     let at_once = [(x(1), 2), (x(2), 2), (x(3), 2), (not_x(4), 1)];
-    let trace = weighted.trace(&[]).expect(&rt, "memory");
-    assert!(&rt; is_trace(&trace, at_once.as_slice(), None));
+    assert!(&rt; traces(&mut weighted, &at_once, None).expect(&rt, "memory"));
 }
 
 /// Whether a literal is told: by what stays of what is known, or by the rest.

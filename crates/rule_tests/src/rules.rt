@@ -3,7 +3,8 @@
 use super::support::{HALF, LIMIT, NOT, Written, X, at_least, is, is_fault, not_x};
 use cut_rules::{add, axiom, divide, multiply, saturate, weaken};
 use linear::Var;
-use normal_form::CutFault;
+use normal_form::{CutFault, Normal};
+use std::alloc::Global;
 
 /// Two constraints and their sum.
 #[derive(Clone, Copy)]
@@ -64,17 +65,32 @@ const SUMS: [SumRow; 5] = [
     },
 ];
 
+/// Whether two constraints have this sum.
+fn is_sum(
+    alloc: Global,
+    left: &Normal,
+    right: &Normal,
+    sum: &[Written],
+    degree: u128,
+) -> Result<bool, CutFault> {
+    let made = add(alloc, left, right)?;
+    Ok(is(&made, sum, degree))
+}
+
 #[test]
 fn sums(rt: HostRuntime) {
     let alloc = rt.alloc();
     for row in &SUMS {
         let left = at_least(alloc, row.left, row.left_degree).expect(&rt, "a constraint");
         let right = at_least(alloc, row.right, row.right_degree).expect(&rt, "a constraint");
-        let sum = add(alloc, &left, &right).expect(&rt, "a sum");
-        assert!(&rt; is(&sum, row.sum, row.degree));
-        let turned = add(alloc, &right, &left).expect(&rt, "a sum");
-        assert!(&rt; is(&turned, row.sum, row.degree));
+        assert!(&rt; is_sum(alloc, &left, &right, row.sum, row.degree).expect(&rt, "a sum"));
+        assert!(&rt; is_sum(alloc, &right, &left, row.sum, row.degree).expect(&rt, "a sum"));
     }
+}
+
+#[test]
+fn sums_beyond_the_limit(rt: HostRuntime) {
+    let alloc = rt.alloc();
     let most = at_least(alloc, &[(LIMIT, X, 1)], 0).expect(&rt, "a constraint");
     let more = at_least(alloc, &[(1, X, 2)], 0).expect(&rt, "a constraint");
     assert!(&rt; is_fault(add(alloc, &most, &more), CutFault::TooLarge));
@@ -91,7 +107,7 @@ const QUOTIENTS: [(i128, &[Written], u128); 3] = [
 ];
 
 #[test]
-fn factors(rt: HostRuntime) {
+fn multiples(rt: HostRuntime) {
     let alloc = rt.alloc();
     let one_of_two = at_least(alloc, &[(1, X, 1), (1, X, 2)], 1).expect(&rt, "a constraint");
     let most = multiply(alloc, &one_of_two, HALF).expect(&rt, "a multiple");
@@ -99,6 +115,11 @@ fn factors(rt: HostRuntime) {
     for factor in [HALF + 1, i128::MAX] {
         assert!(&rt; is_fault(multiply(alloc, &one_of_two, factor), CutFault::TooLarge));
     }
+}
+
+#[test]
+fn factors_and_quotients(rt: HostRuntime) {
+    let alloc = rt.alloc();
     let start = at_least(alloc, &[(5, X, 1), (4, NOT, 2)], 3).expect(&rt, "a constraint");
     for factor in [0, -1, -2, i128::MIN] {
         assert!(&rt; is_fault(multiply(alloc, &start, factor), CutFault::BadFactor));
@@ -118,19 +139,29 @@ const WEAKENINGS: [(u32, &[Written], u128); 3] = [
 ];
 
 #[test]
-fn rules_on_one_constraint(rt: HostRuntime) {
+fn weakenings(rt: HostRuntime) {
     let alloc = rt.alloc();
     let start = at_least(alloc, &[(5, X, 1), (2, NOT, 2)], 3).expect(&rt, "a constraint");
     for (var, terms, degree) in &WEAKENINGS {
         let weakened = weaken(alloc, &start, Var(*var)).expect(&rt, "a weakening");
         assert!(&rt; is(&weakened, terms, *degree));
     }
+}
+
+#[test]
+fn saturations(rt: HostRuntime) {
+    let alloc = rt.alloc();
+    let start = at_least(alloc, &[(5, X, 1), (2, NOT, 2)], 3).expect(&rt, "a constraint");
     let saturated = saturate(alloc, &start).expect(&rt, "a saturation");
     assert!(&rt; is(&saturated, &[(3, X, 1), (2, NOT, 2)], 3));
     // under degree 0 every coefficient becomes 0, and every term goes
     let of_degree_zero = at_least(alloc, &[(2, NOT, 2)], 0).expect(&rt, "a constraint");
     let nothing = saturate(alloc, &of_degree_zero).expect(&rt, "a saturation");
     assert!(&rt; is(&nothing, &[], 0));
-    let made = axiom(alloc, not_x(7)).expect(&rt, "an axiom");
+}
+
+#[test]
+fn axioms(rt: HostRuntime) {
+    let made = axiom(rt.alloc(), not_x(7)).expect(&rt, "an axiom");
     assert!(&rt; is(&made, &[(1, NOT, 7)], 0));
 }

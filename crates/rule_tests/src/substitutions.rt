@@ -56,7 +56,7 @@ const OPPOSITES: [(Image, Image); 4] = [
 ];
 
 #[test]
-fn each_variable_once(rt: HostRuntime) {
+fn images_of_a_swap(rt: HostRuntime) {
     let alloc = rt.alloc();
     let swapped = swapped(alloc)
         .expect(&rt, "memory")
@@ -65,12 +65,20 @@ fn each_variable_once(rt: HostRuntime) {
     assert!(&rt; swapped.image_of(Var(1)) == to(2));
     assert!(&rt; swapped.image_of(Var(3)) == to(3));
     assert!(&rt; swapped.image_of_literal(not_x(2)) == Image::Lit(not_x(1)));
+}
+
+#[test]
+fn no_variable_twice(rt: HostRuntime) {
     let twice = [
         (Var(1), Image::Zero),
         (Var(2), Image::One),
         (Var(1), Image::Zero),
     ];
-    assert!(&rt; images(alloc, &twice).expect(&rt, "memory").is_none());
+    assert!(&rt; images(rt.alloc(), &twice).expect(&rt, "memory").is_none());
+}
+
+#[test]
+fn opposites_of_images(rt: HostRuntime) {
     for (image, opposite) in &OPPOSITES {
         assert!(&rt; image.opposite() == *opposite);
     }
@@ -265,6 +273,11 @@ fn objectives(rt: HostRuntime) {
         let goal = goal_of(alloc, row.problem, row.image).expect(&rt, "a goal");
         assert!(&rt; is(&goal, row.goal, row.degree));
     }
+}
+
+#[test]
+fn no_goal_without_an_objective(rt: HostRuntime) {
+    let alloc = rt.alloc();
     let without = read(alloc, b"1 x1 >= 0 ;".as_slice()).expect(&rt, "a problem");
     let swapped = swapped(alloc)
         .expect(&rt, "memory")

@@ -9,20 +9,44 @@ fn literal(text: &[u8]) -> Option<Literal<'_>> {
     as_literal(Tokens::new(text).next()?)
 }
 
+/// The number that a name has, or is given where there are fewer than so many.
+fn number_within(names: &mut Names, name: &[u8], most: u32) -> Option<Var> {
+    names
+        .intern_within(literal(name)?.name, most as usize)
+        .ok()?
+}
+
 #[test]
 fn names_are_numbered(rt: HostRuntime) {
     let mut names = Names::new(rt.alloc());
     assert!(&rt; names.is_empty());
     let x1 = literal(b"x1").expect(&rt, "a literal").name;
-    let x2 = literal(b"x2").expect(&rt, "a literal").name;
     assert!(&rt; names.intern(x1) == Ok(Var(0)));
-    assert!(&rt; names.intern_within(x2, 1) == Ok(None));
-    assert!(&rt; names.intern_within(x1, 1) == Ok(Some(Var(0))));
-    assert!(&rt; names.intern_within(x2, 2) == Ok(Some(Var(1))));
+    assert!(&rt; number_within(&mut names, b"x2", 1).is_none());
+    assert!(&rt; number_within(&mut names, b"x1", 1) == Some(Var(0)));
+    assert!(&rt; number_within(&mut names, b"x2", 2) == Some(Var(1)));
+}
+
+/// The names `x1` and `x2`.
+fn two_names(alloc: Global) -> Names {
+    let mut names = Names::new(alloc);
+    number_within(&mut names, b"x1", 2);
+    number_within(&mut names, b"x2", 2);
+    names
+}
+
+#[test]
+fn names_are_found(rt: HostRuntime) {
+    let names = two_names(rt.alloc());
     names.reveal();
     assert!(&rt; names.len() == 2);
     assert!(&rt; names.find(b"x2") == Some(Var(1)));
     assert!(&rt; names.find(b"X1").is_none());
+}
+
+#[test]
+fn a_copy_keeps_its_names(rt: HostRuntime) {
+    let mut names = two_names(rt.alloc());
     let same = names.copy(rt.alloc()).expect(&rt, "memory");
     names.truncate(0);
     assert!(&rt; names.is_empty());
@@ -104,11 +128,16 @@ fn a_problem_is_read(rt: HostRuntime) {
     assert!(&rt; problem.names().get(Var(1)) == Some(b"x2".as_slice()));
 }
 
+/// Whether a file is read as this problem.
+fn is_read_as(alloc: Global, problem: &Problem, text: &[u8]) -> Result<bool, OpbFault> {
+    let found = read(alloc, text)?;
+    Ok(same(problem, &found))
+}
+
 /// Whether two files are read as the same problem.
 fn are_same(alloc: Global, left: &[u8], right: &[u8]) -> Result<bool, OpbFault> {
-    let left = read(alloc, left)?;
-    let right = read(alloc, right)?;
-    Ok(same(&left, &right))
+    let problem = read(alloc, left)?;
+    is_read_as(alloc, &problem, right)
 }
 
 #[test]
