@@ -5,7 +5,7 @@
 //! exactly and judges it. So no clause says that an answer is right; what is proved is that every call returns, that no index is out of
 //! range, and that no number overflows or is divided by 0.
 //!
-//! A step goes through the files in this order: `pricing` (what is violated most), `tableau` (its row), `ratio` (what enters), `pivot` (the
+//! A step goes through the files in this order: `pricing` (what is violated most, by its `norms`), `tableau` (its row), `ratio` (what enters), `pivot` (the
 //! exchange, of the basis and its inverse, `point` and `duals`); `simplex` has the rounds of a call, `following` how it begins where domains
 //! alone have changed, `ends` how it ends, `multipliers` what is handed out. Of `fractional` cuts are made, and `row_exchange` lets them go
 //! again. The rows, the basis and what is solved for its kernel are those of the crate `factorisation`.
@@ -18,6 +18,7 @@ mod ends;
 mod following;
 mod fractional;
 mod multipliers;
+mod norms;
 mod pivot;
 mod point;
 mod pricing;

@@ -25,6 +25,7 @@ impl Relaxation {
     ) -> Result<(), AllocError> {
         let theta = violation.size.over(chosen.entry.size());
         self.form_column(chosen.entering)?;
+        self.follow_norms(violation, chosen)?;
         self.move_point(chosen, theta);
         self.duals.take(chosen.ratio, self.tableau.weights(), self.tableau.entries());
         self.note_exchange(violation.leaving, chosen.entering)?;
@@ -70,6 +71,41 @@ impl Relaxation {
             if self.basis.is_tight(entry.place) {
                 self.tight_entries.push(*entry)?;
             }
+        }
+        Ok(())
+    }
+
+    /// Has the norms follow a step, where they do.
+    fn follow_norms(&mut self, violation: Violation, chosen: Candidate) -> Result<(), AllocError> {
+        if !self.norms.are_followed() {
+            return Ok(());
+        }
+        self.form_moved(chosen.entering)?;
+        self.norms.follow(
+            violation.norm,
+            chosen.entry,
+            chosen.entering,
+            &self.basis,
+            self.column.as_slice(),
+            &self.moved,
+        );
+        Ok(())
+    }
+
+    /// How the rows move, where what enters grows by one.
+    fn form_moved(&mut self, entering: Entering) -> Result<(), AllocError> {
+        self.moved.clear();
+        for (variable, slope) in self.basis.basic().iter().zip(self.column.iter()) {
+            if !slope.is_zero() {
+                let entries = self.rows.column(*variable);
+                self.moved.add_multiple(slope.negated(), entries)?;
+                self.work.count(entries.len());
+            }
+        }
+        if let Entering::Variable(variable) = entering {
+            let entries = self.rows.column(variable);
+            self.moved.add_multiple(Fixed::ONE, entries)?;
+            self.work.count(entries.len());
         }
         Ok(())
     }

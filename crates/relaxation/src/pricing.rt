@@ -1,12 +1,12 @@
 //! Pricing: what is violated most, and so leaves.
 //!
 //! A row is violated by what its activity lacks, a basic variable by what it is outside its domain. Rows are scaled to norms
-//! from 1 to 2 and the domains have length 1, so that both compare as they are. The greatest one is repaired; norms of the rows of the
-//! inverse were tried, and brought nothing.
+//! from 1 to 2 and the domains have length 1, so that both compare as they are. The greatest one over its norm is repaired (`norms`).
 
 use super::domain::{Domain, domain_of};
+use super::norms::Norms;
 use super::point::Point;
-use factorisation::{Basis, Fixed};
+use factorisation::{Basis, Fixed, Number, Sum};
 
 /// Violations up to this are not repaired, in units of `2^-32`.
 pub(crate) const TOLERANCE: i64 = 1 << 20;
@@ -27,43 +27,73 @@ pub(crate) enum Leaving {
 pub(crate) struct Violation {
     pub(crate) leaving: Leaving,
     pub(crate) size: Fixed,
+    /// The norm of what leaves.
+    pub(crate) norm: Fixed,
 }
 
-/// The greater of two violations.
-fn worse(known: Option<Violation>, leaving: Leaving, size: Fixed) -> Option<Violation> {
-    let least = match known {
-        Some(violation) => violation.size,
-        None => Fixed::of_units(TOLERANCE),
-    };
-    if size.is_above(least) {
-        Some(Violation { leaving, size })
-    } else {
-        known
+impl Violation {
+    /// Whether it is greater than another one, each over its norm.
+    fn is_worse_than(self, other: Violation) -> bool {
+        let ours = Sum::ZERO.plus_product(self.size, other.norm);
+        let theirs = Sum::ZERO.plus_product(other.size, self.norm);
+        theirs.minus(ours).is_negative()
+    }
+
+    /// The worse one of it, if it is above what is tolerated, and another one.
+    fn or_worse(self, known: Option<Violation>) -> Option<Violation> {
+        if self.size.units() <= TOLERANCE {
+            return known;
+        }
+        match known {
+            Some(violation) if !self.is_worse_than(violation) => known,
+            _ => Some(self),
+        }
     }
 }
 
-/// The greatest violation of a basic variable.
-fn worst_variable(point: &Point, basis: &Basis, domains: &[Domain]) -> Option<Violation> {
+/// The worst violation of a basic variable.
+fn worst_variable(
+    point: &Point,
+    basis: &Basis,
+    norms: &Norms,
+    domains: &[Domain],
+) -> Option<Violation> {
     let mut worst = None;
     for (place, variable) in basis.basic().iter().enumerate() {
         let value = point.value(*variable);
         let domain = domain_of(domains, *variable);
-        worst = worse(worst, Leaving::Below(place), domain.lower().minus(value));
-        worst = worse(worst, Leaving::Above(place), value.minus(domain.upper()));
+        let norm = norms.of_variable(*variable);
+        let below = Violation {
+            leaving: Leaving::Below(place),
+            size: domain.lower().minus(value),
+            norm,
+        };
+        let above = Violation {
+            leaving: Leaving::Above(place),
+            size: value.minus(domain.upper()),
+            norm,
+        };
+        worst = above.or_worse(below.or_worse(worst));
     }
     worst
 }
 
-/// The greatest violation, if any is above what is tolerated.
+/// The worst violation, if any is above what is tolerated.
 pub(crate) fn worst_violation(
     point: &Point,
     basis: &Basis,
+    norms: &Norms,
     domains: &[Domain],
 ) -> Option<Violation> {
-    let mut worst = worst_variable(point, basis, domains);
+    let mut worst = worst_variable(point, basis, norms, domains);
     for (row, activity) in point.activities().iter().enumerate() {
         if activity.is_negative() && !basis.is_tight(row) {
-            worst = worse(worst, Leaving::Row(row), activity.negated());
+            let found = Violation {
+                leaving: Leaving::Row(row),
+                size: activity.negated(),
+                norm: norms.of_row(row),
+            };
+            worst = found.or_worse(worst);
         }
     }
     worst

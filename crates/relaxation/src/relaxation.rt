@@ -6,6 +6,7 @@ use super::costs::Costs;
 use super::domain::{Domain, domain_of};
 use super::duals::Duals;
 use super::multipliers::{Multiplier, Row};
+use super::norms::Norms;
 use super::point::Point;
 use super::ratio::Candidates;
 use super::tableau::TableauRow;
@@ -48,10 +49,13 @@ pub struct Relaxation {
     pub(crate) scratch: Scratch,
     pub(crate) point: Point,
     pub(crate) duals: Duals,
+    pub(crate) norms: Norms,
     pub(crate) tableau: TableauRow,
     pub(crate) candidates: Candidates,
     /// How the basic variables move in a step.
     pub(crate) column: Vec<Fixed>,
+    /// How the rows move, where what enters grows by one; formed where norms are followed.
+    pub(crate) moved: Scattered<Fixed>,
     /// The coefficients of the variable that enters in tight rows, by row.
     pub(crate) tight_entries: Vec<Entry>,
     pub(crate) multipliers: Vec<Multiplier>,
@@ -84,9 +88,11 @@ impl Relaxation {
             scratch: Scratch::new(alloc),
             point: Point::new(alloc),
             duals: Duals::new(alloc),
+            norms: Norms::new(alloc),
             tableau: TableauRow::new(alloc),
             candidates: Candidates::new(alloc),
             column: Vec::new(alloc),
+            moved: Scattered::new(alloc),
             tight_entries: Vec::new(alloc),
             multipliers: Vec::new(alloc),
             sum: Scattered::new(alloc),
@@ -117,6 +123,8 @@ impl Relaxation {
         self.basis.widen(self.rows.count(), variables)?;
         self.inverse.widen(self.rows.count())?;
         self.scratch.widen(self.rows.count(), variables)?;
+        self.moved.widen(self.rows.count())?;
+        self.norms.widen(self.rows.count(), variables)?;
         self.point.widen(self.rows.count(), variables)
     }
 

@@ -221,7 +221,12 @@ impl Relaxation {
     fn violation(&mut self) -> Option<Violation> {
         self.work.count(self.basis.len());
         self.work.count(self.rows.count());
-        worst_violation(&self.point, &self.basis, self.domains.as_slice())
+        worst_violation(
+            &self.point,
+            &self.basis,
+            &self.norms,
+            self.domains.as_slice(),
+        )
     }
 
     /// What enters where that leaves.
@@ -360,6 +365,7 @@ impl Relaxation {
         self.basis.clear();
         self.inverse.clear();
         self.duals.clear();
+        self.norms.clear();
     }
 
     /// Makes the duals of the basis.
