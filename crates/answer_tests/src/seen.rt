@@ -3,8 +3,8 @@
 
 use super::rules::{Rule, brancher};
 use checker::{check, verdict_text};
-use pb_main::{Decided, answer_text, decide, status};
-use std::alloc::Global;
+use pb_main::{Decided, Outcome, answer_text, decide, status};
+use std::alloc::{AllocError, Global};
 use std::test::Fail;
 
 /// What is printed, the exit status, the verdict about the proof, and the proof itself.
@@ -16,16 +16,30 @@ pub(crate) struct Seen {
     pub(crate) proof: Vec<u8>,
 }
 
-/// Solves a problem, and has the proof judged once more.
-pub(crate) fn solve(alloc: Global, opb: &[u8], conflicts: u64, rule: Rule) -> Result<Seen, Fail> {
-    let Decided { outcome, proof } = decide(alloc, opb, conflicts.max(1), brancher(alloc, rule)?);
-    let verdict = check(alloc, opb, proof.as_slice());
+/// What the checker says of a proof.
+fn judge(alloc: Global, opb: &[u8], proof: &[u8]) -> Result<Vec<u8>, AllocError> {
+    let verdict = check(alloc, opb, proof);
+    verdict_text(alloc, opb, &verdict)
+}
+
+/// What is seen of an outcome, with its proof judged once more.
+fn see(alloc: Global, opb: &[u8], outcome: &Outcome, proof: Vec<u8>) -> Result<Seen, AllocError> {
+    let answer = answer_text(alloc, outcome)?;
+    let verdict = judge(alloc, opb, proof.as_slice())?;
     Ok(Seen {
-        answer: answer_text(alloc, &outcome)?,
-        status: status(&outcome),
-        verdict: verdict_text(alloc, opb, &verdict)?,
+        answer,
+        status: status(outcome),
+        verdict,
         proof,
     })
+}
+
+/// Solves a problem, and has the proof judged once more.
+// In three functions, since what each holds may be dropped at each of its ways out, and that is dear to prove.
+pub(crate) fn solve(alloc: Global, opb: &[u8], conflicts: u64, rule: Rule) -> Result<Seen, Fail> {
+    let brancher = brancher(alloc, rule)?;
+    let Decided { outcome, proof } = decide(alloc, opb, conflicts.max(1), brancher);
+    Ok(see(alloc, opb, &outcome, proof)?)
 }
 
 impl Seen {

@@ -1,9 +1,8 @@
 //! The solver from the bytes of a problem to the printed answer, on cases whose answers are known, with every rule of choice. The proof
 //! that is handed out is judged once more as if it came from anybody.
 
-use super::rules::{RULES, Rule, brancher};
+use super::rules::{RULES, Rule};
 use super::seen::solve;
-use pb_main::{Decided, answer_text, decide, status};
 use std::process::Abort;
 use std::test::Fail;
 
@@ -230,9 +229,9 @@ fn is_answered<R: Abort + AllocGlobal>(rt: &R, case: Case, rule: Rule) -> Result
 
 #[test]
 fn problems_are_answered_with_every_rule_of_choice(rt: HostRuntime) -> Result<(), Fail> {
-    for case in CASES {
+    for case in &CASES {
         for rule in RULES {
-            is_answered(&rt, case, rule)?;
+            is_answered(&rt, *case, rule)?;
         }
     }
     Ok(())
@@ -265,17 +264,15 @@ const REFUSALS: [Refusal; 3] = [
 ];
 
 fn is_refused<R: Abort + AllocGlobal>(rt: &R, case: Refusal) -> Result<(), Fail> {
-    let alloc = rt.alloc();
-    let Decided { outcome, proof } = decide(
-        alloc,
-        case.opb.as_bytes(),
-        1,
-        brancher(alloc, Rule::First)?,
+    let seen = solve(rt.alloc(), case.opb.as_bytes(), 1, Rule::First)?;
+    assert_eq!(rt;
+        seen.answer.as_slice(),
+        case.text.as_bytes(),
+        "for {}",
+        case.opb
     );
-    let text = answer_text(alloc, &outcome)?;
-    assert_eq!(rt; text.as_slice(), case.text.as_bytes(), "for {}", case.opb);
     assert!(rt;
-        status(&outcome) == case.status && proof.is_empty(),
+        seen.status == case.status && seen.proof.is_empty(),
         "for {}",
         case.opb
     );
@@ -284,8 +281,8 @@ fn is_refused<R: Abort + AllocGlobal>(rt: &R, case: Refusal) -> Result<(), Fail>
 
 #[test]
 fn texts_that_are_no_supported_problem_are_refused(rt: HostRuntime) -> Result<(), Fail> {
-    for case in REFUSALS {
-        is_refused(&rt, case)?;
+    for case in &REFUSALS {
+        is_refused(&rt, *case)?;
     }
     Ok(())
 }
