@@ -1,6 +1,6 @@
 //! Tests of the crates `relaxation` and `bounding` by their public calls alone. No clause says that a relaxation's answer is right: so
 //! 2,000 of them, made by a fixed rule, are judged here by whole numbers that are summed up exactly and by listing all assignments,
-//! with no code in common. That an adviser hands out lines at all, and not always nothing, is shown on small problems.
+//! with no code in common; the bound of a large one is known. That an adviser hands out lines at all, and not always nothing, is shown on small problems.
 #![tactic(auto)]
 
 #[cfg(test)]
@@ -9,6 +9,8 @@ mod advice;
 mod answers;
 #[cfg(test)]
 mod cut_rounds;
+#[cfg(test)]
+mod large;
 #[cfg(test)]
 mod made;
 #[cfg(test)]
