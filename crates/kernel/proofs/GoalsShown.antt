@@ -23,7 +23,6 @@ use Rattle.proof_rules.specs.Fault.{IsGoalFault}
 use Rattle.proof_rules.specs.State.{Live, State, AreNumbered, constraints}
 use Rattle.proof_rules.specs.declared.fault.StepFault.{StepFault}
 use Rattle.proof_rules.specs.declared.fault.StepFault.TheVariants as faults
-use Rattle.kernel.specs.Database.{Constraints}
 use Rattle.proof_rules.proofs.LiveConstraints.{All-from_get, Any-from_get}
 use Rattle.proof_rules.proofs.ShownHolds.{zero_shown}
 use Rattle.kernel.specs.Redundance.{AreAskedShown, IsAsked, IsOpenLive}
@@ -117,18 +116,6 @@ all_asked_shown live end opened from images asked shown = All-from_get (IsShownU
 pub beside_negation : (before items : List NormalConstraint) (m : NormalConstraint) → before ≡ [] → items ≡ before ++ m ∷ [] → items ≡ m ∷ []
 beside_negation before items m none put = put ∙ ap (λ xs. xs ++ m ∷ []) none
 
--- the same constraints, in the words of the state
-pub same_from : (d e : Constraints) (s : State) (items now : List NormalConstraint) (m : NormalConstraint) → e ≡ d → d.live ≡ s.live → items ≡ m ∷ [] → now ≡ items → map.values e.live ++ now ≡ constraints s ++ m ∷ []
-same_from d e s items now m same live alone still =
-    ap (λ (x : Constraints). map.values x.live ++ now) same ∙ ap (λ l. map.values l ++ now) live ∙ ap (λ xs. constraints s ++ xs) (still ∙ alone)
-
-objective_none : (o : Option (List Term)) (goal : Option NormalConstraint) (images : Images) (from : List NormalConstraint) → MatchOption o (goal ≡ None) (λ objective. IsSomeAnd goal (IsObjectiveGoal objective images)) → goal ≡ None → IfSome o (IsShownNotRaised from images)
-objective_none None goal images from h none = tt
-objective_none (Some objective) goal images from h none = absurd (subst (λ x. IsSomeAnd x (IsObjectiveGoal objective images)) none h)
-
-pub no_objective_goal : (o : Option (List Term)) (goal : Option NormalConstraint) (images : Images) (from : List NormalConstraint) → MatchOption o (goal ≡ None) (λ objective. IsSomeAnd goal (IsObjectiveGoal objective images)) → goal ≡ None → IfSome o (IsShownNotRaised from images)
-no_objective_goal o goal images from h none = objective_none o goal images from h none
-
 -- the objective's goal is shown or open
 pub objective_judged : (o : Option (List Term)) (goal : Option NormalConstraint) (r : NormalConstraint) (images : Images) (from : List NormalConstraint)
     → MatchOption o (goal ≡ None) (λ objective. IsSomeAnd goal (IsObjectiveGoal objective images)) → goal ≡ Some r
@@ -138,3 +125,16 @@ objective_judged None goal r images from h some = absurd (by (sym h ∙ some))
     by : ◌≡◌ {A = Option NormalConstraint} None (Some r) → ⊥
     by e = cc
 objective_judged (Some objective) goal r images from h some = (objective, refl, subst (λ x. IsSomeAnd x (IsObjectiveGoal objective images)) some h)
+
+-- the objective's goal is shown or not
+pub shown_not_raised : (from : List NormalConstraint) (images : Images) (o : Option (List Term)) (objective : List Term) (r : NormalConstraint) (b : Bool) → o ≡ Some objective → IsObjectiveGoal objective images r
+    → IsTrue b ↔ IsShown from r → IsTrue b ↔ IfSome o (IsShownNotRaised from images)
+shown_not_raised from images o objective r b is goal shown =
+    subst (λ x. IsTrue b ↔ IfSome x (IsShownNotRaised from images)) (sym is)
+    (λ t. (r, goal, shown.0 t), λ h. shown.1 (subst (IsShown from) (one_form (not_raised objective images) h.0 r h.1 goal) h.2))
+
+-- an objective that is not shown not to rise
+pub may_rise : (o : Option (List Term)) (from : List NormalConstraint) (images : Images) → (IfSome o (IsShownNotRaised from images) → ⊥)
+    → (objective : List Term) × (o ≡ Some objective) × (IsShownNotRaised from images objective → ⊥)
+may_rise None from images not = absurd (not tt)
+may_rise (Some objective) from images not = (objective, refl, not)

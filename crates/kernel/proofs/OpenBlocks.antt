@@ -1,5 +1,5 @@
 -- What the steps of a block do, in the words of the kernel's fields.
-use Rattle.std.proofs.Common.{◌≡◌, ℕ, ℤ, Bool, true, false, List, [], ◌++◌, Result, Ok, Err, OnOk, Option, Some, None, MatchOption, IfSome, IsSomeAnd, refl, sym, ap, subst, ◌∙◌, arith}
+use Rattle.std.proofs.Common.{◌≡◌, ◌↔◌, ℕ, ℤ, Bool, IsTrue, true, false, List, [], ◌++◌, Result, Ok, Err, OnOk, Option, Some, None, MatchOption, IfSome, IsSomeAnd, refl, sym, ap, subst, ◌∙◌, arith}
 use Rattle.std.specs.Result.{is_err}
 use Rattle.std.proofs.lemmas.Bool.{false≢true}
 use Rattle.std.proofs.lemmas.List.{append-nil}
@@ -49,16 +49,6 @@ none_found (Some first) r is not = absurd (not first is)
 pub no_goal : (k : Block) (r : Place) → MatchOption k.goal (r ≡ places.Block) (λ first. r ≡ places.Goal first) → ((f : ℕ) → r ≡ places.Goal f → ⊥) → k.goal ≡ None
 no_goal k r is not = none_found k.goal r is not
 
--- what is shown of the live constraints, as a kernel holds them and the block, is what the block asks for
-pub each_shown : (s : State) (k held : Block) (live : Live) (first : ℕ) (beside : List NormalConstraint) → live ≡ s.live → beside ≡ [] → held ≡ k → first ≡ held.first
-    → AreAskedShown live first held.opened (map.values live ++ beside) held.images → AreLiveShown s k
-each_shown s k held live first beside same none is at h =
-    let from : map.values live ++ beside ≡ constraints s = ap (λ l. map.values l ++ beside) same ∙ ap (λ xs. constraints s ++ xs) none ∙ append-nil (constraints s) in
-    subst (λ xs. AreAskedShown s.live k.first k.opened xs k.images) from
-    (subst (λ l. AreAskedShown l k.first k.opened (map.values live ++ beside) k.images) same
-    (subst (λ (x : Block). AreAskedShown live x.first x.opened (map.values live ++ beside) x.images) is
-    (subst (λ n. AreAskedShown live n held.opened (map.values live ++ beside) held.images) at h)))
-
 -- what a success says of the value afterwards
 pub of_ok : {T E : Type 0} (P : Type 0) (r : Result T E) → false ≡ is_err r → OnOk r P → P
 of_ok P (Ok x) h p = p
@@ -100,43 +90,35 @@ of_fault f g e = ap Err e
 
 -- the goals of a block that were not opened, as the code asks for them
 
-pub own_unshown : (from : List NormalConstraint) (k : Block) (own : Option NormalConstraint)
-    → MatchOption own (k.itself ≡ true) (λ r. (k.itself ≡ false) × IsUnder k.constraint k.images r) → (IfSome own (IsShown from) → ⊥)
-    → (k.itself ≡ false) × (IsShownUnder from k.images k.constraint → ⊥)
-own_unshown from k None opened never = absurd (never tt)
-own_unshown from k (Some r) (unopened, under) never =
-    (unopened, λ h. never (subst (IsShown from) (one_form (substituted k.constraint k.images) h.0 r h.1 under) h.2))
-
-pub own_shown : (from : List NormalConstraint) (k : Block) (own : Option NormalConstraint)
-    → MatchOption own (k.itself ≡ true) (λ r. (k.itself ≡ false) × IsUnder k.constraint k.images r) → IfSome own (IsShown from)
-    → k.itself ≡ false → IsShownUnder from k.images k.constraint
-own_shown from k None opened shown unopened = absurd (false≢true (sym unopened ∙ opened))
-own_shown from k (Some r) (unopened', under) shown unopened = (r, under, shown)
+pub own_shown : (from : List NormalConstraint) (k : Block) (own : Option NormalConstraint) (b : Bool)
+    → MatchOption own (k.itself ≡ true) (λ r. (k.itself ≡ false) × IsUnder k.constraint k.images r) → IsTrue b ↔ IfSome own (IsShown from)
+    → IsTrue b ↔ (k.itself ≡ false → IsShownUnder from k.images k.constraint)
+own_shown from k None b opened shown = (λ _ unopened. absurd (false≢true (sym unopened ∙ opened)), λ _. shown.1 tt)
+own_shown from k (Some r) b (unopened, under) shown =
+    (λ t _. (r, under, shown.0 t), λ h. let s = h unopened in shown.1 (subst (IsShown from) (one_form (substituted k.constraint k.images) s.0 r s.1 under) s.2))
 
 abbrev ObjectiveAsked : Option (List Term) → Block → Option NormalConstraint → Type 0
 ObjectiveAsked o k goal = MatchOption o (goal ≡ None) (λ terms. IsSomeAnd goal (IsObjectiveGoal terms k.images))
 
-objective_found : (from : List NormalConstraint) (k : Block) (o : Option (List Term)) (goal : Option NormalConstraint) → ObjectiveAsked o k goal → (IfSome goal (IsShown from) → ⊥)
-    → (terms : List Term) × (o ≡ Some terms) × (IsShownNotRaised from k.images terms → ⊥)
-objective_found from k None goal none never = absurd (never (subst (λ x. IfSome x (IsShown from)) (sym none) tt))
-objective_found from k (Some terms) None h never = absurd h
-objective_found from k (Some terms) (Some r) target never =
-    (terms, refl, λ h. never (subst (IsShown from) (one_form (not_raised terms k.images) h.0 r h.1 target) h.2))
+objective_there : (from : List NormalConstraint) (k : Block) (o : Option (List Term)) (goal : Option NormalConstraint) → ObjectiveAsked o k goal
+    → IfSome goal (IsShown from) ↔ IfSome o (IsShownNotRaised from k.images)
+objective_there from k None goal none = (λ _. tt, λ _. subst (λ x. IfSome x (IsShown from)) (sym none) tt)
+objective_there from k (Some terms) None h = absurd h
+objective_there from k (Some terms) (Some r) target =
+    (λ shown. (r, target, shown), λ h. subst (IsShown from) (one_form (not_raised terms k.images) h.0 r h.1 target) h.2)
 
-pub objective_unshown : (from : List NormalConstraint) (k : Block) (o : Option (List Term)) (goal : Option NormalConstraint) (b : Bool) → k.objective ≡ b → (k.objective ≡ true → goal ≡ None)
-    → (k.objective ≡ false → ObjectiveAsked o k goal) → (IfSome goal (IsShown from) → ⊥) → (k.objective ≡ false) × ((terms : List Term) × (o ≡ Some terms) × (IsShownNotRaised from k.images terms → ⊥))
-objective_unshown from k o goal true is opened asked never = absurd (never (subst (λ x. IfSome x (IsShown from)) (sym (opened is)) tt))
-objective_unshown from k o goal false is opened asked never = (is, objective_found from k o goal (asked is) never)
+pub objective_shown : (from : List NormalConstraint) (k : Block) (o : Option (List Term)) (goal : Option NormalConstraint) (b opened : Bool) → k.objective ≡ opened → (k.objective ≡ true → goal ≡ None)
+    → (k.objective ≡ false → ObjectiveAsked o k goal) → IsTrue b ↔ IfSome goal (IsShown from) → IsTrue b ↔ (k.objective ≡ false → IfSome o (IsShownNotRaised from k.images))
+objective_shown from k o goal b true is none asked shown =
+    (λ _ unopened. absurd (false≢true (sym unopened ∙ is)), λ _. shown.1 (subst (λ x. IfSome x (IsShown from)) (sym (none is)) tt))
+objective_shown from k o goal b false is none asked shown =
+    let there = objective_there from k o goal (asked is) in
+    (λ t _. there.0 (shown.0 t), λ h. shown.1 (there.1 (h is)))
 
-objective_there : (from : List NormalConstraint) (k : Block) (o : Option (List Term)) (goal : Option NormalConstraint) → ObjectiveAsked o k goal → IfSome goal (IsShown from)
-    → IfSome o (IsShownNotRaised from k.images)
-objective_there from k None goal none shown = tt
-objective_there from k (Some terms) None h shown = absurd h
-objective_there from k (Some terms) (Some r) target shown = (r, target, shown)
-
-pub objective_shown : (from : List NormalConstraint) (k : Block) (o : Option (List Term)) (goal : Option NormalConstraint) → (k.objective ≡ false → ObjectiveAsked o k goal) → IfSome goal (IsShown from)
-    → k.objective ≡ false → IfSome o (IsShownNotRaised from k.images)
-objective_shown from k o goal asked shown unopened = objective_there from k o goal (asked unopened) shown
+-- a goal that is asked and not shown
+pub unshown : (asked : Bool) (Shown : Type 0) → ((asked ≡ false → Shown) → ⊥) → (asked ≡ false) × (Shown → ⊥)
+unshown true Shown not = absurd (not (λ e. absurd (false≢true (sym e))))
+unshown false Shown not = (refl, λ s. not (λ _. s))
 
 -- an open goal of a live constraint is one of the block
 pub unopened_live : (p : Opb) (s : State) (k : Block) (f : StepFault) → IsOpenLive s.live k.first k.opened (constraints s) k.images f → IsUnopenedFault p s k f

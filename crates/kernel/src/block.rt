@@ -2,15 +2,18 @@
 //! negation of the new constraint, and a goal its own; what is assumed, and all that follows from it, is live beside the other
 //! constraints under the ids from there on. An end takes that out by the ids, which needs no memory and costs what came in.
 
-ghost use Rattle.std.specs.Prelude.{◌≡◌, ◌↔◌, ◌<◌, true, false, None, Some, IfErr, IfOk, IfSome, IsSomeAnd, IsErrOf, IsTrue, MatchOption, OnErr, OnOk};
+ghost use Rattle.std.specs.Prelude.{◌≡◌, ◌↔◌, ◌<◌, true, false, None, Some, All, IfErr, IfOk, IfSome, IsSomeAnd, IsErrOf, IsTrue, MatchOption, OnErr, OnOk};
 ghost use Rattle.std.specs.FinMap as map;
+ghost use Rattle.normal_form.specs.Normal.{Rises};
 ghost use Rattle.substitution.specs.Objective.{IsObjectiveGoal};
+ghost use Rattle.proof_rules.specs.Redundant.{IsShownNotRaised, IsShownUnder};
 ghost use Rattle.proof_rules.specs.Shown.{IsShown};
 ghost use Rattle.linear.specs.declared.constraint.Relation.TheVariants.{AtLeast};
 ghost use Rattle.proof_rules.specs.Block.{LegalEnd, LegalGoal, LegalRedBegin, finished, with_block, with_goal};
 ghost use Rattle.proof_rules.specs.Fault.{OrMemory, IsEndFault, IsInsideFault, IsProofGoalFault, IsRedBeginFault, IsUnopenedFault};
 ghost use Rattle.proof_rules.specs.State.{Block, HasRoom, IsOutside, id_limit};
 ghost use Rattle.kernel.specs.Held.{IsKept, given_id};
+ghost use Rattle.kernel.specs.Redundance.{AreAskedShown, IsOpenLive};
 ghost use Rattle.kernel.specs.Place.{AreUnopenedShown, IsAskedFor, IsAskedIn, IsInBlock, IsNameWithin, IsPlace};
 
 use super::admission::admitted;
@@ -222,21 +225,11 @@ impl<'a, P: Propagator> Kernel<'a, P> {
         let Some(block) = &self.block else {
             unreachable!();
         };
-        let mut beside = Vec::new(self.allocator);
-        judge_live(
-            self.allocator,
-            &mut self.database,
-            &mut beside,
-            &block.witness,
-            u64::from(block.first),
-            &block.opened,
-        )?;
-        let own = block.own_goal(self.allocator)?;
-        if !shows_if_asked(self.allocator, &mut self.database, &own)? {
+        judge_unopened_live(self.allocator, &mut self.database, block)?;
+        if !shows_own(self.allocator, &mut self.database, block)? {
             return Err(StepFault::GoalOpenSelf);
         }
-        let objective = objective_goal(self.allocator, &self.objective, block)?;
-        if !shows_if_asked(self.allocator, &mut self.database, &objective)? {
+        if !shows_objective(self.allocator, &mut self.database, &self.objective, block)? {
             return Err(StepFault::GoalOpenObjective);
         }
         Ok(())
@@ -301,6 +294,55 @@ fn objective_goal(
         return Ok(None);
     }
     objective.goal(alloc, &block.witness)
+}
+
+/// Judges what the live constraints become from before the block, by rising id, but for those whose goals were opened.
+fn judge_unopened_live<P: Propagator>(
+    alloc: Global,
+    database: &mut Database<P>,
+    block: &OpenBlock,
+) -> Result<(), StepFault>
+    requires normal { All (λ n. Rises 0 n.terms) (map.values database.old.live) }
+    ensures same { database.new ≡ database.old }
+    ensures shown { OnOk result (AreAskedShown database.old.live block.now.first block.now.opened (map.values database.old.live) block.now.images) }
+    ensures fault { IfErr result (λ f. OrMemory f (IsOpenLive database.old.live block.now.first block.now.opened (map.values database.old.live) block.now.images f)) }
+{
+    let mut beside = Vec::new(alloc);
+    judge_live(
+        alloc,
+        database,
+        &mut beside,
+        &block.witness,
+        u64::from(block.first),
+        &block.opened,
+    )
+}
+
+/// Whether what the new constraint becomes is shown, unless that goal was opened.
+fn shows_own<P: Propagator>(
+    alloc: Global,
+    database: &mut Database<P>,
+    block: &OpenBlock,
+) -> Result<bool, AllocError>
+    ensures same { database.new ≡ database.old }
+    ensures shown { IfOk result (λ yes. IsTrue yes ↔ (block.now.itself ≡ false → IsShownUnder (map.values database.old.live) block.now.images block.now.constraint)) }
+{
+    let goal = block.own_goal(alloc)?;
+    shows_if_asked(alloc, database, &goal)
+}
+
+/// Whether it is shown that the objective does not rise, unless that goal was opened.
+fn shows_objective<P: Propagator>(
+    alloc: Global,
+    database: &mut Database<P>,
+    objective: &NetObjective,
+    block: &OpenBlock,
+) -> Result<bool, AllocError>
+    ensures same { database.new ≡ database.old }
+    ensures shown { IfOk result (λ yes. IsTrue yes ↔ (block.now.objective ≡ false → IfSome objective.now (IsShownNotRaised (map.values database.old.live) block.now.images))) }
+{
+    let goal = objective_goal(alloc, objective, block)?;
+    shows_if_asked(alloc, database, &goal)
 }
 
 /// Whether a goal is shown from the live constraints, if one is asked.

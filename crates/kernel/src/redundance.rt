@@ -5,14 +5,14 @@
 //! propagator says which ones have such a literal, so that a step costs what its witness touches, however large the database is. Of a
 //! long constraint that shows what it becomes, its terms of the witness' variables alone are looked at.
 
-ghost use Rattle.std.specs.Prelude.{◌≡◌, ◌↔◌, ◌++◌, false, Some, All, IfOk, IfErr, IsTrue, OnErr, OnOk};
+ghost use Rattle.std.specs.Prelude.{◌≡◌, ◌↔◌, ◌++◌, false, Some, All, IfOk, IfErr, IfSome, IsTrue, OnErr, OnOk};
 ghost use Rattle.std.specs.FinMap as map;
 ghost use Rattle.linear.specs.declared.constraint.Relation.TheVariants.{AtLeast};
 ghost use Rattle.normal_form.specs.Normal.{NormalConstraint, Rises};
-ghost use Rattle.proof_rules.specs.Fault.{OrMemory, IsRedFault};
+ghost use Rattle.proof_rules.specs.Fault.{OrMemory, IsGoalFault, IsRedFault};
 ghost use Rattle.proof_rules.specs.Legal.{LegalRed};
-ghost use Rattle.proof_rules.specs.State.{IsOutside};
-ghost use Rattle.proof_rules.specs.Redundant.{IsShownUnder};
+ghost use Rattle.proof_rules.specs.State.{IsOutside, constraints};
+ghost use Rattle.proof_rules.specs.Redundant.{IsShownNotRaised, IsShownUnder};
 ghost use Rattle.proof_rules.specs.Shown.{IsShown};
 ghost use Rattle.kernel.specs.Redundance.{AreAskedShown, AreGoalsShown, IsAsked, IsGoalOpen, IsOpenLive};
 
@@ -63,27 +63,87 @@ impl<'a, P: Propagator> Kernel<'a, P> {
         }
         let mut beside = Vec::new(self.allocator);
         beside.push(negate(self.allocator, constraint)?)?;
+        self.judge_goals_beside(&mut beside, constraint, witness)
+    }
+
+    /// Judges the goals of a new constraint, with some constraints beside the live ones: what the live ones become by rising id, the new
+    /// one, the objective.
+    fn judge_goals_beside(
+        &mut self,
+        beside: &mut Vec<Normal>,
+        constraint: &Normal,
+        witness: &Substitution,
+    ) -> Result<(), StepFault>
+        ensures same { self.new ≡ self.old }
+        ensures shown { OnOk result (All (IsShownUnder (constraints self.old.state ++ beside.old.items) witness.now) (constraints self.old.state)
+            × IsShownUnder (constraints self.old.state ++ beside.old.items) witness.now constraint.now
+            × IfSome self.old.problem.objective (IsShownNotRaised (constraints self.old.state ++ beside.old.items) witness.now)) }
+        ensures fault { IfErr result (λ f. OrMemory f (IsGoalFault self.old.problem self.old.state (constraints self.old.state ++ beside.old.items) witness.now constraint.now f)) }
+    {
+        self.judge_all_live(beside, witness)?;
+        if !self.shows_image(beside, constraint, witness)? {
+            return Err(StepFault::GoalOpenSelf);
+        }
+        if !self.shows_not_raised(beside, witness)? {
+            return Err(StepFault::GoalOpenObjective);
+        }
+        Ok(())
+    }
+
+    /// Judges what the live constraints become, by rising id.
+    fn judge_all_live(
+        &mut self,
+        beside: &mut Vec<Normal>,
+        witness: &Substitution,
+    ) -> Result<(), StepFault>
+        ensures same { self.new ≡ self.old }
+        ensures beside { beside.new.items ≡ beside.old.items }
+        ensures shown { OnOk result (All (IsShownUnder (constraints self.old.state ++ beside.old.items) witness.now) (constraints self.old.state)) }
+        ensures fault { (n : NormalConstraint) → IfErr result (λ f. OrMemory f (IsGoalFault self.old.problem self.old.state (constraints self.old.state ++ beside.old.items) witness.now n f)) }
+    {
+        self.reveal();
         let end = self.database.next_id();
         let opened = Ids::empty(self.allocator);
         judge_live(
             self.allocator,
             &mut self.database,
-            &mut beside,
+            beside,
             witness,
             end,
             &opened,
-        )?;
+        )
+    }
+
+    /// Whether what a constraint becomes is shown.
+    fn shows_image(
+        &mut self,
+        beside: &mut Vec<Normal>,
+        constraint: &Normal,
+        witness: &Substitution,
+    ) -> Result<bool, AllocError>
+        ensures same { self.new ≡ self.old }
+        ensures beside { beside.new.items ≡ beside.old.items }
+        ensures shown { IfOk result (λ yes. IsTrue yes ↔ IsShownUnder (constraints self.old.state ++ beside.old.items) witness.now constraint.now) }
+    {
         let goal = apply(self.allocator, constraint, witness)?;
-        if !is_shown(self.allocator, &mut self.database, &mut beside, &goal)? {
-            return Err(StepFault::GoalOpenSelf);
-        }
+        is_shown(self.allocator, &mut self.database, beside, &goal)
+    }
+
+    /// Whether it is shown that the objective does not rise, where there is one.
+    fn shows_not_raised(
+        &mut self,
+        beside: &mut Vec<Normal>,
+        witness: &Substitution,
+    ) -> Result<bool, AllocError>
+        ensures same { self.new ≡ self.old }
+        ensures beside { beside.new.items ≡ beside.old.items }
+        ensures shown { IfOk result (λ yes. IsTrue yes ↔ IfSome self.old.problem.objective (IsShownNotRaised (constraints self.old.state ++ beside.old.items) witness.now)) }
+    {
+        self.reveal();
         let Some(goal) = self.objective.goal(self.allocator, witness)? else {
-            return Ok(());
+            return Ok(true);
         };
-        if !is_shown(self.allocator, &mut self.database, &mut beside, &goal)? {
-            return Err(StepFault::GoalOpenObjective);
-        }
-        Ok(())
+        is_shown(self.allocator, &mut self.database, beside, &goal)
     }
 }
 
