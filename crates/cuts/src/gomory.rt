@@ -6,7 +6,7 @@
 //! division, or weakened away before it by the axiom of the opposite literal, whichever loses less at the point.
 
 ghost use Rattle.std.specs.Prelude.{IfOk, OnOk};
-ghost use Rattle.proof_rules.specs.Expression.{Given};
+ghost use Rattle.proof_rules.specs.Expression.{Given, IsPostfixOf};
 ghost use Rattle.proof_rules.specs.Running.{LeavesStack};
 ghost use Rattle.cuts.specs.Derived.{Derives};
 
@@ -228,6 +228,17 @@ fn add_axiom(alloc: Global, line: &mut Line<'_>, term: NormalTerm) -> Result<(),
     line.add(alloc)
 }
 
+/// Adds axioms to the constraint of a line.
+fn add_axioms(alloc: Global, line: &mut Line<'_>, axioms: &[NormalTerm]) -> Result<(), StepFault>
+    ensures { (given : Given) → LeavesStack given line.old.items.items line.old.stack
+        → OnOk result (LeavesStack given line.new.items.items line.new.stack) }
+{
+    for axiom in axioms {
+        add_axiom(alloc, line, *axiom)?;
+    }
+    Ok(())
+}
+
 /// How many terms the rows of a rounding have together.
 pub(crate) fn term_count<'a, P: Propagator>(
     kernel: &Kernel<'a, P>,
@@ -245,6 +256,24 @@ pub(crate) fn term_count<'a, P: Propagator>(
     count
 }
 
+/// What a sum comes to with its items, once what is above multiples of a divisor is weakened away, or rounded up by the division.
+fn round(
+    alloc: Global,
+    items: Seq<Item>,
+    sum: Normal,
+    relaxation: &Relaxation,
+    divisor: u128,
+) -> Result<(Seq<Item>, Normal), StepFault>
+    ensures { (given : Given) → IsPostfixOf given items sum → IfOk result (λ p. IsPostfixOf given p.0 p.1) }
+{
+    let axioms = weakenings(alloc, &sum, relaxation, divisor)?;
+    let mut line = Line::resume(alloc, items, sum)?;
+    add_axioms(alloc, &mut line, axioms.as_slice())?;
+    line.divide(alloc, divisor)?;
+    line.saturate(alloc)?;
+    line.finish(alloc)
+}
+
 /// Writes and runs the line of a rounding: the rows summed up, what is weakened away, the division.
 pub(crate) fn derive<'a, P: Propagator>(
     alloc: Global,
@@ -255,15 +284,7 @@ pub(crate) fn derive<'a, P: Propagator>(
 ) -> Result<(Seq<Item>, Normal), StepFault>
     ensures { IfOk result (λ p. Derives kernel.now.state p.0 p.1) }
 {
-    let divisor = u128::from(rounding.divisor);
     let line = divided_line(alloc, kernel, sources, rounding.multipliers.as_slice(), 1)?;
     let (items, sum) = line.finish(alloc)?;
-    let axioms = weakenings(alloc, &sum, relaxation, divisor)?;
-    let mut rounded = Line::resume(alloc, items, sum)?;
-    for axiom in &axioms {
-        add_axiom(alloc, &mut rounded, *axiom)?;
-    }
-    rounded.divide(alloc, divisor)?;
-    rounded.saturate(alloc)?;
-    rounded.finish(alloc)
+    round(alloc, items, sum, relaxation, u128::from(rounding.divisor))
 }
