@@ -6,7 +6,8 @@
 //! well, since no contract of an analysis says which factors its items have.
 
 ghost use Rattle.std.specs.Prelude.{◌≡◌, ◌+◌, IfOk, IsTrue, OnOk, false};
-ghost use Rattle.proof_rules.specs.State.{HasRoom};
+ghost use Rattle.proof_rules.specs.Expression.{IsPostfixOf};
+ghost use Rattle.proof_rules.specs.State.{HasRoom, constraint_of};
 ghost use Rattle.proof_log.specs.Log.{GoesOn};
 ghost use Rattle.search.specs.Decisions.{AreDecisions};
 ghost use Rattle.search.specs.Solving.{TakesId};
@@ -30,6 +31,51 @@ pub(crate) fn variables_of(alloc: Global, constraint: &Normal) -> Result<Vec<Var
         variables.push(constraint.term(place).var)?;
     }
     Ok(variables)
+}
+
+/// Learns a constraint that an analysis came to, and undoes decisions down to the level at which it bites. False where it does not bite, or the
+/// line that derives it cannot be written.
+fn learn<'a, P: Propagator>(
+    alloc: Global,
+    log: &mut Log<'a, P>,
+    decisions: &mut Vec<Lit>,
+    standing: &mut Standing,
+    learned: Learned,
+    brancher: &mut Box<dyn Brancher>,
+) -> Result<bool, AllocError>
+    requires decisions { AreDecisions log.old decisions.old.items }
+    requires room { HasRoom log.old.state }
+    requires derived { IsPostfixOf (constraint_of log.old.state) learned.items learned.constraint }
+    ensures goes_on { GoesOn log.old log.new }
+    ensures learned { IfOk result (λ yes. IsTrue yes → TakesId log.old.state log.new.state) }
+    ensures biting { IfOk result (λ yes. IsTrue yes → log.new.biting ≡ log.old.biting + 1) }
+    ensures unchanged { IfOk result (λ yes. yes ≡ false → log.new ≡ log.old) }
+    ensures decisions { OnOk result (AreDecisions log.new decisions.new.items) }
+    ensures undone { IfOk result (λ yes. IsTrue yes → IsUndone decisions.old.items decisions.new.items) }
+    ensures kept { IfOk result (λ yes. yes ≡ false → decisions.new.items ≡ decisions.old.items) }
+{
+    let Learned {
+        items,
+        constraint,
+        level,
+    } = learned;
+    let kept = level as usize;
+    if kept >= decisions.len() {
+        return Ok(false);
+    }
+    let left = &decisions.as_slice()[..kept];
+    if !is_new_under(alloc, log, left, &constraint, standing, brancher)? {
+        return Ok(false);
+    }
+    let step = Step::Pol(items);
+    if !log.can_write(&step) {
+        return Ok(false);
+    }
+    let variables = variables_of(alloc, &constraint)?;
+    log.learn_derived(step, constraint)?;
+    decisions.truncate(kept);
+    brancher.conflict(variables.as_slice());
+    Ok(true)
 }
 
 /// Learns what the analysis of a conflict comes to, and undoes decisions down to the level at which it bites. False where no constraint is named
@@ -62,26 +108,5 @@ pub(crate) fn learn_constraint<'a, P: Propagator>(
     let Some(learned) = found else {
         return Ok(false);
     };
-    let Learned {
-        items,
-        constraint,
-        level,
-    } = learned;
-    let kept = level as usize;
-    if kept >= decisions.len() {
-        return Ok(false);
-    }
-    let left = &decisions.as_slice()[..kept];
-    if !is_new_under(alloc, log, left, &constraint, standing, brancher)? {
-        return Ok(false);
-    }
-    let step = Step::Pol(items);
-    if !log.can_write(&step) {
-        return Ok(false);
-    }
-    let variables = variables_of(alloc, &constraint)?;
-    log.learn_derived(step, constraint)?;
-    decisions.truncate(kept);
-    brancher.conflict(variables.as_slice());
-    Ok(true)
+    learn(alloc, log, decisions, standing, learned, brancher)
 }

@@ -70,10 +70,10 @@ fn note(
     standing: &mut Standing,
     decided: &Decided,
 ) -> Result<Option<Id>, AllocError>
-    ensures count { length standing.new.1 ≡ length standing.old.1 }
+    ensures count { length standing.new.values ≡ length standing.old.values }
     ensures decided { OnOk result (decisions.new.items ≡ decisions.old.items ++ decided.now.literal ∷ []) }
-    ensures end { IfOk result (λ falsified. (live : Content) → IsEnd live decisions.old.items standing.old.0 → IsTraceOfLast live decisions.old.items decided.now.literal decided.now.trace
-        → MatchOption falsified (IsEnd live decisions.new.items standing.new.0) (λ id. LeadsToConflict (map.values live) decisions.new.items)) }
+    ensures end { IfOk result (λ falsified. (live : Content) → IsEnd live decisions.old.items standing.old.literals → IsTraceOfLast live decisions.old.items decided.now.literal decided.now.trace
+        → MatchOption falsified (IsEnd live decisions.new.items standing.new.literals) (λ id. LeadsToConflict (map.values live) decisions.new.items)) }
 {
     decisions.push(decided.literal)?;
     let count = decisions.len();
@@ -93,15 +93,15 @@ fn decide<'a, P: Propagator>(
 ) -> Result<Option<Id>, AllocError>
     requires decisions { AreDecisions log.old decisions.old.items }
     requires consistent { IsConsistent (decisions.old.items ++ first ∷ []) }
-    requires end { IsEnd log.old.state.live decisions.old.items standing.old.0 }
-    requires free { IsFree standing.old.1 (first.var.0) }
-    requires inside { first.var.0 < length standing.old.1 }
-    requires count { length standing.old.1 ≡ length log.old.problem.names }
+    requires end { IsEnd log.old.state.live decisions.old.items standing.old.literals }
+    requires free { IsFree standing.old.values (first.var.0) }
+    requires inside { first.var.0 < length standing.old.values }
+    requires count { length standing.old.values ≡ length log.old.problem.names }
     ensures same { log.new ≡ log.old }
-    ensures count { length standing.new.1 ≡ length standing.old.1 }
+    ensures count { length standing.new.values ≡ length standing.old.values }
     ensures decisions { OnOk result (AreDecisions log.old decisions.new.items) }
     ensures fewer { OnOk result (unlisted_below (length log.old.problem.names) decisions.new.items < unlisted_below (length log.old.problem.names) decisions.old.items) }
-    ensures end { IfOk result (λ falsified. MatchOption falsified (IsEnd log.old.state.live decisions.new.items standing.new.0)
+    ensures end { IfOk result (λ falsified. MatchOption falsified (IsEnd log.old.state.live decisions.new.items standing.new.literals)
         (λ id. LeadsAtLast (constraints log.old.state) decisions.new.items)) }
 {
     let decided = log.trace_each(decisions.as_slice(), first, more)?;

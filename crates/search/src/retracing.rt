@@ -46,8 +46,8 @@ pub(crate) fn stand<'a, P: Propagator>(
     brancher: &mut Box<dyn Brancher>,
 ) -> Result<Extent, AllocError>
     ensures same { log.new ≡ log.old }
-    ensures count { length standing.new.1 ≡ length standing.old.1 }
-    ensures reach { IfOk result (λ extent. IsReach (constraints log.old.state) decisions.now (reach_told standing.new.0 extent)) }
+    ensures count { length standing.new.values ≡ length standing.old.values }
+    ensures reach { IfOk result (λ extent. IsReach (constraints log.old.state) decisions.now (reach_told standing.new.literals extent)) }
 {
     // What came with more decisions goes by its level, since a literal that comes sooner now is to have its new reason.
     standing.go_back(decisions.len(), brancher);

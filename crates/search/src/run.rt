@@ -81,6 +81,13 @@ impl<'a, P: Propagator> Run<'a, P> {
         }
     }
 
+    /// All that is known.
+    pub(crate) fn into_log(self) -> Log<'a, P>
+        ensures { result ≡ self.entry.log }
+    {
+        self.log
+    }
+
     /// How many variables the file has.
     fn variables(&self) -> u32
         ensures { result ≡ length self.now.log.problem.names }

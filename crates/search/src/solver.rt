@@ -48,7 +48,7 @@ fn finish<'a, P: Propagator>(run: Run<'a, P>, limit: u64) -> Result<Solved<'a, P
     let found = run.finish(limit)?;
     Ok(Solved {
         found,
-        log: Some(run.log),
+        log: Some(run.into_log()),
     })
 }
 

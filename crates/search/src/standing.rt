@@ -55,13 +55,12 @@ pub(crate) struct Standing {
 }
 
 impl Model for Standing {
-    ghost use Rattle.std.specs.Prelude.{Bool, List};
-    ghost use Rattle.linear.specs.declared.term.Lit.{Lit};
-    ghost use Rattle.search.specs.Values.{AreOfTrail, AreValuesUnder, Table};
+    ghost use Rattle.search.specs.Standing.{Assigned};
+    ghost use Rattle.search.specs.Values.{AreOfTrail, AreValuesUnder};
 
-    ghost Value = { List Lit × Table × Bool };
+    ghost Value = { Assigned };
 
-    ghost view = { λ s. (s.assigned.items, s.values.items, s.is_whole) };
+    ghost view = { λ s. record { literals = s.assigned.items; values = s.values.items; whole = s.is_whole } };
 
     ghost invariant = { λ s. AreValuesUnder s.assigned.items s.values.items × AreOfTrail s.is_whole s.trail s.assigned.items };
 }
@@ -73,9 +72,9 @@ impl Standing {
 
     /// No literal, and a number of variables, all free.
     pub(crate) fn new(alloc: Global, count: usize) -> Result<Self, AllocError>
-        ensures assigned { IfOk result (λ s. s.0 ≡ []) }
-        ensures count { IfOk result (λ s. length s.1 ≡ count) }
-        ensures whole { IfOk result (λ s. s.2 ≡ true) }
+        ensures assigned { IfOk result (λ s. s.literals ≡ []) }
+        ensures count { IfOk result (λ s. length s.values ≡ count) }
+        ensures whole { IfOk result (λ s. s.whole ≡ true) }
     {
         Ok(Standing {
             trail: Trail::new(alloc, count)?,
@@ -88,7 +87,7 @@ impl Standing {
 
     /// Begins anew with so many variables, where it has another number of them.
     pub(crate) fn fit(&mut self, alloc: Global, count: usize) -> Result<(), AllocError>
-        ensures { OnOk result (length self.new.1 ≡ count) }
+        ensures { OnOk result (length self.new.values ≡ count) }
     {
         if self.values().len() != count {
             *self = Standing::new(alloc, count)?;
@@ -102,8 +101,8 @@ impl Standing {
         alloc: Global,
         brancher: &mut Box<dyn Brancher>,
     ) -> Result<(), AllocError>
-        ensures whole { OnOk result (self.new.2 ≡ true) }
-        ensures count { length self.new.1 ≡ length self.old.1 }
+        ensures whole { OnOk result (self.new.whole ≡ true) }
+        ensures count { length self.new.values ≡ length self.old.values }
     {
         if !self.is_whole {
             tell_unassigned(self.assigned(), 0, brancher);
@@ -114,8 +113,8 @@ impl Standing {
 
     /// One literal more.
     fn push(&mut self, entry: Entry) -> Result<(), AllocError>
-        ensures ok { OnOk result (self.new.0 ≡ self.old.0 ++ entry.literal ∷ []) }
-        ensures count { length self.new.1 ≡ length self.old.1 }
+        ensures ok { OnOk result (self.new.literals ≡ self.old.literals ++ entry.literal ∷ []) }
+        ensures count { length self.new.values ≡ length self.old.values }
     {
         let was_whole = self.is_whole;
         // Where memory runs out on the way the trail may have a literal more.
@@ -130,8 +129,8 @@ impl Standing {
 
     /// A literal is decided, the last one of so many.
     pub(crate) fn decide(&mut self, literal: Lit, decisions: usize) -> Result<(), AllocError>
-        ensures ok { OnOk result (self.new.0 ≡ self.old.0 ++ literal ∷ []) }
-        ensures count { length self.new.1 ≡ length self.old.1 }
+        ensures ok { OnOk result (self.new.literals ≡ self.old.literals ++ literal ∷ []) }
+        ensures count { length self.new.values ≡ length self.old.values }
     {
         self.push(Entry {
             literal,
@@ -142,8 +141,8 @@ impl Standing {
 
     /// The literals of a chain are forced, where so many are decided.
     pub(crate) fn force(&mut self, forced: &[(Lit, Id)], decisions: usize) -> Result<(), AllocError>
-        ensures ok { OnOk result (self.new.0 ≡ self.old.0 ++ map (λ p. p.0) forced.now) }
-        ensures count { length self.new.1 ≡ length self.old.1 }
+        ensures ok { OnOk result (self.new.literals ≡ self.old.literals ++ map (λ p. p.0) forced.now) }
+        ensures count { length self.new.values ≡ length self.old.values }
     {
         let level = level_of(decisions);
         for (literal, reason) in forced {
@@ -174,8 +173,8 @@ impl Standing {
         rest: &[(Lit, Option<Id>)],
         decisions: &[Lit],
     ) -> Result<(), AllocError>
-        ensures ok { OnOk result (self.new.0 ≡ self.old.0 ++ map (λ p. p.0) rest.now) }
-        ensures count { length self.new.1 ≡ length self.old.1 }
+        ensures ok { OnOk result (self.new.literals ≡ self.old.literals ++ map (λ p. p.0) rest.now) }
+        ensures count { length self.new.values ≡ length self.old.values }
     {
         let mut level = self.trail().open_decisions();
         for (literal, reason) in rest {
@@ -193,10 +192,10 @@ impl Standing {
 
     /// Takes the last literal off, if there is one. Its variable is free then.
     fn pop(&mut self)
-        requires { self.old.2 ≡ true }
-        ensures assigned { self.new.0 ≡ take (length self.old.0 - 1) self.old.0 }
-        ensures count { length self.new.1 ≡ length self.old.1 }
-        ensures whole { self.new.2 ≡ true }
+        requires { self.old.whole ≡ true }
+        ensures assigned { self.new.literals ≡ take (length self.old.literals - 1) self.old.literals }
+        ensures count { length self.new.values ≡ length self.old.values }
+        ensures whole { self.new.whole ≡ true }
     {
         if let Some(entry) = self.trail.pop() {
             self.assigned.pop();
@@ -206,9 +205,9 @@ impl Standing {
 
     /// The first so many literals alone. A brancher is told of the others, from the last one on.
     pub(crate) fn keep(&mut self, count: usize, brancher: &mut Box<dyn Brancher>)
-        requires { self.old.2 ≡ true }
-        ensures assigned { self.new.0 ≡ take count self.old.0 }
-        ensures count { length self.new.1 ≡ length self.old.1 }
+        requires { self.old.whole ≡ true }
+        ensures assigned { self.new.literals ≡ take count self.old.literals }
+        ensures count { length self.new.values ≡ length self.old.values }
     {
         tell_unassigned(self.assigned(), count, brancher);
         while self.assigned().len() > count {
@@ -218,7 +217,7 @@ impl Standing {
 
     /// Takes off what came with more decisions than so many, as far as the trail tells. A brancher is told, from the last literal on.
     pub(crate) fn go_back(&mut self, decisions: usize, brancher: &mut Box<dyn Brancher>)
-        ensures { length self.new.1 ≡ length self.old.1 }
+        ensures { length self.new.values ≡ length self.old.values }
     {
         if self.is_whole {
             let count = count_up_to(self.trail.entries(), level_of(decisions));
@@ -237,7 +236,7 @@ impl Standing {
 
     /// Whether a constraint has negative slack, or forces a literal, under the literals. The answer is no where the trail lacks one of them.
     pub(crate) fn bites(&self, constraint: &Normal) -> bool
-        ensures { IsTrue result ↔ ((self.now.2 ≡ true) × Bites self.now.0 constraint.now) }
+        ensures { IsTrue result ↔ ((self.now.whole ≡ true) × Bites self.now.literals constraint.now) }
     {
         if !self.is_whole {
             return false;
@@ -247,22 +246,22 @@ impl Standing {
 
     /// The value of each of the first variables.
     pub(crate) fn values(&self) -> &[Value]
-        ensures values { result.now ≡ self.now.1 }
-        ensures exact { AreValuesUnder self.now.0 self.now.1 }
+        ensures values { result.now ≡ self.now.values }
+        ensures exact { AreValuesUnder self.now.literals self.now.values }
     {
         self.values.as_slice()
     }
 
     /// The literals.
     pub(crate) fn assigned(&self) -> &[Lit]
-        ensures { result.now ≡ self.now.0 }
+        ensures { result.now ≡ self.now.literals }
     {
         self.assigned.as_slice()
     }
 
     /// A copy of the literals.
     pub(crate) fn to_assigned(&self, alloc: Global) -> Result<Seq<Lit>, AllocError>
-        ensures { IfOk result (λ all. all ≡ self.now.0) }
+        ensures { IfOk result (λ all. all ≡ self.now.literals) }
     {
         let mut all = Vec::with_capacity(alloc, self.assigned.len())?;
         all.extend_from_slice(self.assigned())?;

@@ -6,6 +6,7 @@ use Rattle.propagate.specs.Content.{IsEnd}
 use Rattle.proof_rules.specs.State.{constraints}
 use Rattle.branching.specs.declared.brancher.Value.{Value}
 use Rattle.search.specs.Conflicts.{LeadsAtLast}
+use Rattle.search.specs.Standing.{Assigned}
 use Rattle.search.specs.Values.{IsFree}
 use Rattle.search.proofs.Deciding.{IsNoted, later, noted, unless}
 use Rattle.search.proofs.Descending.{far_more, first_taken, told_at}
@@ -24,7 +25,7 @@ loop-one-init g c = record {
 }
 
 -- what a turn comes to, where it ends in a conflict, and where it does not
-ended : (g : Over) (c : goal.After-drop-decided-then-is_some g) → IsNoted c.args.log.now c.args.decisions.now.items c.note.new.decisions.items c.note.new.standing.0 c.in_ok-conflict.conflict
+ended : (g : Over) (c : goal.After-drop-decided-then-is_some g) → IsNoted c.args.log.now c.args.decisions.now.items c.note.new.decisions.items c.note.new.standing.literals c.in_ok-conflict.conflict
 ended g c =
     let l = c.args.log.now in
     let i = c.loop-one.invariant in
@@ -32,12 +33,12 @@ ended g c =
     let d = c.one-item.result in
     let far = i.so_far in
     let told = told_at l.state.live c.args.decisions.now.items c.as_slice.result.now c.loop-one.decisions.items c.in_ok-decided.decided.items items c.loop-one.one-index d c.as_slice.ensures.value c.deref-one-items.ensures.value far c.in_ok-decided.ensures.decided c.loop-one-test.true (sym c.one-item.is) in
-    let is = chosen l.state.live c.loop-one.decisions.items c.loop-one.standing.0 c.loop-one.standing.1 c.values.result.now d.literal (length l.problem.names) i.end c.values.ensures.exact c.values.ensures.values
+    let is = chosen l.state.live c.loop-one.decisions.items c.loop-one.standing.literals c.loop-one.standing.values c.values.result.now d.literal (length l.problem.names) i.end c.values.ensures.exact c.values.ensures.values
     (c.is_free.ensures.free.0 c.if-not-is_free.false) (c.is_free.ensures.inside c.if-not-is_free.false) i.count i.named.consistent in
-    noted l c.args.decisions.now.items c.loop-one.decisions.items c.note.new.decisions.items c.note.new.standing.0 items c.loop-one.one-index d.literal c.in_ok-conflict.conflict is i.named far i.fewer c.in_ok-conflict.ensures.decided
+    noted l c.args.decisions.now.items c.loop-one.decisions.items c.note.new.decisions.items c.note.new.standing.literals items c.loop-one.one-index d.literal c.in_ok-conflict.conflict is i.named far i.fewer c.in_ok-conflict.ensures.decided
     (c.in_ok-conflict.ensures.end l.state.live i.end told)
 
-going : (g : Over) (c : goal.Else-is_some g) → IsNoted c.args.log.now c.args.decisions.now.items c.note.new.decisions.items c.note.new.standing.0 c.in_ok-conflict.conflict
+going : (g : Over) (c : goal.Else-is_some g) → IsNoted c.args.log.now c.args.decisions.now.items c.note.new.decisions.items c.note.new.standing.literals c.in_ok-conflict.conflict
 going g c =
     let l = c.args.log.now in
     let i = c.loop-one.invariant in
@@ -45,9 +46,9 @@ going g c =
     let d = c.one-item.result in
     let far = i.so_far in
     let told = told_at l.state.live c.args.decisions.now.items c.as_slice.result.now c.loop-one.decisions.items c.in_ok-decided.decided.items items c.loop-one.one-index d c.as_slice.ensures.value c.deref-one-items.ensures.value far c.in_ok-decided.ensures.decided c.loop-one-test.true (sym c.one-item.is) in
-    let is = chosen l.state.live c.loop-one.decisions.items c.loop-one.standing.0 c.loop-one.standing.1 c.values.result.now d.literal (length l.problem.names) i.end c.values.ensures.exact c.values.ensures.values
+    let is = chosen l.state.live c.loop-one.decisions.items c.loop-one.standing.literals c.loop-one.standing.values c.values.result.now d.literal (length l.problem.names) i.end c.values.ensures.exact c.values.ensures.values
     (c.is_free.ensures.free.0 c.if-not-is_free.false) (c.is_free.ensures.inside c.if-not-is_free.false) i.count i.named.consistent in
-    noted l c.args.decisions.now.items c.loop-one.decisions.items c.note.new.decisions.items c.note.new.standing.0 items c.loop-one.one-index d.literal c.in_ok-conflict.conflict is i.named far i.fewer c.in_ok-conflict.ensures.decided
+    noted l c.args.decisions.now.items c.loop-one.decisions.items c.note.new.decisions.items c.note.new.standing.literals items c.loop-one.one-index d.literal c.in_ok-conflict.conflict is i.named far i.fewer c.in_ok-conflict.ensures.decided
     (c.in_ok-conflict.ensures.end l.state.live i.end told)
 
 pub returns-then-is_some-clause-decisions : goal.returns-then-is_some-clause-decisions
@@ -66,7 +67,7 @@ loop-one-preserved g c =
     let is = going g c in
     let l = c.args.log.now in
     let after : List Lit = c.note.new.decisions.items in
-    let end = unless (IsEnd l.state.live after c.note.new.standing.0) (λ id. LeadsAtLast (constraints l.state) after) c.in_ok-conflict.conflict (sym c.is_some.ensures ∙ c.if-is_some.false) is.end in
+    let end = unless (IsEnd l.state.live after c.note.new.standing.literals) (λ id. LeadsAtLast (constraints l.state) after) c.in_ok-conflict.conflict (sym c.is_some.ensures ∙ c.if-is_some.false) is.end in
     record {
       so_far = far_more c.args.decisions.now.items c.loop-one.decisions.items c.note.new.decisions.items c.deref-one-items.result.now c.loop-one.one-index d c.loop-one-test.true (sym c.one-item.is) i.so_far c.in_ok-conflict.ensures.decided;
       named = is.named;
@@ -83,7 +84,7 @@ returns-then-not-is_free-clause-fewer g c =
     later (length l.problem.names) c.loop-one.decisions.items c.args.decisions.now.items c.loop-one.one-index
     (λ start.
     let same = first_taken c.args.first c.args.more.now c.in_ok-decided.decided.items c.deref-one-items.result.now c.loop-one.one-index c.one-item.result c.in_ok-decided.ensures.taken c.deref-one-items.ensures.value start (sym c.one-item.is) in
-    let table : c.args.standing.now.1 ≡ c.values.result.now = sym (c.values.ensures.values ∙ ap (λ s. s.1) (i.fresh start)) in
+    let table : c.args.standing.now.values ≡ c.values.result.now = sym (c.values.ensures.values ∙ ap (λ (s : Assigned). s.values) (i.fresh start)) in
     let free : IsFree c.values.result.now c.one-item.result.literal.var.0 =
     subst (λ (x : Lit). IsFree c.values.result.now x.var.0) (sym same) (subst (λ (vs : List Value). IsFree vs c.args.first.var.0) table c.requires.free) in
     false≢true (sym c.if-not-is_free.true ∙ c.is_free.ensures.free.1 free))

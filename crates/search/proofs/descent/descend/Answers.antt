@@ -19,7 +19,7 @@ use Rattle.search.proofs.descent.descend.Goals as goal
 
 pub decide-requires-clause-consistent : goal.decide-requires-clause-consistent
 decide-requires-clause-consistent g c =
-    (chosen c.decisions.log.state.live c.decisions.decisions.items c.decisions.standing.0 c.decisions.standing.1 c.values-in-decisions.result.now c.in-Some-choose.first c.args.count
+    (chosen c.decisions.log.state.live c.decisions.decisions.items c.decisions.standing.literals c.decisions.standing.values c.values-in-decisions.result.now c.in-Some-choose.first c.args.count
     c.decisions.invariant.3 c.values-in-decisions.ensures.exact c.values-in-decisions.ensures.values c.in-Some-choose.ensures.free c.in-Some-choose.ensures.inside c.decisions.invariant.2 c.decisions.invariant.1.consistent).consistent
 
 -- what the decisions extend to is a conflict
@@ -27,10 +27,10 @@ pub end_in_conflict-requires-clause-conflict : goal.end_in_conflict-requires-cla
 end_in_conflict-requires-clause-conflict g c =
     let live = constraints c.args.log.now.state in
     let given : List Lit = c.args.decisions.now.items in
-    let reach : IsReach live given (reach_told c.stand.new.standing.0 c.in_ok-extent.extent) =
-    subst (λ (xs : List Lit). IsReach live xs (reach_told c.stand.new.standing.0 c.in_ok-extent.extent)) c.as_slice.ensures.value c.in_ok-extent.ensures.reach in
+    let reach : IsReach live given (reach_told c.stand.new.standing.literals c.in_ok-extent.extent) =
+    subst (λ (xs : List Lit). IsReach live xs (reach_told c.stand.new.standing.literals c.in_ok-extent.extent)) c.as_slice.ensures.value c.in_ok-extent.ensures.reach in
     subst (λ (x : Logbook). LeadsToConflict (constraints x.state) given) (sym c.stand.ensures.same)
-    (led live given c.requires.decisions.consistent (subst (λ r. IsReach live given r) (c.is_closed.ensures.conflict c.if-not-is_closed.true c.stand.new.standing.0) reach))
+    (led live given c.requires.decisions.consistent (subst (λ r. IsReach live given r) (c.is_closed.ensures.conflict c.if-not-is_closed.true c.stand.new.standing.literals) reach))
 
 pub returns-then-not-is_closed-clause-conflict : goal.returns-then-not-is_closed-clause-conflict
 returns-then-not-is_closed-clause-conflict g c =
@@ -42,7 +42,7 @@ pub decisions-init : goal.decisions-init
 decisions-init g c =
     let live = c.args.log.now.state.live in
     let given : List Lit = c.args.decisions.now.items in
-    let standing : List Lit = c.stand.new.standing.0 in
+    let standing : List Lit = c.stand.new.standing.literals in
     let reach : IsReach (constraints c.args.log.now.state) given (reaches.Closed standing) =
     subst (λ extent. IsReach (constraints c.args.log.now.state) given (reach_told standing extent)) (c.is_closed.ensures.closed c.if-not-is_closed.false)
     (subst (λ (xs : List Lit). IsReach (constraints c.args.log.now.state) xs (reach_told standing c.in_ok-extent.extent)) c.as_slice.ensures.value c.in_ok-extent.ensures.reach) in (
@@ -58,7 +58,7 @@ returns-in-Some-end-clause-conflict g c =
     let new : List Lit = c.decide.new.decisions.items in
     let same = c.decisions.invariant.0 ∙ c.stand.ensures.same in
     let conflict : LeadsAtLast (constraints old.state) new =
-    subst (λ o. MatchOption o (IsEnd old.state.live new c.decide.new.standing.0) (λ id. LeadsAtLast (constraints old.state) new)) c.in-Some-end.is c.in_ok-end.ensures.end in
+    subst (λ o. MatchOption o (IsEnd old.state.live new c.decide.new.standing.literals) (λ id. LeadsAtLast (constraints old.state) new)) c.in-Some-end.is c.in_ok-end.ensures.end in
     subst (λ (x : Logbook). LeadsAtLast (constraints x.state) new) same conflict
 
 -- where none is free, all variables have a value
@@ -66,11 +66,11 @@ pub returns-in_default-choose-clause-settled : goal.returns-in_default-choose-cl
 returns-in_default-choose-clause-settled g c =
     let l : Logbook = c.args.log.now in
     let decisions : List Lit = c.decisions.decisions.items in
-    let standing : List Lit = c.decisions.standing.0 in
+    let standing : List Lit = c.decisions.standing.literals in
     let end : IsEnd l.state.live decisions standing =
     subst (λ (x : Logbook). IsEnd x.state.live decisions standing) (c.decisions.invariant.0 ∙ c.stand.ensures.same) c.decisions.invariant.3 in
     let decided_here : AreDecisions l decisions = subst (λ (x : Logbook). AreDecisions x decisions) (c.decisions.invariant.0 ∙ c.stand.ensures.same) c.decisions.invariant.1 in
-    let none : NoneIsFree c.decisions.standing.1 c.args.count =
+    let none : NoneIsFree c.decisions.standing.values c.args.count =
     subst (λ (vs : List Value). NoneIsFree vs c.args.count) c.values-in-decisions.ensures.values (c.in_default-choose.ensures.none refl) in
     subst (IsSettled l) (sym c.in_ok-to_assigned.ensures)
-    (settled l decisions standing c.decisions.standing.1 c.args.count c.reveal.ensures.named decided_here end c.values-in-decisions.ensures.exact c.decisions.invariant.2 c.requires.count none)
+    (settled l decisions standing c.decisions.standing.values c.args.count c.reveal.ensures.named decided_here end c.values-in-decisions.ensures.exact c.decisions.invariant.2 c.requires.count none)

@@ -6,8 +6,8 @@ use Rattle.search.proofs.descent.descend.Given as goal
 
 abbrev pub invariant-decisions : goal.invariant-decisions
 invariant-decisions g l =
-    (l.log ≡ l.initial.log) × AreDecisions l.log l.decisions.items × (length l.standing.1 ≡ l.count)
-    × IsEnd l.log.state.live l.decisions.items l.standing.0
+    (l.log ≡ l.initial.log) × AreDecisions l.log l.decisions.items × (length l.standing.values ≡ l.count)
+    × IsEnd l.log.state.live l.decisions.items l.standing.literals
 
 abbrev pub decreases-decisions : goal.decreases-decisions
 decreases-decisions g l = unlisted_below l.count l.decisions.items

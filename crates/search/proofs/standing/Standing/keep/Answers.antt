@@ -6,7 +6,7 @@ use Rattle.search.proofs.standing.Standing.keep.Goals as goal
 
 pub loop-self-preserved : goal.loop-self-preserved
 loop-self-preserved g c =
-    let cur : List Lit = c.loop-self.self.0 in
+    let cur : List Lit = c.loop-self.self.literals in
     let i = c.loop-self.invariant in
     record {
       same = ap (take c.args.count) c.pop.ensures.assigned ∙ take-take c.args.count (length cur - 1) cur (omega (arith, c.loop-self-test.true, ap (length {A = Lit}) c.assigned-in-loop-self.ensures)) ∙ i.same;

@@ -4,6 +4,7 @@ use Rattle.std.specs.Prelude.{vec_len}
 use Rattle.linear.specs.declared.term.Lit.{Lit}
 use Rattle.analysis.specs.declared.entry.Entry.{Entry}
 use Rattle.branching.specs.declared.brancher.Value.{Value}
+use Rattle.search.specs.Standing.{Assigned}
 use Rattle.search.specs.Values.{AreValuesUnder}
 use Rattle.search.proofs.Choices.{values_less}
 use Rattle.search.proofs.TakenOff.{last_literal, literals_of, others}
@@ -16,7 +17,7 @@ invariant_of-self c =
     let left : List Entry = c.pop.new.self in
     let old : List Lit = s.assigned.items in
     let values : List Value = s.values.items in
-    let whole : s.is_whole ≡ true = ap (λ v. v.2) c.self.view_is ∙ c.requires in
+    let whole : s.is_whole ≡ true = ap (λ (v : Assigned). v.whole) c.self.view_is ∙ c.requires in
     let all : literals_of s.trail ≡ old = c.self.invariant.1 whole in
     let long : vec_len s.assigned ≡ length old = search rules in
     let rest : c.pop-in-Some.new.self.items ≡ literals_of left =
