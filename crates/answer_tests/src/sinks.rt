@@ -124,20 +124,26 @@ impl Ran {
     }
 }
 
+/// How a run ends that writes into these sinks.
+fn end_into(
+    alloc: Global,
+    opb: &str,
+    out: &mut MemSink,
+    proof_out: &mut Option<MemSink>,
+) -> Result<End, AllocError>
+    requires out { out.old.failures ≡ 0 }
+    requires proof_out { IfSome proof_out.old (λ sink. sink.failures ≡ 0) }
+{
+    let brancher = brancher(alloc, Rule::First)?;
+    let ended = run(alloc, opb.as_bytes(), CONFLICTS, brancher, out, proof_out);
+    Ok(end_of(&ended))
+}
+
 /// Runs into sinks that are made for it.
 fn run_into(alloc: Global, opb: &str, out: Taking, proof_out: Option<Taking>) -> Result<Ran, Fail> {
     let mut out = sink(alloc, out)?;
     let mut proof_out = any_sink(alloc, proof_out)?;
-    let brancher = brancher(alloc, Rule::First)?;
-    let ended = run(
-        alloc,
-        opb.as_bytes(),
-        CONFLICTS,
-        brancher,
-        &mut out,
-        &mut proof_out,
-    );
-    let end = end_of(&ended);
+    let end = end_into(alloc, opb, &mut out, &mut proof_out)?;
     Ok(Ran {
         end,
         out,
@@ -315,17 +321,20 @@ fn answer_fails(alloc: Global, opb: &str, seen: &Seen, number: usize) -> Result<
     Ok(ran.is(end, begun(answer, number), seen.proof.as_slice()))
 }
 
-/// The first push, of the proof or of the answer, whose failure is not answered as it should be; the last one that is tried comes
-/// behind all that is written.
-fn first_wrong(alloc: Global, opb: &str) -> Result<Option<usize>, Fail> {
-    let seen = wanted(alloc, opb)?;
+/// The first push of the proof whose failure is not answered as it should be; the last one that is tried comes behind all that is written.
+fn first_wrong_of_proof(alloc: Global, opb: &str, seen: &Seen) -> Result<Option<usize>, Fail> {
     for number in 0..pushes_of(seen.proof.as_slice()).saturating_add(1) {
-        if !proof_fails(alloc, opb, &seen, number)? {
+        if !proof_fails(alloc, opb, seen, number)? {
             return Ok(Some(number));
         }
     }
+    Ok(None)
+}
+
+/// The same of the answer.
+fn first_wrong_of_answer(alloc: Global, opb: &str, seen: &Seen) -> Result<Option<usize>, Fail> {
     for number in 0..pushes_of(seen.answer.as_slice()).saturating_add(1) {
-        if !answer_fails(alloc, opb, &seen, number)? {
+        if !answer_fails(alloc, opb, seen, number)? {
             return Ok(Some(number));
         }
     }
@@ -335,8 +344,17 @@ fn first_wrong(alloc: Global, opb: &str) -> Result<Option<usize>, Fail> {
 #[test]
 fn each_push_fails_in_turn(rt: HostRuntime) -> Result<(), Fail> {
     for opb in PROBLEMS {
-        let wrong = first_wrong(rt.alloc(), opb)?;
-        assert_eq!(rt; wrong, None, "for {opb}");
+        let seen = wanted(rt.alloc(), opb)?;
+        assert_eq!(rt;
+            first_wrong_of_proof(rt.alloc(), opb, &seen)?,
+            None,
+            "of the proof for {opb}"
+        );
+        assert_eq!(rt;
+            first_wrong_of_answer(rt.alloc(), opb, &seen)?,
+            None,
+            "of the answer for {opb}"
+        );
     }
     Ok(())
 }

@@ -4,6 +4,7 @@ use super::asking::{fault_at, lit};
 use linear::Names;
 use proof_steps::{Conclusion, Lower, Upper};
 use proof_text::{Line, ProofFault, ProofReader, Section, read_line};
+use std::alloc::Global;
 
 /// A line at its section, and the number of its fault, 0 where it has none.
 #[derive(Clone, Copy, Debug)]
@@ -576,24 +577,39 @@ fn hint_length(line: &Line) -> Option<usize> {
     }
 }
 
-#[test]
-fn bounds_and_hints(rt: HostRuntime) -> Result<(), ProofFault> {
-    let alloc = rt.alloc();
+/// Whether a line concludes `BOUNDS -3 INF` with that hint.
+fn reads_as_hinted_bounds(alloc: Global, line: &[u8]) -> bool {
     let mut names = Names::new(alloc);
-    let section = Section::Conclusion;
-    let bounds = b"conclusion BOUNDS -3 : 7 INF : x1 ~x2";
-    assert!(&rt; is_hinted_bounds(&read_line(alloc, section, bounds, &mut names)?));
-    let empty = b"conclusion SAT :";
-    assert_eq!(&rt;
-        hint_length(&read_line(alloc, section, empty, &mut names)?),
-        Some(0)
-    );
-    let none = b"conclusion SAT";
-    assert_eq!(&rt;
-        hint_length(&read_line(alloc, section, none, &mut names)?),
-        None
-    );
-    Ok(())
+    match read_line(alloc, Section::Conclusion, line, &mut names) {
+        Ok(said) => is_hinted_bounds(&said),
+        Err(_) => false,
+    }
+}
+
+#[test]
+fn bounds_with_a_hint(rt: HostRuntime) {
+    let line = b"conclusion BOUNDS -3 : 7 INF : x1 ~x2";
+    assert!(&rt; reads_as_hinted_bounds(rt.alloc(), line));
+}
+
+/// How many literals the hint of a line has that is read as a conclusion.
+fn read_hint(alloc: Global, line: &[u8]) -> Result<Option<usize>, ProofFault> {
+    let mut names = Names::new(alloc);
+    let said = read_line(alloc, Section::Conclusion, line, &mut names)?;
+    Ok(hint_length(&said))
+}
+
+/// An empty hint, and none.
+const HINTS: [(&[u8], Option<usize>); 2] = [
+    (b"conclusion SAT :", Some(0)),
+    (b"conclusion SAT", None),
+];
+
+#[test]
+fn hints_of_a_solution(rt: HostRuntime) {
+    for (line, length) in &HINTS {
+        assert!(&rt; read_hint(rt.alloc(), line) == Ok(*length), "{line:?}");
+    }
 }
 
 /// Whether the next line is this one.

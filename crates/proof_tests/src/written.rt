@@ -247,16 +247,39 @@ fn written_ends(rt: HostRuntime) -> Result<(), ProofFault> {
 const WRITTEN: &[u8] =
     b"pseudo-Boolean proof version 2.0\nf 1\nsoli x1 ~x2\npol 1 2 +\noutput NONE\nconclusion BOUNDS 1 1\nend pseudo-Boolean proof\n";
 
+/// Reads steps and writes them, one after another.
+fn rewrite_steps(
+    alloc: Global,
+    lines: &[&[u8]],
+    names: &mut Names,
+    out: &mut Vec<u8>,
+) -> Result<(), ProofFault> {
+    for line in lines {
+        rewrite_step(alloc, line, names, out)?;
+    }
+    Ok(())
+}
+
+/// What is written for a proof behind its first two lines, which are given as they are written.
+fn rewritten_proof(
+    alloc: Global,
+    first: &[u8],
+    steps: &[&[u8]],
+    conclusion: &[u8],
+) -> Result<Vec<u8>, ProofFault> {
+    let mut names = Names::new(alloc);
+    let mut out = Vec::from_slice(alloc, first)?;
+    rewrite_steps(alloc, steps, &mut names, &mut out)?;
+    rewrite_end(alloc, conclusion, &mut names, &mut out)?;
+    Ok(out)
+}
+
 #[test]
 fn a_written_proof(rt: HostRuntime) -> Result<(), ProofFault> {
-    let alloc = rt.alloc();
-    let mut names = Names::new(alloc);
-    let mut out = Vec::new(alloc);
-    out.extend_from_slice(b"pseudo-Boolean proof version 2.0\nf 1\n")?;
-    rewrite_step(alloc, b"soli x1 ~x2 ;", &mut names, &mut out)?;
-    rewrite_step(alloc, b"p +1 2 + ;", &mut names, &mut out)?;
-    rewrite_end(alloc, b"conclusion BOUNDS 1 1", &mut names, &mut out)?;
-    assert_eq!(&rt; out.as_slice(), WRITTEN);
+    let first = b"pseudo-Boolean proof version 2.0\nf 1\n";
+    let steps = [b"soli x1 ~x2 ;".as_slice(), b"p +1 2 + ;".as_slice()];
+    let written = rewritten_proof(rt.alloc(), first, &steps, b"conclusion BOUNDS 1 1")?;
+    assert_eq!(&rt; written.as_slice(), WRITTEN);
     Ok(())
 }
 
@@ -299,11 +322,8 @@ fn section_behind(alloc: Global, section: Section, line: &[u8]) -> Result<Sectio
 
 #[test]
 fn a_written_subproof(rt: HostRuntime) -> Result<(), ProofFault> {
-    let alloc = rt.alloc();
-    let mut names = Names::new(alloc);
-    let mut out = Vec::new(alloc);
-    out.extend_from_slice(b"pseudo-Boolean proof version 2.0\nf 5\n")?;
-    let lines = [
+    let first = b"pseudo-Boolean proof version 2.0\nf 5\n";
+    let steps = [
         b"red>=1;;begin".as_slice(),
         b"proofgoal #1".as_slice(),
         b"p 1 2 + 3 + 4 + 5 +".as_slice(),
@@ -312,11 +332,8 @@ fn a_written_subproof(rt: HostRuntime) -> Result<(), ProofFault> {
         b"end ;".as_slice(),
         b"u >= 1 ;".as_slice(),
     ];
-    for line in &lines {
-        rewrite_step(alloc, line, &mut names, &mut out)?;
-    }
-    rewrite_end(alloc, b"conclusion UNSAT", &mut names, &mut out)?;
-    assert_eq!(&rt; out.as_slice(), NESTED);
+    let written = rewritten_proof(rt.alloc(), first, &steps, b"conclusion UNSAT")?;
+    assert_eq!(&rt; written.as_slice(), NESTED);
     Ok(())
 }
 

@@ -46,12 +46,14 @@ impl Tally {
     }
 }
 
-/// What is known of a call: the best of all assignments, at most what was asked for, and how it ended.
+/// A call that ended, beside what is fixed: the best of all assignments, and what it asked for at most.
 #[derive(Clone, Copy)]
-struct Asked {
+struct Call<'a> {
+    problem: &'a PlainProblem,
+    relaxation: &'a Relaxation,
+    fixed: &'a [Option<bool>],
     optimum: Option<i128>,
     upper: Option<Integer>,
-    end: End,
 }
 
 /// The exact sum of some rows times whole numbers: `sum of coefficients >= right`, and how often the costs are in it.
@@ -184,57 +186,107 @@ fn is_feasible(problem: &PlainProblem, point: &[i128], fixed: &[Option<bool>]) -
         })
 }
 
-/// Whether what the multipliers prove of every point is about what this one costs, and no more than the best of all assignments.
-fn is_about_its_bound(
-    rt: &impl Abort,
-    problem: &PlainProblem,
-    point: &[i128],
-    sum: &ExactSum,
-    fixed: &[Option<bool>],
-    optimum: Option<i128>,
-) -> bool {
-    let bound = sum.slack(fixed).saturating_neg();
-    let times = sum.of_costs;
-    assert!(rt; times > 0);
-    assert!(rt; optimum.is_none_or(|best| bound <= best.saturating_mul(times)));
-    let costs = problem.costs.as_slice();
-    let there = product(costs, point).saturating_mul(times);
-    let apart = bound.saturating_mul(1 << 32).saturating_sub(there);
-    let allowed = times.saturating_mul(sizes(costs)).saturating_mul(1 << 23);
-    apart.saturating_abs() <= allowed
-}
-
-/// Looks at a call that ended with values: the point satisfies all, and its cost is about its bound.
-fn look_at_values(
-    rt: &impl Abort,
-    alloc: Global,
-    problem: &PlainProblem,
-    relaxation: &Relaxation,
-    fixed: &[Option<bool>],
-    optimum: Option<i128>,
-) -> Result<bool, AllocError> {
-    let point = point_of(alloc, relaxation, problem.count)?;
-    let point = point.as_slice();
-    assert!(rt; is_feasible(problem, point, fixed));
-    if sizes(problem.costs.as_slice()) == 0 {
-        return Ok(true);
+impl Call<'_> {
+    /// The exact sum by its multipliers, the greatest of them `2^bits`. The improving constraint asks for at most `upper`.
+    fn sum(self, alloc: Global, bits: u32, upper: i128) -> Result<ExactSum, AllocError> {
+        sum_up(alloc, self.problem, self.relaxation, bits, upper)
     }
-    assert!(rt; optimum.is_none_or(|best| relaxation.bound() <= best));
-    let sum = sum_up(alloc, problem, relaxation, 32, 0)?;
-    Ok(is_about_its_bound(rt, problem, point, &sum, fixed, optimum))
-}
 
-/// Whether the sum of the last call's multipliers is false.
-fn is_false(
-    alloc: Global,
-    problem: &PlainProblem,
-    relaxation: &Relaxation,
-    fixed: &[Option<bool>],
-    upper: i128,
-) -> Result<bool, AllocError> {
-    let rough = sum_up(alloc, problem, relaxation, 20, upper)?;
-    let fine = sum_up(alloc, problem, relaxation, 32, upper)?;
-    Ok(rough.slack(fixed) < 0 || fine.slack(fixed) < 0)
+    /// Whether what the multipliers prove of every point is about what this one costs, and no more than the best of all assignments.
+    fn is_about_its_bound(self, rt: &impl Abort, point: &[i128], sum: &ExactSum) -> bool {
+        let bound = sum.slack(self.fixed).saturating_neg();
+        let times = sum.of_costs;
+        assert!(rt; times > 0);
+        assert!(rt;
+            self.optimum
+                .is_none_or(|best| bound <= best.saturating_mul(times))
+        );
+        let costs = self.problem.costs.as_slice();
+        let there = product(costs, point).saturating_mul(times);
+        let apart = bound.saturating_mul(1 << 32).saturating_sub(there);
+        let allowed = times.saturating_mul(sizes(costs)).saturating_mul(1 << 23);
+        apart.saturating_abs() <= allowed
+    }
+
+    /// Looks at the values of a point: they satisfy all, and what they cost is about the bound.
+    fn look_at_point(
+        self,
+        rt: &impl Abort,
+        alloc: Global,
+        point: &[i128],
+    ) -> Result<bool, AllocError> {
+        assert!(rt; is_feasible(self.problem, point, self.fixed));
+        if sizes(self.problem.costs.as_slice()) == 0 {
+            return Ok(true);
+        }
+        assert!(rt;
+            self.optimum
+                .is_none_or(|best| self.relaxation.bound() <= best)
+        );
+        let sum = self.sum(alloc, 32, 0)?;
+        Ok(self.is_about_its_bound(rt, point, &sum))
+    }
+
+    /// Looks at a call that ended with values.
+    fn look_at_values(self, rt: &impl Abort, alloc: Global) -> Result<bool, AllocError> {
+        let point = point_of(alloc, self.relaxation, self.problem.count)?;
+        self.look_at_point(rt, alloc, point.as_slice())
+    }
+
+    /// What the sum of its multipliers has more than its right side at most, where the improving constraint asks for at most `upper`.
+    fn slack(self, alloc: Global, bits: u32, upper: i128) -> Result<i128, AllocError> {
+        Ok(self.sum(alloc, bits, upper)?.slack(self.fixed))
+    }
+
+    /// Whether the sum of its multipliers is false.
+    fn is_false(self, alloc: Global, upper: i128) -> Result<bool, AllocError> {
+        let rough = self.slack(alloc, 20, upper)?;
+        let fine = self.slack(alloc, 32, upper)?;
+        Ok(rough < 0 || fine < 0)
+    }
+
+    /// Whether a literal is forced that the exact sum does not bear out.
+    fn forces_wrongly(self, alloc: Global, upper: i128) -> Result<bool, AllocError> {
+        let sum = self.sum(alloc, 32, upper)?;
+        Ok(!sum.says_something(self.fixed))
+    }
+
+    /// Looks at how it ended.
+    fn look_at(
+        self,
+        rt: &impl Abort,
+        alloc: Global,
+        end: End,
+        tally: &mut Tally,
+    ) -> Result<(), AllocError> {
+        let most = self.upper.unwrap_or(0);
+        match end {
+            End::Infeasible => {
+                tally.infeasible = tally.infeasible.saturating_add(1);
+                let is_false = self.is_false(alloc, 0)?;
+                assert!(rt; !is_false || self.optimum.is_none());
+                tally.fail_if(!is_false);
+            }
+            End::CutOff => {
+                tally.cut_off = tally.cut_off.saturating_add(1);
+                let is_false = self.is_false(alloc, most)?;
+                assert!(rt; !is_false || self.optimum.is_none_or(|best| best > most));
+                tally.fail_if(!is_false);
+            }
+            End::Values => {
+                tally.values = tally.values.saturating_add(1);
+                if !self.look_at_values(rt, alloc)? {
+                    tally.apart = tally.apart.saturating_add(1);
+                }
+                if self.relaxation.forces_a_literal() {
+                    tally.forcing = tally.forcing.saturating_add(1);
+                    tally.fail_if(self.forces_wrongly(alloc, most)?);
+                }
+            }
+            End::Limit => tally.limit = tally.limit.saturating_add(1),
+        }
+        Ok(())
+    }
 }
 
 /// An upper bound near the optimum, or none.
@@ -246,62 +298,6 @@ fn upper_of(numbers: &mut Numbers, optimum: Option<i128>) -> Option<Integer> {
         }
         _ => None,
     }
-}
-
-/// Whether a literal is forced that the exact sum does not bear out.
-fn forces_wrongly(
-    alloc: Global,
-    problem: &PlainProblem,
-    relaxation: &Relaxation,
-    fixed: &[Option<bool>],
-    upper: i128,
-) -> Result<bool, AllocError> {
-    let sum = sum_up(alloc, problem, relaxation, 32, upper)?;
-    Ok(!sum.says_something(fixed))
-}
-
-/// Looks at the end of a call beside what is fixed, which asked for at most `upper` where that is some number.
-fn look_at(
-    rt: &impl Abort,
-    alloc: Global,
-    problem: &PlainProblem,
-    relaxation: &Relaxation,
-    fixed: &[Option<bool>],
-    asked: Asked,
-    tally: &mut Tally,
-) -> Result<(), AllocError> {
-    let Asked {
-        optimum,
-        upper,
-        end,
-    } = asked;
-    let most = upper.unwrap_or(0);
-    match end {
-        End::Infeasible => {
-            tally.infeasible = tally.infeasible.saturating_add(1);
-            let is_false = is_false(alloc, problem, relaxation, fixed, 0)?;
-            assert!(rt; !is_false || optimum.is_none());
-            tally.fail_if(!is_false);
-        }
-        End::CutOff => {
-            tally.cut_off = tally.cut_off.saturating_add(1);
-            let is_false = is_false(alloc, problem, relaxation, fixed, most)?;
-            assert!(rt; !is_false || optimum.is_none_or(|best| best > most));
-            tally.fail_if(!is_false);
-        }
-        End::Values => {
-            tally.values = tally.values.saturating_add(1);
-            if !look_at_values(rt, alloc, problem, relaxation, fixed, optimum)? {
-                tally.apart = tally.apart.saturating_add(1);
-            }
-            if relaxation.forces_a_literal() {
-                tally.forcing = tally.forcing.saturating_add(1);
-                tally.fail_if(forces_wrongly(alloc, problem, relaxation, fixed, most)?);
-            }
-        }
-        End::Limit => tally.limit = tally.limit.saturating_add(1),
-    }
-    Ok(())
 }
 
 /// Fixes some variables and asks a relaxation once, and looks at what it answers.
@@ -318,12 +314,14 @@ fn ask(
     let optimum = problem.optimum(alloc, fixed)?;
     let upper = upper_of(numbers, optimum);
     let end = relaxation.solve(upper, AMPLE)?;
-    let asked = Asked {
+    let call = Call {
+        problem,
+        relaxation,
+        fixed,
         optimum,
         upper,
-        end,
     };
-    look_at(rt, alloc, problem, relaxation, fixed, asked, tally)
+    call.look_at(rt, alloc, end, tally)
 }
 
 #[test]

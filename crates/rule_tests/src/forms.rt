@@ -60,17 +60,29 @@ const FORMS: [FormRow; 4] = [
     },
 ];
 
+/// Whether a copy of a form is as its row says.
+fn is_copied(alloc: Global, form: &Normal, row: &FormRow) -> Result<bool, AllocError> {
+    let copy = form.copy(alloc)?;
+    Ok(is(&copy, row.form, row.degree) && copy.sum() == form.sum())
+}
+
+/// Whether the negation of a form is as its row says.
+fn is_negated(alloc: Global, form: &Normal, row: &FormRow) -> Result<bool, CutFault> {
+    let opposite = negate(alloc, form)?;
+    Ok(is(&opposite, row.opposite, row.opposite_degree))
+}
+
+/// Whether the form of a row's terms is as the row says, and a copy of it, and its negation.
+fn is_formed(alloc: Global, row: &FormRow) -> Result<bool, CutFault> {
+    let form = at_least(alloc, row.terms, row.right)?;
+    let copied = is_copied(alloc, &form, row)?;
+    Ok(copied && is(&form, row.form, row.degree) && is_negated(alloc, &form, row)?)
+}
+
 #[test]
 fn forms_and_negations(rt: HostRuntime) {
-    let alloc = rt.alloc();
     for row in &FORMS {
-        let form = at_least(alloc, row.terms, row.right).expect(&rt, "a form");
-        assert!(&rt; is(&form, row.form, row.degree));
-        let copy = form.copy(alloc).expect(&rt, "memory");
-        assert!(&rt; is(&copy, row.form, row.degree));
-        assert_eq!(&rt; copy.sum(), form.sum());
-        let opposite = negate(alloc, &form).expect(&rt, "a negation");
-        assert!(&rt; is(&opposite, row.opposite, row.opposite_degree));
+        assert!(&rt; is_formed(rt.alloc(), row).expect(&rt, "a form"));
     }
 }
 

@@ -96,26 +96,50 @@ fn weights(rt: HostRuntime) {
     }
 }
 
+/// A propagator of `1 x1 1 x2 >= 1` alone.
+fn one_clause(alloc: Global) -> Result<ScanPropagator, CutFault> {
+    let mut live = ScanPropagator::empty(alloc);
+    put(alloc, &mut live, 1, &[(1, X, 1), (1, X, 2)], 1)?;
+    Ok(live)
+}
+
+/// Whether an assignment extends to so many literals without a conflict, this one among them.
+fn reaches<P: Propagator>(
+    live: &mut P,
+    given: &[Lit],
+    literal: Lit,
+    count: usize,
+) -> Result<bool, AllocError> {
+    Ok(match live.extend(given)? {
+        Reach::Closed(closed) => closed.len() == count && closed.as_slice().contains(&literal),
+        Reach::Conflict => false,
+    })
+}
+
+/// Whether an assignment extends to a conflict.
+fn conflicts<P: Propagator>(live: &mut P, given: &[Lit]) -> Result<bool, AllocError> {
+    let reach = live.extend(given)?;
+    Ok(matches!(&reach, Reach::Conflict))
+}
+
+/// A literal that is given twice is listed once.
 #[test]
 fn assignments(rt: HostRuntime) {
-    let alloc = rt.alloc();
-    let mut live = ScanPropagator::empty(alloc);
-    put(alloc, &mut live, 1, &[(1, X, 1), (1, X, 2)], 1).expect(&rt, "a constraint");
-    let reach = live.extend(&[not_x(1), not_x(1)]).expect(&rt, "memory");
-    let mut count = 0;
-    if let Reach::Closed(closed) = &reach {
-        count = closed.len();
-        assert!(&rt; closed.as_slice().contains(&x(2)));
-    }
-    assert_eq!(&rt; count, 2);
+    let mut live = one_clause(rt.alloc()).expect(&rt, "a propagator");
+    let reached = reaches(&mut live, &[not_x(1), not_x(1)], x(2), 2);
+    assert!(&rt; reached.expect(&rt, "memory"));
+}
+
+#[test]
+fn assignments_with_conflicts(rt: HostRuntime) {
+    let mut live = one_clause(rt.alloc()).expect(&rt, "a propagator");
     let rows = [
         ([not_x(1), x(1)], true),
         ([not_x(1), not_x(2)], true),
         ([x(1), not_x(2)], false),
     ];
     for (given, conflict) in &rows {
-        let reach = live.extend(given.as_slice()).expect(&rt, "memory");
-        assert_eq!(&rt; matches!(&reach, Reach::Conflict), *conflict);
+        assert!(&rt; conflicts(&mut live, given.as_slice()).expect(&rt, "memory") == *conflict);
     }
 }
 
@@ -185,21 +209,33 @@ fn tells<P: Propagator>(
     Ok(is_told(&retrace, known, told))
 }
 
-/// Whether a propagator tells rightly what assignments extend to: asked one after another, beside what is known, part of it, what
-/// stands no longer and what never did.
-fn retraces<P: Propagator>(alloc: Global) -> Result<bool, CutFault> {
-    let mut live: P = three_clauses(alloc)?;
+/// Whether what is forced is told rightly beside none of it, some of it and what never stood.
+fn tells_forced<P: Propagator>(live: &mut P) -> Result<bool, AllocError> {
     let forced = [x(1), x(2), x(3)];
+    Ok(
+        tells(live, &[], &[], &forced)?
+            && tells(live, &[], &[x(1), x(2)], &forced)?
+            && tells(live, &[], &[not_x(1), x(2)], &forced)?,
+    )
+}
+
+/// Whether the same is told rightly with one literal more, and with another one beside what stands no longer.
+fn tells_decided<P: Propagator>(live: &mut P) -> Result<bool, AllocError> {
     let fourth = [x(1), x(2), x(3), not_x(4)];
     let fifth = [x(1), x(2), x(3), x(5)];
-    let at_first = tells(&mut live, &[], &[], &forced)?;
-    let beside_some = tells(&mut live, &[], &[x(1), x(2)], &forced)?;
-    let one_more = tells(&mut live, &[not_x(4)], &forced, &fourth)?;
-    let another = tells(&mut live, &[x(5)], &fourth, &fifth)?;
-    let beside_wrong = tells(&mut live, &[], &[not_x(1), x(2)], &forced)?;
-    let conflict = live.retrace(&[not_x(3)], &forced)?;
-    let ends = !matches!(conflict.extent, Extent::Closed);
-    Ok(at_first && beside_some && one_more && another && beside_wrong && ends)
+    Ok(tells(live, &[not_x(4)], &fourth[..3], &fourth)? && tells(live, &[x(5)], &fourth, &fifth)?)
+}
+
+/// Whether the opposite of a forced literal extends to a conflict.
+fn tells_conflict<P: Propagator>(live: &mut P) -> Result<bool, AllocError> {
+    let retrace = live.retrace(&[not_x(3)], &[x(1), x(2), x(3)])?;
+    Ok(!matches!(retrace.extent, Extent::Closed))
+}
+
+/// Whether a propagator tells rightly what assignments extend to that it is asked of one after another.
+fn retraces<P: Propagator>(alloc: Global) -> Result<bool, CutFault> {
+    let mut live: P = three_clauses(alloc)?;
+    Ok(tells_forced(&mut live)? && tells_decided(&mut live)? && tells_conflict(&mut live)?)
 }
 
 #[test]

@@ -7,7 +7,7 @@ use opb_read::read;
 use proof_rules::StepFault;
 use proof_text::read_step;
 use propagate::{Propagator, ScanPropagator};
-use std::alloc::Global;
+use std::alloc::{AllocError, Global};
 use std::process::Abort;
 use std::test::Fail;
 use watch::WatchPropagator;
@@ -34,19 +34,29 @@ fn answer<P: Propagator>(
     Some(kernel.apply(&step).map(|applied| applied.id))
 }
 
+/// What a kernel answers to the lines, one after another.
+fn answer_each<P: Propagator>(
+    alloc: Global,
+    kernel: &mut Kernel<'_, P>,
+    names: &mut Names,
+    lines: &[&str],
+) -> Result<Vec<Option<Answer>>, AllocError> {
+    let mut answers = Vec::new(alloc);
+    for line in lines {
+        answers.push(answer(alloc, kernel, names, line))?;
+    }
+    Ok(answers)
+}
+
 /// What a kernel of the problem answers to the lines.
 fn answers<P: Propagator>(
     alloc: Global,
     problem: &Problem,
     lines: &[&str],
 ) -> Result<Vec<Option<Answer>>, StepFault> {
-    let mut kernel: Kernel<'_, P> = Kernel::new(alloc, problem)?;
     let mut names = problem.names().copy(alloc)?;
-    let mut answers = Vec::new(alloc);
-    for line in lines {
-        answers.push(answer(alloc, &mut kernel, &mut names, line))?;
-    }
-    Ok(answers)
+    let mut kernel: Kernel<'_, P> = Kernel::new(alloc, problem)?;
+    Ok(answer_each(alloc, &mut kernel, &mut names, lines)?)
 }
 
 /// How many lines read as steps, where kernels over both answer alike, and never that memory ran out.

@@ -18,17 +18,28 @@ struct Answer {
     agree: bool,
 }
 
-/// Judges a proof, and, where it is accepted, the claim by all assignments; has it judged in pieces, and its steps over each propagator.
-fn judge(alloc: Global, opb: &[u8], proof: &[u8]) -> Result<Answer, Fail> {
-    let verdict = check(alloc, opb, proof);
-    let printed = verdict_text(alloc, opb, &verdict)?;
-    let in_pieces = agree_in_pieces(alloc, opb, proof, printed.as_slice())?;
+/// Whether a verdict is the same in whatever pieces the proof comes, and its steps are answered alike over each propagator.
+fn agree(alloc: Global, opb: &[u8], proof: &[u8], printed: &[u8]) -> Result<bool, Fail> {
+    Ok(agree_in_pieces(alloc, opb, proof, printed)? && agree_on(alloc, opb, proof)?)
+}
+
+/// What a verdict is for this problem and this proof: what is printed, and, where it accepts, whether the claim is so by all assignments.
+fn answer_of(alloc: Global, opb: &[u8], proof: &[u8], verdict: &Verdict) -> Result<Answer, Fail> {
+    let is_true = is_true(alloc, opb, verdict)?;
+    let printed = verdict_text(alloc, opb, verdict)?;
+    let agree = agree(alloc, opb, proof, printed.as_slice())?;
     Ok(Answer {
         printed,
-        status: verdict_status(&verdict),
-        is_true: is_true(alloc, opb, &verdict)?,
-        agree: in_pieces && agree_on(alloc, opb, proof)?,
+        status: verdict_status(verdict),
+        is_true,
+        agree,
     })
+}
+
+/// Judges a proof, and looks at what is answered.
+fn judge(alloc: Global, opb: &[u8], proof: &[u8]) -> Result<Answer, Fail> {
+    let verdict = check(alloc, opb, proof);
+    answer_of(alloc, opb, proof, &verdict)
 }
 
 /// Checks what is printed for a problem and a proof, the exit status, that what is claimed is so, and that kernels over each

@@ -14,17 +14,22 @@ const ASSIGNMENTS: u32 = 64;
 
 /// Whether what is accepted for a problem of at most six variables is so.
 pub(crate) fn is_claim_true(alloc: Global, opb: &[u8], accepted: &Accepted) -> Result<bool, Fail> {
-    let Ok(problem) = read(alloc, opb) else {
-        return Ok(false);
-    };
+    match read(alloc, opb) {
+        Ok(problem) => Ok(is_true_of(alloc, &problem, accepted)?),
+        Err(_) => Ok(false),
+    }
+}
+
+/// The same of a problem that was read.
+fn is_true_of(alloc: Global, problem: &Problem, accepted: &Accepted) -> Result<bool, AllocError> {
     if problem.names().len() > 6 {
         return Ok(false);
     }
-    let least = least_value(alloc, &problem)?;
+    let least = least_value(alloc, problem)?;
     let Some(best) = accepted.best() else {
         return Ok(is_so(accepted.conclusion(), least, None));
     };
-    let Some(value) = value_of_solution(&problem, best) else {
+    let Some(value) = value_of_solution(problem, best) else {
         return Ok(false);
     };
     Ok(is_so(accepted.conclusion(), least, Some(value)))

@@ -74,16 +74,21 @@ fn applied<P: Propagator>(
     Ok(applied.id)
 }
 
+/// Whether a kernel answers to each step as its row says.
+fn answers_each<P: Propagator>(alloc: Global, kernel: &mut Kernel<'_, P>, rows: &[Row]) -> bool {
+    for row in rows {
+        if applied(alloc, kernel, row.line) != row.answer || kernel.last_id() != row.last_id {
+            return false;
+        }
+    }
+    true
+}
+
 /// Whether the kernel of the file answers to each step as its row says.
 fn answers_are<P: Propagator>(alloc: Global, least: i8, rows: &[Row]) -> Result<bool, StepFault> {
     let problem = problem(alloc, least)?;
     let mut kernel: Kernel<'_, P> = Kernel::new(alloc, &problem)?;
-    for row in rows {
-        if applied(alloc, &mut kernel, row.line) != row.answer || kernel.last_id() != row.last_id {
-            return Ok(false);
-        }
-    }
-    Ok(true)
+    Ok(answers_each(alloc, &mut kernel, rows))
 }
 
 const NOT_FIRST: Lit = Lit {
@@ -195,13 +200,20 @@ const NO_SOLUTION: [Row; 1] = [Row {
     last_id: 3,
 }];
 
+/// The least value of the file's first constraint, and steps of a proof.
+const RUNS: [(i8, &[Row]); 5] = [
+    (0, &NUMBERS),
+    (0, &REFUSED_IN_THE_MIDDLE),
+    (0, &DELETED),
+    (0, &SOLUTION),
+    (1, &NO_SOLUTION),
+];
+
 #[test]
 fn answers_to_steps(rt: HostRuntime) {
-    assert!(&rt; answers_are::<ScanPropagator>(rt.alloc(), 0, &NUMBERS) == Ok(true));
-    assert!(&rt; answers_are::<ScanPropagator>(rt.alloc(), 0, &REFUSED_IN_THE_MIDDLE) == Ok(true));
-    assert!(&rt; answers_are::<ScanPropagator>(rt.alloc(), 0, &DELETED) == Ok(true));
-    assert!(&rt; answers_are::<ScanPropagator>(rt.alloc(), 0, &SOLUTION) == Ok(true));
-    assert!(&rt; answers_are::<ScanPropagator>(rt.alloc(), 1, &NO_SOLUTION) == Ok(true));
+    for (least, rows) in &RUNS {
+        assert!(&rt; answers_are::<ScanPropagator>(rt.alloc(), *least, rows) == Ok(true));
+    }
 }
 
 /// What the kernel of a problem answers to its first step.
