@@ -140,15 +140,16 @@ fn improve<'a, P: Propagator>(
     Ok(())
 }
 
-/// The adviser of a problem.
+/// A kernel of a problem, and the adviser over it. Problems that are too large for one, of which there is none here, count as out of memory.
 fn adviser_of<'a, P: Propagator>(
-    rt: &impl Abort,
     alloc: Global,
     problem: &'a Problem,
 ) -> Result<(Kernel<'a, P>, Adviser), AllocError> {
-    let kernel = Kernel::new(alloc, problem).expect(rt, "memory");
-    let adviser = Adviser::new(alloc, problem, &kernel)?.expect(rt, "an adviser");
-    Ok((kernel, adviser))
+    let kernel = Kernel::new(alloc, problem)?;
+    match Adviser::new(alloc, problem, &kernel)? {
+        Some(adviser) => Ok((kernel, adviser)),
+        None => Err(AllocError),
+    }
 }
 
 /// Whether the relaxation is infeasible at the root, and the sum of its multipliers says so, by one.
@@ -201,16 +202,19 @@ fn forces<'a, P: Propagator>(
     Ok(forces_at_root(kernel, adviser)? && speaks_below(kernel, adviser)?)
 }
 
-/// The relaxation of the pigeons is infeasible.
-fn contradict<'a, P: Propagator>(rt: &impl Abort, alloc: Global, problem: &'a Problem) {
-    let (mut kernel, mut adviser) = adviser_of::<P>(rt, alloc, problem).expect(rt, "memory");
-    assert!(rt; matches!(contradicts(&mut kernel, &mut adviser), Ok(true)));
+/// Whether the relaxation of a problem is infeasible.
+fn is_contradicted<'a, P: Propagator>(
+    alloc: Global,
+    problem: &'a Problem,
+) -> Result<bool, StepFault> {
+    let (mut kernel, mut adviser) = adviser_of::<P>(alloc, problem)?;
+    contradicts(&mut kernel, &mut adviser)
 }
 
-/// Prices force literals.
-fn force<'a, P: Propagator>(rt: &impl Abort, alloc: Global, problem: &'a Problem) {
-    let (mut kernel, mut adviser) = adviser_of::<P>(rt, alloc, problem).expect(rt, "memory");
-    assert!(rt; matches!(forces(alloc, &mut kernel, &mut adviser), Ok(true)));
+/// Whether prices of a problem force literals.
+fn is_forced<'a, P: Propagator>(alloc: Global, problem: &'a Problem) -> Result<bool, StepFault> {
+    let (mut kernel, mut adviser) = adviser_of::<P>(alloc, problem)?;
+    forces(alloc, &mut kernel, &mut adviser)
 }
 
 /// Whether a dive goes on below the root, before a conflict and so before a cut: a call is due at a node that has done nothing, and all three
@@ -269,31 +273,36 @@ fn leans<'a, P: Propagator>(
     Ok(leans && matches!(unchanged, Advice::Nothing) && all == 3 && others == 2)
 }
 
-/// The corners lean to half, and a dive prefers them, until a cut comes. What is asked stands in helpers, since each exit here drops kernel and
-/// adviser.
-fn lean<'a, P: Propagator>(rt: &impl Abort, alloc: Global, problem: &'a Problem) {
-    let (mut kernel, mut adviser) = adviser_of::<P>(rt, alloc, problem).expect(rt, "memory");
-    assert!(rt; matches!(dives(&kernel, &mut adviser), Ok(true)));
-    assert!(rt; matches!(cuts(&mut kernel, &mut adviser), Ok(true)));
-    assert!(rt; matches!(leans(&kernel, &mut adviser), Ok(true)));
+/// Whether a dive prefers the corners until a cut comes, and they lean to half then, in five calls with one cut.
+fn dives_and_leans<'a, P: Propagator>(
+    kernel: &mut Kernel<'a, P>,
+    adviser: &mut Adviser,
+) -> Result<bool, StepFault> {
+    let is_so = dives(kernel, adviser)? && cuts(kernel, adviser)? && leans(kernel, adviser)?;
     let figures = adviser.figures();
-    assert!(rt; figures.calls == 5 && figures.cuts == 1);
+    Ok(is_so && figures.calls == 5 && figures.cuts == 1)
+}
+
+/// The same of a problem.
+fn is_leaning<'a, P: Propagator>(alloc: Global, problem: &'a Problem) -> Result<bool, StepFault> {
+    let (mut kernel, mut adviser) = adviser_of::<P>(alloc, problem)?;
+    dives_and_leans(&mut kernel, &mut adviser)
 }
 
 #[test]
 fn pigeons_contradict_each_other(rt: HostRuntime) {
     let problem = read(rt.alloc(), PIGEONS.as_bytes()).expect(&rt, "a problem");
-    contradict::<ScanPropagator>(&rt, rt.alloc(), &problem);
+    assert!(&rt; is_contradicted::<ScanPropagator>(rt.alloc(), &problem) == Ok(true));
 }
 
 #[test]
 fn prices_force_literals(rt: HostRuntime) {
     let problem = read(rt.alloc(), PRICES.as_bytes()).expect(&rt, "a problem");
-    force::<ScanPropagator>(&rt, rt.alloc(), &problem);
+    assert!(&rt; is_forced::<ScanPropagator>(rt.alloc(), &problem) == Ok(true));
 }
 
 #[test]
 fn corners_lean(rt: HostRuntime) {
     let problem = read(rt.alloc(), TRIANGLE.as_bytes()).expect(&rt, "a problem");
-    lean::<ScanPropagator>(&rt, rt.alloc(), &problem);
+    assert!(&rt; is_leaning::<ScanPropagator>(rt.alloc(), &problem) == Ok(true));
 }

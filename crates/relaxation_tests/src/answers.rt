@@ -47,7 +47,7 @@ impl Tally {
 }
 
 /// A call that ended, beside what is fixed: the best of all assignments, and what it asked for at most.
-#[derive(Clone, Copy)]
+#[derive(Drop)]
 struct Call<'a> {
     problem: &'a PlainProblem,
     relaxation: &'a Relaxation,
@@ -188,12 +188,12 @@ fn is_feasible(problem: &PlainProblem, point: &[i128], fixed: &[Option<bool>]) -
 
 impl Call<'_> {
     /// The exact sum by its multipliers, the greatest of them `2^bits`. The improving constraint asks for at most `upper`.
-    fn sum(self, alloc: Global, bits: u32, upper: i128) -> Result<ExactSum, AllocError> {
+    fn sum(&self, alloc: Global, bits: u32, upper: i128) -> Result<ExactSum, AllocError> {
         sum_up(alloc, self.problem, self.relaxation, bits, upper)
     }
 
     /// Whether what the multipliers prove of every point is about what this one costs, and no more than the best of all assignments.
-    fn is_about_its_bound(self, rt: &impl Abort, point: &[i128], sum: &ExactSum) -> bool {
+    fn is_about_its_bound(&self, rt: &impl Abort, point: &[i128], sum: &ExactSum) -> bool {
         let bound = sum.slack(self.fixed).saturating_neg();
         let times = sum.of_costs;
         assert!(rt; times > 0);
@@ -210,7 +210,7 @@ impl Call<'_> {
 
     /// Looks at the values of a point: they satisfy all, and what they cost is about the bound.
     fn look_at_point(
-        self,
+        &self,
         rt: &impl Abort,
         alloc: Global,
         point: &[i128],
@@ -228,32 +228,32 @@ impl Call<'_> {
     }
 
     /// Looks at a call that ended with values.
-    fn look_at_values(self, rt: &impl Abort, alloc: Global) -> Result<bool, AllocError> {
+    fn look_at_values(&self, rt: &impl Abort, alloc: Global) -> Result<bool, AllocError> {
         let point = point_of(alloc, self.relaxation, self.problem.count)?;
         self.look_at_point(rt, alloc, point.as_slice())
     }
 
     /// What the sum of its multipliers has more than its right side at most, where the improving constraint asks for at most `upper`.
-    fn slack(self, alloc: Global, bits: u32, upper: i128) -> Result<i128, AllocError> {
+    fn slack(&self, alloc: Global, bits: u32, upper: i128) -> Result<i128, AllocError> {
         Ok(self.sum(alloc, bits, upper)?.slack(self.fixed))
     }
 
     /// Whether the sum of its multipliers is false.
-    fn is_false(self, alloc: Global, upper: i128) -> Result<bool, AllocError> {
+    fn is_false(&self, alloc: Global, upper: i128) -> Result<bool, AllocError> {
         let rough = self.slack(alloc, 20, upper)?;
         let fine = self.slack(alloc, 32, upper)?;
         Ok(rough < 0 || fine < 0)
     }
 
     /// Whether a literal is forced that the exact sum does not bear out.
-    fn forces_wrongly(self, alloc: Global, upper: i128) -> Result<bool, AllocError> {
+    fn forces_wrongly(&self, alloc: Global, upper: i128) -> Result<bool, AllocError> {
         let sum = self.sum(alloc, 32, upper)?;
         Ok(!sum.says_something(self.fixed))
     }
 
     /// Looks at how it ended.
     fn look_at(
-        self,
+        &self,
         rt: &impl Abort,
         alloc: Global,
         end: End,
