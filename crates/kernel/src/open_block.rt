@@ -37,7 +37,9 @@ pub(crate) struct OpenBlock {
     pub(crate) first: Id,
     /// The live constraints whose goals were opened.
     pub(crate) opened: Ids,
+    /// Whether the goal of the constraint itself was opened, `#1`.
     pub(crate) itself: bool,
+    /// Whether the goal of the objective was opened, `#2`.
     pub(crate) objective: bool,
     /// The id of the negation of the open goal.
     goal: Option<Id>,

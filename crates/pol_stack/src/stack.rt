@@ -332,10 +332,11 @@ impl<'a> Stack<'a> {
         }
     }
 
-    /// Takes the one constraint that is left at the end of a line. `StackShape` where there is not exactly one. After a fault all is as
-    /// before.
+    /// Takes the one constraint that is left at the end of a line, and leaves none. `StackShape` where there is not exactly one. After a
+    /// fault all is as before.
     pub fn only(&mut self, alloc: Global) -> Result<Normal, StepFault>
         ensures one { IfOk result (λ n. self.old ≡ n ∷ []) }
+        ensures left { OnOk result (self.new ≡ []) }
         ensures err { OnErr result (self.new ≡ self.old) }
         ensures fault { IfErr result (λ f. OrMemory f ((f ≡ StepFault.StackShape) × (length self.old ≢ 1))) }
     {

@@ -48,8 +48,8 @@ pub fn solution_judged_by_the_file()
     ensures completed { IsSolFault cover_file derived_state (not_x 0 ∷ []) SolutionConflict }
 {}
 
-/// A solution of value 1 where 2 was the least: it is logged, 1 becomes the least, and `1 ~x0 1 ~x1 >= 2` is added, which
-/// no one may delete. Where 1 is the least already it does not improve, and without an objective nothing does.
+/// A solution of value 1 where 2 was the least: it is logged, 1 becomes the least, and `1 ~x0 1 ~x1 >= 2` is added.
+/// Where 1 is the least already it does not improve, and without an objective nothing does.
 pub fn improving_solution()
     ensures improves { LegalSoli least_cover (cover_state (Some (pos 2)) (both ∷ [])) (not_x 0 ∷ [])
         (with_constraint below_one (cover_state (Some (pos 1)) (both ∷ second_alone ∷ []))) }
