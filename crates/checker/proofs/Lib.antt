@@ -5,6 +5,7 @@ pub mod WalkOfProof
 pub mod ProofOfWalk
 pub mod Walking
 pub mod Claimed
+pub mod NamesThere
 pub mod OneProof
 pub mod PrintedClaim
 pub mod ProvedAccepted

@@ -1,9 +1,9 @@
 -- Lines that come from a source: what is judged by them is so of every text that begins as they do.
-use Rattle.std.proofs.Common.{◌≡◌, ◌⊎◌, inl, inr, ℕ, ◌+◌, Bool, true, false, Err, IsErrOf, Some, List, [], ◌∷◌, ◌++◌, refl, sym, ap, subst, ◌∙◌, arith}
+use Rattle.std.proofs.Common.{◌≡◌, ◌⊎◌, inl, inr, ℕ, ◌+◌, Bool, true, false, Err, IsErrOf, Option, Some, List, [], ◌∷◌, ◌++◌, refl, sym, ap, subst, ◌∙◌, arith}
 use Rattle.std.proofs.lemmas.List.{append-nil, append_assoc}
 use Rattle.linear.specs.Opb.{Opb}
 use Rattle.kernel.specs.Accepted.{Judgement}
-use Rattle.pb_text.specs.Devices.{SourceState}
+use Rattle.pb_text.specs.Devices.{SourceState, followed_by}
 use Rattle.proof_text.specs.Buffered.{Buffered, Comes, GoesOn, IsEmptied, PassesLines, lent}
 use Rattle.proof_text.specs.Lines.{Numbered, breaks, counting_from, lines_of}
 use Rattle.proof_text.specs.declared.line_buffer.LineFault.{LineFault}
@@ -12,12 +12,17 @@ use Rattle.proof_text.proofs.LinesBuffered.{passes_on}
 use Rattle.proof_text.proofs.LinesParted.{nothing_left}
 use Rattle.checker.specs.Stopped.{IsStopped, IsTruncated}
 use Rattle.checker.specs.StopsBy.{StopsBy}
-use Rattle.checker.specs.Streamed.{OfStream, StreamStopsBy}
+use Rattle.checker.specs.Streamed.{IsStreamVerdictOf, OfStream, StreamStopsBy}
 use Rattle.checker.specs.StreamStops.{stop_of}
-use Rattle.checker.specs.Verdicts.{IsProved}
+use Rattle.checker.specs.Verdicts.{IsProved, IsRefusedProof, IsTrueOf, IsVerdictOf}
 use Rattle.checker.specs.Walk.{IsOver, Position, Reaches}
 use Rattle.checker.specs.declared.stop.Stop.{Stop}
+use Rattle.checker.specs.declared.stop.Stop.TheVariants as stops
+use Rattle.checker.specs.declared.stream.StreamStop.TheVariants as streams
+use Rattle.checker.specs.declared.stream_verdict.StreamVerdict.TheVariants.{Judged}
 use Rattle.checker.specs.declared.verdict.Code.{Code}
+use Rattle.checker.specs.declared.verdict.Verdict.{Verdict}
+use Rattle.checker.specs.declared.verdict.Verdict.TheVariants as verdicts
 use Rattle.checker.proofs.ProofOfWalk.{proved_at_end}
 use Rattle.checker.proofs.Walking.{NowhereAt, stops_so}
 
@@ -67,13 +72,19 @@ of_stream_so s t H K brings of = record { pulled = of.pulled; given = of.given; 
     by (inr h) = inr (λ more. brings (of.pulled ++ more) (h more))
 
 -- no line comes
-pub stream_fails : (p : Opb) (before source after : SourceState) (fault : LineFault) → source.failures ≡ before.failures → (IsErrOf {T = Bool} (Err fault) faults.ReadFailed → after.failures ≡ source.failures + 1) → StreamStopsBy p before after (stop_of fault)
-stream_fails p before source after faults.ReadFailed same failed = failed refl ∙ ap (λ n. n + 1) same
-stream_fails p before source after faults.OutOfMemory same failed = tt
+pub stream_fails : (p : Opb) (before source after : SourceState) (fault : LineFault) → source.failures ≡ before.failures → (IsErrOf {T = Bool} (Err fault) faults.ReadFailed → after.failures ≡ source.failures + 1)
+    → (IsErrOf {T = Bool} (Err fault) faults.OutOfMemory → after.failures ≡ source.failures) → StreamStopsBy p before after (stop_of fault)
+stream_fails p before source after faults.ReadFailed same failed memory = failed refl ∙ ap (λ n. n + 1) same
+stream_fails p before source after faults.OutOfMemory same failed memory = memory refl ∙ same
 
 -- judging stops at this line of what came
 abbrev pub StopsInStream : Opb → SourceState → SourceState → ℕ → Code → Type 0
 StopsInStream p s t line code = OfStream s t (λ proof. IsStopped p proof line code)
+
+-- judging stops there, or memory runs out, and no pull failed
+pub judging_stops : (p : Opb) (s t : SourceState) (stop : Stop) → t.failures ≡ s.failures → StopsBy (StopsInStream p s t) stop → StreamStopsBy p s t (streams.Judging stop)
+judging_stops p s t (stops.At line code) same why = why
+judging_stops p s t stops.NoMemory same why = same
 
 -- a line leads nowhere
 pub stream_stop : (p q : Opb) (fresh b : Buffered) (s t : SourceState) (at : Position) (read : List Numbered) (line next : Numbered) (stop : Stop) → q ≡ p → next ≡ line → IsFresh fresh
@@ -136,3 +147,23 @@ pub came_to_end : (yes : Bool) (a b c : Buffered) (s t u : SourceState) (read : 
 came_to_end true a b c s t u read passed comes is = absurd cc
 came_to_end false a b c s t u read passed comes is =
     (subst (λ ls. PassesLines a c s u ls) (append-nil read) (passes_on a b c s t u read [] passed comes.0), comes.1)
+
+-- what is judged of what came is so of the text that came
+given_text : (given : Option (List ℕ)) (proof pulled : List ℕ) → given ≡ Some [] → Some proof ≡ followed_by given pulled → pulled ≡ proof
+given_text given proof pulled none all = cc (all ∙ ap (λ g. followed_by g pulled) none)
+
+of_its_text : (before after : SourceState) (proof : List ℕ) (H : List ℕ → Type 0) → before.given ≡ Some [] → after.given ≡ Some proof → OfStream before after H → H proof
+of_its_text before after proof H none all of = by of.holds
+  where
+    same : of.pulled ≡ proof
+    same = given_text before.given proof of.pulled none (sym all ∙ of.given)
+
+    by : ((after.at_end ≡ true) × H of.pulled) ⊎ ((more : List ℕ) → H (of.pulled ++ more)) → H proof
+    by (inl (end, holds)) = subst H same holds
+    by (inr holds) = subst H (append-nil of.pulled ∙ same) (holds [])
+
+pub judged_as_text : (opb proof : List ℕ) (before after : SourceState) → before.given ≡ Some [] → after.given ≡ Some proof → (v : Verdict) → IsStreamVerdictOf opb before after (Judged v) → IsVerdictOf opb proof v
+judged_as_text opb proof before after none all (verdicts.Accepted accepted) judged = of_its_text before after proof (λ text. IsTrueOf opb text accepted) none all judged
+judged_as_text opb proof before after none all (verdicts.Refused line code) judged = of_its_text before after proof (λ text. IsRefusedProof opb text line code) none all judged
+judged_as_text opb proof before after none all (verdicts.BadProblem fault) judged = judged.0
+judged_as_text opb proof before after none all verdicts.NoMemory judged = tt

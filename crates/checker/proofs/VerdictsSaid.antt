@@ -52,4 +52,4 @@ stream_true text p spells within s t a proved = of_stream_so s t (λ proof. IsPr
 pub stream_stop_said : (text : List ℕ) (p : Opb) → Spells text p → IsWithin p → (s t : SourceState) (stop : Stop) → StreamStopsBy p s t (streams.Judging stop) → IsStreamVerdictOf text s t (Judged (verdict_of stop))
 stream_stop_said text p spells within s t (stops.At line code) stopped =
     of_stream_so s t (λ proof. IsStopped p proof line code) (λ proof. IsRefusedProof text proof line code) (λ proof. is_refused text p spells within line code proof) stopped
-stream_stop_said text p spells within s t stops.NoMemory stopped = tt
+stream_stop_said text p spells within s t stops.NoMemory stopped = stopped

@@ -35,6 +35,10 @@ pub record IsTrueOf (text proof : List ℕ) (accepted : Judgement) : Type 0 wher
   pub claim : Claim problem accepted.conclusion accepted.best
   pub proved : IsProved problem proof accepted
 
+-- the text spells a problem within the limits
+abbrev pub SpellsProblem : List ℕ → Type 0
+SpellsProblem text = (problem : Opb) × Spells text problem × IsWithin problem
+
 -- The text has this fault, at the first token that cannot stand: it spells no problem, or none within the limits.
 pub record IsBadProblem (text : List ℕ) (fault : OpbFault) : Type 0 where
   pub denied : Denies fault.code text

@@ -1,16 +1,21 @@
 //! Laws of verdicts, as contracts of functions that do nothing.
 
-ghost use Rattle.std.specs.Prelude.{◌≡◌, ℕ, Bool, List, Some, ◌⊎◌};
+ghost use Rattle.std.specs.Prelude.{◌≡◌, ℕ, Bool, true, List, [], Some, ◌⊎◌};
 ghost use Rattle.linear.specs.Opb.{Opb};
 ghost use Rattle.linear.specs.Limits.{IsWithin};
+ghost use Rattle.linear.specs.Table.{has_name, place_of};
+ghost use Rattle.linear.specs.Valuation.{by_number};
 ghost use Rattle.opb_read.specs.Spells.{Spells};
+ghost use Rattle.pb_text.specs.Devices.{SourceState};
 ghost use Rattle.kernel.specs.Accepted.{Judgement};
 ghost use Rattle.proof_rules.specs.Claim.{IsSolution};
 ghost use Rattle.proof_rules.specs.declared.fault.StepFault.{StepFault};
 ghost use Rattle.proof_rules.specs.declared.fault.StepFault.TheVariants.{BlockOpen, NoBlock};
 ghost use Rattle.checker.specs.Verdicts.{IsProved, IsTrueOf, IsVerdictOf};
 ghost use Rattle.checker.specs.Stopped.{IsLeftOpen, IsStopped};
+ghost use Rattle.checker.specs.Streamed.{IsStreamVerdictOf};
 ghost use Rattle.checker.specs.Printed.{IsPrinted, accepted_line, with_assignment};
+ghost use Rattle.checker.specs.declared.stream_verdict.StreamVerdict.TheVariants.{Judged};
 ghost use Rattle.checker.specs.declared.verdict.Code.TheVariants.{Judging};
 ghost use Rattle.checker.specs.declared.verdict.Verdict.TheVariants.{Accepted, NoMemory};
 
@@ -41,6 +46,19 @@ pub fn one_code_of_judging()
 pub fn what_is_proved_is_accepted()
     ensures { (opb proof : List ℕ) → (p : Opb) → Spells opb p → IsWithin p → (a : Judgement) → IsProved p proof a
         → (v : Verdict) → IsVerdictOf opb proof v → (v ≡ Accepted a) ⊎ (v ≡ NoMemory) }
+{}
+
+/// What is judged of a proof that comes from a source is so of the text that the source has given.
+pub fn pieces_are_judged_as_their_text()
+    ensures { (opb proof : List ℕ) → (before after : SourceState) → before.given ≡ Some [] → after.given ≡ Some proof
+        → (v : Verdict) → IsStreamVerdictOf opb before after (Judged v) → IsVerdictOf opb proof v }
+{}
+
+/// A set of names makes true just those names, by the numbers that a table gives them: so what is claimed of all assignments is
+/// claimed of all sets of names.
+pub fn set_of_names_is_a_valuation()
+    ensures { (names : List (List ℕ)) → (members : List ℕ → Bool) → (name : List ℕ) → has_name names name ≡ true
+        → by_number names members (place_of names name) ≡ members name }
 {}
 
 /// A text is one proof of a problem: its steps, its conclusion and its best solution are those of any reading of it.

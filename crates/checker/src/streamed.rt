@@ -16,8 +16,8 @@ use std::alloc::Global;
 /// begins with the bytes that came, or for just these, where the source was seen to end. No piece is asked for before all whole
 /// lines are judged, nor for a bad problem, and no more is held than the line that is judged and what came behind it.
 ///
-/// `ReadFailed` only where the source failed. Its failures must be fewer than the greatest number, so that one more can be
-/// counted.
+/// `ReadFailed` only where the text is a problem's and the source failed, `NoMemory` only where it did not. Its failures must be fewer
+/// than the greatest number, so that one more can be counted.
 pub fn check_stream<S: Source>(alloc: Global, opb: &[u8], source: &mut S) -> StreamVerdict
     requires { (S.state source.old).failures < u64.MAX }
     ensures { IsStreamVerdictOf opb.now (S.state source.old) (S.state source.new) result }

@@ -1,5 +1,5 @@
 //! `pbcheck FILE PROOF`: prints the verdict about a proof of a problem, and ends with the status that stands for it. The proof is
-//! read piece by piece, from a file or from standard input, and never held as a whole.
+//! read piece by piece, from a file or from standard input, and no more of it is held than a line.
 #![tactic(auto)]
 
 use checker::{

@@ -122,13 +122,14 @@ impl LineBuffer {
 
     /// Moves to the next line that counts, pulling what is needed for it; no such line is left where this is false.
     ///
-    /// `ReadFailed` where the source fails, `OutOfMemory` where a growth is refused; behind either nothing is said of what
-    /// is held.
+    /// `ReadFailed` where the source fails, `OutOfMemory` where a growth is refused, and then the source has not failed; behind either
+    /// nothing is said of what is held.
     pub fn advance<S: Source>(&mut self, source: &mut S) -> Result<bool, LineFault>
         requires failures { (S.state source.old).failures < u64.MAX }
         requires room { self.old.number + length self.old.bytes + (S.state source.old).left < 2 ^ 64 }
         ensures comes { IfOk result (λ yes. Comes yes self.old self.new (S.state source.old) (S.state source.new)) }
         ensures failed { IsErrOf result LineFault.ReadFailed → (S.state source.new).failures ≡ (S.state source.old).failures + 1 }
+        ensures memory { IsErrOf result LineFault.OutOfMemory → (S.state source.new).failures ≡ (S.state source.old).failures }
     {
         while self.find(source)? {
             if counts(self.text()) {
@@ -168,6 +169,7 @@ impl LineBuffer {
         requires room { self.old.number + length self.old.bytes + (S.state source.old).left < 2 ^ 64 }
         ensures finds { IfOk result (λ yes. Finds yes self.old self.new (S.state source.old) (S.state source.new)) }
         ensures failed { IsErrOf result LineFault.ReadFailed → (S.state source.new).failures ≡ (S.state source.old).failures + 1 }
+        ensures memory { IsErrOf result LineFault.OutOfMemory → (S.state source.new).failures ≡ (S.state source.old).failures }
     {
         self.complete(source)?;
         Ok(self.take_line())
@@ -179,6 +181,7 @@ impl LineBuffer {
         ensures fills { OnOk result (Fills self.old self.new (S.state source.old) (S.state source.new)) }
         ensures ready { OnOk result (IsReady self.new) }
         ensures failed { IsErrOf result LineFault.ReadFailed → (S.state source.new).failures ≡ (S.state source.old).failures + 1 }
+        ensures memory { IsErrOf result LineFault.OutOfMemory → (S.state source.new).failures ≡ (S.state source.old).failures }
     {
         while !self.is_ready() {
             self.fill(source)?;
@@ -201,6 +204,7 @@ impl LineBuffer {
         ensures fills { OnOk result (Fills self.old self.new (S.state source.old) (S.state source.new)) }
         ensures progress { OnOk result ((self.new.ended ≡ true) ⊎ ((S.state source.new).left < (S.state source.old).left)) }
         ensures failed { IsErrOf result LineFault.ReadFailed → (S.state source.new).failures ≡ (S.state source.old).failures + 1 }
+        ensures memory { IsErrOf result LineFault.OutOfMemory → (S.state source.new).failures ≡ (S.state source.old).failures }
     {
         self.drop_passed()?;
         let mut piece = [0; PIECE];

@@ -65,6 +65,24 @@ impl<'a> LineWords<'a> {
         }
     }
 
+    /// Passes the next word where it is this byte alone, and says whether it is.
+    // The items of `pol` lines ask this of nearly each word.
+    pub(crate) fn takes_byte(&mut self, byte: u8) -> bool
+        ensures first { result ≡ words.is_first (byte ∷ []) self.old }
+        ensures left { self.new ≡ (if words.is_first (byte ∷ []) self.old then drop 1 self.old else self.old) }
+    {
+        let Some(token) = self.next() else {
+            return false;
+        };
+        match token.text {
+            [b] if *b == byte => {
+                self.left.advance();
+                true
+            }
+            _ => false,
+        }
+    }
+
     /// Whether no word is left: nothing but a closing `;`, which may be missing.
     pub(crate) fn is_empty(&self) -> bool
         ensures { result ≡ words.is_empty self.now }

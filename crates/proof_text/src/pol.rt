@@ -24,10 +24,10 @@ fn integer_item(token: Token<'_>, words: &mut LineWords<'_>) -> Reading<Item>
     ensures denies { IfErr result (λ f. Denies f (are_items (token.entry.text.now ∷ words.old)) (token.entry.text.now ∷ words.old)) }
 {
     let number = number(token)?;
-    if words.takes(b"*") {
+    if words.takes_byte(b'*') {
         return Ok(Item::Multiply(number));
     }
-    if words.takes(b"d") {
+    if words.takes_byte(b'd') {
         return Ok(Item::Divide(number));
     }
     Ok(Item::Id(number))
@@ -41,7 +41,7 @@ fn literal_item(token: Token<'_>, words: &mut LineWords<'_>, table: &mut LineNam
     ensures denies { IfErr result (λ f. Denies f (are_items (token.entry.text.now ∷ words.old)) (token.entry.text.now ∷ words.old)) }
 {
     let lit = lit(token, table)?;
-    if !lit.negated && words.takes(b"w") {
+    if !lit.negated && words.takes_byte(b'w') {
         return Ok(Item::Weaken(lit.var));
     }
     Ok(Item::Axiom(lit))
@@ -53,12 +53,10 @@ fn operation_item(token: Token<'_>) -> Reading<Item>
     ensures takes { IfOk result (λ i. (k : NamesMet) (rest : List (List ℕ)) → Takes are_items items_of k (token.entry.text.now ∷ rest) i k rest) }
     ensures denies { IfErr result (λ f. (rest : List (List ℕ)) → Denies f (are_items (token.entry.text.now ∷ rest)) (token.entry.text.now ∷ rest)) }
 {
-    if token.text == b"+".as_slice() {
-        Ok(Item::Add)
-    } else if token.text == b"s".as_slice() {
-        Ok(Item::Saturate)
-    } else {
-        Err(ProofFault::BadLine)
+    match token.text {
+        b"+" => Ok(Item::Add),
+        b"s" => Ok(Item::Saturate),
+        _ => Err(ProofFault::BadLine),
     }
 }
 

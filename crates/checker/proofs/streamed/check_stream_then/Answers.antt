@@ -18,3 +18,10 @@ returns-in-Err-Judging g c =
 
 pub returns : goal.returns
 returns g c = c.bad_problem.ensures.stream c.args.opb.now (g.S.Source.state c.args.source.now) c.in-Err.ensures.denies c.in-Err.ensures.line
+
+pub returns-in-Ok : goal.returns-in-Ok
+returns-in-Ok g c =
+    let s = g.S.Source.state c.args.source.now in
+    let t = g.S.Source.state c.judge_stream.new.source in
+    let why = subst (StreamStopsBy c.in-Ok.problem s t) c.in-Err-ReadFailed.field-0-is c.in-Err-ReadFailed.ensures.stop in
+    ((c.in-Ok.problem, c.in-Ok.ensures.spells, c.in-Ok.ensures.within), why)
