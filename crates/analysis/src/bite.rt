@@ -6,7 +6,7 @@
 ghost use Rattle.std.specs.Prelude.{IfOk, IfSome};
 ghost use Rattle.analysis.specs.Biting.{BitesAt};
 
-use super::level::{least_level, level_count};
+use super::level::{LeastLevel, least_level};
 use super::slack::slack;
 use super::trail::Trail;
 use normal_form::Normal;
@@ -29,13 +29,14 @@ pub fn bite_on(
 ) -> Result<Option<Bite>, AllocError>
     ensures { IfOk result (λ found. IfSome found (λ bite. BitesAt trail.now bite.level constraint.now)) }
 {
-    let levels = trail.open_decisions().saturating_add(1);
-    let Some(level) = least_level(alloc, constraint, trail, levels)? else {
+    let limit = trail.open_decisions().saturating_add(1);
+    let Some(least) = least_level(alloc, constraint, trail, limit)? else {
         return Ok(None);
     };
+    let LeastLevel { level, levels } = least;
     Ok(Some(Bite {
         level,
         is_falsified: slack(constraint, trail, level).is_none(),
-        levels: level_count(alloc, constraint, trail)?,
+        levels,
     }))
 }

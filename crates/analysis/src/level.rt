@@ -11,12 +11,12 @@ use super::biting::bites;
 use super::seen::Seen;
 use super::trail::Trail;
 use accumulate::Accumulator;
-use linear::{Integer, Var};
+use linear::{Lit, Var};
 use normal_form::{Normal, NormalTerm};
 use std::alloc::{AllocError, Global};
 
-/// What a literal of a constraint has to do with the trail: the level since which it is set, `u32::MAX` where it is unset, and
-/// whether it is false since then.
+/// What a literal of a constraint that is set has to do with the trail: the level since which it is set, and whether it is false since
+/// then.
 #[derive(Clone, Copy, Debug)]
 struct Turn {
     level: u32,
@@ -24,26 +24,23 @@ struct Turn {
     is_false: bool,
 }
 
-fn turn_of(term: NormalTerm, trail: &Trail) -> Turn {
-    match trail.spot(term.var) {
-        Some(spot) => Turn {
-            level: spot.level,
-            coef: term.coef,
-            is_false: spot.negated != term.negated,
-        },
-        None => Turn {
-            level: u32::MAX,
-            coef: term.coef,
-            is_false: false,
-        },
-    }
+/// The turn of a term's literal, if that is set.
+fn turn_of(term: NormalTerm, trail: &Trail) -> Option<Turn> {
+    let spot = trail.spot(term.var)?;
+    Some(Turn {
+        level: spot.level,
+        coef: term.coef,
+        is_false: spot.negated != term.negated,
+    })
 }
 
-/// The turns of a constraint's literals, the one of the greatest level last.
+/// The turns of a constraint's set literals, the one of the greatest level last.
 fn turns(alloc: Global, constraint: &Normal, trail: &Trail) -> Result<Vec<Turn>, AllocError> {
     let mut turns = Vec::with_capacity(alloc, constraint.len())?;
     for place in 0..constraint.len() {
-        turns.push(turn_of(constraint.term(place), trail))?;
+        if let Some(turn) = turn_of(constraint.term(place), trail) {
+            turns.push(turn)?;
+        }
     }
     turns.sort_by_key(|turn: &Turn| turn.level)?;
     Ok(turns)
@@ -58,14 +55,20 @@ struct Sweep {
 }
 
 impl Sweep {
-    fn under_all(turns: &[Turn]) -> Sweep {
-        let mut sum: u128 = 0;
-        for turn in turns {
-            if !turn.is_false {
-                sum = sum.saturating_add(turn.coef);
-            }
+    /// Of no literal.
+    fn new() -> Sweep {
+        Sweep { sum: 0, unset: 0 }
+    }
+
+    /// Of a constraint's literals, under all that stand.
+    fn under_all(constraint: &Normal, trail: &Trail) -> Sweep {
+        let level = trail.open_decisions();
+        let mut sweep = Sweep::new();
+        for place in 0..constraint.len() {
+            let term = constraint.term(place);
+            sweep = sweep.with(term.literal(), term.coef, trail, level);
         }
-        Sweep { sum, unset: 0 }
+        sweep
     }
 
     fn taken_back(self, turn: Turn) -> Sweep {
@@ -79,12 +82,11 @@ impl Sweep {
         }
     }
 
-    /// With the literal of a variable's net coefficient, under the literals up to a level.
-    fn with(self, var: Var, net: Integer, trail: &Trail, level: u32) -> Sweep {
-        let coef = net.unsigned_abs();
-        match trail.spot(var) {
+    /// With a literal of this coefficient, under the literals up to a level.
+    fn with(self, literal: Lit, coef: u128, trail: &Trail, level: u32) -> Sweep {
+        match trail.spot(literal.var) {
             Some(spot) if spot.level <= level => Sweep {
-                sum: if spot.negated == (net < 0) {
+                sum: if spot.negated == literal.negated {
                     self.sum.saturating_add(coef)
                 } else {
                     self.sum
@@ -114,9 +116,10 @@ fn level_before(turns: &[Turn], place: usize) -> u32
     }
 }
 
-/// The least level at which a constraint of these turns, in the order of their levels, bites.
-fn least_biting(turns: &[Turn], degree: u128) -> Option<u32> {
-    let mut sweep = Sweep::under_all(turns);
+/// The least level at which a constraint bites, whose turns come in the order of their levels, and which comes to this sweep under all that
+/// stand.
+fn least_biting(turns: &[Turn], under_all: Sweep, degree: u128) -> Option<u32> {
+    let mut sweep = under_all;
     let mut place = turns.len();
     let mut least = if sweep.bites(degree) {
         Some(level_before(turns, place))
@@ -134,22 +137,46 @@ fn least_biting(turns: &[Turn], degree: u128) -> Option<u32> {
     least
 }
 
+/// How many levels there are among turns in the order of their levels (the literal block distance: Audemard and Simon, 2009).
+fn level_count(turns: &[Turn]) -> u32 {
+    let mut count: u32 = 0;
+    let mut last = None;
+    for turn in turns {
+        if last != Some(turn.level) {
+            count = count.saturating_add(1);
+            last = Some(turn.level);
+        }
+    }
+    count
+}
+
+/// Where a constraint bites first.
+#[derive(Clone, Copy, Debug, PartialEq, Eq)]
+pub(crate) struct LeastLevel {
+    /// The least level at which it bites.
+    pub(crate) level: u32,
+    /// How many levels its set literals are of.
+    pub(crate) levels: u32,
+}
+
 /// A level below another at which a constraint bites, the least one, if there is any.
 pub(crate) fn least_level(
     alloc: Global,
     constraint: &Normal,
     trail: &Trail,
     decisions: u32,
-) -> Result<Option<u32>, AllocError>
-    ensures biting { IfOk result (λ found. IfSome found (λ level. BitesAt trail.now level constraint.now)) }
-    ensures lower { IfOk result (λ found. IfSome found (λ level. level < decisions)) }
+) -> Result<Option<LeastLevel>, AllocError>
+    ensures biting { IfOk result (λ found. IfSome found (λ least. BitesAt trail.now least.level constraint.now)) }
+    ensures lower { IfOk result (λ found. IfSome found (λ least. least.level < decisions)) }
 {
     let turns = turns(alloc, constraint, trail)?;
-    let Some(level) = least_biting(&turns, constraint.degree()) else {
+    let under_all = Sweep::under_all(constraint, trail);
+    let Some(level) = least_biting(&turns, under_all, constraint.degree()) else {
         return Ok(None);
     };
     if level < decisions && bites(constraint, trail, level) {
-        return Ok(Some(level));
+        let levels = level_count(&turns);
+        return Ok(Some(LeastLevel { level, levels }));
     }
     Ok(None)
 }
@@ -165,31 +192,18 @@ pub(crate) fn bites_before_last(
     let Some(level) = decisions.checked_sub(1) else {
         return Ok(false);
     };
-    let mut sweep = Sweep { sum: 0, unset: 0 };
+    let mut sweep = Sweep::new();
     seen.begin();
     for number in sum.marks() {
         let variable = Var(*number);
         if seen.is_first(variable)? {
-            sweep = sweep.with(variable, sum.net(variable), trail, level);
+            let net = sum.net(variable);
+            let literal = Lit {
+                var: variable,
+                negated: net < 0,
+            };
+            sweep = sweep.with(literal, net.unsigned_abs(), trail, level);
         }
     }
     Ok(sweep.bites(sum.degree()))
-}
-
-/// How many levels the set literals of a constraint are of (the literal block distance: Audemard and Simon, 2009).
-pub(crate) fn level_count(
-    alloc: Global,
-    constraint: &Normal,
-    trail: &Trail,
-) -> Result<u32, AllocError> {
-    let turns = turns(alloc, constraint, trail)?;
-    let mut count: u32 = 0;
-    let mut last = u32::MAX;
-    for turn in &turns {
-        if turn.level != last && turn.level != u32::MAX {
-            count = count.saturating_add(1);
-            last = turn.level;
-        }
-    }
-    Ok(count)
 }

@@ -1,5 +1,6 @@
 //! What an analysis came by: for rules of choice and of forgetting, which live on it. Nothing rests on it, so it has no contract.
 
+use super::size::Size;
 use linear::Var;
 use normal_form::Normal;
 use propagate::Id;
@@ -13,10 +14,8 @@ pub struct Met {
     pub variables: Vec<Var>,
     /// The ids of the constraints, the conflict's first.
     pub ids: Vec<Id>,
-    /// How many literals what was learned has; the greatest number where nothing was.
-    pub literals: usize,
-    /// How many levels these are of; the greatest number where nothing was.
-    pub levels: u32,
+    /// How large what was learned is; none where nothing was.
+    pub learned: Option<Size>,
 }
 
 impl Met {
@@ -25,8 +24,7 @@ impl Met {
         Met {
             variables: Vec::new(alloc),
             ids: Vec::new(alloc),
-            literals: usize::MAX,
-            levels: u32::MAX,
+            learned: None,
         }
     }
 
@@ -34,7 +32,7 @@ impl Met {
     pub fn clear(&mut self) {
         self.variables.clear();
         self.ids.clear();
-        self.note_unlearned();
+        self.learned = None;
     }
 
     /// One constraint more, as it is added: that of an id, or what is left of it.
@@ -46,15 +44,8 @@ impl Met {
         Ok(())
     }
 
-    /// Notes that nothing was learned: what an analysis came to was not taken.
-    pub fn note_unlearned(&mut self) {
-        self.literals = usize::MAX;
-        self.levels = u32::MAX;
-    }
-
-    /// Notes how many literals what was learned has, and of how many levels they are.
-    pub(crate) fn note_learned(&mut self, literals: usize, levels: u32) {
-        self.literals = literals;
-        self.levels = levels;
+    /// Notes how large what was learned is. Where what an analysis came to was not taken, that is something else.
+    pub fn note_learned(&mut self, size: Size) {
+        self.learned = Some(size);
     }
 }

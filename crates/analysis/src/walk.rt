@@ -14,8 +14,9 @@ ghost use Rattle.analysis.specs.Lines.{BeginsWith, GoesOnFrom};
 use super::analysis::Analyser;
 use super::derivation::Derivation;
 use super::learned::Learned;
-use super::level::{bites_before_last, least_level, level_count};
+use super::level::{LeastLevel, bites_before_last, least_level};
 use super::reduction::{coefficient_of, reduced};
+use super::size::Size;
 use super::stop::Stop;
 use super::trail::Trail;
 use accumulate::Accumulator;
@@ -146,12 +147,13 @@ fn learn(
         return Ok(None);
     }
     let constraint = analyser.resolvent.sum.take(alloc)?;
-    let Some(level) = least_level(alloc, &constraint, trail, decisions)? else {
+    let Some(least) = least_level(alloc, &constraint, trail, decisions)? else {
         analyser.resolvent.sum.load(&constraint)?;
         return Ok(None);
     };
-    let levels = level_count(alloc, &constraint, trail)?;
-    analyser.met.note_learned(constraint.len(), levels);
+    let LeastLevel { level, levels } = least;
+    let literals = constraint.len();
+    analyser.met.note_learned(Size { literals, levels });
     let items = mem::replace(&mut analyser.resolvent.items, Vec::new(alloc));
     Ok(Some(Learned {
         items: Seq::from_vec(items),

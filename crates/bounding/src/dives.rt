@@ -7,25 +7,20 @@
 //! were tried, and brought nothing.
 
 use super::advice::Node;
+use super::effort::{CALL_WORK, STEPS};
 use relaxation::Limits;
 
-/// So many conflicts a dive may meet before it comes to a solution.
+/// How many conflicts a dive may meet before it comes to a solution.
 const MOST_CONFLICTS: u64 = 20;
 
-/// Dives may do so many times what the calls at the root have done,
+/// How many times what the calls at the root have done all dives may do, `MORE_WORK` aside.
 const TIMES_ROOT: u64 = 8;
 
-/// and so much more,
+/// How much dives may do beside that, so that there is one also where the root cost next to nothing.
 const MORE_WORK: u64 = 50_000_000;
 
-/// and so much at most: a dive that is cut short comes to a solution that is no better than any.
+/// How much dives may do in all, whatever the root has cost. A dive that is cut short comes to a solution that is no better than any.
 const MOST_WORK: u64 = 1_000_000_000;
-
-/// How many steps a call may take.
-const STEPS: u32 = 1_000;
-
-/// How much a call may do.
-const CALL_WORK: u64 = 100_000_000;
 
 /// Whether a dive goes on, and what all of them have done.
 #[derive(Clone, Copy, Debug)]

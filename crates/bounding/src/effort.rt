@@ -22,11 +22,17 @@ const LEAST_SHARE: u64 = 52_429;
 /// The greatest share: 0.8.
 const GREATEST_SHARE: u64 = 838_861;
 
+/// By how much the share rises at least: 0.002.
+const LEAST_RISE: u64 = 2_097;
+
+/// A call that has done so much costs a thousandth of the share.
+const WORK_PER_THOUSANDTH: u64 = 50_000;
+
 /// A term that the search looks at takes as long as so many multiplications.
 const WEIGHT_OF_SEARCH: u64 = 10;
 
-/// How many steps a call may take.
-const STEPS: u32 = 1_000;
+/// How many steps a call below the root may take.
+pub(crate) const STEPS: u32 = 1_000;
 
 /// How many a call may take that is far from the root, as long as there is no solution to be better than.
 const FEW_STEPS: u32 = 200;
@@ -34,20 +40,20 @@ const FEW_STEPS: u32 = 200;
 /// From so many open decisions on a call is far from the root.
 const FAR: usize = 5;
 
-/// How much a call may do.
-const CALL_WORK: u64 = 100_000_000;
+/// How much a call below the root may do.
+pub(crate) const CALL_WORK: u64 = 100_000_000;
 
 /// How many steps a call at the root may take.
 const ROOT_STEPS: u32 = 1_000_000;
 
-/// How much the first call at the root may do at least,
+/// How much the first call at the root may do, however small the problem is.
 const FIRST_ROOT_WORK: u64 = 8_000_000;
 
-/// how many passes it may make, of all terms for each row and each variable, where there is an objective: without a bound a search over
-/// many variables goes astray,
+/// How many passes the first call at the root may make, of all terms for each row and each variable, where there is an objective: without a
+/// bound a search over many variables goes astray.
 const FIRST_ROOT_PASSES: u64 = 16;
 
-/// and how much it may do at most.
+/// How much the first call at the root may do, however large the problem is.
 const MOST_FIRST_ROOT_WORK: u64 = 1_000_000_000;
 
 /// How much a search has done before any further call there: small problems are solved by then, in a fraction of what the rounds of cuts would
@@ -156,15 +162,20 @@ impl Effort {
         self.at_root = self.at_root.saturating_add(cost);
     }
 
-    /// A call has ended a descent.
+    /// A call has ended a descent: the share rises by three hundredths of itself, and by a little more, so that the least share rises too.
     pub(crate) fn reward(&mut self) {
-        let more = (self.share / 100).saturating_mul(3).saturating_add(2_097);
-        self.share = self.share.saturating_add(more).min(GREATEST_SHARE);
+        let more = (self.share / 100).saturating_mul(3);
+        self.share = self
+            .share
+            .saturating_add(more)
+            .saturating_add(LEAST_RISE)
+            .min(GREATEST_SHARE);
     }
 
-    /// A call has cost so much, and has not.
+    /// A call has cost so much, and has not: the share falls by five thousandths of itself, by more where the call was dear, and by half at most.
     pub(crate) fn charge(&mut self, cost: u64) {
-        let kept = 995_u64.saturating_sub(cost / 50_000).max(500);
+        let lost = (cost / WORK_PER_THOUSANDTH).saturating_add(5).min(500);
+        let kept = 1_000_u64.saturating_sub(lost);
         self.share = (self.share.saturating_mul(kept) / 1_000).max(LEAST_SHARE);
     }
 }

@@ -13,10 +13,10 @@ const FIRST_ROUNDS: u32 = 30;
 /// How many follow each later one.
 const LATER_ROUNDS: u32 = 5;
 
-/// Rounds may do so many times what was done at the root before them,
+/// How many times what was done at the root before them rounds may do, `LEAST_WORK` aside.
 const TIMES_BEFORE: u64 = 20;
 
-/// and so much more.
+/// How much rounds may do beside that, so that there are some also where the root cost next to nothing.
 const LEAST_WORK: u64 = 1_000_000;
 
 /// So many rounds may pass without a better bound before they end.

@@ -11,7 +11,7 @@ ghost use Rattle.std.specs.Prelude.{◌≡◌};
 use super::advisers::{Effect, Line};
 use super::cutting::variables_of;
 use super::run::Run;
-use analysis::{Bite, bite_on};
+use analysis::{Bite, Size, bite_on};
 use linear::Var;
 use propagate::{Id, Propagator};
 use std::alloc::{AllocError, Global};
@@ -104,7 +104,8 @@ impl<'a, P: Propagator> Run<'a, P> {
         ensures decisions { self.new.decisions.items ≡ self.old.decisions.items }
     {
         let number = u64::from(advised.id);
-        self.learned.push(number, advised.variables.len(), levels)
+        let literals = advised.variables.len();
+        self.learned.push(number, Size { literals, levels })
     }
 
     /// Goes back to where an advised constraint with negative slack says something first.
@@ -128,7 +129,8 @@ impl<'a, P: Propagator> Run<'a, P> {
             .brancher
             .conflict(advised.variables.as_slice());
         self.keep(advised, bite.levels)?;
-        self.count_conflict()
+        // An adviser came to it, and no analysis.
+        self.count_conflict(0)
     }
 
     /// The advised constraint that waited for an analysis, if there is one, is of no use any more.

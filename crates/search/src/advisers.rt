@@ -138,8 +138,8 @@ impl Advisers {
         self.conflicts
     }
 
-    /// The search has learned from a conflict, whose analysis came by constraints of so many terms; what it keeps of all that it learned has so
-    /// many.
+    /// The search has learned from a conflict, whose analysis came by constraints of so many terms, of none where an adviser came to it; what
+    /// it keeps of all that it learned has so many.
     pub(crate) fn count_conflict(&mut self, met: usize, kept: u64) {
         self.conflicts = self.conflicts.saturating_add(1);
         self.searched.analyse(met, kept);

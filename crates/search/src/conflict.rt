@@ -9,6 +9,7 @@ use super::cutting::learn_constraint;
 use super::endings::{end_exhausted, end_stopped, may_stop};
 use super::found::Found;
 use super::run::Run;
+use analysis::Size;
 use propagate::{Id, Propagator};
 use std::alloc::AllocError;
 
@@ -69,7 +70,8 @@ impl<'a, P: Propagator> Run<'a, P> {
             &mut self.advisers.brancher,
         )?;
         if !is_learned {
-            self.analyser.met.note_unlearned();
+            let size = Size::of_decisions(self.decisions.len());
+            self.analyser.met.note_learned(size);
             learn_clause(
                 self.alloc,
                 &mut self.log,
@@ -80,6 +82,17 @@ impl<'a, P: Propagator> Run<'a, P> {
         Ok(())
     }
 
+    /// Keeps what was logged last among what was learned, until it is forgotten.
+    fn keep_learned(&mut self) -> Result<(), AllocError>
+        ensures log { self.new.log ≡ self.old.log }
+        ensures decisions { self.new.decisions.items ≡ self.old.decisions.items }
+    {
+        let Some(size) = self.analyser.met.learned else {
+            return Ok(());
+        };
+        self.learned.push(self.log.kernel().last_id(), size)
+    }
+
     /// Notes what an analysis came by, and counts its conflict.
     fn count_analysed(&mut self) -> Result<(), AllocError>
         requires { AreDecisions self.old.log self.old.decisions.items }
@@ -88,23 +101,22 @@ impl<'a, P: Propagator> Run<'a, P> {
         ensures biting { OnOk result (self.new.log.biting ≡ self.old.log.biting) }
         ensures decisions { OnOk result (AreDecisions self.new.log self.new.decisions.items) }
     {
-        let met = &self.analyser.met;
-        self.learned
-            .push(self.log.kernel().last_id(), met.literals, met.levels)?;
-        self.learned.meet(met.ids.as_slice());
+        self.keep_learned()?;
+        self.learned.meet(self.analyser.met.ids.as_slice());
         self.drop_passing()?;
-        self.count_conflict()
+        let met = self.analyser.met.variables.len();
+        self.count_conflict(met)
     }
 
-    /// Counts a conflict that taught something; forgets half of what was learned, and begins anew, where that is due.
-    pub(crate) fn count_conflict(&mut self) -> Result<(), AllocError>
+    /// Counts a conflict that taught something, whose analysis came by constraints of so many terms; forgets half of what was learned, and
+    /// begins anew, where that is due.
+    pub(crate) fn count_conflict(&mut self, met: usize) -> Result<(), AllocError>
         requires { AreDecisions self.old.log self.old.decisions.items }
         ensures goes_on { GoesOn self.old.log self.new.log }
         ensures next { OnOk result (self.new.log.state.next ≡ self.old.log.state.next) }
         ensures biting { OnOk result (self.new.log.biting ≡ self.old.log.biting) }
         ensures decisions { AreDecisions self.new.log self.new.decisions.items }
     {
-        let met = self.analyser.met.variables.len();
         self.advisers.count_conflict(met, self.learned.terms());
         self.learned.count_conflict();
         self.tell_progress_if_due();

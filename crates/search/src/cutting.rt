@@ -2,8 +2,8 @@
 //!
 //! The derivation comes with the analysis, and so does what it derives: the log takes that as it is, and nothing is run a second time. That it bites
 //! is asked of the constraints as they are now: what stands becomes what the decisions that are left extend to, and the constraint is looked at
-//! under it (`retracing`). So a trail that is out of date costs a weaker step, and never a wrong count. Whether the line can be written is asked as
-//! well, since no contract of an analysis says which factors its items have.
+//! under it (`retracing`). So a trail that is out of date costs a weaker step, and never a wrong count. Whether the line can be written is asked
+//! before, which costs little, since no contract of an analysis says which factors its items have.
 
 ghost use Rattle.std.specs.Prelude.{◌≡◌, ◌+◌, IfOk, IsTrue, OnOk, false};
 ghost use Rattle.proof_rules.specs.Expression.{IsPostfixOf};
@@ -13,7 +13,7 @@ ghost use Rattle.search.specs.Decisions.{AreDecisions};
 ghost use Rattle.search.specs.Solving.{TakesId};
 ghost use Rattle.search.specs.Undoing.{IsUndone};
 
-use super::retracing::is_new_under;
+use super::retracing::try_under;
 use super::standing::Standing;
 use analysis::{Analyser, Learned};
 use branching::Brancher;
@@ -64,11 +64,11 @@ fn learn<'a, P: Propagator>(
         return Ok(false);
     }
     let left = &decisions.as_slice()[..kept];
-    if !is_new_under(alloc, log, left, &constraint, standing, brancher)? {
-        return Ok(false);
-    }
     let step = Step::Pol(items);
     if !log.can_write(&step) {
+        return Ok(false);
+    }
+    if !try_under(alloc, log, left, &constraint, standing, brancher)? {
         return Ok(false);
     }
     let variables = variables_of(alloc, &constraint)?;

@@ -17,7 +17,7 @@ impl<'a, P: Propagator> Run<'a, P> {
         ensures biting { OnOk result (self.new.log.biting ≡ self.old.log.biting) }
         ensures decisions { self.new.decisions.items ≡ self.old.decisions.items }
     {
-        if !self.learned.is_due() {
+        if !self.learned.put_off_if_due() {
             return Ok(());
         }
         let trail = self.standing.trail().entries();

@@ -2,16 +2,17 @@
 //!
 //! Each constraint that is learned makes every propagation after it dearer, and few of the old ones are met again. So from time
 //! to time half of them goes: those that no analysis came by for longest, and of those the ones whose literals are of most levels
-//! (Audemard and Simon, 2009). What stays in any case: a constraint in which a literal is forced, one of two literals,
-//! and one of few levels that was met not long ago.
+//! (Audemard and Simon, 2009). What stays in any case: a constraint in which a literal is forced, one of one or two
+//! literals, and one of few levels that was met not long ago.
 
 ghost use Rattle.std.specs.Prelude.{All, IfOk, IfSome};
 ghost use Rattle.propagate.specs.Ids.{HasId};
 ghost use Rattle.search.specs.Undoing.{IsNoReason};
 
-use analysis::Entry;
+use analysis::{Entry, Size};
 use propagate::{Id, Ids};
 use std::alloc::{AllocError, Global};
+use std::cmp::Reverse;
 
 /// So many conflicts come before the first time that half is forgotten.
 const CONFLICTS: u64 = 2000;
@@ -25,40 +26,49 @@ const FEW_LEVELS: u32 = 2;
 /// It stays for so many conflicts.
 const LONG: u64 = 20000;
 
+/// Of two constraints the one with the lower rank goes first: it was met earlier, is of more levels, or is older.
+#[derive(Clone, Copy, Debug, PartialEq, Eq, PartialOrd, Ord)]
+struct Rank {
+    met: u64,
+    levels: Reverse<u32>,
+    id: Id,
+}
+
 /// What is kept of a constraint that was learned.
 #[derive(Clone, Copy, Debug)]
 struct LearnedConstraint {
     id: Id,
-    literals: usize,
-    levels: u32,
+    size: Size,
     /// The number of the conflict whose analysis came by it last.
     met: u64,
 }
 
 impl LearnedConstraint {
-    /// How many terms it has; a clause of decisions counts for none.
+    /// How many terms it has.
     fn terms(self) -> u64 {
-        if self.literals == usize::MAX {
-            return 0;
-        }
-        self.literals as u64
+        self.size.literals as u64
     }
 
     /// Whether it stays whatever the others are.
     fn stays(self, conflicts: u64) -> bool {
-        self.literals <= 2
-            || (self.levels <= FEW_LEVELS && self.met.saturating_add(LONG) > conflicts)
+        self.size.literals <= 2
+            || (self.size.levels <= FEW_LEVELS && self.met.saturating_add(LONG) > conflicts)
     }
 
-    /// Whether it may go, and ranks below a number.
-    fn goes(self, conflicts: u64, rank: u128) -> bool {
-        !self.stays(conflicts) && self.rank() < rank
+    /// Whether it may go, and goes before those of a rank; none does where there is no rank.
+    fn goes(self, conflicts: u64, rank: Option<Rank>) -> bool {
+        match rank {
+            Some(rank) => !self.stays(conflicts) && self.rank() < rank,
+            None => false,
+        }
     }
 
-    /// Of two constraints the one with the lower rank goes first: it was met earlier, is of more levels, or is older.
-    fn rank(self) -> u128 {
-        let levels = u32::MAX - self.levels;
-        (u128::from(self.met) << 64) | (u128::from(levels) << 32) | u128::from(self.id)
+    fn rank(self) -> Rank {
+        Rank {
+            met: self.met,
+            levels: Reverse(self.size.levels),
+            id: self.id,
+        }
     }
 }
 
@@ -100,7 +110,7 @@ impl LearnedConstraints {
         }
     }
 
-    /// How many terms all have together, but for clauses of decisions.
+    /// How many terms all have together.
     pub(crate) fn terms(&self) -> u64 {
         self.terms
     }
@@ -115,18 +125,12 @@ impl LearnedConstraints {
         self.conflicts = self.conflicts.saturating_add(1);
     }
 
-    /// One more was learned, of so many literals, which are of so many levels. A number beyond all ids is none.
-    pub(crate) fn push(
-        &mut self,
-        number: u64,
-        literals: usize,
-        levels: u32,
-    ) -> Result<(), AllocError> {
+    /// One more was learned, of this size. A number beyond all ids is none.
+    pub(crate) fn push(&mut self, number: u64, size: Size) -> Result<(), AllocError> {
         if let Ok(id) = Id::try_from(number) {
             let one = LearnedConstraint {
                 id,
-                literals,
-                levels,
+                size,
                 met: self.conflicts,
             };
             self.all.push(one)?;
@@ -160,8 +164,8 @@ impl LearnedConstraints {
         }
     }
 
-    /// Whether it is time to forget half; then the next time is later.
-    pub(crate) fn is_due(&mut self) -> bool {
+    /// Whether it is time to forget half; then that is put off to a later time.
+    pub(crate) fn put_off_if_due(&mut self) -> bool {
         if self.conflicts < self.next {
             return false;
         }
@@ -170,8 +174,8 @@ impl LearnedConstraints {
         true
     }
 
-    /// The rank below which half of those lie that may go.
-    fn middle_rank(&self, alloc: Global, reasons: &Ids) -> Result<u128, AllocError> {
+    /// The rank below which half of those lie that may go; none where none may.
+    fn middle_rank(&self, alloc: Global, reasons: &Ids) -> Result<Option<Rank>, AllocError> {
         let mut ranks = Vec::new(alloc);
         for one in &self.all {
             if !reasons.contains(one.id) && !one.stays(self.conflicts) {
@@ -179,10 +183,7 @@ impl LearnedConstraints {
             }
         }
         ranks.sort()?;
-        Ok(match ranks.get(ranks.len() / 2) {
-            Some(rank) => *rank,
-            None => 0,
-        })
+        Ok(ranks.get(ranks.len() / 2).copied())
     }
 
     /// Takes out half of those that may go: those of the lowest ranks.

@@ -18,7 +18,7 @@ pub(crate) struct Restarts {
     counter: u64,
     multiple: u64,
     left: u64,
-    /// How many there were.
+    /// How many there were, with those that the sequence does not ask for.
     count: u64,
 }
 
@@ -32,7 +32,7 @@ impl Restarts {
         }
     }
 
-    /// How many there were.
+    /// How many there were, whatever they came from.
     pub(crate) fn count(self) -> u64 {
         self.count
     }
@@ -49,14 +49,18 @@ impl Restarts {
         }
     }
 
-    /// Counts a conflict, and says whether the search is to begin anew.
-    pub(crate) fn is_due(&mut self) -> bool {
+    /// One more.
+    fn note(&mut self) {
+        self.count = self.count.saturating_add(1);
+    }
+
+    /// Counts a conflict; whether the search is to begin anew behind it.
+    fn count_conflict(&mut self) -> bool {
         self.left = self.left.saturating_sub(1);
         if self.left > 0 {
             return false;
         }
         self.advance();
-        self.count = self.count.saturating_add(1);
         self.left = CONFLICTS.saturating_mul(self.multiple);
         true
     }
@@ -75,6 +79,17 @@ impl<'a, P: Propagator> Run<'a, P> {
         }
     }
 
+    /// Undoes all decisions, and tells the brancher.
+    fn begin_anew(&mut self)
+        requires { AreDecisions self.old.log self.old.decisions.items }
+        ensures log { self.new.log ≡ self.old.log }
+        ensures decisions { AreDecisions self.new.log self.new.decisions.items }
+    {
+        self.decisions.clear();
+        self.restarts.note();
+        self.advisers.brancher.restarted();
+    }
+
     /// Undoes all decisions, where the best solution is worth about as much as the bound.
     pub(crate) fn begin_anew_if_near_bound(&mut self)
         requires { AreDecisions self.old.log self.old.decisions.items }
@@ -82,7 +97,7 @@ impl<'a, P: Propagator> Run<'a, P> {
         ensures decisions { AreDecisions self.new.log self.new.decisions.items }
     {
         if self.is_near_bound() {
-            self.decisions.clear();
+            self.begin_anew();
         }
     }
 
@@ -92,9 +107,8 @@ impl<'a, P: Propagator> Run<'a, P> {
         ensures log { self.new.log ≡ self.old.log }
         ensures decisions { AreDecisions self.new.log self.new.decisions.items }
     {
-        if self.restarts.is_due() {
-            self.decisions.clear();
-            self.advisers.brancher.restarted();
+        if self.restarts.count_conflict() {
+            self.begin_anew();
         }
     }
 }

@@ -58,8 +58,8 @@ pub(crate) fn stand<'a, P: Propagator>(
     Ok(retrace.extent)
 }
 
-/// Whether a constraint says something new under what decisions extend to, which is what stands then.
-pub(crate) fn is_new_under<'a, P: Propagator>(
+/// What stands becomes what decisions extend to, or the way to a conflict; whether a constraint says something new there.
+pub(crate) fn try_under<'a, P: Propagator>(
     alloc: Global,
     log: &mut Log<'a, P>,
     decisions: &[Lit],

@@ -7,7 +7,8 @@
 //!    the conflict. Where decisions that stood before lead to it, `overtaken` undoes those that it does not take, and that is the turn.
 //! 2. `endings`: with no decision open the search is at its end, and at the last conflict that it may meet it stops.
 //! 3. `conflict` has `cutting` learn what the analysis derives, or else `clause` that the decisions do not all hold: either writes a line, and
-//!    undoes decisions. What came with these is taken off when the next turn begins (`retracing`).
+//!    undoes decisions. What came with these is taken off (`retracing`) before a derived constraint is learned, since it is asked what that says
+//!    without them; behind a clause of decisions it is taken off when the next turn begins.
 //! 4. `conflict` counts it. As far as that is due it is told how far the search has come (`progress`), half of what was learned is forgotten
 //!    (`forgetting`, over `learned`), all decisions are undone (`restarts`), and what is outdone goes (`forgetting`, over `outdone`).
 //!

@@ -47,7 +47,7 @@ impl Searched {
         self.terms = self.terms.saturating_add(more);
     }
 
-    /// An analysis came by so many terms, and what was learned and is kept has so many.
+    /// An analysis, if there was one, came by so many terms, and what was learned and is kept has so many.
     pub(crate) fn analyse(&mut self, met: usize, kept: u64) {
         let more = (met as u64).saturating_mul(2);
         self.terms = self.terms.saturating_add(more);

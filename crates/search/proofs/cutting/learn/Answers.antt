@@ -8,5 +8,5 @@ use Rattle.search.proofs.cutting.learn.Goals as goal
 pub returns-clause-decisions : goal.returns-clause-decisions
 returns-clause-decisions g c =
     let old : Logbook = c.args.log.now in
-    decisions_on old c.learn_derived.new.self c.truncate.new.self.items (c.learn_derived.ensures.goes_on.problem ∙ ap (λ (l : Logbook). l.problem) c.is_new_under.ensures.same)
+    decisions_on old c.learn_derived.new.self c.truncate.new.self.items (c.learn_derived.ensures.goes_on.problem ∙ ap (λ (l : Logbook). l.problem) c.try_under.ensures.same)
     (subst (AreDecisions old) (sym c.truncate.ensures.items) (first_decisions old c.args.learned.level c.args.decisions.now.items c.requires.decisions))

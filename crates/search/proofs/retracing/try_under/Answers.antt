@@ -5,7 +5,7 @@ use Rattle.propagate.specs.Reach.{IsReach, reach_told}
 use Rattle.propagate.specs.declared.reach.Reach.TheVariants as reaches
 use Rattle.proof_rules.specs.State.{constraints}
 use Rattle.search.proofs.BitingClauses.{fixpoint_bites}
-use Rattle.search.proofs.retracing.is_new_under.Goals as goal
+use Rattle.search.proofs.retracing.try_under.Goals as goal
 
 pub returns-clause-biting : goal.returns-clause-biting
 returns-clause-biting g c says =
