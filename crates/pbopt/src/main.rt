@@ -23,6 +23,9 @@ use std::{fs, io};
 /// How many conflicts a search may meet, where the command line does not say.
 const CONFLICTS: &str = "1000000";
 
+/// A file that gives nothing, and is there on every machine.
+const NOTHING: &str = "/dev/null";
+
 const EXPLANATION: &str = "Standard output has the answer, in the competition's words:
   s OPTIMUM FOUND   exit status 30: the `v` line has a best solution, worth the last `o` line
   s SATISFIABLE     10: the `v` line has a solution; with an objective, perhaps not the best
@@ -98,6 +101,16 @@ fn write_failed<R: Eprint, W: Write + Drop>(
     }
 }
 
+/// Makes a file whose number is none of those of standard input, output and error.
+// Where a caller has closed one of these, the next file gets its number, and what is printed would go into the proof. So files that give nothing
+// take the numbers that are free meanwhile; one that cannot be opened takes none.
+fn create_above<R: Files>(rt: &R, path: &str) -> io::Result<R::File> {
+    let _first = fs::open(rt, NOTHING);
+    let _second = fs::open(rt, NOTHING);
+    let _third = fs::open(rt, NOTHING);
+    fs::create(rt, path)
+}
+
 /// Makes the file of the proof, where one is asked for.
 fn proof_file<R: Files + Eprint>(
     rt: &R,
@@ -107,7 +120,7 @@ fn proof_file<R: Files + Eprint>(
 {
     match path {
         Some(path) => {
-            let file = given_by(rt, path, fs::create(rt, path))?;
+            let file = given_by(rt, path, create_above(rt, path))?;
             Ok(Some(WriterSink::new(file)))
         }
         None => Ok(None),
