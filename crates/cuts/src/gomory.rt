@@ -132,23 +132,34 @@ fn numerators(
     Ok(multipliers)
 }
 
-/// The rounding of the basic variable of a place, or of its opposite, if there is one.
-fn rounding_of(
+/// Adds the rounding of the sum of rows by their fractional parts, where there are some and not too many.
+fn add_rounding(
     alloc: Global,
-    relaxation: &Relaxation,
-    place: usize,
-    is_negated: bool,
-) -> Result<Option<Rounding>, AllocError> {
-    let parts = relaxation.fractional_multipliers(alloc, place, is_negated)?;
+    parts: &[FractionalMultiplier],
+    found: &mut Vec<Rounding>,
+) -> Result<(), AllocError> {
     if parts.is_empty() || parts.len() > MOST_ROWS {
-        return Ok(None);
+        return Ok(());
     }
-    let divisor = common_denominator(parts.as_slice());
-    let multipliers = numerators(alloc, parts.as_slice(), divisor)?;
-    Ok(Some(Rounding {
+    let divisor = common_denominator(parts);
+    let multipliers = numerators(alloc, parts, divisor)?;
+    found.push(Rounding {
         multipliers,
         divisor,
-    }))
+    })?;
+    Ok(())
+}
+
+/// The fractional parts of the opposite numbers.
+fn opposites(
+    alloc: Global,
+    parts: &[FractionalMultiplier],
+) -> Result<Vec<FractionalMultiplier>, AllocError> {
+    let mut found = Vec::with_capacity(alloc, parts.len())?;
+    for part in parts {
+        found.push(part.opposite())?;
+    }
+    Ok(found)
 }
 
 /// The basic variables that are not whole, the one that is nearest to a half first.
@@ -175,12 +186,10 @@ pub(crate) fn roundings(
 ) -> Result<Vec<Rounding>, AllocError> {
     let mut found = Vec::new(alloc);
     for basic in &fractional_variables(alloc, relaxation)? {
-        if let Some(rounding) = rounding_of(alloc, relaxation, basic.place, false)? {
-            found.push(rounding)?;
-        }
-        if let Some(rounding) = rounding_of(alloc, relaxation, basic.place, true)? {
-            found.push(rounding)?;
-        }
+        let parts = relaxation.fractional_multipliers(alloc, basic.place)?;
+        add_rounding(alloc, parts.as_slice(), &mut found)?;
+        let opposites = opposites(alloc, parts.as_slice())?;
+        add_rounding(alloc, opposites.as_slice(), &mut found)?;
     }
     Ok(found)
 }

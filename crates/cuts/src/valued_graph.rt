@@ -58,8 +58,12 @@ impl<'g, 'a, P: Propagator> ValuedGraph<'g, 'a, P> {
         let mut found = Vec::new(alloc);
         for number in 0..variables {
             if let Ok(number) = u32::try_from(number) {
-                self.add_start(&mut found, Var(number), false)?;
-                self.add_start(&mut found, Var(number), true)?;
+                let literal = Lit {
+                    var: Var(number),
+                    negated: false,
+                };
+                self.add_start(&mut found, literal)?;
+                self.add_start(&mut found, literal.opposite())?;
             }
         }
         found.sort_by_key(|valued| Fixed::ONE.units().saturating_sub(valued.value))?;
@@ -67,13 +71,8 @@ impl<'g, 'a, P: Propagator> ValuedGraph<'g, 'a, P> {
     }
 
     /// Adds a literal, if a clique may begin with it.
-    fn add_start(
-        &self,
-        found: &mut Vec<Valued>,
-        var: Var,
-        negated: bool,
-    ) -> Result<(), AllocError> {
-        let start = self.valued(Lit { var, negated });
+    fn add_start(&self, found: &mut Vec<Valued>, literal: Lit) -> Result<(), AllocError> {
+        let start = self.valued(literal);
         if start.value >= LEAST_START && !self.sets_of(start.literal).is_empty() {
             found.push(start)?;
         }

@@ -24,7 +24,7 @@ use super::mark::begins_objective;
 use super::spot::Spot;
 use super::variables::Variables;
 use linear::{LARGEST_INTEGER, MOST_CONSTRAINTS, MOST_TERMS, Relation, Seq, Signed, Term};
-use pb_text::{Found, Kind, Lookahead, Said, Symbol, Token, Tokens, as_literal, integer};
+use pb_text::{Found, Kind, Lookahead, Said, Symbol, Token, Tokens, integer, literal_of};
 use std::alloc::Global;
 
 /// Where reading has come to. At a fault, the token that has it stands next.
@@ -207,9 +207,7 @@ impl<'a> Reader<'a> {
         ensures left { self.new.left ≡ self.old.left }
         ensures refused { IfErr result (IsTooManyOr (IsOneTooMany (progress_of self.old) token.entry.text.now)) }
     {
-        let Some(literal) = as_literal(token) else {
-            return Err(OpbCode::OutOfMemory);
-        };
+        let literal = literal_of(token);
         if self.terms.len() >= MOST_TERMS {
             return Err(OpbCode::TooMany);
         }

@@ -35,5 +35,5 @@ pub use number::{LARGEST_NUMBER, NumFault, integer};
 pub use said::Said;
 pub use sink::Sink;
 pub use source::{DeviceFault, Source};
-pub use token::{Literal, Token, as_literal};
+pub use token::{Literal, Token, as_literal, literal_of};
 pub use tokens::{Found, Tokens, end_line};

@@ -23,7 +23,7 @@ pub struct MemSink {
 }
 
 impl MemSink {
-    ghost use Rattle.std.specs.Prelude.{◌+◌, ◌<◌, ◌↔◌, ◌⊎◌, ◌-◌, ◌++◌, [], min, max, take, length, Some, None, IfOk, IsErr, OnErr, OnOk};
+    ghost use Rattle.std.specs.Prelude.{◌+◌, ◌<◌, ◌≢◌, ◌↔◌, ◌⊎◌, ◌-◌, ◌++◌, [], min, max, take, length, Some, None, IfOk, IsErr, OnErr, OnOk};
     ghost use Rattle.pb_text.specs.Devices.{one_less};
 
     /// An empty sink with this room; the push of this number fails, counted from 0 on. `AllocError` where there is no
@@ -68,21 +68,28 @@ impl MemSink {
     }
 
     /// Takes bytes from the front of a piece, and says how many: a portion, or fewer where room or piece ends. It fails
-    /// exactly where it is full, and once where it was told to.
+    /// exactly where it is full, and where it was told to, and then not again for that.
     pub fn take_from(&mut self, piece: &[u8]) -> Result<usize, DeviceFault>
         requires { self.old.failures < u64.MAX }
         ensures fails { IsErr result ↔ ((self.old.before_failure ≡ Some 0) ⊎ (0 < length piece.now × self.old.room ≡ vec_len self.old.taken)) }
         ensures count { IfOk result (λ count. count ≡ min (min (max self.old.portion 1) (length piece.now)) (self.old.room - vec_len self.old.taken)) }
         ensures taken { IfOk result (λ count. self.new.taken.items ≡ self.old.taken.items ++ take count piece.now) }
         ensures before_failure { OnOk result (self.new.before_failure ≡ one_less self.old.before_failure) }
+        ensures once { OnErr result (self.old.before_failure ≡ Some 0 → self.new.before_failure ≡ None) }
+        ensures full { OnErr result (self.old.before_failure ≢ Some 0 → self.new.before_failure ≡ self.old.before_failure) }
         ensures ok { OnOk result (self.new.failures ≡ self.old.failures) }
         ensures failed { OnErr result (self.new.failures ≡ self.old.failures + 1) }
         ensures nothing { OnErr result (self.new.taken ≡ self.old.taken) }
         ensures room { self.new.room ≡ self.old.room }
         ensures portion { self.new.portion ≡ self.old.portion }
     {
+        if self.before_failure == Some(0) {
+            self.before_failure = None;
+            self.failures += 1;
+            return Err(DeviceFault);
+        }
         let size = self.size(piece);
-        if self.before_failure == Some(0) || (size == 0 && !piece.is_empty()) {
+        if size == 0 && !piece.is_empty() {
             self.failures += 1;
             return Err(DeviceFault);
         }

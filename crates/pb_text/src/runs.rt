@@ -6,7 +6,7 @@ ghost use Rattle.pb_text.specs.Number.{digits_value};
 ghost use Rattle.pb_text.specs.Scan.{IsRun};
 ghost use Rattle.pb_text.specs.ShortName.{IsShort};
 
-/// DigitRun at the front of a text.
+/// Digits at the front of a text.
 #[derive(Clone, Copy)]
 pub(crate) struct DigitRun<'a> {
     /// How many.

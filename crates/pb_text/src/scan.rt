@@ -3,7 +3,7 @@
 //! Nearly all tokens of a problem and of a proof are integers of a few digits, names, and a few symbols. One pass over such a token
 //! finds its end, its kind and what it says; a token of any other make is cut first and looked at then (`cursor`, `classify`).
 
-ghost use Rattle.std.specs.Prelude.{◌≡◌, ◌↔◌, ◌<◌, ◌^◌, pos, neg_ℤ, false, [], if◌then◌else◌, IfSome, IsTrue, MatchOption};
+ghost use Rattle.std.specs.Prelude.{◌≡◌, ◌↔◌, ◌<◌, ◌^◌, pos, neg_ℤ, false, [], IfSome, IsTrue, MatchOption};
 ghost use Rattle.pb_text.specs.Cutting.{begins_white, begins_word};
 ghost use Rattle.pb_text.specs.Lexeme.{begins};
 ghost use Rattle.pb_text.specs.Scan.{AreDigits, IsFirst, IsLiteralWord, IsReadName};
@@ -65,29 +65,29 @@ fn digits_word(text: &[u8]) -> Option<Unsigned>
     })
 }
 
-/// A number of a few digits with its sign.
-#[inline(always)]
-fn signed(value: u64, negated: bool) -> i64
-    requires { value < 2 ^ 62 }
-    ensures { result ≡ (if negated then neg_ℤ (pos value) else pos value) }
-{
-    if negated {
-        -(value as i64)
-    } else {
-        value as i64
-    }
-}
-
 /// An integer of so many bytes.
 #[inline(always)]
-fn integer_of(size: usize, value: u64, negated: bool) -> Scanned
+fn plain_integer(size: usize, value: u64) -> Scanned
     requires { value < 2 ^ 62 }
-    ensures { result ≡ record { size = size; kind = Kind.Integer; said = Said.Number (if negated then neg_ℤ (pos value) else pos value) } }
+    ensures { result ≡ record { size = size; kind = Kind.Integer; said = Said.Number (pos value) } }
 {
     Scanned {
         size,
         kind: Kind::Integer,
-        said: Said::Number(signed(value, negated)),
+        said: Said::Number(value as i64),
+    }
+}
+
+/// An integer of so many bytes, `-` the first of them.
+#[inline(always)]
+fn negated_integer(size: usize, value: u64) -> Scanned
+    requires { value < 2 ^ 62 }
+    ensures { result ≡ record { size = size; kind = Kind.Integer; said = Said.Number (neg_ℤ (pos value)) } }
+{
+    Scanned {
+        size,
+        kind: Kind::Integer,
+        said: Said::Number(-(value as i64)),
     }
 }
 
@@ -102,15 +102,15 @@ fn integer_word(text: &[u8]) -> Option<Scanned>
     match *first {
         b'-' => {
             let found = digits_word(rest)?;
-            Some(integer_of(found.size + 1, found.value, true))
+            Some(negated_integer(found.size + 1, found.value))
         }
         b'+' => {
             let found = digits_word(rest)?;
-            Some(integer_of(found.size + 1, found.value, false))
+            Some(plain_integer(found.size + 1, found.value))
         }
         _ => {
             let found = digits_word(text)?;
-            Some(integer_of(found.size, found.value, false))
+            Some(plain_integer(found.size, found.value))
         }
     }
 }

@@ -49,8 +49,17 @@ fn literal_word(text: &[u8]) -> Literal<'_>
     }
 }
 
-/// What a literal's token says, and `None` exactly where the token is no literal.
+/// What a token says that is a literal's.
 #[tactic(auto, using(crate::proofs::KindTests::literal_kind))]
+pub fn literal_of(t: Token<'_>) -> Literal<'_>
+    requires { t.kind ≡ Kind.Literal }
+    ensures negated { result.negated ≡ is_negated t.entry.text.now }
+    ensures name { result.name.now ≡ name_of t.entry.text.now }
+{
+    literal_word(t.text)
+}
+
+/// What a literal's token says, and `None` exactly where the token is no literal.
 pub fn as_literal(t: Token<'_>) -> Option<Literal<'_>>
     ensures cases { MatchOption result (t.entry.kind ≢ Kind.Literal) (λ l. t.entry.kind ≡ Kind.Literal) }
     ensures negated { MatchOption result (Unit {0}) (λ l. l.negated ≡ is_negated t.entry.text.now) }
@@ -59,5 +68,5 @@ pub fn as_literal(t: Token<'_>) -> Option<Literal<'_>>
     let Kind::Literal = t.kind else {
         return None;
     };
-    Some(literal_word(t.text))
+    Some(literal_of(t))
 }

@@ -26,6 +26,16 @@ pub struct FractionalMultiplier {
     pub fraction: u32,
 }
 
+impl FractionalMultiplier {
+    /// The same row, where the number is the opposite one.
+    pub fn opposite(self) -> FractionalMultiplier {
+        FractionalMultiplier {
+            row: self.row,
+            fraction: self.fraction.wrapping_neg(),
+        }
+    }
+}
+
 /// The fractional part of `units * 2^-exponent`, in the same units, 0 where it is about 0 or 1.
 fn fractional_part(units: i64, exponent: u32) -> u32 {
     let unscaled = units.unbounded_shr(exponent);
@@ -68,21 +78,18 @@ impl Relaxation {
         Ok(weights)
     }
 
-    /// The fractional parts of the numbers that make up the basic variable of a place, or of these with their signs changed. Those that are
-    /// whole numbers, about, are left out.
+    /// The fractional parts of the numbers that make up the basic variable of a place. Those that are whole numbers, about, are left out.
     ///
     /// `AllocError` comes where a growth was refused.
     pub fn fractional_multipliers(
         &self,
         alloc: Global,
         place: usize,
-        is_negated: bool,
     ) -> Result<Vec<FractionalMultiplier>, AllocError> {
         let mut multipliers = Vec::new(alloc);
         let weights = self.weights_of(alloc, place)?;
         for (value, row) in weights.iter().zip(self.basis.tight().iter()) {
-            let sided = if is_negated { value.negated() } else { *value };
-            let fraction = fractional_part(sided.units(), self.rows.exponent(*row));
+            let fraction = fractional_part(value.units(), self.rows.exponent(*row));
             if fraction > 0 {
                 multipliers.push(FractionalMultiplier {
                     row: Row(*row),

@@ -16,6 +16,13 @@ use super::relaxation::Relaxation;
 use factorisation::{Entering, Entry, Fixed};
 use std::alloc::AllocError;
 
+/// A bound of a variable.
+#[derive(Clone, Copy)]
+enum Bound {
+    Lower,
+    Upper,
+}
+
 impl Relaxation {
     /// Makes a step.
     pub(crate) fn pivot(
@@ -32,8 +39,8 @@ impl Relaxation {
         self.pivots = self.pivots.saturating_add(1);
         match violation.leaving {
             Leaving::Row(row) => self.tighten(row, chosen, theta),
-            Leaving::Below(place) => self.put_to_bound(place, false, chosen, theta),
-            Leaving::Above(place) => self.put_to_bound(place, true, chosen, theta),
+            Leaving::Below(place) => self.put_to_bound(place, Bound::Lower, chosen, theta),
+            Leaving::Above(place) => self.put_to_bound(place, Bound::Upper, chosen, theta),
         }
     }
 
@@ -182,16 +189,16 @@ impl Relaxation {
         Ok(())
     }
 
-    /// A basic variable goes to its lower or its upper bound.
+    /// A basic variable goes to a bound.
     fn put_to_bound(
         &mut self,
         place: usize,
-        is_upper: bool,
+        bound: Bound,
         chosen: Candidate,
         theta: Fixed,
     ) -> Result<(), AllocError> {
         if let Some(variable) = self.basis.basic().get(place).copied() {
-            self.settle(variable, is_upper, chosen.ratio);
+            self.settle(variable, bound, chosen.ratio);
         }
         match chosen.entering {
             Entering::Variable(variable) => {
@@ -209,14 +216,17 @@ impl Relaxation {
     }
 
     /// A variable stands at a bound from now on, and its reduced cost is what the step took.
-    fn settle(&mut self, variable: usize, is_upper: bool, ratio: Fixed) {
+    fn settle(&mut self, variable: usize, bound: Bound, ratio: Fixed) {
         let domain = super::domain::domain_of(self.domains.as_slice(), variable);
-        if is_upper {
-            self.point.set_value(variable, domain.upper());
-            self.duals.set_reduced_cost(variable, ratio.negated());
-        } else {
-            self.point.set_value(variable, domain.lower());
-            self.duals.set_reduced_cost(variable, ratio);
+        match bound {
+            Bound::Lower => {
+                self.point.set_value(variable, domain.lower());
+                self.duals.set_reduced_cost(variable, ratio);
+            }
+            Bound::Upper => {
+                self.point.set_value(variable, domain.upper());
+                self.duals.set_reduced_cost(variable, ratio.negated());
+            }
         }
     }
 

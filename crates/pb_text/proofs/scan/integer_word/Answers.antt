@@ -7,18 +7,18 @@ pub returns-in_ok-found-in-45 : goal.returns-in_ok-found-in-45
 returns-in_ok-found-in-45 c =
     let at = c.in-Some.ensures.cases.0 ∙ ap (λ (b : ℕ). b ∷ c.in-Some.rest.now) c.in-45.is in
     let found = c.in_ok-found-in-45.found in
-    subst (IsFirst c.args.text.now) (sym c.integer_of.ensures)
+    subst (IsFirst c.args.text.now) (sym c.negated_integer.ensures)
     (minus_first found.size found.value c.args.text.now c.in-Some.rest.now at c.in_ok-found-in-45.ensures.1)
 
 pub returns-in_ok-found-in-43 : goal.returns-in_ok-found-in-43
 returns-in_ok-found-in-43 c =
     let at = c.in-Some.ensures.cases.0 ∙ ap (λ (b : ℕ). b ∷ c.in-Some.rest.now) c.in-43.is in
     let found = c.in_ok-found-in-43.found in
-    subst (IsFirst c.args.text.now) (sym c.integer_of-in-43.ensures)
+    subst (IsFirst c.args.text.now) (sym c.plain_integer.ensures)
     (plus_first found.size found.value c.args.text.now c.in-Some.rest.now at c.in_ok-found-in-43.ensures.1)
 
 pub returns-in_ok-found-in_default-first : goal.returns-in_ok-found-in_default-first
 returns-in_ok-found-in_default-first c =
     let found = c.in_ok-found-in_default-first.found in
-    subst (IsFirst c.args.text.now) (sym c.integer_of-in_default-first.ensures)
+    subst (IsFirst c.args.text.now) (sym c.plain_integer-in_default-first.ensures)
     (plain_first found.size found.value c.args.text.now c.in_ok-found-in_default-first.ensures.1)

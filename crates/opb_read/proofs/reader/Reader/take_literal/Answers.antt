@@ -5,4 +5,4 @@ use Rattle.opb_read.proofs.reader.Reader.take_literal.Goals as goal
 
 pub number-requires-clause-says : goal.number-requires-clause-says
 number-requires-clause-says c =
-    subst (SaysName c.args.said) (sym c.in-Some.ensures.name) (says_name c.args.said c.args.token.text.now c.requires.says)
+    subst (SaysName c.args.said) (sym c.literal_of-literal.ensures.name) (says_name c.args.said c.args.token.text.now c.requires.says)
