@@ -4,7 +4,7 @@ use Rattle.linear.specs.declared.term.Lit.{Lit}
 use Rattle.normal_form.specs.Normal.{NormalConstraint}
 use Rattle.propagate.specs.Slack.{IsFalsified, IsForced}
 use Rattle.proof_rules.specs.State.{State}
-use Rattle.cuts.specs.Derived.{Derives, IsDerivable}
+use Rattle.row_sums.specs.Derived.{Derives, IsDerivable}
 use Rattle.bounding.specs.declared.advice.Advice.{Advice}
 use Rattle.bounding.specs.declared.advice.Advice.TheVariants.{Conflict, Forcing, Cut, Values, Nothing}
 

@@ -5,11 +5,12 @@
 //! vain pays nothing for each literal.
 
 use super::effort::Aim;
-use cuts::{Point, Sources};
+use cuts::Point;
 use kernel::Kernel;
 use linear::{Lit, Problem};
 use propagate::Propagator;
 use relaxation::{End, Limits, Relaxation};
+use row_sums::Sources;
 use std::alloc::{AllocError, Global};
 
 /// A relaxation, the ids of its rows, and the literals that are fixed in it.

@@ -4,7 +4,7 @@
 //! root is forgotten.
 
 ghost use Rattle.std.specs.Prelude.{IfOk, IfSome};
-ghost use Rattle.cuts.specs.Derived.{IsDerivable};
+ghost use Rattle.row_sums.specs.Derived.{IsDerivable};
 
 use super::advice::{Advice, Node};
 use super::relaxed_problem::RelaxedProblem;
@@ -28,7 +28,7 @@ pub(crate) struct RootCuts {
 
 impl RootCuts {
     ghost use Rattle.std.specs.Prelude.{IfOk, IfSome};
-    ghost use Rattle.cuts.specs.Derived.{IsDerivable};
+    ghost use Rattle.row_sums.specs.Derived.{IsDerivable};
 
     /// No round yet, of a problem of so many variables whose constraints a kernel has.
     pub(crate) fn new<'a, P: Propagator>(

@@ -9,11 +9,12 @@ ghost use Rattle.bounding.specs.Advice.{IsBorneOut};
 use super::advice::Advice;
 use super::judgement::{Judgement, judge};
 use super::standing::Standing;
-use cuts::{Point, line_of};
+use cuts::Point;
 use kernel::Kernel;
 use proof_rules::StepFault;
 use propagate::Propagator;
 use relaxation::whole_multipliers;
+use row_sums::line_of;
 use std::alloc::{AllocError, Global};
 
 /// The greatest whole number is `2^10` first.

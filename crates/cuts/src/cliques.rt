@@ -7,18 +7,18 @@
 
 ghost use Rattle.std.specs.Prelude.{IfOk, OnOk};
 ghost use Rattle.proof_rules.specs.Expression.{Given};
-ghost use Rattle.proof_rules.specs.Running.{LeavesStack};
 ghost use Rattle.proof_rules.specs.State.{constraint_of};
-ghost use Rattle.cuts.specs.Derived.{Derives};
+ghost use Rattle.row_sums.specs.Derived.{Derives};
+ghost use Rattle.row_sums.specs.Lines.{LeavesItsStack};
 
 use super::conflict_graph::ConflictGraph;
-use super::line::Line;
 use kernel::Kernel;
 use linear::{Lit, Seq};
 use normal_form::Normal;
 use proof_rules::StepFault;
 use proof_steps::Item;
 use propagate::{Id, Propagator};
+use row_sums::Line;
 use std::alloc::Global;
 
 /// How many items a line has at most.
@@ -32,8 +32,8 @@ fn weaken_other(
     left: Lit,
     right: Lit,
 ) -> Result<(), StepFault>
-    ensures { (given : Given) → LeavesStack given line.old.items.items line.old.stack
-        → OnOk result (LeavesStack given line.new.items.items line.new.stack) }
+    ensures { (given : Given) → LeavesItsStack given line.old
+        → OnOk result (LeavesItsStack given line.new) }
 {
     if literal.var == left.var || literal.var == right.var {
         return Ok(());
@@ -50,8 +50,8 @@ fn cite_weakened<'k, 'a, P: Propagator>(
     left: Lit,
     right: Lit,
 ) -> Result<(), StepFault>
-    requires { LeavesStack (constraint_of kernel.now.state) line.old.items.items line.old.stack }
-    ensures { OnOk result (LeavesStack (constraint_of kernel.now.state) line.new.items.items line.new.stack) }
+    requires { LeavesItsStack (constraint_of kernel.now.state) line.old }
+    ensures { OnOk result (LeavesItsStack (constraint_of kernel.now.state) line.new) }
 {
     let constraint = line.cite_live(kernel, id)?;
     for place in 0..constraint.len() {
@@ -78,8 +78,8 @@ fn put_pair<'k, 'a, P: Propagator>(
     left: Lit,
     right: Lit,
 ) -> Result<(), StepFault>
-    requires { LeavesStack (constraint_of kernel.now.state) line.old.items.items line.old.stack }
-    ensures { OnOk result (LeavesStack (constraint_of kernel.now.state) line.new.items.items line.new.stack) }
+    requires { LeavesItsStack (constraint_of kernel.now.state) line.old }
+    ensures { OnOk result (LeavesItsStack (constraint_of kernel.now.state) line.new) }
 {
     let Some(id) = graph.constraint_of_pair(left, right) else {
         return Err(StepFault::DeadId);
@@ -100,8 +100,8 @@ fn add_member<'k, 'a, P: Propagator>(
     members: &[Lit],
     next: Lit,
 ) -> Result<(), StepFault>
-    requires { LeavesStack (constraint_of kernel.now.state) line.old.items.items line.old.stack }
-    ensures { OnOk result (LeavesStack (constraint_of kernel.now.state) line.new.items.items line.new.stack) }
+    requires { LeavesItsStack (constraint_of kernel.now.state) line.old }
+    ensures { OnOk result (LeavesItsStack (constraint_of kernel.now.state) line.new) }
 {
     let count = members.len() as u128;
     line.multiply(alloc, count.saturating_sub(1).max(1))?;

@@ -3,11 +3,11 @@
 //! A cut that the search has logged becomes a row. One that had slack at the points of some rounds one after another does nothing any more: it
 //! leaves the relaxation, another cut may take its place, and its id waits for the search to ask which constraints may be deleted.
 
-use super::sources::Sources;
 use cut_rules::saturate;
 use normal_form::Normal;
 use propagate::Id;
 use relaxation::{Relaxation, Row};
+use row_sums::Sources;
 use std::alloc::{AllocError, Global};
 use std::mem;
 

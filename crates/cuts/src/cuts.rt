@@ -5,14 +5,13 @@
 //! when it is handed out.
 
 ghost use Rattle.std.specs.Prelude.{IfOk, IfSome};
-ghost use Rattle.cuts.specs.Derived.{Derives, IsDerivable};
+ghost use Rattle.row_sums.specs.Derived.{Derives, IsDerivable};
 
 use super::clique_search::CliqueSearch;
 use super::cliques;
 use super::conflict_graph::ConflictGraph;
 use super::gomory::{self, Rounding, roundings};
 use super::single_rows::row_roundings;
-use super::sources::Sources;
 use super::violation::efficacy;
 use kernel::Kernel;
 use linear::{Lit, Seq};
@@ -21,6 +20,7 @@ use proof_rules::StepFault;
 use proof_steps::Item;
 use propagate::Propagator;
 use relaxation::{Relaxation, Row};
+use row_sums::Sources;
 use std::alloc::{AllocError, Global};
 use std::collections::BTreeSet;
 use std::mem;

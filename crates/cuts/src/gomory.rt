@@ -7,12 +7,9 @@
 
 ghost use Rattle.std.specs.Prelude.{IfOk, OnOk};
 ghost use Rattle.proof_rules.specs.Expression.{Given, IsPostfixOf};
-ghost use Rattle.proof_rules.specs.Running.{LeavesStack};
-ghost use Rattle.cuts.specs.Derived.{Derives};
+ghost use Rattle.row_sums.specs.Derived.{Derives};
+ghost use Rattle.row_sums.specs.Lines.{LeavesItsStack};
 
-use super::line::Line;
-use super::sources::Sources;
-use super::summing::divided_line;
 use super::violation::literal_value;
 use kernel::Kernel;
 use linear::Seq;
@@ -21,6 +18,7 @@ use proof_rules::StepFault;
 use proof_steps::Item;
 use propagate::Propagator;
 use relaxation::{Fixed, FractionalMultiplier, Relaxation, Row, Source, WholeMultiplier};
+use row_sums::{Line, Sources, divided_line};
 use std::alloc::{AllocError, Global};
 
 /// Up to this denominators are tried out.
@@ -229,8 +227,8 @@ fn weakenings(
 
 /// Adds the axiom of a literal so many times.
 fn add_axiom(alloc: Global, line: &mut Line<'_>, term: NormalTerm) -> Result<(), StepFault>
-    ensures { (given : Given) → LeavesStack given line.old.items.items line.old.stack
-        → OnOk result (LeavesStack given line.new.items.items line.new.stack) }
+    ensures { (given : Given) → LeavesItsStack given line.old
+        → OnOk result (LeavesItsStack given line.new) }
 {
     line.axiom(alloc, term.literal())?;
     line.multiply(alloc, term.coef)?;
@@ -239,8 +237,8 @@ fn add_axiom(alloc: Global, line: &mut Line<'_>, term: NormalTerm) -> Result<(),
 
 /// Adds axioms to the constraint of a line.
 fn add_axioms(alloc: Global, line: &mut Line<'_>, axioms: &[NormalTerm]) -> Result<(), StepFault>
-    ensures { (given : Given) → LeavesStack given line.old.items.items line.old.stack
-        → OnOk result (LeavesStack given line.new.items.items line.new.stack) }
+    ensures { (given : Given) → LeavesItsStack given line.old
+        → OnOk result (LeavesItsStack given line.new) }
 {
     for axiom in axioms {
         add_axiom(alloc, line, *axiom)?;

@@ -6,12 +6,12 @@
 //! and Wolsey, Aggregation and mixed integer rounding to solve MIPs, 2001), and so is the largest one, which gives covers.
 
 use super::gomory::Rounding;
-use super::sources::Sources;
 use super::violation::literal_value;
 use kernel::Kernel;
 use normal_form::Normal;
 use propagate::Propagator;
 use relaxation::{Fixed, Relaxation, Row};
+use row_sums::Sources;
 use std::alloc::{AllocError, Global};
 use std::collections::BTreeSet;
 

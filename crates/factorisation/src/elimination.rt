@@ -5,12 +5,9 @@
 //! so that few entries come to others.
 
 use super::basis::Basis;
-use super::entry::Entry;
-use super::fixed::Fixed;
-use super::numbers::Number;
 use super::rows::Rows;
 use super::triangles::{Pivot, Triangles, from_end};
-use super::work::Work;
+use fixed_point::{Entry, Fixed, Number, Work};
 use std::alloc::{AllocError, Global};
 use std::mem;
 

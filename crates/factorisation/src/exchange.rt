@@ -5,12 +5,8 @@
 //! triangles were made is solved by these, and then exchange by exchange (the product form of the inverse, of a kernel that grows and shrinks).
 
 use super::basis::Basis;
-use super::entry::Entry;
-use super::fixed::Fixed;
-use super::numbers::number_at;
 use super::rows::Rows;
-use super::scattered::Scattered;
-use super::sums::Sum;
+use fixed_point::{Entry, Fixed, Scattered, Sum, number_at};
 use std::alloc::{AllocError, Global};
 
 /// What enters in a step.

@@ -5,13 +5,10 @@
 
 use super::basis::Basis;
 use super::elimination::triangles_of;
-use super::entry::Entry;
 use super::exchange::{Entering, Exchange};
-use super::fixed::Fixed;
 use super::rows::Rows;
-use super::scattered::Scattered;
 use super::triangles::{Triangles, from_end};
-use super::work::Work;
+use fixed_point::{Entry, Fixed, Scattered, Work};
 use std::alloc::{AllocError, Global};
 
 /// After so many exchanges triangles are made anew.

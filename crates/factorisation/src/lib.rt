@@ -4,35 +4,22 @@
 //! each step for products with its inverse. This crate keeps the rows, the basis and the inverse, solves, and counts what that takes; it knows
 //! no costs, no bounds of variables and no rule by which a step is chosen.
 //!
-//! All is in fixed point (`fixed`, and `sums` of products that are rounded once), so runs repeat exactly on every machine. Where a pivot is
+//! All is in fixed point (crate `fixed_point`), so runs repeat exactly on every machine. Where a pivot is
 //! small a solution may be far off: no clause says that one is right, and whoever asks judges what comes of it. What is proved is that
 //! every call returns, that no index is out of range, and that no number overflows or is divided by 0.
 //!
 //! `rows` has the constraints by rows and by columns, `basis` says which rows and variables are in the kernel, and `inverse` answers products
-//! with it: by the `triangles` that an `elimination` has made of an earlier kernel, and by an `exchange` for each step since. Vectors of which
-//! few numbers are not 0 are lists of entries (`entry`), or `scattered` where they are summed up.
+//! with it: by the `triangles` that an `elimination` has made of an earlier kernel, and by an `exchange` for each step since.
 #![tactic(auto)]
 
 mod basis;
 mod elimination;
-mod entry;
 mod exchange;
-mod fixed;
 mod inverse;
-mod numbers;
 mod rows;
-mod scattered;
-mod sums;
 mod triangles;
-mod work;
 
 pub use basis::Basis;
-pub use entry::Entry;
 pub use exchange::Entering;
-pub use fixed::Fixed;
 pub use inverse::{Inverse, Scratch};
-pub use numbers::{Number, add_multiple, number_at, put_number};
 pub use rows::{Rows, at_variable, bit_length};
-pub use scattered::Scattered;
-pub use sums::Sum;
-pub use work::Work;

@@ -5,8 +5,7 @@
 //! undone exactly. Columns are not scaled, so that each variable stays between 0 and 1. Numbers that are 0 at that scale are left out;
 //! whoever sums the constraints up by the multipliers sees the exact ones.
 
-use super::entry::Entry;
-use super::fixed::Fixed;
+use fixed_point::{Entry, Fixed};
 use normal_form::Normal;
 use std::alloc::{AllocError, Global};
 

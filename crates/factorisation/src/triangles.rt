@@ -3,11 +3,7 @@
 //! The kernel of a basis has few entries, and so have its triangles, where the order of the pivots is chosen well (`elimination`); its inverse may be
 //! dense. Rows are named by their numbers and columns by their variables, and not by places, which change from step to step.
 
-use super::entry::Entry;
-use super::fixed::Fixed;
-use super::numbers::Number;
-use super::scattered::Scattered;
-use super::work::Work;
+use fixed_point::{Entry, Fixed, Number, Scattered, Work};
 use std::alloc::{AllocError, Global};
 
 /// A pivot of the elimination: a row that was solved for a variable.

@@ -5,12 +5,11 @@
 //! point: both cost what a step costs, or a begin. Where they do not bear the answer out, the triangles of the inverse are made anew, and with
 //! them duals and point, once in a call. That is no proof: only the exact sum tells.
 
-use super::domain::{Domain, domain_of};
 use super::multipliers::{Multiplier, Row, Source};
-use super::pricing::{Leaving, TOLERANCE, Violation};
 use super::relaxation::Relaxation;
-use factorisation::{Fixed, Number, Sum};
+use fixed_point::{Fixed, Number, Sum};
 use std::alloc::AllocError;
+use tableau::{Domain, Leaving, TOLERANCE, Violation, domain_of};
 
 /// Multipliers up to this are left out, in units of `2^-32`.
 const DROPPED: i64 = 32;

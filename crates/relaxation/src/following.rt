@@ -6,10 +6,10 @@
 //!
 //! It is counted as if all were made anew, so that the relaxation is asked as often as it was when it did that.
 
-use super::domain::domain_of;
 use super::relaxation::Relaxation;
-use factorisation::{Entry, Fixed};
+use fixed_point::{Entry, Fixed};
 use std::alloc::AllocError;
+use tableau::domain_of;
 
 impl Relaxation {
     /// Moves the point to where the domains ask for it.

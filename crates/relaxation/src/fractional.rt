@@ -7,7 +7,8 @@
 
 use super::multipliers::Row;
 use super::relaxation::Relaxation;
-use factorisation::{Entry, Fixed, Scratch, Work};
+use factorisation::Scratch;
+use fixed_point::{Entry, Fixed, Work};
 use linear::Var;
 use std::alloc::{AllocError, Global};
 

@@ -5,30 +5,22 @@
 //! exactly and judges it. So no clause says that an answer is right; what is proved is that every call returns, that no index is out of
 //! range, and that no number overflows or is divided by 0.
 //!
-//! A step goes through the files in this order: `pricing` (what is violated most, by its `norms`), `tableau` (its row), `ratio` (what enters), `pivot` (the
-//! exchange, of the basis and its inverse, `point` and `duals`); `simplex` has the rounds of a call, `following` how it begins where domains
+//! A step asks what is violated most, forms its row and looks for what enters (crate `tableau`); `pivot` then exchanges both, in the basis and its inverse
+//! (crate `factorisation`), in the point and in the duals. `simplex` has the rounds of a call, `following` how it begins where domains
 //! alone have changed, `ends` how it ends, `multipliers` what is handed out. Of `fractional` cuts are made, and `row_exchange` lets them go
-//! again. The rows, the basis and what is solved for its kernel are those of the crate `factorisation`.
+//! again.
 #![tactic(auto)]
 
-mod costs;
-mod domain;
-mod duals;
 mod ends;
 mod following;
 mod fractional;
 mod multipliers;
-mod norms;
 mod pivot;
-mod point;
-mod pricing;
-mod ratio;
 mod relaxation;
 mod row_exchange;
 mod simplex;
-mod tableau;
 
-pub use factorisation::Fixed;
+pub use fixed_point::Fixed;
 pub use fractional::FractionalMultiplier;
 pub use multipliers::{Multiplier, Row, Source, WholeMultiplier, whole_multipliers};
 pub use relaxation::{End, Limits, Relaxation};

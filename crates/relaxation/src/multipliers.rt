@@ -9,7 +9,8 @@
 ghost use Rattle.std.specs.Prelude.{◌≤◌, ◌^◌, All, IfOk};
 ghost use Rattle.relaxation.specs.Whole.{IsWhole};
 
-use factorisation::{Fixed, bit_length};
+use factorisation::bit_length;
+use fixed_point::Fixed;
 use std::alloc::{AllocError, Global};
 
 /// A row, by the number that `add_row` gave it.

@@ -10,18 +10,11 @@
 //! | a variable | a variable | has the one in the stead of the other |
 //! | a variable | a slack | loses the variable and the slack's row |
 
-use super::pricing::{Leaving, Violation};
-use super::ratio::Candidate;
 use super::relaxation::Relaxation;
-use factorisation::{Entering, Entry, Fixed};
+use factorisation::Entering;
+use fixed_point::{Entry, Fixed};
 use std::alloc::AllocError;
-
-/// A bound of a variable.
-#[derive(Clone, Copy)]
-enum Bound {
-    Lower,
-    Upper,
-}
+use tableau::{Bound, Candidate, Leaving, Violation, domain_of};
 
 impl Relaxation {
     /// Makes a step.
@@ -217,7 +210,7 @@ impl Relaxation {
 
     /// A variable stands at a bound from now on, and its reduced cost is what the step took.
     fn settle(&mut self, variable: usize, bound: Bound, ratio: Fixed) {
-        let domain = super::domain::domain_of(self.domains.as_slice(), variable);
+        let domain = domain_of(self.domains.as_slice(), variable);
         match bound {
             Bound::Lower => {
                 self.point.set_value(variable, domain.lower());

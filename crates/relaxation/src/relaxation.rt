@@ -2,18 +2,13 @@
 //!
 //! A search adds the constraints once, fixes what it decided and propagated, and asks. Rows and domains may change in any way between calls.
 
-use super::costs::Costs;
-use super::domain::{Domain, domain_of};
-use super::duals::Duals;
 use super::multipliers::{Multiplier, Row};
-use super::norms::Norms;
-use super::point::Point;
-use super::ratio::Candidates;
-use super::tableau::TableauRow;
-use factorisation::{Basis, Entry, Fixed, Inverse, Rows, Scattered, Scratch, Sum, Work};
+use factorisation::{Basis, Inverse, Rows, Scratch};
+use fixed_point::{Entry, Fixed, Scattered, Sum, Work};
 use linear::{Integer, Lit, Term, Var};
 use normal_form::Normal;
 use std::alloc::{AllocError, Global};
+use tableau::{Candidates, Costs, Domain, Duals, Norms, Point, TableauRow, domain_of};
 
 /// How a call of `solve` ends.
 #[derive(Clone, Copy, Debug, PartialEq, Eq)]

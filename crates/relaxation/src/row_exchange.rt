@@ -4,11 +4,11 @@
 //! stays: there it is a row without coefficients, which holds everywhere, until another row is put there.
 
 use super::multipliers::Row;
-use super::pricing::TOLERANCE;
 use super::relaxation::Relaxation;
-use factorisation::Fixed;
+use fixed_point::Fixed;
 use normal_form::Normal;
 use std::alloc::AllocError;
+use tableau::TOLERANCE;
 
 impl Relaxation {
     /// Whether a row has slack at the point of the last call; no for one that is not there.

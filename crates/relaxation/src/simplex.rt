@@ -9,12 +9,11 @@
 //! once in a call, and the step is looked for again; a pivot that is smaller still ends the call. Multipliers that are negative at the begin
 //! of a call are errors too, and the empty basis takes the place of theirs.
 
-use super::pricing::{Violation, worst_violation};
-use super::ratio::Candidate;
 use super::relaxation::{End, Limits, Relaxation};
-use factorisation::Fixed;
+use fixed_point::Fixed;
 use linear::Integer;
 use std::alloc::AllocError;
+use tableau::{Candidate, Violation, worst_violation};
 
 /// A pivot below this is looked for again with triangles that are made anew; like all limits here in units of `2^-32`.
 const SMALL_PIVOT: i64 = 1 << 19;

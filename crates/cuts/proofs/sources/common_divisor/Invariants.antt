@@ -1,4 +1,0 @@
-use Rattle.cuts.proofs.sources.common_divisor.Given as goal
-
-abbrev pub decreases-loop-smaller : goal.decreases-loop-smaller
-decreases-loop-smaller l = l.smaller
