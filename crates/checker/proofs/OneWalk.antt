@@ -12,7 +12,7 @@ use Rattle.proof_rules.proofs.OneStepFault.{one_step_fault}
 use Rattle.proof_rules.proofs.OneState.{one_state, one_justified}
 use Rattle.proof_text.proofs.OneReading.{one_line}
 use Rattle.proof_text.specs.Faults.{DeniesLine, DeniesAt}
-use Rattle.proof_text.specs.Lines.{Numbered, lines_of}
+use Rattle.proof_lines.specs.Lines.{Numbered, lines_of}
 use Rattle.proof_text.specs.Numbering.{names_in}
 use Rattle.proof_text.specs.Sections.{section_behind}
 use Rattle.proof_text.specs.Spells.{IsLine, line_of, naming}

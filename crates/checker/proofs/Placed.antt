@@ -24,7 +24,7 @@ use Rattle.proof_steps.specs.declared.step.Item.TheVariants as items
 use Rattle.proof_steps.specs.declared.step.Step.{Step}
 use Rattle.proof_steps.specs.declared.step.Step.TheVariants as steps
 use Rattle.proof_text.proofs.Placed.{placed}
-use Rattle.proof_text.specs.Lines.{Numbered, lines_of}
+use Rattle.proof_lines.specs.Lines.{Numbered, lines_of}
 use Rattle.proof_text.specs.Sections.{LineStands, StepStands, behind_step, section_behind}
 use Rattle.proof_text.specs.Words.{words}
 use Rattle.proof_text.specs.declared.fault.ProofFault.{ProofFault}

@@ -4,12 +4,12 @@ use Rattle.std.proofs.lemmas.List.{append-nil, append_assoc}
 use Rattle.linear.specs.Opb.{Opb}
 use Rattle.kernel.specs.Accepted.{Judgement}
 use Rattle.pb_text.specs.Devices.{SourceState, followed_by}
-use Rattle.proof_text.specs.Buffered.{Buffered, Comes, GoesOn, IsEmptied, PassesLines, lent}
-use Rattle.proof_text.specs.Lines.{Numbered, breaks, counting_from, lines_of}
-use Rattle.proof_text.specs.declared.line_buffer.LineFault.{LineFault}
-use Rattle.proof_text.specs.declared.line_buffer.LineFault.TheVariants as faults
-use Rattle.proof_text.proofs.LinesBuffered.{passes_on}
-use Rattle.proof_text.proofs.LinesParted.{nothing_left}
+use Rattle.proof_lines.specs.Buffered.{Buffered, Comes, GoesOn, IsEmptied, PassesLines, lent}
+use Rattle.proof_lines.specs.Lines.{Numbered, breaks, counting_from, lines_of}
+use Rattle.proof_lines.specs.declared.line_buffer.LineFault.{LineFault}
+use Rattle.proof_lines.specs.declared.line_buffer.LineFault.TheVariants as faults
+use Rattle.proof_lines.proofs.LinesBuffered.{passes_on}
+use Rattle.proof_lines.proofs.LinesParted.{nothing_left}
 use Rattle.checker.specs.Stopped.{IsStopped, IsTruncated}
 use Rattle.checker.specs.StopsBy.{StopsBy}
 use Rattle.checker.specs.Streamed.{IsStreamVerdictOf, OfStream, StreamStopsBy}

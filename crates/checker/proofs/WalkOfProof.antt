@@ -7,7 +7,7 @@ use Rattle.proof_rules.specs.Justified.{IsJustified}
 use Rattle.proof_rules.specs.Legal.{Leads}
 use Rattle.proof_rules.specs.State.{State}
 use Rattle.proof_steps.specs.declared.step.Step.{Step}
-use Rattle.proof_text.specs.Lines.{Numbered, lines_of}
+use Rattle.proof_lines.specs.Lines.{Numbered, lines_of}
 use Rattle.proof_text.specs.ProofSpells.{AreSteps}
 use Rattle.proof_text.specs.Sections.{behind_step}
 use Rattle.proof_text.specs.Spells.{IsLine}

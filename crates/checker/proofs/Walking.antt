@@ -6,9 +6,9 @@ use Rattle.linear.specs.Opb.{Opb}
 use Rattle.proof_rules.specs.Justified.{IsJustified}
 use Rattle.proof_rules.specs.Legal.{Legal}
 use Rattle.proof_rules.specs.State.{State, IsStart}
-use Rattle.proof_text.specs.Lines.{Numbered, lines_of}
-use Rattle.proof_text.specs.LinesAhead.{numbered_of}
-use Rattle.proof_text.specs.declared.numbered_lines.NumberedLine.{NumberedLine}
+use Rattle.proof_lines.specs.Lines.{Numbered, lines_of}
+use Rattle.proof_lines.specs.LinesAhead.{numbered_of}
+use Rattle.proof_lines.specs.declared.numbered_lines.NumberedLine.{NumberedLine}
 use Rattle.proof_text.specs.declared.fault.ProofFault.{ProofFault}
 use Rattle.proof_text.specs.declared.fault.ProofFault.TheVariants as readings
 use Rattle.proof_text.specs.declared.line.Line.{Line}

@@ -7,7 +7,7 @@ use Rattle.proof_rules.specs.State.{State}
 use Rattle.proof_rules.specs.declared.fault.StepFault.{StepFault}
 use Rattle.proof_rules.specs.declared.fault.StepFault.TheVariants as judgings
 use Rattle.proof_text.specs.Faults.{DeniesLine}
-use Rattle.proof_text.specs.Lines.{Numbered, lines_of}
+use Rattle.proof_lines.specs.Lines.{Numbered, lines_of}
 use Rattle.proof_text.specs.Words.{words}
 use Rattle.proof_text.specs.declared.fault.ProofFault.{ProofFault}
 use Rattle.proof_text.specs.declared.fault.ProofFault.TheVariants as readings

@@ -9,7 +9,7 @@ use Rattle.proof_rules.specs.Legal.{Legal}
 use Rattle.proof_rules.specs.State.{State, IsStart}
 use Rattle.proof_steps.specs.declared.conclusion.Conclusion.{Conclusion}
 use Rattle.proof_steps.specs.declared.step.Step.{Step}
-use Rattle.proof_text.specs.Lines.{Numbered}
+use Rattle.proof_lines.specs.Lines.{Numbered}
 use Rattle.proof_text.specs.Sections.{section_behind}
 use Rattle.proof_text.specs.Spells.{IsLine}
 use Rattle.proof_text.specs.Words.{words}

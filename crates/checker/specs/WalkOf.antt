@@ -1,6 +1,6 @@
 -- The position at which the walk of the code stands, and what its parts do.
 use Rattle.std.specs.Prelude.{◌≡◌, ℕ}
-use Rattle.proof_text.specs.Lines.{Numbered}
+use Rattle.proof_lines.specs.Lines.{Numbered}
 use Rattle.proof_text.specs.declared.line.Line.{Line}
 use Rattle.checker.specs.Stopped.{LeadsNowhere, Refuses}
 use Rattle.checker.specs.StopsBy.{StopsBy}

@@ -13,7 +13,7 @@ use super::stop::Stop;
 use super::walk::Walk;
 use kernel::Accepted;
 use linear::Problem;
-use proof_text::ProofReader;
+use proof_lines::ProofReader;
 use propagate::Propagator;
 use std::alloc::Global;
 

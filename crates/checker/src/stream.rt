@@ -11,7 +11,7 @@ use super::walk::Walk;
 use kernel::Accepted;
 use linear::Problem;
 use pb_text::Source;
-use proof_text::{LineBuffer, LineFault};
+use proof_lines::{LineBuffer, LineFault};
 use propagate::Propagator;
 use std::alloc::Global;
 

@@ -5,8 +5,8 @@
 //! one that comes in pieces are judged alike.
 
 ghost use Rattle.std.specs.Prelude.{◌≡◌, [], IfOk, IfErr, OnOk, Some, List, length};
-ghost use Rattle.proof_text.specs.Lines.{Numbered};
-ghost use Rattle.proof_text.specs.LinesAhead.{numbered_of};
+ghost use Rattle.proof_lines.specs.Lines.{Numbered};
+ghost use Rattle.proof_lines.specs.LinesAhead.{numbered_of};
 ghost use Rattle.proof_text.specs.Writable.{IsLineWritable};
 ghost use Rattle.checker.specs.Stopped.{IsTruncated};
 ghost use Rattle.checker.specs.StopsBy.{StopsBy};
@@ -17,8 +17,9 @@ use super::afterwards::Afterwards;
 use super::stop::{Stop, judging, reading};
 use kernel::{Accepted, Kernel};
 use linear::{Names, Problem};
+use proof_lines::NumberedLine;
 use proof_steps::{Conclusion, Step};
-use proof_text::{Line, NumberedLine, ProofFault, Section, read_line};
+use proof_text::{Line, ProofFault, Section, read_line};
 use propagate::Propagator;
 use std::alloc::Global;
 

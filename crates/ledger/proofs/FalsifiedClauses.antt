@@ -15,7 +15,7 @@ use Rattle.ledger.specs.declared.pair.Pair.{Pair}
 use Rattle.propagate.specs.Walk.{IsFalsifiedAt}
 use Rattle.ledger.specs.Falls.{IsBeside, IsFalsifiedThere}
 use Rattle.ledger.specs.Ledgers.{constraint_in, nothing, shown}
-use Rattle.ledger.specs.Trails.{on_trail}
+use Rattle.trail.specs.Trails.{on_trail}
 use Rattle.ledger.specs.Watched.{AreOthersFalse}
 use Rattle.ledger.proofs.FallingRows.{some_there}
 use Rattle.ledger.proofs.Standing.{shown_at}

@@ -10,7 +10,7 @@ use Rattle.propagate.specs.Literals.{lists}
 use Rattle.propagate.specs.Passes.{literal_of}
 use Rattle.ledger.specs.declared.pair.Pair.{Pair}
 use Rattle.ledger.specs.Watched.{IsOpen, Outlasts, OutlastsTerm, Tell}
-use Rattle.ledger.proofs.AssignedLiterals.{listed_before, not_before, not_listed_before}
+use Rattle.trail.proofs.AssignedLiterals.{listed_before, not_before, not_listed_before}
 use Rattle.ledger.proofs.ChosenLiterals.{others_false, variables_rise}
 
 -- where the literal of a variable stands

@@ -1,8 +1,5 @@
 pub mod Counters
 pub mod QueueChanges
-pub mod TrailChanges
-pub mod Positions
-pub mod AssignedLiterals
 pub mod Opening
 pub mod QueuedRows
 pub mod RowPlaces
@@ -22,7 +19,6 @@ pub mod WatchedPlaces
 pub mod WatchedQuiet
 pub mod LastLiteral
 pub mod Latest
-pub mod TrailLiterals
 pub mod FalsifiedClauses
 pub mod ListedClauses
 pub mod PlacedOrders

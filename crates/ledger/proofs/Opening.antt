@@ -12,6 +12,7 @@ use Rattle.propagate.specs.Slack.{not_false}
 use Rattle.propagate.specs.Walk.{IsQuiet}
 use Rattle.propagate.proofs.Assignments.{among_append, among_left}
 use Rattle.ledger.specs.Ledgers.{open_sum}
+use Rattle.trail.proofs.AssignedLiterals.{fewer}
 
 -- a sum over a set is that over two parts of it
 sum_parts : (p o q : Literals) → ((v : ℕ) (s : Bool) (c : ℕ) → cond (p v s) c 0 + cond (o v s) c 0 ≡ cond (q v s) c 0) → (ts : List NormalTerm) → sum_over p ts + sum_over o ts ≡ sum_over q ts
@@ -44,10 +45,6 @@ open_less assigned l n unset = sum_parts (not_false (assigned ++ l ∷ [])) (onl
     let two : cond (only (l.var.0) (not l.negated) v s) c 0 ≡ cond o c 0 = ap {B = ℕ} (λ (x : Bool). cond x c 0) (only_turned (l.var.0) v l.negated s) in
     omega (arith, one, two, split_cases b o c out))
     n.terms
-
-pub fewer : (xs ys : List Lit) (v : ℕ) (s b : Bool) → among xs v s ≡ b → among (xs ++ ys) v s ≡ false → among xs v s ≡ false
-fewer xs ys v s false e h = e
-fewer xs ys v s true e h = absurd (false≢true (sym h ∙ among_left xs ys v s e))
 
 -- a constraint without the opposite of a new literal stays quiet
 pub still_quiet : (assigned : List Lit) (l : Lit) (n : NormalConstraint) → lists assigned l ≡ false → coefficient_of n (opposite l) ≡ 0 → IsQuiet assigned n → IsQuiet (assigned ++ l ∷ []) n

@@ -14,7 +14,7 @@ use Rattle.propagate.specs.Walk.{IsQuiet}
 use Rattle.occurrences.specs.declared.occurrence.Occurrence.{Occurrence}
 use Rattle.linear.specs.Literal.{code}
 use Rattle.occurrences.specs.Occurrences.{share_of, occurrences_of}
-use Rattle.ledger.specs.Trails.{on_trail}
+use Rattle.trail.specs.Trails.{on_trail}
 use Rattle.ledger.specs.Ledgers.{constraint_at, constraint_in, shown, nothing, open_sum, IsLedger, IsIndex, AreCounters, AreKnown, AreParted, AreLimits, AreReasons}
 use Rattle.occurrences.specs.Occurrences.{Listed}
 use Rattle.ledger.specs.Orders.{AreOrders, Ordering}

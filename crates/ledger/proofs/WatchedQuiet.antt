@@ -18,7 +18,7 @@ use Rattle.ledger.specs.declared.pair.Pair.{Pair}
 use Rattle.ledger.specs.Falls.{AreHandled, IsAt, IsBeside, IsHandled, IsOneOf, IsOneTrue}
 use Rattle.ledger.specs.Ledgers.{open_sum}
 use Rattle.linear.specs.Literal.{code}
-use Rattle.ledger.proofs.AssignedLiterals.{take_long}
+use Rattle.trail.proofs.AssignedLiterals.{take_long}
 use Rattle.occurrences.proofs.Entering.{same_code}
 use Rattle.ledger.specs.Watched.{AreOthersFalse, AreWatched, IsOpen, IsPairOf, IsWatched, StandsIn, Tell, Watching}
 

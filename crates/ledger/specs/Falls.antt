@@ -11,7 +11,7 @@ use Rattle.ledger.specs.declared.finding.Progress.{Progress}
 use Rattle.ledger.specs.declared.finding.Progress.TheVariants as progresses
 use Rattle.ledger.specs.declared.pair.Pair.{Pair}
 use Rattle.linear.specs.Literal.{code}
-use Rattle.ledger.specs.Trails.{on_trail}
+use Rattle.trail.specs.Trails.{on_trail}
 use Rattle.ledger.specs.Watched.{AreOthersFalse, AreWatched, IsOpen, IsPairOf, Watching, pair_of}
 
 -- one of two literals is true

@@ -7,6 +7,5 @@ pub mod Orders
 pub mod Passed
 pub mod Rounds
 pub mod Spans
-pub mod Trails
 pub mod Waiting
 pub mod Watched

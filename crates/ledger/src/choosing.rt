@@ -5,10 +5,10 @@ ghost use Rattle.normal_form.specs.declared.term.NormalTerm.{NormalTerm};
 ghost use Rattle.normal_form.specs.Normal.{variable_bound};
 ghost use Rattle.ledger.specs.Watched.{IsClause, IsPairOf, Outlasts, OutlastsTerm, Tell};
 
-use super::assignment::Assignment;
 use super::pair::Pair;
 use linear::Lit;
 use normal_form::Normal;
+use trail::Assignment;
 
 /// Whether any one of its literals satisfies a constraint. One that asks for no more than 1 need not be looked through.
 fn is_clause(constraint: &Normal) -> bool

@@ -11,11 +11,11 @@ ghost use Rattle.propagate.specs.Slack.{IsForced};
 ghost use Rattle.ledger.specs.Forcing.{IsForcedOn};
 ghost use Rattle.ledger.specs.Ledgers.{open_sum};
 ghost use Rattle.ledger.specs.Orders.{ArePassed, IsDecreasing};
-ghost use Rattle.ledger.specs.Trails.{IsFree, on_trail};
+ghost use Rattle.trail.specs.Trails.{IsFree, on_trail};
 
-use super::assignment::Assignment;
 use super::order::place_in;
 use normal_form::{Normal, NormalTerm};
+use trail::Assignment;
 
 /// Assigns the literal of a term of the constraint at a place, whose coefficient is above the slack, where it is free.
 fn force_term(

@@ -3,9 +3,9 @@
 ghost use Rattle.std.specs.Prelude.{◌<◌};
 ghost use Rattle.ledger.specs.Hints.{IsHintOf, IsHintWithin};
 
-use super::assignment::Assignment;
 use super::pair::Pair;
 use linear::Lit;
+use trail::Assignment;
 
 /// It is not falsified and forces nothing, or it forces a literal, or they do not tell.
 #[derive(Clone, Copy, Debug)]

@@ -28,7 +28,6 @@ ghost use Rattle.ledger.specs.Entered.{AreEntriesOf, all_of};
 ghost use Rattle.ledger.specs.Ledgers.{AreReasons, HasSlack, IsPropagation, IsReason, constraint_at, open_sum, shown};
 ghost use Rattle.ledger.specs.Watched.{IsOpen, IsPairOf, Tell};
 
-use super::assignment::Assignment;
 use super::choosing::latest_pair;
 use super::counting::enter_counted;
 use super::entries::Entries;
@@ -46,6 +45,7 @@ use normal_form::{Normal, NormalTerm};
 use occurrences::{ClauseIndex, EntryTable, leave};
 use std::alloc::{AllocError, Global};
 use std::marker::Model;
+use trail::Assignment;
 
 /// Constraints by place, and a trail with the place of the constraint that forced each literal.
 #[derive(Drop)]
@@ -70,7 +70,7 @@ impl Model for Ledger {
     ghost use Rattle.std.specs.Prelude.{◌≤◌, vec_capacity};
     ghost use Rattle.ledger.specs.Ledgers.{State, IsLedger, AreReasons, shown};
     ghost use Rattle.ledger.specs.Orders.{AreOrders};
-    ghost use Rattle.ledger.specs.Trails.{on_trail};
+    ghost use Rattle.trail.specs.Trails.{on_trail};
     ghost use Rattle.ledger.specs.Watched.{AreWatched};
 
     ghost Value = { State };

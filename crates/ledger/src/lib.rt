@@ -1,6 +1,6 @@
 //! Constraints by place, the literals that are taken as true, and what waits to be looked at.
 //!
-//! This is what a fast propagator keeps, with the single steps that change it: a literal comes or goes, a constraint comes, is
+//! This is what a fast propagator keeps, with the single steps that change it: a literal comes or goes (crate `trail`), a constraint comes, is
 //! taken off or is taken out. Clauses are watched by two of their literals, all other constraints are counted, and each
 //! literal has a list of where it stands; so a step costs what it touches.
 //!
@@ -10,7 +10,6 @@
 #![tactic(auto)]
 
 mod arena;
-mod assignment;
 mod choosing;
 mod counting;
 mod entries;
@@ -28,7 +27,6 @@ mod passed;
 mod queue;
 mod replacing;
 mod starts;
-mod trail;
 mod watched_first;
 mod watchers;
 
@@ -36,4 +34,3 @@ pub use entries::Entries;
 pub use hint::Hint;
 pub use ledger::Ledger;
 pub use queue::Queue;
-pub use trail::Trail;

@@ -8,8 +8,8 @@ ghost use Rattle.propagate.specs.Literals.{coefficient_of};
 ghost use Rattle.propagate.specs.Slack.{not_false};
 ghost use Rattle.ledger.specs.Ledgers.{open_sum};
 
-use super::assignment::Assignment;
 use normal_form::Normal;
+use trail::Assignment;
 
 /// What the term at a place adds to the sum of the literals that are not made false.
 fn counted(constraint: &Normal, trail: &Assignment, place: usize) -> u128

@@ -2,13 +2,13 @@
 
 ghost use Rattle.std.specs.Prelude.{◌≡◌, ◌<◌, ◌≤◌, ◌⊎◌, ℕ, false, IfSome, IsTrue, MatchOption, length, slice_index_or};
 ghost use Rattle.linear.specs.declared.term.Lit.{Lit};
-ghost use Rattle.ledger.specs.Trails.{on_trail};
+ghost use Rattle.trail.specs.Trails.{on_trail};
 ghost use Rattle.ledger.specs.Watched.{AreRestFalse, AreWithin, IsApart, IsFalseBeside, IsOpen, IsOpenAt};
 
-use super::assignment::Assignment;
 use super::pair::Pair;
 use super::starts::{Starts, index_after};
 use linear::Lit;
+use trail::Assignment;
 
 /// Whether the literal at an index is open and none of two others.
 fn is_open_at(literals: &[Lit], trail: &Assignment, index: usize, others: Pair) -> bool

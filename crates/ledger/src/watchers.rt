@@ -17,14 +17,13 @@ ghost use Rattle.linear.specs.declared.term.Lit.{Lit};
 ghost use Rattle.normal_form.specs.Normal.{NormalConstraint, variable_bound};
 ghost use Rattle.linear.specs.Literal.{opposite};
 ghost use Rattle.propagate.specs.Literals.{lists};
-ghost use Rattle.ledger.specs.Trails.{on_trail};
+ghost use Rattle.trail.specs.Trails.{on_trail};
 ghost use Rattle.ledger.specs.declared.pair.Pair.{Pair};
 ghost use Rattle.ledger.specs.Falls.{IsBeside, IsFalling, IsFound, IsNearer, IsOneOf, IsPassed, IsRowEnd};
 ghost use Rattle.linear.specs.Literal.{code};
 ghost use Rattle.ledger.specs.Watched.{AreLiteralsOf, AreSameKinds, AreWatched, EndsWith, IsOpen, IsPairOf, IsPairWithin, StandsIn, exchanged};
 
 use super::arena::Arena;
-use super::assignment::Assignment;
 use super::finding::{Finding, Move, Progress};
 use super::narrow::narrow;
 use super::pair::Pair;
@@ -36,6 +35,7 @@ use normal_form::Normal;
 use occurrences::Table;
 use std::alloc::{AllocError, Global};
 use std::marker::Model;
+use trail::Assignment;
 
 /// Rows of places by literal, and the literals of the clause of each place, where it is watched: the two that watch it first.
 #[derive(Drop)]

@@ -2,8 +2,9 @@
 
 use super::asking::{fault_at, lit};
 use linear::Names;
+use proof_lines::ProofReader;
 use proof_steps::{Conclusion, Lower, Upper};
-use proof_text::{Line, ProofFault, ProofReader, Section, read_line};
+use proof_text::{Line, ProofFault, Section, read_line};
 use std::alloc::Global;
 
 /// A line at its section, and the number of its fault, 0 where it has none.

@@ -2,7 +2,8 @@
 
 use super::asking::fault_at;
 use linear::Names;
-use proof_text::{Line, ProofFault, ProofReader, Section, read_line, read_step};
+use proof_lines::ProofReader;
+use proof_text::{Line, ProofFault, Section, read_line, read_step};
 use proof_write::{write_end, write_step};
 use std::alloc::Global;
 

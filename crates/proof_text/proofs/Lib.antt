@@ -1,6 +1,3 @@
-pub mod LinesParted
-pub mod LinesJoined
-pub mod LinesBuffered
 pub mod ClosingSemicolon
 pub mod FirstSemicolon
 pub mod NamesNumbered

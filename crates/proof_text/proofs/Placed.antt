@@ -13,7 +13,7 @@ use Rattle.proof_text.specs.declared.line.Line.TheVariants as lines
 use Rattle.proof_text.specs.declared.line.Section.{Section}
 use Rattle.proof_text.specs.declared.line.Section.TheVariants as sections
 use Rattle.proof_text.specs.Words.{Halves, halves, unclosed, are_words, begins_integer, words}
-use Rattle.proof_text.specs.Lines.{Numbered}
+use Rattle.proof_lines.specs.Lines.{Numbered}
 use Rattle.proof_text.specs.Forms.{are_items, items_of, are_literals, literals_of, integers_of, are_images, images_of}
 use Rattle.proof_text.specs.Frame.{header, count_of, output, ending}
 use Rattle.proof_text.specs.Rules.{rule_of}

@@ -9,7 +9,7 @@ use Rattle.proof_steps.specs.declared.step.GoalName.TheVariants as goals
 use Rattle.proof_steps.specs.declared.step.Step.{Step}
 use Rattle.proof_steps.specs.declared.step.Step.TheVariants as steps
 use Rattle.proof_steps.specs.declared.conclusion.Conclusion.TheVariants as conclusions
-use Rattle.proof_text.specs.Lines.{Numbered, counting_from}
+use Rattle.proof_lines.specs.Lines.{Numbered, counting_from}
 use Rattle.proof_text.specs.Words.{words}
 use Rattle.proof_text.specs.Rules.{rule_of}
 use Rattle.proof_text.specs.Steps.{step_of, counted as step_words_counted}

@@ -14,7 +14,7 @@ use Rattle.proof_steps.specs.declared.conclusion.Upper.TheVariants as uppers
 use Rattle.proof_steps.specs.declared.conclusion.Conclusion.{Conclusion}
 use Rattle.proof_steps.specs.declared.conclusion.Conclusion.TheVariants as conclusions
 use Rattle.proof_text.specs.Words.{words}
-use Rattle.proof_text.specs.Lines.{Numbered, lines_of}
+use Rattle.proof_lines.specs.Lines.{Numbered, lines_of}
 use Rattle.proof_text.specs.Spells.{IsLine}
 use Rattle.proof_text.specs.ProofSpells.{SpellsProof}
 use Rattle.proof_text.specs.declared.line.Line.{Line}

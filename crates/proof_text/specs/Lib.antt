@@ -1,5 +1,4 @@
 -- what the format says
-pub mod Lines
 pub mod Kinds
 pub mod Words
 pub mod Numbering
@@ -16,8 +15,6 @@ pub mod ProofSpells
 -- the words of the worked cases
 pub mod Cases
 -- what private functions keep and promise one another
-pub mod LinesAhead
-pub mod Buffered
 pub mod NamesMet
 pub mod PartsRead
 pub mod PartsDenied

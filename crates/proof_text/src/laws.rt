@@ -1,4 +1,4 @@
-//! Laws of the definitions of lines and of proofs, each the contract of a function that does nothing.
+//! Laws of the definitions of what lines say and of proofs, each the contract of a function that does nothing.
 //!
 //! What is accepted is claimed of the proof that a text spells, so "the proof" must be one: were a line to say two things, a
 //! checker could judge one of them while a reader of its verdict believes the other. In the format each line has one reading
@@ -10,7 +10,7 @@ ghost use Rattle.proof_steps.specs.declared.step.Step.{Step};
 ghost use Rattle.proof_steps.specs.declared.conclusion.Conclusion.{Conclusion};
 ghost use Rattle.proof_text.specs.declared.line.Line.{Line};
 ghost use Rattle.proof_text.specs.declared.line.Section.{Section};
-ghost use Rattle.proof_text.specs.Lines.{Numbered, breaks, counting_from};
+ghost use Rattle.proof_lines.specs.Lines.{Numbered};
 ghost use Rattle.proof_text.specs.Sections.{AreNested, LineStands};
 ghost use Rattle.proof_text.specs.Spells.{IsLine};
 ghost use Rattle.proof_text.specs.ProofSpells.{AreSteps, SpellsProof};
@@ -48,11 +48,4 @@ pub fn steps_are_nested()
         → AreSteps section old lines steps new → AreNested section steps }
     ensures proof { (text : List ℕ) → (file : List (List ℕ)) → (count : ℤ) → (steps : List Step) → (c : Conclusion)
         → SpellsProof text file count steps c → AreNested Section.Step steps }
-{}
-
-/// The lines of two texts with an LF between them are those of the one and then those of the other, numbered on: so a text
-/// may be read in pieces, however it is cut.
-pub fn lines_of_two_texts()
-    ensures { (number : ℕ) → (a b : List ℕ)
-        → counting_from number (a ++ 10 ∷ b) ≡ counting_from number a ++ counting_from (number + 1 + breaks a) b }
 {}

@@ -1,7 +1,6 @@
-//! The lines of proofs (the VeriPB proof format, version 2.0, in this product's profile): which lines count, and what
-//! each says at its section.
+//! What the lines of proofs say (the VeriPB proof format, version 2.0, in this product's profile), each at its section.
 //!
-//! The format is read line by line, each line by words. What a line says is defined over its words alone (`specs/`), by a form for
+//! The format is read line by line (crate `proof_lines`), each line by words. What a line says is defined over its words alone (`specs/`), by a form for
 //! each rule, and the code is proved to read exactly that: a line is read where it says something at its section, with its integers
 //! and names within the limits, and is refused with a fault where it says nothing. Nothing here knows what a step means, so
 //! that a checker's rules and a solver's log stand on the same reading.
@@ -17,10 +16,8 @@ mod goal;
 mod keyword;
 pub mod laws;
 mod line;
-mod line_buffer;
 mod line_names;
 mod line_words;
-mod numbered_lines;
 mod places;
 mod pol;
 mod read;
@@ -33,6 +30,4 @@ mod witness;
 pub use fault::ProofFault;
 pub use keyword::{ConclusionKind, Rule};
 pub use line::{Line, Section};
-pub use line_buffer::{LineBuffer, LineFault};
-pub use numbered_lines::{NumberedLine, ProofReader};
 pub use read::{read_line, read_step};

@@ -25,7 +25,7 @@ use Rattle.proof_text.specs.declared.line.Section.TheVariants as sections
 use Rattle.proof_text.specs.Kinds.{is_integer, is_semicolon, is_colon}
 use Rattle.std.proofs.lemmas.List.Elements.{All-head}
 use Rattle.proof_text.specs.Words.{unclosed, IsSmall, AreSmall, words}
-use Rattle.proof_text.specs.Lines.{parted}
+use Rattle.proof_lines.specs.Lines.{parted}
 use Rattle.proof_text.specs.Numbering.{names_in}
 use Rattle.proof_text.specs.Forms.{are_literals}
 use Rattle.proof_text.specs.Conclusions.{conclusion_kind_of, is_hint, hinted, hint_of, past_id, is_lower, lower_of, is_upper, upper_of, bounds_by, conclusion_said, literals_said, conclusion_of, conclusion_literals}

@@ -30,7 +30,7 @@ use Rattle.proof_text.specs.declared.line.Section.TheVariants as sections
 use Rattle.proof_text.specs.Kinds.{is_integer, is_literal, is_semicolon, is_arrow}
 use Rattle.proof_text.specs.Words.{Halves, halves, is_first, are_words, begins_integer, IsSmall, AreSmall, words}
 use Rattle.proof_text.specs.Numbering.{names_in, lit_of}
-use Rattle.proof_text.specs.Lines.{parted}
+use Rattle.proof_lines.specs.Lines.{parted}
 use Rattle.proof_text.specs.Rules.{rule_of}
 use Rattle.proof_text.specs.Forms.{are_literals, literals_of, are_integers, integers_of, are_items, items_of, is_image, image_of, are_images, images_of}
 use Rattle.proof_text.specs.Sections.{HasSteps, StepStands}

@@ -16,7 +16,7 @@ use Rattle.proof_steps.specs.declared.step.Step.{Step}
 use Rattle.proof_text.specs.Conclusions.{conclusion_of}
 use Rattle.proof_text.specs.Frame.{count_of, header, output, ending}
 use Rattle.proof_text.specs.Kinds.{is_integer, is_semicolon}
-use Rattle.proof_text.specs.Lines.{Numbered, Parted, parted, counts, counting, counting_from}
+use Rattle.proof_lines.specs.Lines.{Numbered, Parted, parted, counts, counting, counting_from}
 use Rattle.proof_text.specs.ProofSpells.{AreSteps, SpellsProof}
 use Rattle.proof_text.specs.Spells.{IsLine, line_of}
 use Rattle.proof_text.specs.Sections.{StepStands, AreNested, behind_step}
@@ -28,7 +28,7 @@ use Rattle.proof_text.specs.declared.line.Line.TheVariants as lines
 use Rattle.proof_text.specs.declared.line.Section.{Section}
 use Rattle.proof_text.specs.declared.line.Section.TheVariants as sections
 use Rattle.proof_text.proofs.LinesOfSections.{output_placed}
-use Rattle.proof_text.proofs.LinesParted.{nothing_left}
+use Rattle.proof_lines.proofs.LinesParted.{nothing_left}
 use Rattle.proof_text.proofs.WordsByKind.{none_small, all_small, small_other, integer_alone}
 use Rattle.proof_write.specs.Whole.{first_lines, step_line, last_lines, whole_text}
 use Rattle.proof_write.specs.Writing.{spaced, number_words, step_words, conclusion_words, line_text}

@@ -8,7 +8,7 @@ use Rattle.pb_text.specs.Cutting.{begins_word, behind}
 use Rattle.pb_text.proofs.Cutting.{cut_word, cut_no_word, word_first, symbol_first, white_passed, end_empty}
 use Rattle.pb_text.specs.TokensOf.{texts_of}
 use Rattle.proof_text.specs.Words.{words}
-use Rattle.proof_text.specs.Lines.{Parted, parted}
+use Rattle.proof_lines.specs.Lines.{Parted, parted}
 use Rattle.proof_write.specs.Writing.{spaced, line_text}
 
 -- a byte that stands in words alone

@@ -21,7 +21,7 @@ use Rattle.proof_steps.specs.declared.conclusion.Upper.TheVariants as uppers
 use Rattle.proof_steps.specs.declared.conclusion.Conclusion.{Conclusion}
 use Rattle.proof_steps.specs.declared.conclusion.Conclusion.TheVariants as conclusions
 use Rattle.proof_text.specs.Words.{words}
-use Rattle.proof_text.specs.Lines.{parted}
+use Rattle.proof_lines.specs.Lines.{parted}
 use Rattle.proof_text.specs.declared.line.Line.TheVariants as lines
 use Rattle.proof_text.specs.declared.line.Section.{Section}
 use Rattle.proof_text.specs.declared.line.Section.TheVariants as sections

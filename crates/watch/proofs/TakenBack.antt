@@ -1,7 +1,7 @@
 -- One literal fewer that is true: what stays quiet, and what has to be looked at.
 use Rattle.std.proofs.Common.{◌≡◌, ℕ, zero, suc, ◌<◌, ◌⊎◌, inl, inr, Bool, true, false, not, Contains, Option, None, Some, MatchOption, List, [], ◌∷◌, ◌++◌, ◌≤◌, ◌+◌, length, length-append, get_or, map, set, take, refl, ap, sym, subst, ◌∙◌, append-nil, arith}
 use Rattle.std.proofs.Math.Seq.{take-append_seam}
-use Rattle.ledger.proofs.AssignedLiterals.{take_long}
+use Rattle.trail.proofs.AssignedLiterals.{take_long}
 use Rattle.std.proofs.lemmas.Bool.{false≢true, cases_eq}
 use Rattle.std.proofs.lemmas.Int.{ints}
 use Rattle.std.proofs.lemmas.List.{get_or-set_same, get_or-set_other, length-map, length-set}

@@ -10,9 +10,10 @@ ghost use Rattle.ledger.specs.Ledgers.{shown};
 ghost use Rattle.watch.specs.Steps.{AreGiven, IsTold, IsToldTo, LeadsTo};
 
 use super::chain::{Chain, Step};
-use ledger::{Ledger, Trail};
+use ledger::Ledger;
 use linear::Lit;
 use std::alloc::{AllocError, Global};
+use trail::Trail;
 
 /// Lists a literal unless it is listed.
 fn mark(marks: &mut Trail, literal: Lit)

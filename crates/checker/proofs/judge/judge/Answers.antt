@@ -1,7 +1,7 @@
 use Rattle.std.proofs.Common.{[], ◌∷◌, ◌++◌, ◌∙◌, subst}
 use Rattle.std.proofs.lemmas.Result.{IfErr-weaker, IfOk-weaker, err_from_is_err_and}
-use Rattle.proof_text.specs.Lines.{lines_of}
-use Rattle.proof_text.specs.LinesAhead.{numbered_of}
+use Rattle.proof_lines.specs.Lines.{lines_of}
+use Rattle.proof_lines.specs.LinesAhead.{numbered_of}
 use Rattle.checker.specs.Stopped.{IsStopped, IsTruncated}
 use Rattle.checker.specs.StopsBy.{StopsBy}
 use Rattle.checker.specs.Verdicts.{IsProved}

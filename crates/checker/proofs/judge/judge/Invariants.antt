@@ -1,5 +1,5 @@
 use Rattle.std.proofs.Common.{◌≡◌, ◌++◌, List, length}
-use Rattle.proof_text.specs.Lines.{Numbered, lines_of}
+use Rattle.proof_lines.specs.Lines.{Numbered, lines_of}
 use Rattle.checker.specs.Walk.{Reaches}
 use Rattle.checker.specs.WalkOf.{position_of}
 use Rattle.checker.proofs.judge.judge.Given as goal

@@ -1,7 +1,7 @@
 use Rattle.std.proofs.Common.{[], ◌∷◌, ◌++◌, ◌∙◌, subst}
 use Rattle.std.proofs.lemmas.Result.{err_from_is_err_and}
-use Rattle.proof_text.specs.Buffered.{lent}
-use Rattle.proof_text.proofs.LinesBuffered.{passes_none}
+use Rattle.proof_lines.specs.Buffered.{lent}
+use Rattle.proof_lines.proofs.LinesBuffered.{passes_none}
 use Rattle.checker.specs.Walk.{Advances}
 use Rattle.checker.specs.WalkOf.{position_of}
 use Rattle.checker.proofs.Streaming.{IsFresh, came, came_to_end, judging_stops, stream_fails, stream_proved, stream_short, stream_stop}

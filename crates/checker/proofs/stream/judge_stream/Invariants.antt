@@ -1,6 +1,6 @@
 use Rattle.std.proofs.Common.{◌≡◌, ◌+◌, List, length}
-use Rattle.proof_text.specs.Buffered.{PassesLines}
-use Rattle.proof_text.specs.Lines.{Numbered}
+use Rattle.proof_lines.specs.Buffered.{PassesLines}
+use Rattle.proof_lines.specs.Lines.{Numbered}
 use Rattle.checker.specs.Walk.{Reaches}
 use Rattle.checker.specs.WalkOf.{position_of}
 use Rattle.checker.proofs.stream.judge_stream.Given as goal

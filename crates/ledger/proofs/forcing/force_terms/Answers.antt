@@ -5,7 +5,7 @@ use Rattle.normal_form.specs.Normal.{NormalConstraint}
 use Rattle.normal_form.proofs.Sums.{bound_at}
 use Rattle.propagate.proofs.Occurrences.{forced_at}
 use Rattle.ledger.specs.Orders.{coefficient_at, place_in}
-use Rattle.ledger.specs.Trails.{on_trail}
+use Rattle.trail.specs.Trails.{on_trail}
 use Rattle.ledger.proofs.ForcedLiterals.{as_many_on, coefficient_there, forced_both, forced_none, passed_more, quiet_from, slack_kept}
 use Rattle.ledger.proofs.forcing.force_terms.Goals as goal
 

@@ -3,7 +3,7 @@ use Rattle.std.proofs.Common.{◌≡◌, ◌+◌, length, vec_capacity}
 use Rattle.ledger.specs.Forcing.{IsForcedOn}
 use Rattle.ledger.specs.Ledgers.{open_sum}
 use Rattle.ledger.specs.Orders.{ArePassed}
-use Rattle.ledger.specs.Trails.{on_trail}
+use Rattle.trail.specs.Trails.{on_trail}
 use Rattle.ledger.proofs.forcing.force_terms.Given as goal
 
 abbrev pub invariant-loop-index : goal.invariant-loop-index

@@ -5,7 +5,7 @@ use Rattle.std.specs.Prelude.{IfSome, MatchOption}
 use Rattle.linear.specs.declared.term.Lit.{Lit}
 use Rattle.linear.specs.Literal.{opposite}
 use Rattle.propagate.specs.Literals.{lists}
-use Rattle.ledger.specs.Trails.{on_trail}
+use Rattle.trail.specs.Trails.{on_trail}
 use Rattle.ledger.specs.Watched.{AreRestFalse, IsFalseBeside, IsOpenAt}
 use Rattle.ledger.specs.declared.pair.Pair.{Pair}
 use Rattle.ledger.proofs.ChosenLiterals.{false_longer}

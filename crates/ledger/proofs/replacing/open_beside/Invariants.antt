@@ -1,6 +1,6 @@
 -- The literals so far are made false, or among the others, but for one that is chosen.
 use Rattle.std.proofs.Common.{◌≡◌, None, IfSome}
-use Rattle.ledger.specs.Trails.{on_trail}
+use Rattle.trail.specs.Trails.{on_trail}
 use Rattle.ledger.specs.Watched.{IsOpenAt}
 use Rattle.ledger.proofs.RoundAbout.{AreFalseFor}
 use Rattle.ledger.proofs.replacing.open_beside.Given as goal

@@ -1,6 +1,6 @@
 use Rattle.std.proofs.Common.{refl}
 use Rattle.pb_text.specs.Lexeme.{lexemes, lexemes_from}
-use Rattle.proof_text.specs.Lines.{counting_from}
+use Rattle.proof_lines.specs.Lines.{counting_from}
 use Rattle.proof_text.proofs.cases.texts.Goals as goal
 
 pub returns-clause-empty : goal.returns-clause-empty

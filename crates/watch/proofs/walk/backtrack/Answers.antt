@@ -1,7 +1,7 @@
 -- What was propagated is no longer than the literals that are left.
 use Rattle.std.proofs.Common.{◌≤◌, List, length, length-append, ap, sym, ◌∙◌, arith}
 use Rattle.linear.specs.declared.term.Lit.{Lit}
-use Rattle.ledger.proofs.AssignedLiterals.{take_long}
+use Rattle.trail.proofs.AssignedLiterals.{take_long}
 use Rattle.watch.proofs.walk.backtrack.Goals as goal
 
 pub returns-clause-propagated : goal.returns-clause-propagated

@@ -1,7 +1,7 @@
 use Rattle.std.proofs.Common.{ap, refl, subst, sym}
 use Rattle.std.proofs.lemmas.Result.{err_from_is_err_and}
 use Rattle.kernel.specs.Held.{Held}
-use Rattle.proof_text.specs.LinesAhead.{numbered_of}
+use Rattle.proof_lines.specs.LinesAhead.{numbered_of}
 use Rattle.checker.specs.Walk.{Accepts, Advances}
 use Rattle.checker.specs.WalkOf.{position_of}
 use Rattle.checker.proofs.Walking.{advances_by, moved, stops_refused}

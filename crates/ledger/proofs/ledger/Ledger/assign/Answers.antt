@@ -2,7 +2,7 @@
 use Rattle.std.proofs.Common.{◌++◌, ◌∷◌, [], List, sym, subst, append_assoc, arith}
 use Rattle.linear.specs.declared.term.Lit.{Lit}
 use Rattle.ledger.specs.Ledgers.{AreReasons, IsReason, State, shown}
-use Rattle.ledger.specs.Trails.{on_trail}
+use Rattle.trail.specs.Trails.{on_trail}
 use Rattle.ledger.proofs.PlacedOrders.{orders_longer}
 use Rattle.ledger.proofs.Reasons.{reasons_push}
 use Rattle.ledger.proofs.ledger.Ledger.assign.Goals as goal

@@ -1,7 +1,7 @@
 -- One constraint more at the end of all lists.
 use Rattle.std.proofs.Common.{◌≡◌, ◌+◌, ◌≤◌, ℕ, List, Option, None, Some, [], ◌∷◌, ◌++◌, length, refl, ap, sym, ◌∙◌, arith}
 use Rattle.normal_form.specs.Normal.{NormalConstraint, variable_bound}
-use Rattle.ledger.specs.Trails.{on_trail}
+use Rattle.trail.specs.Trails.{on_trail}
 use Rattle.ledger.specs.Ledgers.{State}
 use Rattle.ledger.proofs.Attaching.{attached_counted, of_slot, reasons_beside, unchanged, with_pairs}
 use Rattle.ledger.proofs.PlacedOrders.{its, orders_beside, orders_more, others}

@@ -5,7 +5,7 @@ use Rattle.normal_form.specs.Normal.{NormalConstraint, only, total, variable_bou
 use Rattle.normal_form.proofs.Sums.{sum_over_below}
 use Rattle.propagate.specs.Literals.{coefficient_of}
 use Rattle.ledger.specs.declared.pair.Pair.{Pair}
-use Rattle.ledger.specs.Trails.{on_trail}
+use Rattle.trail.specs.Trails.{on_trail}
 use Rattle.ledger.specs.Ledgers.{State}
 use Rattle.ledger.specs.Watched.{IsPairOf, Tell}
 use Rattle.ledger.proofs.Attaching.{attached_watched, of_slot, reasons_beside, with_pairs}

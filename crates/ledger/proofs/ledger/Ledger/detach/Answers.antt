@@ -6,7 +6,7 @@ use Rattle.normal_form.specs.declared.term.NormalTerm.{NormalTerm}
 use Rattle.normal_form.specs.Normal.{NormalConstraint}
 use Rattle.occurrences.specs.declared.occurrence.Occurrence.{Occurrence}
 use Rattle.ledger.specs.declared.pair.Pair.{Pair}
-use Rattle.ledger.specs.Trails.{on_trail}
+use Rattle.trail.specs.Trails.{on_trail}
 use Rattle.ledger.specs.Ledgers.{AreReasons, IsIndexBelow, IsLedger, State, shown}
 use Rattle.occurrences.specs.Occurrences.{Listed}
 use Rattle.ledger.specs.Orders.{AreOrders, Ordering, order_at}

@@ -6,7 +6,7 @@ use Rattle.propagate.specs.Walk.{IsQuiet}
 use Rattle.ledger.specs.Forcing.{IsForcedOn}
 use Rattle.ledger.specs.Ledgers.{State, constraint_at, constraint_in, open_sum, shown}
 use Rattle.ledger.specs.Orders.{ArePassed, IsDecreasing}
-use Rattle.ledger.specs.Trails.{on_trail}
+use Rattle.trail.specs.Trails.{on_trail}
 use Rattle.ledger.proofs.ForcedLiterals.{forced_none, reasons_on}
 use Rattle.ledger.proofs.PlacedOrders.{orders_passed}
 use Rattle.ledger.proofs.Standing.{shown_at, some_at, variables_there}

@@ -1,7 +1,7 @@
 -- Nothing is behind the last one.
 use Rattle.std.proofs.Common.{ap, sym, ◌∙◌}
 use Rattle.ledger.specs.Ledgers.{State}
-use Rattle.ledger.proofs.AssignedLiterals.{none_when, whole_when}
+use Rattle.trail.proofs.AssignedLiterals.{none_when, whole_when}
 use Rattle.ledger.proofs.ledger.Ledger.is_propagated.Goals as goal
 
 pub returns : goal.returns

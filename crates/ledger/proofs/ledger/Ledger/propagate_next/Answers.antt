@@ -7,14 +7,14 @@ use Rattle.propagate.specs.Literals.{IsConsistent, coefficient_of, lists}
 use Rattle.propagate.specs.Walk.{IsFalsifiedAt, IsQuiet}
 use Rattle.ledger.specs.declared.pair.Pair.{Pair}
 use Rattle.ledger.specs.Falls.{IsAt, IsFalsifiedThere}
-use Rattle.ledger.specs.Trails.{on_trail}
+use Rattle.trail.specs.Trails.{on_trail}
 use Rattle.ledger.specs.Ledgers.{AreReasons, State, shown}
 use Rattle.occurrences.specs.Occurrences.{share_of}
 use Rattle.ledger.specs.Orders.{AreOrders}
 use Rattle.occurrences.specs.Rows.{all_in}
 use Rattle.ledger.proofs.Standing.{all_within, each_kind, entries, enough, counted, parted_same, queued_there, recounted}
 use Rattle.ledger.proofs.WatchedQuiet.{fallen_queued, fallen_watched}
-use Rattle.ledger.proofs.AssignedLiterals.{next_listed, next_open, same_assigned, whole_when}
+use Rattle.trail.proofs.AssignedLiterals.{next_listed, next_open, same_assigned, whole_when}
 use Rattle.ledger.proofs.FalsifiedClauses.{falsified_there, none_case, some_case}
 use Rattle.ledger.proofs.ledger.Ledger.propagate_next.Goals as goal
 

@@ -1,7 +1,7 @@
 -- One empty place more at the end of all lists.
 use Rattle.std.proofs.Common.{◌≡◌, ℕ, List, Option, None, [], ◌∷◌, ◌++◌, length, refl, ap, ◌∙◌, arith}
 use Rattle.normal_form.specs.Normal.{NormalConstraint}
-use Rattle.ledger.specs.Trails.{on_trail}
+use Rattle.trail.specs.Trails.{on_trail}
 use Rattle.ledger.proofs.Attaching.{attached_empty, none_is_not_some, reasons_beside, with_pairs}
 use Rattle.ledger.proofs.PlacedOrders.{orders_more}
 use Rattle.ledger.proofs.WatchedPlaces.{same_rows, watched_kept, watched_more}

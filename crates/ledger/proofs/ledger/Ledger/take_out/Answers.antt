@@ -1,6 +1,6 @@
 -- Nothing stands at the place any more, and nobody needs what stood there.
 use Rattle.std.proofs.Common.{◌≡◌, ◌<◌, ℕ, Some, None, length, get_or, set, ap, sym, subst, arith}
-use Rattle.ledger.specs.Trails.{on_trail}
+use Rattle.trail.specs.Trails.{on_trail}
 use Rattle.ledger.specs.Ledgers.{State}
 use Rattle.ledger.proofs.Attaching.{reasons_apart, taken_out, with_pairs}
 use Rattle.ledger.proofs.PlacedOrders.{orders_without}

@@ -3,9 +3,9 @@ use Rattle.std.proofs.Common.{◌≡◌, ◌-◌, ℕ, Bool, true, false, List, 
 use Rattle.std.proofs.lemmas.Bool.{false≢true}
 use Rattle.linear.specs.declared.term.Lit.{Lit}
 use Rattle.ledger.specs.Ledgers.{AreCounters, AreReasons, shown}
-use Rattle.ledger.specs.Trails.{on_trail}
+use Rattle.trail.specs.Trails.{on_trail}
 use Rattle.occurrences.specs.Rows.{all_in}
-use Rattle.ledger.proofs.AssignedLiterals.{last_counted, unset_first}
+use Rattle.trail.proofs.AssignedLiterals.{last_counted, unset_first}
 use Rattle.ledger.proofs.Standing.{entries, room, counted_back, recounted}
 use Rattle.ledger.proofs.FallingRows.{kinds_same}
 use Rattle.ledger.proofs.PlacedOrders.{orders_anew}

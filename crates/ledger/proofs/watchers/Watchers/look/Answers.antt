@@ -7,7 +7,7 @@ use Rattle.linear.specs.Literal.{opposite}
 use Rattle.normal_form.specs.Normal.{NormalConstraint}
 use Rattle.propagate.specs.Literals.{lists}
 use Rattle.ledger.specs.Falls.{IsMoveIn}
-use Rattle.ledger.specs.Trails.{on_trail}
+use Rattle.trail.specs.Trails.{on_trail}
 use Rattle.ledger.specs.Watched.{AreRestFalse, IsOpen, Watching}
 use Rattle.ledger.specs.declared.finding.Move.{Move}
 use Rattle.ledger.specs.declared.pair.Pair.{Pair}

@@ -1,0 +1,3 @@
+pub mod LinesParted
+pub mod LinesJoined
+pub mod LinesBuffered

@@ -1,0 +1,4 @@
+pub mod TrailChanges
+pub mod TrailLiterals
+pub mod Positions
+pub mod AssignedLiterals
