@@ -4,9 +4,8 @@
 //! shortest row is taken, and in it, of the entries that are not much smaller than its largest, the one in the shortest column (Markowitz 1957),
 //! so that few entries come to others.
 
-use super::basis::Basis;
-use super::rows::Rows;
 use super::triangles::{Pivot, Triangles, from_end};
+use basis::{Basis, Rows};
 use fixed_point::{Entry, Fixed, Number, Work};
 use std::alloc::{AllocError, Global};
 use std::mem;

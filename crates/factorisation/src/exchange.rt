@@ -4,8 +4,7 @@
 //! went to a bound has the value 0 among the basic ones, and a row that became tight what it wants. So a kernel that has changed since its
 //! triangles were made is solved by these, and then exchange by exchange (the product form of the inverse, of a kernel that grows and shrinks).
 
-use super::basis::Basis;
-use super::rows::Rows;
+use basis::{Basis, Rows};
 use fixed_point::{Entry, Fixed, Scattered, Sum, number_at};
 use std::alloc::{AllocError, Global};
 

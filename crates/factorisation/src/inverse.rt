@@ -3,11 +3,10 @@
 //! It is never formed: a product with it is solved for, by the triangles of an earlier kernel and the exchanges since. Both have few entries where
 //! the rows have few. As exchanges come, products become dearer and errors add up, so the triangles are made anew from the rows at times.
 
-use super::basis::Basis;
 use super::elimination::triangles_of;
 use super::exchange::{Entering, Exchange};
-use super::rows::Rows;
 use super::triangles::{Triangles, from_end};
+use basis::{Basis, Rows};
 use fixed_point::{Entry, Fixed, Scattered, Work};
 use std::alloc::{AllocError, Global};
 

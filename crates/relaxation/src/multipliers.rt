@@ -9,7 +9,7 @@
 ghost use Rattle.std.specs.Prelude.{◌≤◌, ◌^◌, All, IfOk};
 ghost use Rattle.relaxation.specs.Whole.{IsWhole};
 
-use factorisation::bit_length;
+use basis::bit_length;
 use fixed_point::Fixed;
 use std::alloc::{AllocError, Global};
 

@@ -3,7 +3,8 @@
 //! A search adds the constraints once, fixes what it decided and propagated, and asks. Rows and domains may change in any way between calls.
 
 use super::multipliers::{Multiplier, Row};
-use factorisation::{Basis, Inverse, Rows, Scratch};
+use basis::{Basis, Rows};
+use factorisation::{Inverse, Scratch};
 use fixed_point::{Entry, Fixed, Scattered, Sum, Work};
 use linear::{Integer, Lit, Term, Var};
 use normal_form::Normal;

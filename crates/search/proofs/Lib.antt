@@ -1,4 +1,3 @@
-pub mod Choices
 pub mod Clauses
 pub mod BitingClauses
 pub mod Ending
@@ -16,4 +15,3 @@ pub mod BegunLogs
 pub mod Entitling
 pub mod Settling
 pub mod Stepping
-pub mod TakenOff

@@ -9,7 +9,6 @@
 mod advice;
 mod advisers;
 pub mod cases;
-mod choice;
 mod clause;
 mod conflict;
 mod cutting;
@@ -29,8 +28,6 @@ mod run;
 mod searched;
 mod solution;
 mod solver;
-mod standing;
-mod values;
 
 pub use branching::{Activity, Brancher, First, Progress, Value};
 pub use found::{Found, Unfinished};

@@ -4,7 +4,7 @@
 //! from 0: among equal costs a dual simplex finds many steps that gain nothing, and may go round in a circle. Bounds are told without
 //! what was added. Where there is no objective these numbers are the costs, and large, since then nothing is lost by them.
 
-use factorisation::{at_variable, bit_length};
+use basis::{at_variable, bit_length};
 use fixed_point::{Fixed, number_at};
 use linear::{Integer, Term};
 use std::alloc::{AllocError, Global};

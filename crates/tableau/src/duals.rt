@@ -6,7 +6,8 @@
 
 use super::costs::Costs;
 use super::domain::{Domain, domain_of};
-use factorisation::{Basis, Inverse, Rows, Scratch};
+use basis::{Basis, Rows};
+use factorisation::{Inverse, Scratch};
 use fixed_point::{Entry, Fixed, Number, Sum, Work, add_multiple, number_at, put_number};
 use std::alloc::{AllocError, Global};
 

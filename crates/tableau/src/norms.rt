@@ -6,7 +6,8 @@
 //! of thousands of rows takes a third to nine tenths of the steps by that. One of a few hundred rows takes fewer too, but none of the searches that
 //! were tried was the faster for it, and some took longer; so norms are followed where there are many rows, and 1 elsewhere.
 
-use factorisation::{Basis, Entering};
+use basis::Basis;
+use factorisation::Entering;
 use fixed_point::{Fixed, Scattered, number_at, put_number};
 use std::alloc::{AllocError, Global};
 

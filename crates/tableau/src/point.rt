@@ -5,7 +5,8 @@
 
 use super::domain::{Domain, domain_of};
 use super::duals::Duals;
-use factorisation::{Basis, Inverse, Rows, Scratch};
+use basis::{Basis, Rows};
+use factorisation::{Inverse, Scratch};
 use fixed_point::{Entry, Fixed, Number, Sum, Work, add_multiple, number_at, put_number};
 use std::alloc::{AllocError, Global};
 

@@ -6,7 +6,7 @@
 use super::domain::{Domain, domain_of};
 use super::norms::Norms;
 use super::point::Point;
-use factorisation::Basis;
+use basis::Basis;
 use fixed_point::{Fixed, Number, Sum};
 
 /// Violations up to this are not repaired, in units of `2^-32`.

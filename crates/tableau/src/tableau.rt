@@ -4,7 +4,8 @@
 //! Signs are such that what leaves has to grow. Most entries are 0, so both parts are lists of those that are not.
 
 use super::pricing::Leaving;
-use factorisation::{Basis, Inverse, Rows, Scratch};
+use basis::{Basis, Rows};
+use factorisation::{Inverse, Scratch};
 use fixed_point::{Entry, Fixed, Scattered, Sum, Work};
 use std::alloc::{AllocError, Global};
 

@@ -12,7 +12,8 @@ use Rattle.occurrences.specs.declared.occurrence.Occurrence.{Occurrence}
 use Rattle.ledger.specs.Ledgers.{AreParted, constraint_at}
 use Rattle.ledger.specs.Entered.{AreEntriesOf}
 use Rattle.watch.specs.Lent.{ids_at, live_places}
-use Rattle.watch.specs.Named.{AreNamed, content_at, place_of}
+use Rattle.places.specs.Places.{place_of}
+use Rattle.watch.specs.Named.{AreNamed, content_at}
 use Rattle.occurrences.specs.Occurrences.{occurrences_of}
 use Rattle.watch.proofs.NamedPlaces.{below, got, got_none}
 

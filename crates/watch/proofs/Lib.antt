@@ -14,8 +14,6 @@ pub mod LiveOnes
 pub mod MadeAnew
 pub mod NamedChains
 pub mod NamedPlaces
-pub mod Placed
-pub mod PlacedRows
 pub mod Propagating
 pub mod Reasoned
 pub mod Settling

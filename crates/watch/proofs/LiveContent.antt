@@ -7,7 +7,8 @@ use Rattle.normal_form.specs.Normal.{NormalConstraint}
 use Rattle.propagate.specs.Content.{Content, IsLeastAbove}
 use Rattle.propagate.proofs.Entries.{Entries, found_at, ids_of, values_of}
 use Rattle.ledger.specs.Ledgers.{constraint_at, constraint_in, nothing, shown}
-use Rattle.watch.specs.Named.{AreNamed, IsNextPlaced, content_at, place_of}
+use Rattle.places.specs.Places.{IsNextPlaced, place_of}
+use Rattle.watch.specs.Named.{AreNamed, content_at}
 use Rattle.watch.proofs.LiveOnes.{AddsNothing}
 use Rattle.watch.proofs.NamedPlaces.{below, got, got_none, shows}
 use Rattle.ledger.proofs.Standing.{shown_at}

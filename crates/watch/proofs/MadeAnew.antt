@@ -6,8 +6,10 @@ use Rattle.std.proofs.lemmas.Bool.{cases_eq}
 use Rattle.std.proofs.lemmas.Cmp.{nat_cmp_total}
 use Rattle.normal_form.specs.Normal.{NormalConstraint}
 use Rattle.propagate.specs.Content.{Content}
-use Rattle.watch.specs.Named.{AreNamed, content_at, place_of}
-use Rattle.watch.proofs.NamedPlaces.{below, got, got_none, other_id, own_id}
+use Rattle.places.specs.Places.{place_of}
+use Rattle.watch.specs.Named.{AreNamed, content_at}
+use Rattle.places.proofs.Ids.{other_id, own_id}
+use Rattle.watch.proofs.NamedPlaces.{below, got, got_none}
 
 abbrev Slots : Type 0
 Slots = List (Option NormalConstraint)

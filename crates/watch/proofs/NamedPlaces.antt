@@ -11,8 +11,10 @@ use Rattle.std.proofs.lemmas.Cmp.{nat_cmp_total}
 use Rattle.std.proofs.lemmas.List.{get_or_append_left, get_or_past, get_or_push, get_or-set_other, get_or-set_same, length-set}
 use Rattle.normal_form.specs.Normal.{NormalConstraint}
 use Rattle.propagate.proofs.Entries.{get_is, one_given, one_removed}
+use Rattle.places.proofs.Ids.{other_id, own_id}
 use Rattle.ledger.specs.Ledgers.{constraint_at, constraint_in, shown}
-use Rattle.watch.specs.Named.{AreNamed, content_at, place_of}
+use Rattle.places.specs.Places.{place_of}
+use Rattle.watch.specs.Named.{AreNamed, content_at}
 use Rattle.ledger.proofs.Standing.{shown_at}
 
 abbrev Slots : Type 0
@@ -35,12 +37,6 @@ content_get slots es q = get_is (map (λ e. (e.0, constraint_at (shown slots) e.
 
 pub same_id : (k q : ℕ) → is_at (nat_cmp k) q ≡ true → k ≡ q
 same_id k q h = grind (arith, nat_tests)
-
-pub own_id : (k : ℕ) → is_at (nat_cmp k) k ≡ true
-own_id k = grind (arith, nat_tests)
-
-pub other_id : (k q : ℕ) → (k ≡ q → ⊥) → is_at (nat_cmp k) q ≡ false
-other_id k q h = grind (arith, nat_tests)
 
 none_is_not_some : {X : Type 0} (x : X) (o : Option X) → o ≡ None → o ≡ Some x → ⊥
 none_is_not_some x o e f = cc

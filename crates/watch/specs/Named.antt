@@ -1,24 +1,10 @@
--- Places of constraints by their ids.
-use Rattle.std.specs.Prelude.{◌≡◌, ℕ, ◌<◌, ◌≤◌, List, Option, None, Some, length, map, slice_index_or}
-use Rattle.std.specs.BTreeMap.{is_at}
+-- Constraints by their ids, where each id has a place.
+use Rattle.std.specs.Prelude.{◌≡◌, ℕ, List, Option, None, Some, length, map, slice_index_or}
 use Rattle.std.specs.FinMap as fin
-use Rattle.std.specs.Map.{lookup}
-use Rattle.std.specs.Ordering.{nat_cmp}
 use Rattle.normal_form.specs.Normal.{NormalConstraint}
 use Rattle.propagate.specs.Content.{Content}
+use Rattle.places.specs.Places.{place_of}
 use Rattle.ledger.specs.Ledgers.{constraint_at, shown}
-
--- the place of an id
-abbrev pub place_of : List (ℕ × ℕ) → ℕ → Option ℕ
-place_of places id = lookup (is_at (nat_cmp id)) places
-
--- the least id above another that has a place
-abbrev pub IsNextPlaced : List (ℕ × ℕ) → ℕ → ℕ → Type 0
-IsNextPlaced places id next = (id < next) × ((k : ℕ) × (place_of places next ≡ Some k)) × ((q : ℕ) → id < q → q < next → place_of places q ≡ None)
-
--- the least one from another on that has a place
-abbrev pub IsFirstPlaced : List (ℕ × ℕ) → ℕ → ℕ → Type 0
-IsFirstPlaced places from next = (from ≤ next) × ((k : ℕ) × (place_of places next ≡ Some k)) × ((q : ℕ) → from ≤ q → q < next → place_of places q ≡ None)
 
 -- the constraints by their ids
 abbrev pub content_at : List (Option NormalConstraint) → List (ℕ × ℕ) → Content

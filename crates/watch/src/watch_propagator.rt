@@ -18,9 +18,9 @@ ghost use Rattle.propagate.specs.Reach.{IsReach, IsRetrace};
 
 use super::closure::Closure;
 use super::naming::trace_of;
-use super::places::Places;
 use linear::Lit;
 use normal_form::Normal;
+use places::Places;
 use propagate::{Decided, Id, Ids, Propagator, Reach, Retrace, Trace};
 use std::alloc::{AllocError, Global};
 use std::marker::Model;
