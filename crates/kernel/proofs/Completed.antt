@@ -12,7 +12,7 @@ use Rattle.proof_rules.specs.declared.fault.StepFault.TheVariants as faults
 use Rattle.proof_rules.specs.Fault.{IsSolFault}
 use Rattle.proof_rules.specs.Solution.{literal_for, NamesAll, value_at, Completes}
 use Rattle.proof_rules.specs.State.{State, constraints}
-use Rattle.kernel.specs.Table.{GivesAll, LeavesOut}
+use Rattle.solutions.specs.Table.{GivesAll, LeavesOut}
 
 pub unnamed : (count : ℕ) (assigned : List Lit) → LeavesOut count assigned → NamesAll count assigned → ⊥
 unnamed count assigned (v, below, none) all = let h = all v below in none h.0 h.1

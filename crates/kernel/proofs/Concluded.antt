@@ -1,5 +1,6 @@
 -- What conclusions ask of the state behind a hint, and their faults there.
-use Rattle.std.proofs.Common.{◌≡◌, ◌≢◌, ℤ, ◌<ℤ◌, ◌≤ℤ◌, inl, inr, Bool, List, [], ◌∷◌, Option, Some, None, Any, IfSome, length, refl, sym, ap, subst, ◌∙◌, arith}
+use Rattle.std.proofs.Common.{◌≡◌, ◌≢◌, ℤ, ◌<ℤ◌, ◌≤ℤ◌, inl, inr, Bool, false, is_some, List, [], ◌∷◌, Option, Some, None, Any, IfSome, length, refl, sym, ap, subst, ◌∙◌, arith}
+use Rattle.std.proofs.lemmas.Bool.{false≢true}
 use Rattle.std.proofs.lemmas.Int.{ints}
 use Rattle.std.proofs.lemmas.List.{length-append}
 use Rattle.std.proofs.lemmas.List.Elements.{All-contains}
@@ -62,3 +63,8 @@ bound_entitled (Some g) s objective lower h bound is =
 pub bound_beside : (extra : Option (List Bool)) (s : State) (objective : List Term) (bound : ℤ) (f : StepFault) → IsBoundFault s objective bound f → IsBoundFault (with_extra extra s) objective bound f
 bound_beside None s objective bound f h = h
 bound_beside (Some g) s objective bound f h = h
+
+-- where there is no further solution the state is as it was
+pub none_more : (extra : Option (List Bool)) (s : State) → is_some extra ≡ false → with_extra extra s ≡ s
+none_more None s h = refl
+none_more (Some g) s h = absurd (false≢true (sym h))

@@ -11,7 +11,7 @@ use Rattle.proof_rules.proofs.Preserving.{step_preserves, step_normal}
 use Rattle.kernel.specs.Database.{Constraints}
 use Rattle.kernel.specs.File.{AreOfFile}
 use Rattle.kernel.specs.Held.{IsKept, state_with}
-use Rattle.kernel.specs.Logged.{unlogged}
+use Rattle.solutions.specs.Logged.{unlogged}
 
 -- nothing is logged, and the constraints are the file's
 pub starts : (p : Opb) (d : Constraints) → AreOfFile p.constraints d → IsStart p (state_with d unlogged None)

@@ -1,8 +1,6 @@
-pub mod Best
 pub mod Between
 pub mod Completed
 pub mod Concluded
-pub mod Consistent
 pub mod CoveredAt
 pub mod CoveringShares
 pub mod Deleting
@@ -11,10 +9,8 @@ pub mod Improving
 pub mod Keeping
 pub mod Listed
 pub mod OpenBlocks
-pub mod Packing
 pub mod Showing
 pub mod Standing
-pub mod Tables
 pub mod TakenBack
 pub mod Touched
 pub mod TouchedJudged

@@ -17,7 +17,7 @@ use Rattle.proof_rules.specs.Legal.{with_solution}
 use Rattle.proof_rules.specs.State.{State, Block}
 use Rattle.proof_rules.specs.Forms.{problem_ids}
 use Rattle.kernel.specs.Database.{Constraints}
-use Rattle.kernel.specs.Logged.{Logged}
+use Rattle.solutions.specs.Logged.{Logged}
 
 -- a problem, and the state of a proof of it
 pub record Held : Type 0 where

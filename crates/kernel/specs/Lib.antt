@@ -5,8 +5,5 @@ pub mod Deletion
 pub mod Derived
 pub mod File
 pub mod Held
-pub mod Logged
-pub mod Packed
 pub mod Place
 pub mod Redundance
-pub mod Table

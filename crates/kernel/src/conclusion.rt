@@ -11,13 +11,13 @@ ghost use Rattle.kernel.specs.Held.{with_extra};
 
 use super::accepted::Accepted;
 use super::kernel::Kernel;
-use super::log::is_better;
 use super::objective::above;
 use linear::{Assignment, Integer, Lit, Problem, Seq, Term};
 use normal_form::{Normal, NormalBuilder};
 use proof_rules::StepFault;
 use proof_steps::{Conclusion, Lower, Upper};
 use propagate::Propagator;
+use solutions::is_better;
 use std::alloc::{AllocError, Global};
 
 /// `0 >= 1`.

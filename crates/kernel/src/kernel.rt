@@ -4,7 +4,6 @@
 
 use super::database::Database;
 use super::file::constraints_of_file;
-use super::log::Log;
 use super::open_block::OpenBlock;
 use super::shown::is_shown;
 use linear::Problem;
@@ -13,6 +12,7 @@ use pol_stack::Accumulator;
 use proof_rules::StepFault;
 use proof_steps::Step;
 use propagate::{Id, Propagator};
+use solutions::Log;
 use std::alloc::{AllocError, Global};
 use std::marker::Model;
 use substitution::NetObjective;

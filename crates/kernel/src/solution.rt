@@ -9,14 +9,13 @@ ghost use Rattle.proof_rules.specs.Solution.{Completes};
 ghost use Rattle.proof_rules.specs.State.{HasRoom, IsOutside, constraints};
 ghost use Rattle.kernel.specs.Held.{IsKept};
 
-use super::consistency::is_consistent;
 use super::kernel::{Applied, Kernel};
 use super::objective::below;
-use super::values::{all_values, table_of, values};
 use linear::{Assignment, Integer, Lit};
 use normal_form::Normal;
 use proof_rules::StepFault;
 use propagate::{Propagator, Reach};
+use solutions::{all_values, is_consistent, table_of, values};
 
 impl<'a, P: Propagator> Kernel<'a, P> {
     /// Logs a solution.

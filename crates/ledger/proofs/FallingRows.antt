@@ -16,7 +16,7 @@ use Rattle.linear.specs.Literal.{code}
 use Rattle.ledger.specs.Watched.{AreLiteralsOf, AreSameKinds, AreWatched, IsOpen, IsPairOf, IsPairWithin, IsWatched, StandsIn, Watching, exchanged}
 use Rattle.ledger.proofs.ClauseLists.{list_there, still_listed}
 use Rattle.occurrences.proofs.Entering.{code_below, same_code}
-use Rattle.ledger.proofs.Opening.{fewer}
+use Rattle.trail.proofs.AssignedLiterals.{fewer}
 use Rattle.ledger.proofs.RowPlaces.{IsPut, ahead_first, ahead_next, ahead_still, put_length, put_still, put_there, row_other, row_set, stands_beside}
 
 abbrev Slots : Type 0

@@ -22,7 +22,7 @@ mod redundance;
 #[cfg(test)]
 mod rows;
 #[cfg(test)]
-mod solutions;
+mod solution_steps;
 #[cfg(test)]
 mod subproofs;
 #[cfg(test)]

@@ -2,7 +2,7 @@ use Rattle.std.proofs.Common.{List, Bool, Option, Some, refl, sym, subst}
 use Rattle.std.proofs.lemmas.Bool.{false≢true}
 use Rattle.proof_rules.specs.Justified.{IsBest}
 use Rattle.kernel.specs.Held.{Held, state_with, with_extra}
-use Rattle.kernel.proofs.Best.{best_stays, best_changes}
+use Rattle.solutions.proofs.Best.{best_stays, best_changes}
 use Rattle.kernel.proofs.kernel.Kernel.best.Goals as goal
 
 pub returns-then-is_better-clause-best : goal.returns-then-is_better-clause-best

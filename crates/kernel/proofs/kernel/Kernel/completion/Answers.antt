@@ -7,8 +7,8 @@ use Rattle.proof_rules.specs.Fault.{IsSolFault}
 use Rattle.proof_rules.specs.Solution.{Completes}
 use Rattle.proof_rules.specs.State.{State, constraints}
 use Rattle.kernel.specs.Held.{Held, state_with}
-use Rattle.kernel.specs.Table.{GivesAll, HasGap, LeavesOut}
-use Rattle.kernel.proofs.Tables.{table_read}
+use Rattle.solutions.specs.Table.{GivesAll, HasGap, LeavesOut}
+use Rattle.solutions.proofs.Tables.{table_read}
 use Rattle.kernel.proofs.Completed.{not_closed, said_whole, reached_whole, conflicts, leaves_partial}
 use Rattle.kernel.proofs.kernel.Kernel.completion.Goals as goal
 

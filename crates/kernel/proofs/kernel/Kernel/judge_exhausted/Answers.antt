@@ -6,7 +6,7 @@ use Rattle.proof_rules.specs.Shown.{IsShown, absurdity}
 use Rattle.proof_rules.specs.State.{constraints}
 use Rattle.proof_rules.specs.declared.fault.StepFault.TheVariants as faults
 use Rattle.kernel.specs.Held.{Held}
-use Rattle.kernel.proofs.Best.{none_more}
+use Rattle.kernel.proofs.Concluded.{none_more}
 use Rattle.kernel.proofs.kernel.Kernel.judge_exhausted.Goals as goal
 
 pub returns-then-not-branch-clause-fault : goal.returns-then-not-branch-clause-fault

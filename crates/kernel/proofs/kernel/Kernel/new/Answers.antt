@@ -1,7 +1,7 @@
 use Rattle.std.proofs.Common.{◌≡◌, ◌+◌, ◌-◌, None, sym, subst, arith}
 use Rattle.linear.specs.Opb.{Opb}
 use Rattle.kernel.specs.Held.{Keeps, state_with}
-use Rattle.kernel.specs.Logged.{unlogged}
+use Rattle.solutions.specs.Logged.{unlogged}
 use Rattle.kernel.proofs.Keeping.{starts, kept_start, file_count}
 use Rattle.kernel.proofs.kernel.Kernel.new.Goals as goal
 

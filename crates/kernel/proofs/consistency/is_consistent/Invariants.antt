@@ -1,9 +1,0 @@
--- The sets are of the literals so far, and these agree with the table and with each other.
-use Rattle.std.proofs.Common.{length, take}
-use Rattle.kernel.specs.Table.{AreSidesOf}
-use Rattle.kernel.proofs.Consistent.{IsApart}
-use Rattle.kernel.proofs.consistency.is_consistent.Given as goal
-
-abbrev pub invariant-loop-literal : goal.invariant-loop-literal
-invariant-loop-literal l =
-    AreSidesOf (take l.literal-index l.assigned) (length l.table) l.beyond.plain l.beyond.negated × IsApart l.table (take l.literal-index l.assigned)

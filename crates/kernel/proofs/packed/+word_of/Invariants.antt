@@ -1,5 +1,0 @@
-use Rattle.std.proofs.Common.{length}
-use Rattle.kernel.proofs.packed.+word_of.Given as goal
-
-abbrev pub decreases-word_of : goal.decreases-word_of
-decreases-word_of l = length l.values.now

@@ -1,6 +1,0 @@
-use Rattle.std.proofs.Common.{◌≡◌, Some, map, take}
-use Rattle.kernel.proofs.values.all_values.Given as goal
-
--- the values so far
-abbrev pub invariant-loop-value : goal.invariant-loop-value
-invariant-loop-value l = map Some l.values.items ≡ take l.value-index l.table

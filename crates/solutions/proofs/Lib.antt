@@ -1,0 +1,4 @@
+pub mod Best
+pub mod Consistent
+pub mod Packing
+pub mod Tables

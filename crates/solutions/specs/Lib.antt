@@ -1,0 +1,3 @@
+pub mod Logged
+pub mod Packed
+pub mod Table
