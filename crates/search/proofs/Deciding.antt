@@ -11,7 +11,7 @@ use Rattle.proof_rules.specs.State.{constraints}
 use Rattle.proof_log.specs.Log.{Logbook}
 use Rattle.search.specs.Conflicts.{LeadsAtLast, TakesLast}
 use Rattle.search.specs.Decisions.{AreDecisions}
-use Rattle.standing.specs.Values.{unlisted_below}
+use Rattle.search.specs.Values.{unlisted_below}
 use Rattle.search.proofs.Decisions.{more_decisions}
 use Rattle.search.proofs.Descending.{literals}
 use Rattle.search.proofs.Taking.{IsChosen}

@@ -1,3 +1,4 @@
+pub mod Choices
 pub mod Clauses
 pub mod BitingClauses
 pub mod Ending
@@ -15,3 +16,4 @@ pub mod BegunLogs
 pub mod Entitling
 pub mod Settling
 pub mod Stepping
+pub mod TakenOff

@@ -19,7 +19,7 @@ use Rattle.branching.specs.declared.brancher.Value.TheVariants.{True, False, Fre
 use Rattle.search.specs.Descents.{IsSettled}
 use Rattle.proof_log.specs.Log.{Logbook}
 use Rattle.proof_log.specs.Named.{LiveIsNamed}
-use Rattle.standing.specs.Values.{AreValuesUnder, IsValueUnder, NoneIsFree}
+use Rattle.search.specs.Values.{AreValuesUnder, IsValueUnder, NoneIsFree}
 use Rattle.search.proofs.Decisions.{closure_named}
 use Rattle.search.specs.Decisions.{AreDecisions}
 

@@ -12,9 +12,9 @@ use Rattle.linear.specs.Literal.{opposite}
 use Rattle.propagate.specs.Literals.{IsConsistent, among}
 use Rattle.propagate.proofs.Consistency.{push_consistent}
 use Rattle.search.specs.Conflicts.{TakesLast}
-use Rattle.standing.specs.Values.{AreValuesUnder, IsFree, unlisted_below}
+use Rattle.search.specs.Values.{AreValuesUnder, IsFree, unlisted_below}
 use Rattle.branching.specs.declared.brancher.Value.{Value}
-use Rattle.standing.proofs.Choices.{LeavesFree, fewer, values_leave_free}
+use Rattle.search.proofs.Choices.{LeavesFree, fewer, values_leave_free}
 
 -- a conflict takes a decision that was made where the others led to none, and not to its opposite
 pub takes_free : (live : List NormalConstraint) (decisions : List Lit) (l : Lit) → (IsImpossible live decisions → ⊥) → (IsReached live decisions (opposite l) → ⊥) → TakesLast live (decisions ++ l ∷ [])

@@ -5,4 +5,6 @@ pub mod Decisions
 pub mod Descents
 pub mod Presolving
 pub mod Solving
+pub mod Standing
 pub mod Undoing
+pub mod Values

@@ -17,7 +17,7 @@ ghost use Rattle.search.specs.Conflicts.{LeadsAtLast, MeetsConflict, TakesLast};
 ghost use Rattle.proof_log.specs.Log.{Logbook};
 ghost use Rattle.search.specs.Presolving.{BeginsPresolved, fixing};
 ghost use Rattle.search.specs.Solving.{BearsOut, MayStop};
-ghost use Rattle.standing.specs.Values.{AreValuesUnder, IsValueUnder};
+ghost use Rattle.search.specs.Values.{AreValuesUnder, IsValueUnder};
 ghost use Rattle.branching.specs.declared.brancher.Value.{Value};
 ghost use Rattle.branching.specs.declared.brancher.Value.TheVariants as values;
 ghost use Rattle.search.specs.declared.found.Found.TheVariants as founds;

@@ -14,6 +14,7 @@ ghost use Rattle.search.specs.Solving.{TakesId};
 ghost use Rattle.search.specs.Undoing.{IsUndone};
 
 use super::retracing::try_under;
+use super::standing::Standing;
 use analysis::{Analyser, Learned};
 use branching::Brancher;
 use linear::{Lit, Var};
@@ -21,7 +22,6 @@ use normal_form::Normal;
 use proof_log::Log;
 use proof_steps::Step;
 use propagate::{Id, Propagator};
-use standing::Standing;
 use std::alloc::{AllocError, Global};
 
 /// The variables of a constraint.

@@ -15,15 +15,16 @@ ghost use Rattle.proof_rules.specs.State.{constraints};
 ghost use Rattle.search.specs.Conflicts.{LeadsAtLast};
 ghost use Rattle.search.specs.Descents.{IfAdvised, IfConflict, IfFixpoint, IfUndone, IsAdvisedUnder, IsSettled};
 ghost use Rattle.search.specs.Decisions.{AreDecisions};
-ghost use Rattle.standing.specs.Values.{IsFree, unlisted_below};
+ghost use Rattle.search.specs.Values.{IsFree, unlisted_below};
 
 use super::advisers::{Advisers, Line};
+use super::choice::{choose, is_free, pick_more};
 use super::overtaken::undo_overtaken;
 use super::retracing::{falsified, is_closed, stand};
+use super::standing::Standing;
 use linear::{Lit, Seq};
 use proof_log::Log;
 use propagate::{Decided, Id, Propagator};
-use standing::{Standing, choose, is_free, pick_more};
 use std::alloc::{AllocError, Global};
 
 /// A question is about one literal more for so many that were decided since the last conflict.

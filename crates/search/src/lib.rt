@@ -9,6 +9,7 @@
 mod advice;
 mod advisers;
 pub mod cases;
+mod choice;
 mod clause;
 mod conflict;
 mod cutting;
@@ -28,6 +29,8 @@ mod run;
 mod searched;
 mod solution;
 mod solver;
+mod standing;
+mod values;
 
 pub use branching::{Activity, Brancher, First, Progress, Value};
 pub use found::{Found, Unfinished};

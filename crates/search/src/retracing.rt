@@ -10,12 +10,12 @@ ghost use Rattle.propagate.specs.Reach.{IsReach, reach_told};
 ghost use Rattle.propagate.specs.declared.reach.Reach.{Reach};
 ghost use Rattle.proof_rules.specs.State.{constraints};
 
+use super::standing::Standing;
 use branching::Brancher;
 use linear::Lit;
 use normal_form::Normal;
 use proof_log::Log;
 use propagate::{Extent, Id, Propagator};
-use standing::Standing;
 use std::alloc::{AllocError, Global};
 
 /// Whether an assignment extends to no conflict.

@@ -24,11 +24,11 @@ use super::found::Found;
 use super::learned::LearnedConstraints;
 use super::outdone::Outdone;
 use super::restarts::Restarts;
+use super::standing::Standing;
 use analysis::Analyser;
 use linear::Lit;
 use proof_log::Log;
 use propagate::{Id, Propagator};
-use standing::Standing;
 use std::alloc::{AllocError, Global};
 
 /// A run of the search, as it stands between two turns.

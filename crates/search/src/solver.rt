@@ -11,11 +11,11 @@ use super::advisers::Advisers;
 use super::found::{Found, Unfinished};
 use super::presolving::presolve;
 use super::run::Run;
+use super::standing::Standing;
 use branching::Brancher;
 use linear::Problem;
 use proof_log::Log;
 use propagate::Propagator;
-use standing::Standing;
 use std::alloc::{AllocError, Global};
 
 /// What a search has found, and the proof of it.

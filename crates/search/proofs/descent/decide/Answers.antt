@@ -6,8 +6,8 @@ use Rattle.propagate.specs.Content.{IsEnd}
 use Rattle.proof_rules.specs.State.{constraints}
 use Rattle.branching.specs.declared.brancher.Value.{Value}
 use Rattle.search.specs.Conflicts.{LeadsAtLast}
-use Rattle.standing.specs.Standing.{Assigned}
-use Rattle.standing.specs.Values.{IsFree}
+use Rattle.search.specs.Standing.{Assigned}
+use Rattle.search.specs.Values.{IsFree}
 use Rattle.search.proofs.Deciding.{IsNoted, later, noted, unless}
 use Rattle.search.proofs.Descending.{far_more, first_taken, told_at}
 use Rattle.search.proofs.Taking.{chosen}

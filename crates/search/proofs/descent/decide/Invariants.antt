@@ -2,7 +2,7 @@
 use Rattle.std.proofs.Common.{◌≡◌, ◌<◌, ◌++◌, length, take}
 use Rattle.propagate.specs.Content.{IsEnd}
 use Rattle.search.specs.Decisions.{AreDecisions}
-use Rattle.standing.specs.Values.{unlisted_below}
+use Rattle.search.specs.Values.{unlisted_below}
 use Rattle.search.proofs.Descending.{literals}
 use Rattle.search.proofs.descent.decide.Given as goal
 

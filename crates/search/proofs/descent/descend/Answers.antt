@@ -11,7 +11,7 @@ use Rattle.search.specs.Conflicts.{LeadsAtLast}
 use Rattle.search.specs.Descents.{IfConflict, IsSettled}
 use Rattle.proof_log.specs.Log.{Logbook}
 use Rattle.search.specs.Decisions.{AreDecisions}
-use Rattle.standing.specs.Values.{NoneIsFree}
+use Rattle.search.specs.Values.{NoneIsFree}
 use Rattle.search.proofs.Extending.{extended, led}
 use Rattle.search.proofs.Settling.{settled}
 use Rattle.search.proofs.Taking.{chosen}

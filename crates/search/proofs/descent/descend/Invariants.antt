@@ -1,7 +1,7 @@
 use Rattle.std.proofs.Common.{◌≡◌, length}
 use Rattle.propagate.specs.Content.{IsEnd}
 use Rattle.search.specs.Decisions.{AreDecisions}
-use Rattle.standing.specs.Values.{unlisted_below}
+use Rattle.search.specs.Values.{unlisted_below}
 use Rattle.search.proofs.descent.descend.Given as goal
 
 abbrev pub invariant-decisions : goal.invariant-decisions

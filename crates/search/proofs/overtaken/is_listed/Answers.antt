@@ -2,7 +2,7 @@ use Rattle.std.proofs.Common.{◌≡◌, get_or, take, false, sym, ap, subst, �
 use Rattle.std.proofs.lemmas.List.{take_more}
 use Rattle.linear.specs.declared.term.Lit.{Lit}
 use Rattle.propagate.specs.Literals.{lists}
-use Rattle.standing.proofs.Choices.{alike, different, listed_at, unlisted_more}
+use Rattle.search.proofs.Choices.{alike, different, listed_at, unlisted_more}
 use Rattle.search.proofs.overtaken.is_listed.Goals as goal
 
 abbrev first : Lit

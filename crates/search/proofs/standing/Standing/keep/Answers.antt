@@ -2,7 +2,7 @@
 use Rattle.std.proofs.Common.{◌∙◌, ◌-◌, List, ap, length, take, arith}
 use Rattle.std.proofs.lemmas.List.{take-take}
 use Rattle.linear.specs.declared.term.Lit.{Lit}
-use Rattle.standing.proofs.standing.Standing.keep.Goals as goal
+use Rattle.search.proofs.standing.Standing.keep.Goals as goal
 
 pub loop-self-preserved : goal.loop-self-preserved
 loop-self-preserved g c =

@@ -1,7 +1,7 @@
 -- What stands during a run of the search.
 use Rattle.std.specs.Prelude.{Bool, List}
 use Rattle.linear.specs.declared.term.Lit.{Lit}
-use Rattle.standing.specs.Values.{Table}
+use Rattle.search.specs.Values.{Table}
 
 -- the literals that are decided or forced, in the order in which they came, what they say of each variable, and whether the trail that the
 -- analysis reads has all of them

@@ -12,7 +12,7 @@ use Rattle.propagate.proofs.Assignments.{among_cases, among_head, among_left, am
 use Rattle.propagate.proofs.SearchEnds.{fewer_unset, unset_below}
 use Rattle.branching.specs.declared.brancher.Value.{Value}
 use Rattle.branching.specs.declared.brancher.Value.TheVariants.{True, False, Free}
-use Rattle.standing.specs.Values.{AreValuesUnder, IsFree, IsValueUnder, unlisted_below, value_given}
+use Rattle.search.specs.Values.{AreValuesUnder, IsFree, IsValueUnder, unlisted_below, value_given}
 
 -- a place behind the table is not free
 pub behind : (values : List Value) (v : ℕ) → length values ≤ v → IsFree values v → ⊥

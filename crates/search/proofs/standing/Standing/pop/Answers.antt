@@ -4,11 +4,11 @@ use Rattle.std.specs.Prelude.{vec_len}
 use Rattle.linear.specs.declared.term.Lit.{Lit}
 use Rattle.analysis.specs.declared.entry.Entry.{Entry}
 use Rattle.branching.specs.declared.brancher.Value.{Value}
-use Rattle.standing.specs.Standing.{Assigned}
-use Rattle.standing.specs.Values.{AreValuesUnder}
-use Rattle.standing.proofs.Choices.{values_less}
-use Rattle.standing.proofs.TakenOff.{last_literal, literals_of, others}
-use Rattle.standing.proofs.standing.Standing.pop.Goals as goal
+use Rattle.search.specs.Standing.{Assigned}
+use Rattle.search.specs.Values.{AreValuesUnder}
+use Rattle.search.proofs.Choices.{values_less}
+use Rattle.search.proofs.TakenOff.{last_literal, literals_of, others}
+use Rattle.search.proofs.standing.Standing.pop.Goals as goal
 
 pub invariant_of-self : goal.invariant_of-self
 invariant_of-self c =

@@ -4,14 +4,14 @@
 //! its variable as a free one. So no decision ever stands beside its opposite, which is all that a search needs to know.
 
 ghost use Rattle.std.specs.Prelude.{◌≡◌, ◌↔◌, ◌<◌, IfSome, IsTrue, None, length};
-ghost use Rattle.standing.specs.Values.{IsFree, NoneIsFree};
+ghost use Rattle.search.specs.Values.{IsFree, NoneIsFree};
 
 use branching::{Brancher, Value};
 use linear::{Lit, Var};
 use std::alloc::{AllocError, Global};
 
 /// Whether a variable is free.
-pub fn is_free(values: &[Value], variable: Var) -> bool
+pub(crate) fn is_free(values: &[Value], variable: Var) -> bool
     ensures free { IsTrue result ↔ IsFree values.now (variable.0) }
     ensures inside { IsTrue result → variable.0 < length values.now }
 {
@@ -24,9 +24,7 @@ pub fn is_free(values: &[Value], variable: Var) -> bool
 }
 
 /// Some literals more that are free, as a brancher picks them, each once where it forgets what it has picked.
-///
-/// `AllocError` comes where a growth was refused; the brancher has picked then what is not handed out.
-pub fn pick_more(
+pub(crate) fn pick_more(
     alloc: Global,
     brancher: &mut Box<dyn Brancher>,
     values: &[Value],
@@ -58,7 +56,7 @@ fn first_free(values: &[Value], count: u32) -> Option<Var>
 
 /// The literal to be decided: the one that was picked, or else the first free variable set to false. None only where none of so many
 /// variables is free.
-pub fn choose(values: &[Value], count: u32, picked: Option<Lit>) -> Option<Lit>
+pub(crate) fn choose(values: &[Value], count: u32, picked: Option<Lit>) -> Option<Lit>
     ensures free { IfSome result (λ l. IsFree values.now (l.var.0)) }
     ensures inside { IfSome result (λ l. l.var.0 < length values.now) }
     ensures none { result ≡ None → NoneIsFree values.now count }

@@ -2,8 +2,8 @@
 use Rattle.std.proofs.Common.{◌∙◌, List, ap, subst, sym}
 use Rattle.linear.specs.declared.term.Lit.{Lit}
 use Rattle.analysis.specs.Biting.{Bites}
-use Rattle.standing.specs.Standing.{Assigned}
-use Rattle.standing.proofs.standing.Standing.bites.Goals as goal
+use Rattle.search.specs.Standing.{Assigned}
+use Rattle.search.proofs.standing.Standing.bites.Goals as goal
 
 pub returns : goal.returns
 returns c =

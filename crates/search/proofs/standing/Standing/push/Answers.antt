@@ -1,12 +1,12 @@
 -- One literal more says of its own variable what it says, and of the others nothing; a trail that is whole stays so where it takes it.
 use Rattle.std.proofs.Common.{◌≡◌, ◌∙◌, ◌++◌, ◌∷◌, [], Bool, ◌&&◌, List, ap, sym, subst}
 use Rattle.linear.specs.declared.term.Lit.{Lit}
-use Rattle.standing.specs.Values.{AreValuesUnder}
+use Rattle.search.specs.Values.{AreValuesUnder}
 use Rattle.branching.specs.declared.brancher.Value.{Value}
-use Rattle.standing.proofs.Choices.{values_more}
-use Rattle.standing.proofs.TakenOff.{whole_more}
-use Rattle.standing.proofs.standing.Standing.push.Goals as goal
-use Rattle.standing.proofs.standing.Standing.push.Goals.{then-was_whole, else-was_whole}
+use Rattle.search.proofs.Choices.{values_more}
+use Rattle.search.proofs.TakenOff.{whole_more}
+use Rattle.search.proofs.standing.Standing.push.Goals as goal
+use Rattle.search.proofs.standing.Standing.push.Goals.{then-was_whole, else-was_whole}
 
 pub invariant_of-self-2 : goal.invariant_of-self-2
 invariant_of-self-2 c =

@@ -5,7 +5,7 @@
 
 ghost use Rattle.std.specs.Prelude.{◌≡◌, slice_set};
 ghost use Rattle.branching.specs.declared.brancher.Value.TheVariants.{Free};
-ghost use Rattle.standing.specs.Values.{value_given};
+ghost use Rattle.search.specs.Values.{value_given};
 
 use branching::Value;
 use linear::{Lit, Var};

@@ -1,5 +1,5 @@
 use Rattle.std.proofs.Common.{◌≤◌, length}
-use Rattle.standing.proofs.standing.tell_unassigned.Given as goal
+use Rattle.search.proofs.standing.tell_unassigned.Given as goal
 
 abbrev pub invariant-loop-place : goal.invariant-loop-place
 invariant-loop-place g l = l.place ≤ length l.literals

@@ -1,5 +1,5 @@
-use Rattle.standing.specs.Values.{NoneIsFree}
-use Rattle.standing.proofs.choice.first_free.Given as goal
+use Rattle.search.specs.Values.{NoneIsFree}
+use Rattle.search.proofs.choice.first_free.Given as goal
 
 -- none before it is free
 abbrev pub invariant-loop-number : goal.invariant-loop-number

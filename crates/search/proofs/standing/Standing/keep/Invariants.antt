@@ -1,6 +1,6 @@
 -- The first literals that are to stay are there.
 use Rattle.std.proofs.Common.{◌≡◌, true, length, take}
-use Rattle.standing.proofs.standing.Standing.keep.Given as goal
+use Rattle.search.proofs.standing.Standing.keep.Given as goal
 
 abbrev pub invariant-loop-self : goal.invariant-loop-self
 invariant-loop-self g l = record {

@@ -2,7 +2,7 @@
 //! decisions since which it stands, and the value of each variable under them.
 //!
 //! There is one of it from the first turn to the last. A decision adds what it forces. Where decisions are undone, or something was learned, the
-//! propagator tells which of the literals stay, the first ones, and what stands behind them: the others are taken off one by one.
+//! propagator tells which of the literals stay, the first ones, and what stands behind them (`retracing`): the others are taken off one by one.
 //! So a turn costs what has changed, and nothing is made anew for a conflict.
 //!
 //! A literal that is taken off leaves its variable free, since a variable stands once: that is known by the type of the analysis' trail, which
@@ -45,7 +45,7 @@ fn tell_unassigned(literals: &[Lit], kept: usize, brancher: &mut Box<dyn Branche
 
 /// Literals, with what they say of the first variables, and whether the trail has all of them.
 #[derive(Drop)]
-pub struct Standing {
+pub(crate) struct Standing {
     trail: Trail,
     assigned: Vec<Lit>,
     values: Vec<Value>,
@@ -55,8 +55,8 @@ pub struct Standing {
 }
 
 impl Model for Standing {
-    ghost use Rattle.standing.specs.Standing.{Assigned};
-    ghost use Rattle.standing.specs.Values.{AreOfTrail, AreValuesUnder};
+    ghost use Rattle.search.specs.Standing.{Assigned};
+    ghost use Rattle.search.specs.Values.{AreOfTrail, AreValuesUnder};
 
     ghost Value = { Assigned };
 
@@ -68,12 +68,10 @@ impl Model for Standing {
 impl Standing {
     ghost use Rattle.std.specs.Prelude.{◌≡◌, ◌-◌, ◌↔◌, [], ◌∷◌, ◌++◌, true, IfOk, IsTrue, OnOk, length, map, take};
     ghost use Rattle.analysis.specs.Biting.{Bites};
-    ghost use Rattle.standing.specs.Values.{AreValuesUnder};
+    ghost use Rattle.search.specs.Values.{AreValuesUnder};
 
     /// No literal, and a number of variables, all free.
-    ///
-    /// `AllocError` comes where a growth was refused.
-    pub fn new(alloc: Global, count: usize) -> Result<Self, AllocError>
+    pub(crate) fn new(alloc: Global, count: usize) -> Result<Self, AllocError>
         ensures assigned { IfOk result (λ s. s.literals ≡ []) }
         ensures count { IfOk result (λ s. length s.values ≡ count) }
         ensures whole { IfOk result (λ s. s.whole ≡ true) }
@@ -88,9 +86,7 @@ impl Standing {
     }
 
     /// Begins anew with so many variables, where it has another number of them.
-    ///
-    /// `AllocError` comes where a growth was refused: it is as it was then.
-    pub fn fit(&mut self, alloc: Global, count: usize) -> Result<(), AllocError>
+    pub(crate) fn fit(&mut self, alloc: Global, count: usize) -> Result<(), AllocError>
         ensures { OnOk result (length self.new.values ≡ count) }
     {
         if self.values().len() != count {
@@ -100,9 +96,7 @@ impl Standing {
     }
 
     /// Begins anew where the trail lacks a literal.
-    ///
-    /// `AllocError` comes where a growth was refused: the literals stay then, though a brancher was told that they go.
-    pub fn make_whole(
+    pub(crate) fn make_whole(
         &mut self,
         alloc: Global,
         brancher: &mut Box<dyn Brancher>,
@@ -134,9 +128,7 @@ impl Standing {
     }
 
     /// A literal is decided, the last one of so many.
-    ///
-    /// `AllocError` comes where a growth was refused: it may lack the literal then, and know of that.
-    pub fn decide(&mut self, literal: Lit, decisions: usize) -> Result<(), AllocError>
+    pub(crate) fn decide(&mut self, literal: Lit, decisions: usize) -> Result<(), AllocError>
         ensures ok { OnOk result (self.new.literals ≡ self.old.literals ++ literal ∷ []) }
         ensures count { length self.new.values ≡ length self.old.values }
     {
@@ -148,9 +140,7 @@ impl Standing {
     }
 
     /// The literals of a chain are forced, where so many are decided.
-    ///
-    /// `AllocError` comes where a growth was refused: it may lack some of them then, and know of that.
-    pub fn force(&mut self, forced: &[(Lit, Id)], decisions: usize) -> Result<(), AllocError>
+    pub(crate) fn force(&mut self, forced: &[(Lit, Id)], decisions: usize) -> Result<(), AllocError>
         ensures ok { OnOk result (self.new.literals ≡ self.old.literals ++ map (λ p. p.0) forced.now) }
         ensures count { length self.new.values ≡ length self.old.values }
     {
@@ -178,9 +168,7 @@ impl Standing {
     }
 
     /// What decisions extend to behind the literals that stand, each literal with its reason, if it has one.
-    ///
-    /// `AllocError` comes where a growth was refused: it may lack some of them then, and know of that.
-    pub fn extend(
+    pub(crate) fn extend(
         &mut self,
         rest: &[(Lit, Option<Id>)],
         decisions: &[Lit],
@@ -216,7 +204,7 @@ impl Standing {
     }
 
     /// The first so many literals alone. A brancher is told of the others, from the last one on.
-    pub fn keep(&mut self, count: usize, brancher: &mut Box<dyn Brancher>)
+    pub(crate) fn keep(&mut self, count: usize, brancher: &mut Box<dyn Brancher>)
         requires { self.old.whole ≡ true }
         ensures assigned { self.new.literals ≡ take count self.old.literals }
         ensures count { length self.new.values ≡ length self.old.values }
@@ -228,7 +216,7 @@ impl Standing {
     }
 
     /// Takes off what came with more decisions than so many, as far as the trail tells. A brancher is told, from the last literal on.
-    pub fn go_back(&mut self, decisions: usize, brancher: &mut Box<dyn Brancher>)
+    pub(crate) fn go_back(&mut self, decisions: usize, brancher: &mut Box<dyn Brancher>)
         ensures { length self.new.values ≡ length self.old.values }
     {
         if self.is_whole {
@@ -238,7 +226,7 @@ impl Standing {
     }
 
     /// Tells a brancher which of its picks do not stand, so that it may pick them again.
-    pub fn give_back(&self, picks: &[Lit], brancher: &mut Box<dyn Brancher>) {
+    pub(crate) fn give_back(&self, picks: &[Lit], brancher: &mut Box<dyn Brancher>) {
         for literal in picks {
             if is_free(self.values(), literal.var) {
                 brancher.unassigned(*literal);
@@ -247,7 +235,7 @@ impl Standing {
     }
 
     /// Whether a constraint has negative slack, or forces a literal, under the literals. The answer is no where the trail lacks one of them.
-    pub fn bites(&self, constraint: &Normal) -> bool
+    pub(crate) fn bites(&self, constraint: &Normal) -> bool
         ensures { IsTrue result ↔ ((self.now.whole ≡ true) × Bites self.now.literals constraint.now) }
     {
         if !self.is_whole {
@@ -257,7 +245,7 @@ impl Standing {
     }
 
     /// The value of each of the first variables.
-    pub fn values(&self) -> &[Value]
+    pub(crate) fn values(&self) -> &[Value]
         ensures values { result.now ≡ self.now.values }
         ensures exact { AreValuesUnder self.now.literals self.now.values }
     {
@@ -265,16 +253,14 @@ impl Standing {
     }
 
     /// The literals.
-    pub fn assigned(&self) -> &[Lit]
+    pub(crate) fn assigned(&self) -> &[Lit]
         ensures { result.now ≡ self.now.literals }
     {
         self.assigned.as_slice()
     }
 
     /// A copy of the literals.
-    ///
-    /// `AllocError` comes where memory was refused.
-    pub fn to_assigned(&self, alloc: Global) -> Result<Seq<Lit>, AllocError>
+    pub(crate) fn to_assigned(&self, alloc: Global) -> Result<Seq<Lit>, AllocError>
         ensures { IfOk result (λ all. all ≡ self.now.literals) }
     {
         let mut all = Vec::with_capacity(alloc, self.assigned.len())?;
@@ -283,12 +269,12 @@ impl Standing {
     }
 
     /// The literals as far as the trail has them, with reasons and levels.
-    pub fn trail(&self) -> &Trail {
+    pub(crate) fn trail(&self) -> &Trail {
         &self.trail
     }
 
     /// How many literals came so far.
-    pub fn pushed(&self) -> u64 {
+    pub(crate) fn pushed(&self) -> u64 {
         self.pushed
     }
 }
