@@ -143,9 +143,10 @@ impl Exchange {
         match &self.left {
             Left::Variable(variable) => solution.value(*variable).over(self.pivot),
             Left::Slack { entries, .. } => {
+                let numbers = solution.numbers();
                 let mut lacking = Sum::of(wanted);
                 for entry in entries {
-                    lacking = lacking.minus_product(entry.value, solution.value(entry.place));
+                    lacking = lacking.minus_product(entry.value, number_at(numbers, entry.place));
                 }
                 lacking.rounded().over(self.pivot)
             }
@@ -177,8 +178,9 @@ impl Exchange {
             Some(variable) => Sum::of(costs.value(variable)),
             None => Sum::ZERO,
         };
+        let numbers = costs.numbers();
         for entry in &self.column {
-            gain = gain.minus_product(costs.value(entry.place), entry.value);
+            gain = gain.minus_product(number_at(numbers, entry.place), entry.value);
         }
         gain.rounded()
     }

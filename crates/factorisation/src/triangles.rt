@@ -3,7 +3,7 @@
 //! The kernel of a basis has few entries, and so have its triangles, where the order of the pivots is chosen well (`elimination`); its inverse may be
 //! dense. Rows are named by their numbers and columns by their variables, and not by places, which change from step to step.
 
-use fixed_point::{Entry, Fixed, Number, Scattered, Work};
+use fixed_point::{Entry, Fixed, Number, Scattered, Work, number_at};
 use std::alloc::{AllocError, Global};
 
 /// A pivot of the elimination: a row that was solved for a variable.
@@ -148,9 +148,10 @@ fn take_from_weight(
     row: usize,
     others: &[Entry],
 ) -> Result<(), AllocError> {
-    let mut value = weights.value(row);
+    let numbers = weights.numbers();
+    let mut value = number_at(numbers, row);
     for other in others {
-        value = value.plus_product(weights.value(other.place).negated(), other.value);
+        value = value.plus_product(number_at(numbers, other.place).negated(), other.value);
     }
     if !value.is_zero() || !weights.value(row).is_zero() {
         weights.set(row, value)?;

@@ -28,6 +28,7 @@ fn lower_half(number: i128) -> i64 {
 }
 
 impl Number for Fixed {
+    #[inline(always)]
     fn plus_product(self, left: Fixed, right: Fixed) -> Self {
         // Neither factor is above 2^47 units, so that the product, rounded to units, is at most 2^62.
         let product = i128::from(left.units).wrapping_mul(i128::from(right.units));
@@ -54,7 +55,18 @@ impl Fixed {
     };
 
     /// The number of so many units of `2^-32`, or the nearest that is not too large.
+    #[inline(always)]
     pub fn of_units(units: i64) -> Fixed {
+        // Nearly all are small, which takes one comparison to see.
+        if units.wrapping_add(LARGEST_UNITS).cast_unsigned() >> 48 == 0 {
+            return Fixed { units };
+        }
+        Fixed::clamped(units)
+    }
+
+    /// The number of so many units, or the largest of its sign.
+    #[inline(never)]
+    fn clamped(units: i64) -> Fixed {
         Fixed {
             units: units.clamp(-LARGEST_UNITS, LARGEST_UNITS),
         }
@@ -151,7 +163,23 @@ impl Fixed {
                 Fixed::LARGEST
             };
         }
+        let size = divisor.units.unsigned_abs();
+        if size <= UNITS_OF_ONE.unsigned_abs() && size.is_power_of_two() {
+            let quotient = self.over_power_of_two(size);
+            return if divisor.units < 0 {
+                quotient.negated()
+            } else {
+                quotient
+            };
+        }
         let dividend = i128::from(self.units).wrapping_mul(i128::from(UNITS_OF_ONE));
         Fixed::nearest(dividend / i128::from(divisor.units))
+    }
+
+    /// The quotient where the divisor is a power of two up to 1, in units. Most coefficients of a scaled row are such ones; nothing is rounded then, and
+    /// a shift is much cheaper than to divide 128 bits.
+    fn over_power_of_two(self, divisor: u64) -> Fixed {
+        let places = FRACTION_BITS.saturating_sub(divisor.trailing_zeros());
+        Fixed::nearest(i128::from(self.units).wrapping_shl(places))
     }
 }

@@ -27,7 +27,8 @@ pub fn put_number<N: Number>(numbers: &mut [N], place: usize, number: N) {
 }
 
 /// Adds a product to the number at a place, if there is such a place.
-pub(crate) fn add_product<N: Number>(numbers: &mut [N], place: usize, left: Fixed, right: Fixed) {
+#[inline(always)]
+fn add_product<N: Number>(numbers: &mut [N], place: usize, left: Fixed, right: Fixed) {
     if place < numbers.len() {
         numbers[place] = numbers[place].plus_product(left, right);
     }

@@ -5,7 +5,7 @@
 
 use super::entry::Entry;
 use super::fixed::Fixed;
-use super::numbers::{Number, add_product, number_at, put_number};
+use super::numbers::{Number, add_multiple, number_at, put_number};
 use std::alloc::{AllocError, Global};
 
 /// Numbers by place, 0 but where they are touched.
@@ -55,12 +55,18 @@ impl<N: Number> Scattered<N> {
         number_at(self.numbers.as_slice(), place)
     }
 
+    /// The numbers, place by place: for walks that look up many.
+    pub fn numbers(&self) -> &[N] {
+        self.numbers.as_slice()
+    }
+
     /// The places that were touched since it was cleared, in the order in which they first were. Their numbers may be 0.
     pub fn touched(&self) -> &[usize] {
         self.touched.as_slice()
     }
 
     /// Notes that the number at a place changes.
+    #[inline(always)]
     fn touch(&mut self, place: usize) -> Result<(), AllocError> {
         if place < self.is_touched.len() && !self.is_touched[place] {
             self.touched.push(place)?;
@@ -80,17 +86,13 @@ impl<N: Number> Scattered<N> {
 
     /// Adds another vector, times a factor. Entries at places that are not there are left out.
     ///
-    /// `AllocError` comes where a growth was refused: it is added as far as the entries before the one that could not be noted then.
+    /// `AllocError` comes where a growth was refused: no number changes then.
     pub fn add_multiple(&mut self, factor: Fixed, entries: &[Entry]) -> Result<(), AllocError> {
+        // Two walks: numbers are added in one that has nothing else to look up.
         for entry in entries {
             self.touch(entry.place)?;
-            add_product(
-                self.numbers.as_mut_slice(),
-                entry.place,
-                factor,
-                entry.value,
-            );
         }
+        add_multiple(self.numbers.as_mut_slice(), factor, entries);
         Ok(())
     }
 }

@@ -1,8 +1,7 @@
 -- What the steps of a block do, in the words of the kernel's fields.
-use Rattle.std.proofs.Common.{◌≡◌, ◌↔◌, ℕ, ℤ, Bool, IsTrue, true, false, List, [], ◌++◌, Result, Ok, Err, OnOk, Option, Some, None, MatchOption, IfSome, IsSomeAnd, refl, sym, ap, subst, ◌∙◌, arith}
+use Rattle.std.proofs.Common.{◌≡◌, ◌↔◌, ℕ, ℤ, Bool, IsTrue, true, false, List, Result, Ok, Err, OnOk, Option, Some, None, MatchOption, IfSome, IsSomeAnd, refl, sym, ap, subst, ◌∙◌, arith}
 use Rattle.std.specs.Result.{is_err}
 use Rattle.std.proofs.lemmas.Bool.{false≢true}
-use Rattle.std.proofs.lemmas.List.{append-nil}
 use Rattle.std.specs.FinMap as map
 use Rattle.linear.specs.Opb.{Opb}
 use Rattle.normal_form.specs.Normal.{NormalConstraint, Fits, total, largest_sum}
@@ -19,8 +18,8 @@ use Rattle.substitution.specs.Objective.{IsObjectiveGoal, not_raised}
 use Rattle.proof_rules.specs.declared.fault.StepFault.{StepFault}
 use Rattle.proof_rules.specs.declared.fault.StepFault.TheVariants as faults
 use Rattle.proof_rules.specs.Redundant.{IsShownUnder, IsShownNotRaised}
-use Rattle.kernel.specs.Redundance.{AreAskedShown, IsOpenLive}
-use Rattle.proof_rules.specs.Block.{AreLiveShown, IsUnopened}
+use Rattle.kernel.specs.Redundance.{IsOpenLive}
+use Rattle.proof_rules.specs.Block.{IsUnopened}
 use Rattle.proof_rules.specs.Fault.{OrMemory, IsInsideFault, IsProofGoalFault, IsRedBeginFault, IsUnopenedFault}
 use Rattle.proof_rules.specs.RuleFault.{of_rule}
 use Rattle.proof_rules.specs.Shown.{IsAdmitted, IsShown}

@@ -1,5 +1,5 @@
 -- One literal more that is true: what stays open, and what stays quiet.
-use Rattle.std.proofs.Common.{◌≡◌, ℕ, ◌+◌, ◌≤◌, Bool, true, false, not, cond, ◌||◌, ◌&&◌, ◌==◌, List, [], ◌∷◌, ◌++◌, refl, ap, sym, ◌∙◌, arith}
+use Rattle.std.proofs.Common.{◌≡◌, ℕ, ◌+◌, ◌≤◌, Bool, true, false, not, cond, ◌||◌, ◌&&◌, ◌==◌, List, [], ◌∷◌, ◌++◌, refl, ap, sym, arith}
 use Rattle.std.proofs.lemmas.Bool.{false≢true}
 use Rattle.std.proofs.lemmas.Int.{ints}
 use Rattle.linear.specs.declared.term.Lit.{Lit}
@@ -10,7 +10,7 @@ use Rattle.linear.specs.Literal.{opposite}
 use Rattle.propagate.specs.Literals.{coefficient_of, among, lists}
 use Rattle.propagate.specs.Slack.{not_false}
 use Rattle.propagate.specs.Walk.{IsQuiet}
-use Rattle.propagate.proofs.Assignments.{among_append, among_left}
+use Rattle.propagate.proofs.Assignments.{among_append}
 use Rattle.ledger.specs.Ledgers.{open_sum}
 use Rattle.trail.proofs.AssignedLiterals.{fewer}
 

@@ -54,7 +54,7 @@ both true true h k = absurd (cc k)
 both true false h k = refl
 both false t h k = absurd (cc h)
 
-not_that : (b c : ℕ) → (b ≡ c → ⊥) → (b == c) ≡ false
+pub not_that : (b c : ℕ) → (b ≡ c → ⊥) → (b == c) ≡ false
 not_that b c h =
     elim (b == c) as (λ (r : Bool). (b == c) ≡ r → r ≡ false) [
       | true ↦ λ e. absurd (h ((Decides-eqb b c).0 e))

@@ -7,6 +7,8 @@ pub mod FirstToken
 pub mod BytesRead
 pub mod ShortNameRead
 pub mod ScannedWords
+pub mod LoneBytes
+pub mod Takings
 pub mod TokensExist
 pub mod TokensUnique
 pub mod Spans

@@ -73,7 +73,7 @@ unfolding is_integer
 unsigned_word word h some =
     ap (λ (w : List ℕ). nat_lt 0 (length w) && list_all is_digit w) ((no_sign word h).0) ∙ both (nat_lt 0 (length word)) (list_all is_digit word) some h
 
-plain_integer : (n v : ℕ) (text : List ℕ) → AreDigits n v text → IsIntegerWord n (pos v) text
+pub plain_integer : (n v : ℕ) (text : List ℕ) → AreDigits n v text → IsIntegerWord n (pos v) text
 plain_integer n v text d = record {
   front = d.front;
   some = d.some;
@@ -133,7 +133,7 @@ plus_integer n v rest d =
       value = ap pos d.value ∙ sym (ap integer_value more ∙ plus_value (take n rest));
     }
 
-integer_first : (n : ℕ) (z : ℤ) (text : List ℕ) → IsIntegerWord n z text → IsFirst text (record { size = n; kind = kinds.Integer; said = said.Number z })
+pub integer_first : (n : ℕ) (z : ℤ) (text : List ℕ) → IsIntegerWord n z text → IsFirst text (record { size = n; kind = kinds.Integer; said = said.Number z })
 integer_first n z text w = record {
   within = w.front.within;
   some = w.some;
@@ -142,18 +142,11 @@ integer_first n z text w = record {
   token = λ p plain. word_token n p text plain w.some w.front;
 }
 
-pub plain_first : (n v : ℕ) (text : List ℕ) → AreDigits n v text → IsFirst text (record { size = n; kind = kinds.Integer; said = said.Number (pos v) })
-plain_first n v text d = integer_first n (pos v) text (plain_integer n v text d)
+pub plus_word : (n v : ℕ) (text rest : List ℕ) → text ≡ 43 ∷ rest → AreDigits n v rest → IsIntegerWord (n + 1) (pos v) text
+plus_word n v text rest at d = subst (λ (xs : List ℕ). IsIntegerWord (n + 1) (pos v) xs) (sym at) (plus_integer n v rest d)
 
-pub plus_first : (n v : ℕ) (text rest : List ℕ) → text ≡ 43 ∷ rest → AreDigits n v rest → IsFirst text (record { size = n + 1; kind = kinds.Integer; said = said.Number (pos v) })
-plus_first n v text rest at d =
-    subst (λ (xs : List ℕ). IsFirst xs (record { size = n + 1; kind = kinds.Integer; said = said.Number (pos v) })) (sym at)
-    (integer_first (n + 1) (pos v) (43 ∷ rest) (plus_integer n v rest d))
-
-pub minus_first : (n v : ℕ) (text rest : List ℕ) → text ≡ 45 ∷ rest → AreDigits n v rest → IsFirst text (record { size = n + 1; kind = kinds.Integer; said = said.Number (neg_ℤ (pos v)) })
-minus_first n v text rest at d =
-    subst (λ (xs : List ℕ). IsFirst xs (record { size = n + 1; kind = kinds.Integer; said = said.Number (neg_ℤ (pos v)) })) (sym at)
-    (integer_first (n + 1) (neg_ℤ (pos v)) (45 ∷ rest) (minus_integer n v rest d))
+pub negated_word : (n v : ℕ) (text rest : List ℕ) → text ≡ 45 ∷ rest → AreDigits n v rest → IsIntegerWord (n + 1) (neg_ℤ (pos v)) text
+negated_word n v text rest at d = subst (λ (xs : List ℕ). IsIntegerWord (n + 1) (neg_ℤ (pos v)) xs) (sym at) (minus_integer n v rest d)
 
 -- literals
 

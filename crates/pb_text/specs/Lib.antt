@@ -11,5 +11,6 @@ pub mod Scan
 pub mod Cursor
 pub mod Span
 pub mod TokensOf
+pub mod Taken
 pub mod Ahead
 pub mod Devices

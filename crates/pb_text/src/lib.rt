@@ -36,4 +36,4 @@ pub use said::Said;
 pub use sink::Sink;
 pub use source::{DeviceFault, Source};
 pub use token::{Literal, Token, as_literal, literal_of};
-pub use tokens::{Found, Tokens, end_line};
+pub use tokens::{Found, ReadLiteral, Tokens, end_line};

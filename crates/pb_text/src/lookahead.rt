@@ -1,9 +1,9 @@
 //! The tokens that are left of a text, with the next two in sight.
 //!
-//! Both grammars are read from left to right, and two tokens decide everywhere: in the OPB format (Roussel and Manquinho)
-//! `min` begins an objective only where `:` follows; in the VeriPB proof format an integer belongs to the `*` or `d` behind
-//! it, and a name to the `w`. So nothing is ever read twice, and a reader's contract speaks of one list, the tokens ahead.
-//! The two are kept as tokens, so that each is cut and classified once.
+//! A problem is read from left to right, and two tokens decide everywhere: in the OPB format (Roussel and Manquinho) `min`
+//! begins an objective only where `:` follows. So nothing is ever read twice, and a reader's contract speaks of one list,
+//! the tokens ahead. The two are kept as tokens, so that each is cut and classified once. (The lines of a proof are read
+//! from `Tokens`, one at a time.)
 
 ghost use Rattle.std.specs.Prelude.{◌≡◌};
 

@@ -3,10 +3,11 @@
 //! Nearly all tokens of a problem and of a proof are integers of a few digits, names, and a few symbols. One pass over such a token
 //! finds its end, its kind and what it says; a token of any other make is cut first and looked at then (`cursor`, `classify`).
 
-ghost use Rattle.std.specs.Prelude.{◌≡◌, ◌↔◌, ◌<◌, ◌^◌, pos, neg_ℤ, false, [], IfSome, IsTrue, MatchOption};
-ghost use Rattle.pb_text.specs.Cutting.{begins_white, begins_word};
-ghost use Rattle.pb_text.specs.Lexeme.{begins};
-ghost use Rattle.pb_text.specs.Scan.{AreDigits, IsFirst, IsLiteralWord, IsReadName};
+ghost use Rattle.std.specs.Prelude.{◌≡◌, ◌↔◌, ◌<◌, ◌≤◌, ◌^◌, pos, neg_ℤ, true, false, [], ◌∷◌, length, drop, IfSome, IsTrue, MatchOption};
+ghost use Rattle.pb_text.specs.Cutting.{begins_white, begins_word, behind};
+ghost use Rattle.pb_text.specs.Lexeme.{begins, lexemes_from, Position};
+ghost use Rattle.pb_text.specs.Scan.{AreDigits, IsFirst, IsIntegerWord, IsLiteralWord, IsReadName};
+ghost use Rattle.pb_text.specs.Taken.{is_next, is_plain};
 
 use super::classify::{begins_name, kind_of};
 use super::cursor::{past_word_byte, token_length};
@@ -24,6 +25,14 @@ pub(crate) struct Scanned {
     pub said: Said,
 }
 
+/// A word that is an integer.
+#[derive(Clone, Copy)]
+pub(crate) struct IntegerWord {
+    /// How many bytes it has.
+    pub size: usize,
+    pub number: i64,
+}
+
 /// A word of digits.
 #[derive(Clone, Copy)]
 struct Unsigned {
@@ -34,10 +43,10 @@ struct Unsigned {
 
 /// A name, or a literal.
 #[derive(Clone, Copy)]
-struct Named {
+pub(crate) struct Named {
     /// How many bytes it has.
-    size: usize,
-    said: Said,
+    pub size: usize,
+    pub said: Said,
 }
 
 /// Whether no byte of a word stands at the front of a text.
@@ -67,34 +76,32 @@ fn digits_word(text: &[u8]) -> Option<Unsigned>
 
 /// An integer of so many bytes.
 #[inline(always)]
-fn plain_integer(size: usize, value: u64) -> Scanned
+fn plain_integer(size: usize, value: u64) -> IntegerWord
     requires { value < 2 ^ 62 }
-    ensures { result ≡ record { size = size; kind = Kind.Integer; said = Said.Number (pos value) } }
+    ensures { result ≡ record { size = size; number = pos value } }
 {
-    Scanned {
+    IntegerWord {
         size,
-        kind: Kind::Integer,
-        said: Said::Number(value as i64),
+        number: value as i64,
     }
 }
 
 /// An integer of so many bytes, `-` the first of them.
 #[inline(always)]
-fn negated_integer(size: usize, value: u64) -> Scanned
+fn negated_integer(size: usize, value: u64) -> IntegerWord
     requires { value < 2 ^ 62 }
-    ensures { result ≡ record { size = size; kind = Kind.Integer; said = Said.Number (neg_ℤ (pos value)) } }
+    ensures { result ≡ record { size = size; number = neg_ℤ (pos value) } }
 {
-    Scanned {
+    IntegerWord {
         size,
-        kind: Kind::Integer,
-        said: Said::Number(-(value as i64)),
+        number: -(value as i64),
     }
 }
 
 /// The word at the front of a text, where it is an integer of a few digits.
 #[inline(always)]
-fn integer_word(text: &[u8]) -> Option<Scanned>
-    ensures { IfSome result (IsFirst text.now) }
+pub(crate) fn integer_word(text: &[u8]) -> Option<IntegerWord>
+    ensures { IfSome result (λ w. IsIntegerWord w.size w.number text.now) }
 {
     let Some((first, rest)) = text.split_first() else {
         return None;
@@ -112,6 +119,18 @@ fn integer_word(text: &[u8]) -> Option<Scanned>
             let found = digits_word(text)?;
             Some(plain_integer(found.size, found.value))
         }
+    }
+}
+
+/// A token that is an integer.
+#[inline(always)]
+fn integer_token(word: IntegerWord) -> Scanned
+    ensures { result ≡ record { size = word.size; kind = Kind.Integer; said = Said.Number word.number } }
+{
+    Scanned {
+        size: word.size,
+        kind: Kind::Integer,
+        said: Said::Number(word.number),
     }
 }
 
@@ -173,7 +192,7 @@ fn any_name(text: &[u8]) -> Option<Named>
 
 /// The word at the front of a text, where it is such a name, or `~` and one.
 #[inline(always)]
-fn literal_word(text: &[u8]) -> Option<Named>
+pub(crate) fn literal_word(text: &[u8]) -> Option<Named>
     ensures { IfSome result (λ w. IsLiteralWord w.size w.said text.now) }
 {
     let Some((first, rest)) = text.split_first() else {
@@ -188,6 +207,26 @@ fn literal_word(text: &[u8]) -> Option<Named>
             })
         }
         _ => any_name(text),
+    }
+}
+
+// Single bytes.
+
+/// Whether the word at the front of a text is this byte alone, which is one of words.
+#[inline(always)]
+pub(crate) fn is_lone_byte(text: &[u8], byte: u8) -> bool
+    requires white { begins_white text.now ≡ false }
+    requires plain { is_plain byte ≡ true }
+    ensures within { IsTrue result → 1 ≤ length text.now }
+    ensures next { (p : Position) → p.comment ≡ false → result ≡ is_next (byte ∷ []) (lexemes_from p text.now) }
+    ensures rest { (p : Position) →
+        p.comment ≡ false →
+        IsTrue result →
+        drop 1 (lexemes_from p text.now) ≡ lexemes_from (behind 1 p) (drop 1 text.now) }
+{
+    match text.split_first() {
+        Some((first, rest)) => *first == byte && ends_word(rest),
+        None => false,
     }
 }
 
@@ -247,7 +286,7 @@ fn quick_token(text: &[u8]) -> Option<Scanned>
 {
     let first = text.first()?;
     if *first <= b'9' {
-        return integer_word(text);
+        return Some(integer_token(integer_word(text)?));
     }
     if *first <= b'>' {
         return symbol_word(text);

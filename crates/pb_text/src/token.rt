@@ -31,8 +31,9 @@ pub struct Literal<'a> {
     pub ghost name_is: { names.is_name name.now ≡ true },
 }
 
+/// The sign and the name of a literal word.
 #[tactic(auto, unfolding(crate::specs::Word::is_literal))]
-fn literal_word(text: &[u8]) -> Literal<'_>
+pub(crate) fn split_literal(text: &[u8]) -> Literal<'_>
     requires { is_literal text.now ≡ true }
     ensures negated { result.negated ≡ is_negated text.now }
     ensures name { result.name.now ≡ name_of text.now }
@@ -56,7 +57,7 @@ pub fn literal_of(t: Token<'_>) -> Literal<'_>
     ensures negated { result.negated ≡ is_negated t.entry.text.now }
     ensures name { result.name.now ≡ name_of t.entry.text.now }
 {
-    literal_word(t.text)
+    split_literal(t.text)
 }
 
 /// What a literal's token says, and `None` exactly where the token is no literal.

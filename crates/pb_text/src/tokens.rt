@@ -1,14 +1,14 @@
 //! The tokens of a text, one after another. A reader is seen as the list of the tokens still to come, so what it gives next
 //! and what is left then are one equation.
 
-ghost use Rattle.std.specs.Prelude.{◌≡◌, length};
+ghost use Rattle.std.specs.Prelude.{◌≡◌, ◌≤◌, ◌+◌, length, drop};
 ghost use Rattle.pb_text.specs.Span.{line_of};
 
 use super::cursor::past_gaps;
 use super::said::Said;
-use super::scan::first_token;
+use super::scan::{first_token, integer_word, is_lone_byte, literal_word};
 use super::spot::{Cursor, Spot};
-use super::token::Token;
+use super::token::{Literal, Token, split_literal};
 use std::marker::Model;
 
 /// The tokens of a text that are still to come. One pass over the text gives them all, and nothing is copied.
@@ -113,6 +113,85 @@ impl<'a> Tokens<'a> {
     {
         Tokens { at: self.at }
     }
+}
+
+// What a reader expects next: passed where it is there, without a token being made of it.
+
+impl<'a> Tokens<'a> {
+    ghost use Rattle.std.specs.Prelude.{◌≡◌, ◌∷◌, [], true, drop, if◌then◌else◌, MatchOption};
+    ghost use Rattle.pb_text.specs.Taken.{is_next, is_plain, IsNumberTaken, IsLiteralTaken};
+
+    /// Passes the next token where it is an integer of a few digits, and gives its number.
+    ///
+    /// Which integers have few enough is not said: where it gives none, nothing is passed, and the token can be asked.
+    #[inline(always)]
+    pub fn take_number(&mut self) -> Option<i64>
+        ensures { MatchOption result (self.new ≡ self.old) (λ n. IsNumberTaken n self.old self.new) }
+    {
+        let here = past_gaps(self.at);
+        let found = integer_word(here.rest)?;
+        self.at = past_token(here, found.size);
+        Some(found.number)
+    }
+
+    /// Passes the next token where it is a literal whose name has no `-`, and gives it, with what was read of the name.
+    ///
+    /// Where it gives none, nothing is passed, and the token can be asked.
+    #[inline(always)]
+    pub fn take_literal(&mut self) -> Option<ReadLiteral<'a>>
+        ensures { MatchOption
+            result
+            (self.new ≡ self.old)
+            (λ r. IsLiteralTaken r.literal.negated r.literal.name.now r.said self.old self.new) }
+    {
+        let here = past_gaps(self.at);
+        let found = literal_word(here.rest)?;
+        let (text, _) = here.rest.split_at(found.size);
+        self.at = past_token(here, found.size);
+        let literal = split_literal(text);
+        let said = found.said;
+        Some(ReadLiteral { literal, said })
+    }
+
+    /// Passes the next token where it is this byte alone, and says whether it is. The byte is one of words, and no `-`.
+    #[inline(always)]
+    pub fn takes_byte(&mut self, byte: u8) -> bool
+        requires { is_plain byte ≡ true }
+        ensures next { result ≡ is_next (byte ∷ []) self.old }
+        ensures left { self.new ≡ (if is_next (byte ∷ []) self.old then drop 1 self.old else self.old) }
+    {
+        let here = past_gaps(self.at);
+        if !is_lone_byte(here.rest, byte) {
+            return false;
+        }
+        self.at = past_token(here, 1);
+        true
+    }
+}
+
+/// The cursor behind a token of so many bytes that stands at a cursor.
+#[inline(always)]
+fn past_token(here: Cursor<'_>, size: usize) -> Cursor<'_>
+    requires { size ≤ length here.rest.now }
+    ensures rest { result.rest.now ≡ drop size here.entry.rest.now }
+    ensures start { result.start ≡ here.entry.start + size }
+    ensures breaks { result.breaks ≡ here.entry.breaks }
+    ensures spot { result.spot ≡ Spot.Within }
+{
+    let (_, rest) = here.rest.split_at(size);
+    Cursor {
+        rest,
+        start: here.start + size,
+        breaks: here.breaks,
+        spot: Spot::Within,
+    }
+}
+
+/// A literal that was passed, and what was read of its name on the way.
+#[derive(Clone, Copy, Debug)]
+pub struct ReadLiteral<'a> {
+    pub literal: Literal<'a>,
+    pub said: Said,
 }
 
 /// The next token of a text.

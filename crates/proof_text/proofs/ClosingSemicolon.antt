@@ -3,16 +3,7 @@ use Rattle.std.proofs.Common.{◌≡◌, ℕ, Bool, true, false, if◌then◌els
 use Rattle.pb_text.specs.Lexeme.{Lexeme, kind_of}
 use Rattle.pb_text.specs.TokensOf.{texts_of}
 use Rattle.proof_text.specs.Kinds.{is_semicolon}
-use Rattle.proof_text.specs.Words.{is_empty, unclosed}
-
--- where more than a closing `;` is left, the next word is one
-pub opened : (w : List ℕ) (rest : List (List ℕ)) → is_empty (unclosed (w ∷ rest)) ≡ false → unclosed (w ∷ rest) ≡ w ∷ unclosed rest
-opened w (v ∷ rest) h = refl
-opened w [] h = by (is_semicolon (kind_of w)) h
-  where
-    by : (t : Bool) → is_empty (if t then [] else w ∷ []) ≡ false → (if t then [] else w ∷ []) ≡ w ∷ []
-    by true e = cc
-    by false e = refl
+use Rattle.proof_text.specs.Words.{unclosed}
 
 -- passing a token passes its word
 pub passed : (ts : List Lexeme) → unclosed (texts_of (drop 1 ts)) ≡ drop 1 (unclosed (texts_of ts))

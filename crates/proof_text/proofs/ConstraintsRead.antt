@@ -16,10 +16,11 @@ use Rattle.proof_text.specs.Words.{IsSmall, AreSmall, begins_integer}
 use Rattle.proof_text.specs.NamesMet.{NamesMet, met, met_in}
 use Rattle.proof_text.specs.Numbering.{lit_of}
 use Rattle.proof_text.specs.Forms.{is_term, term_of, terms_of, behind_terms, closing_of}
+use Rattle.proof_text.specs.Next.{begins_literal}
 use Rattle.proof_text.specs.PartsRead.{IsConstraintRead, Takes, SoFar}
 use Rattle.proof_text.specs.PartsDenied.{Denies}
 use Rattle.proof_text.specs.declared.fault.ProofFault.{ProofFault}
-use Rattle.proof_text.proofs.WordsByKind.{all_small, none_small, rest_small, only_small, small_other, integer_alone, literal_alone, denied_more}
+use Rattle.proof_text.proofs.WordsByKind.{all_small, none_small, rest_small, small_other, integer_alone, literal_alone, denied_more}
 use Rattle.proof_text.proofs.NamesNumbered.{met_literal, met_other}
 use Rattle.proof_text.proofs.PartsInTurn.{lit_met}
 
@@ -74,16 +75,14 @@ open_end a (b ∷ c ∷ rest) h = refl
 pub cut_term : (a : List ℕ) (left : List (List ℕ)) → is_integer (kind_of a) ≡ true → left ≡ [] → is_some (closing_of (behind_terms (a ∷ left))) ≡ false
 cut_term a left h e = ap (λ ws. is_some (closing_of (behind_terms (a ∷ ws)))) e ∙ ap is_some (open_end a [] h)
 
-pub denied_coefficient : (f : ProofFault) (a : List ℕ) (left : List (List ℕ)) → is_integer (kind_of a) ≡ true → Denies f (is_integer (kind_of a)) (a ∷ []) → Denies f (is_some (closing_of (behind_terms (a ∷ left)))) (a ∷ left)
-denied_coefficient f a left h d = denied_more f (is_integer (kind_of a)) _ (a ∷ []) (a ∷ left) (λ e. absurd (cc (sym h ∙ e))) (only_small a left) d
-
-pub denied_literal : (f : ProofFault) (a b : List ℕ) (left rest : List (List ℕ)) → left ≡ b ∷ rest → is_integer (kind_of a) ≡ true → Denies f (is_literal (kind_of b)) (b ∷ [])
+-- a fault at the literal of a term
+pub denied_term : (f : ProofFault) (a : List ℕ) (left : List (List ℕ)) → is_integer (kind_of a) ≡ true → Denies f (begins_literal left) left
     → Denies f (is_some (closing_of (behind_terms (a ∷ left)))) (a ∷ left)
-denied_literal f a b left rest at h d =
-    subst (λ ws. Denies f (is_some (closing_of (behind_terms (a ∷ ws)))) (a ∷ ws)) (sym at)
-    (denied_more f (is_literal (kind_of b)) _ (b ∷ []) (a ∷ b ∷ rest)
+denied_term f a [] h d = denied_more f false _ [] (a ∷ []) (λ e. cut_term a [] h refl) (rest_small a []) d
+denied_term f a (b ∷ rest) h d =
+    denied_more f (is_literal (kind_of b)) _ (b ∷ rest) (a ∷ b ∷ rest)
     (λ e. ap (λ t. is_some (closing_of (if t then behind_terms rest else a ∷ b ∷ rest))) (no_term a b h e) ∙ ap is_some (open_end a (b ∷ rest) h))
-    (λ s. only_small b rest (rest_small a (b ∷ rest) s)) d)
+    (rest_small a (b ∷ rest)) d
 
 -- where no integer stands next, no term does
 pub ends_terms : (names left : List (List ℕ)) → begins_integer left ≡ false → (terms_of names left ≡ []) × (behind_terms left ≡ left)
@@ -115,19 +114,9 @@ two_small a b ws rest more e f g h s =
     at_least_alone Misspelt h = cc
     at_least_alone Other h = cc
 
--- a fault in the right side
-pub denied_right : (f : ProofFault) (a b : List ℕ) (ws rest more : List (List ℕ)) → ws ≡ a ∷ rest → rest ≡ b ∷ more → Denies f (is_integer (kind_of b)) (b ∷ []) → Denies f (is_some (closing_of ws)) ws
-denied_right f a b ws rest more e g d =
-    subst (λ x. Denies f (is_some (closing_of x)) x) (sym (e ∙ ap (λ x. a ∷ x) g))
-    (denied_more f (is_integer (kind_of b)) _ (b ∷ []) (a ∷ b ∷ more) (no_right a b more) (λ s. only_small b more (rest_small a (b ∷ more) s)) d)
-  where
-    no_right : (a b : List ℕ) (more : List (List ℕ)) → is_integer (kind_of b) ≡ false → is_some (closing_of (a ∷ b ∷ more)) ≡ false
-    no_right a b [] h = by (is_at_least (kind_of a)) h
-      where
-        by : (t : Bool) → is_integer (kind_of b) ≡ false → is_some (if t && is_integer (kind_of b) then Some (integer_value b) else None) ≡ false
-        by true h = ap (λ t. is_some (if t then Some (integer_value b) else None)) h
-        by false h = refl
-    no_right a b (c ∷ more) h = refl
+-- a fault of an integer, which says of no form that it is missing
+pub denied_number : (f : ProofFault) (form : Bool) (a : List ℕ) (ws rest : List (List ℕ)) → ws ≡ a ∷ rest → Denies f true rest → Denies f form ws
+denied_number f form a ws rest at d = denied_more f true form rest ws (λ e. absurd (cc e)) (λ s. rest_small a rest (subst AreSmall at s)) d
 
 -- a fault of a part of a constraint is one of the whole
 pub denied_front : (f : ProofFault) (b c : Bool) (ws : List (List ℕ)) → Denies f c ws → Denies f (b && c) ws

@@ -18,3 +18,4 @@ pub mod OneReading
 pub mod Computed
 mod ProofsComputed
 pub mod Placed
+pub mod NextWord

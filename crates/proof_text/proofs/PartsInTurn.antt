@@ -13,7 +13,7 @@ use Rattle.proof_text.specs.Forms.{are_literals, literals_of, are_integers, inte
 use Rattle.proof_text.specs.PartsRead.{Takes, SoFar, IsRead}
 use Rattle.proof_text.specs.PartsDenied.{Denies}
 use Rattle.proof_text.specs.declared.fault.ProofFault.{ProofFault}
-use Rattle.proof_text.proofs.WordsByKind.{all_small, none_small, rest_small, only_small, small_other, literal_alone, integer_alone, denied_more}
+use Rattle.proof_text.proofs.WordsByKind.{all_small, none_small, rest_small, small_other, literal_alone, integer_alone, denied_more}
 use Rattle.proof_text.proofs.NamesNumbered.{number_later, met_literal, met_other, before_stays}
 
 pub begun : {F X : Type 0} (form : List (List ℕ) → F) (values : List (List ℕ) → List (List ℕ) → List X) (old : NamesMet) (whole : List (List ℕ)) → SoFar form values old whole [] old whole
@@ -87,11 +87,6 @@ next_lit k new w left rest l at h e f =
     } in
     subst (λ ws. Takes are_literals literals_of k ws l new rest) (sym at) t
 
-pub denied_lit : (f : ProofFault) (w : List ℕ) (left rest : List (List ℕ)) → left ≡ w ∷ rest → Denies f (is_literal (kind_of w)) (w ∷ []) → Denies f (are_literals left) left
-denied_lit f w left rest at h =
-    subst (λ ws. Denies f (are_literals ws) ws) (sym at)
-    (denied_more f (is_literal (kind_of w)) (are_literals (w ∷ rest)) (w ∷ []) (w ∷ rest) (λ e. ap (λ b. b && are_literals rest) e) (only_small w rest) h)
-
 -- the integer that stands next; it meets no name
 pub next_number : (k : NamesMet) (w : List ℕ) (left rest : List (List ℕ)) (n : ℤ) → left ≡ w ∷ rest → is_integer (kind_of w) ≡ true → n ≡ integer_value w → IsSmall w
     → Takes are_integers (λ names. integers_of) k left n k rest
@@ -105,8 +100,3 @@ next_number k w left rest n at h e small =
       shorter = omega arith;
     } in
     subst (λ ws. Takes are_integers (λ names. integers_of) k ws n k rest) (sym at) t
-
-pub denied_number : (f : ProofFault) (w : List ℕ) (left rest : List (List ℕ)) → left ≡ w ∷ rest → Denies f (is_integer (kind_of w)) (w ∷ []) → Denies f (are_integers left) left
-denied_number f w left rest at h =
-    subst (λ ws. Denies f (are_integers ws) ws) (sym at)
-    (denied_more f (is_integer (kind_of w)) (are_integers (w ∷ rest)) (w ∷ []) (w ∷ rest) (λ e. ap (λ b. b && are_integers rest) e) (only_small w rest) h)

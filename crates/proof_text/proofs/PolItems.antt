@@ -189,13 +189,24 @@ saturated k a left h l p e =
     l (small_other a h)
     (λ names. rw (h, l, p) refl)
 
-pub no_item : (a : List ℕ) (left : List (List ℕ)) → is_integer (kind_of a) ≡ false → is_literal (kind_of a) ≡ false → bytes_eq a (codes "+") ≡ false → bytes_eq a (codes "s") ≡ false
-    → are_items (a ∷ left) ≡ false
-no_item a left h l p e =
-    (items_single [] a left (other_pairs a left h l)).1
-    ∙ and_false_left (is_single a) (are_items left)
-    (or_false (is_integer (kind_of a) || is_literal (kind_of a) || bytes_eq a (codes "+")) (bytes_eq a (codes "s"))
-    (or_false (is_integer (kind_of a) || is_literal (kind_of a)) (bytes_eq a (codes "+")) (or_false (is_integer (kind_of a)) (is_literal (kind_of a)) h l) p) e)
+-- `+` and `s` where they stand first
+plus_kind : (is_integer (kind_of (codes "+")) ≡ false) × (is_literal (kind_of (codes "+")) ≡ false)
+unfolding kind_of kind_of_word integer_word literal_word is_misspelt is_name
+plus_kind = (refl, refl)
+
+saturate_kind : (is_integer (kind_of (codes "s")) ≡ false) × (is_literal (kind_of (codes "s")) ≡ false)
+unfolding kind_of kind_of_word integer_word literal_word is_misspelt is_name
+saturate_kind = (refl, refl)
+
+pub addition_first : (k : NamesMet) (left rest : List (List ℕ)) → is_first (codes "+") left ≡ true → rest ≡ drop 1 left → Takes are_items items_of k left items.Add k rest
+addition_first k left rest f g =
+    let at : left ≡ codes "+" ∷ rest = first_word (codes "+") left f ∙ ap (λ r. codes "+" ∷ r) (sym g) in
+    subst (λ ws. Takes are_items items_of k ws items.Add k rest) (sym at) (added k (codes "+") rest plus_kind.0 plus_kind.1 refl)
+
+pub saturation_first : (k : NamesMet) (left rest : List (List ℕ)) → is_first (codes "s") left ≡ true → rest ≡ drop 1 left → Takes are_items items_of k left items.Saturate k rest
+saturation_first k left rest f g =
+    let at : left ≡ codes "s" ∷ rest = first_word (codes "s") left f ∙ ap (λ r. codes "s" ∷ r) (sym g) in
+    subst (λ ws. Takes are_items items_of k ws items.Saturate k rest) (sym at) (saturated k (codes "s") rest saturate_kind.0 saturate_kind.1 refl refl)
 
 -- a variable and the weakening by it
 pub weakened : (k new : NamesMet) (a : List ℕ) (left rest : List (List ℕ)) (l : Lit) → is_literal (kind_of a) ≡ true → new ≡ met k (name_of a) → l ≡ lit_of new.names a

@@ -106,7 +106,7 @@ place_below (n ∷ ns) name h = by (same_name name n) h (place_below ns name)
     by true e rest = omega arith
     by false e rest = let k : place_of ns name < length ns = rest e in omega (arith, k)
 
-size_of : (w : List ℕ) → unsigned_abs (integer_value w) ≡ integer_size w
+pub size_of : (w : List ℕ) → unsigned_abs (integer_value w) ≡ integer_size w
 unfolding integer_value
 size_of w = by (is_negative w) (integer_size w)
   where

@@ -16,6 +16,7 @@ pub mod ProofSpells
 pub mod Cases
 -- what private functions keep and promise one another
 pub mod NamesMet
+pub mod Next
 pub mod PartsRead
 pub mod PartsDenied
 pub mod StepsRead

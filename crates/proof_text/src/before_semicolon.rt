@@ -4,17 +4,18 @@
 //! are never judged, or a substitution. So does a substitution behind which a block begins. So the words before a `;` and those behind
 //! it are read by different readers.
 
-ghost use Rattle.std.specs.Prelude.{◌≡◌, [], ◌∷◌, None, Some, false, drop, MatchOption};
+ghost use Rattle.std.specs.Prelude.{◌≡◌, [], ◌∷◌, None, Some, false, IfSome, MatchOption};
 ghost use Rattle.pb_text.specs.TokensOf.{texts_of};
+ghost use Rattle.proof_text.specs.Next.{IsFirst, IsLiteral, IsNumber};
 ghost use Rattle.proof_text.specs.Words as words;
 
-use pb_text::{Kind, Lookahead, Symbol, Token};
+use pb_text::{Found, Kind, ReadLiteral, Symbol, Token, Tokens};
 use std::marker::Model;
 
 /// The words that are left, up to the first `;`.
 #[derive(Drop)]
 pub(crate) struct BeforeSemicolon<'a> {
-    left: Lookahead<'a>,
+    left: Tokens<'a>,
 }
 
 impl<'a> Model for BeforeSemicolon<'a> {
@@ -25,38 +26,61 @@ impl<'a> Model for BeforeSemicolon<'a> {
 
 impl<'a> BeforeSemicolon<'a> {
     /// The words that are left of a line.
-    pub(crate) fn new(left: Lookahead<'a>) -> Self
+    pub(crate) fn new(left: Tokens<'a>) -> Self
         ensures { result ≡ words.halves (texts_of left.entry) }
     {
         BeforeSemicolon { left }
     }
 
-    /// The next word before the `;`, if there is one.
+    /// The next word before the `;`, and the tokens behind it, if there is one.
     #[tactic(auto, using(crate::proofs::FirstSemicolon::no_front, crate::proofs::FirstSemicolon::front_word))]
-    pub(crate) fn next(&self) -> Option<Token<'a>>
-        ensures { MatchOption
+    #[inline(always)]
+    fn peek(&self) -> Option<Found<'a>>
+        ensures word { MatchOption
             result
             (self.now.front ≡ [])
-            (λ t. self.now.front ≡ t.text.now ∷ drop 1 self.now.front) }
+            (λ f. self.now.front ≡ f.token.text.now ∷ (words.halves (texts_of f.behind)).front) }
+        ensures behind { IfSome result (λ f. self.now.behind ≡ (words.halves (texts_of f.behind)).behind) }
     {
-        let token = self.left.next()?;
-        if let Kind::Symbol(Symbol::Semicolon) = token.kind {
+        let found = self.left.peek()?;
+        if let Kind::Symbol(Symbol::Semicolon) = found.token.kind {
             return None;
         }
-        Some(token)
+        Some(found)
     }
 
     /// Passes the next word before the `;`, and gives it.
-    #[tactic(auto, using(crate::proofs::FirstSemicolon::no_front, crate::proofs::FirstSemicolon::front_word))]
     pub(crate) fn take(&mut self) -> Option<Token<'a>>
         ensures word { MatchOption result ((self.old.front ≡ []) × (self.new.front ≡ [])) (λ t. self.old.front ≡ t.text.now ∷ self.new.front) }
         ensures behind { self.new.behind ≡ self.old.behind }
     {
-        let token = self.left.next()?;
-        if let Kind::Symbol(Symbol::Semicolon) = token.kind {
-            return None;
-        }
-        self.left.take()
+        let found = self.peek()?;
+        self.left = found.behind;
+        Some(found.token)
+    }
+
+    /// Passes the next word before the `;` where it is an integer of a few digits, and gives its number; where it gives none, the word
+    /// can be taken.
+    #[inline(always)]
+    pub(crate) fn take_number(&mut self) -> Option<i64>
+        ensures word { MatchOption result (self.new.front ≡ self.old.front) (λ n. IsFirst (IsNumber n) self.old.front self.new.front) }
+        ensures behind { self.new.behind ≡ self.old.behind }
+    {
+        let number = self.left.take_number()?;
+        Some(number)
+    }
+
+    /// Passes the next word before the `;` where it is a literal that was read while it was cut, and gives it; where it gives none, the word
+    /// can be taken.
+    #[inline(always)]
+    pub(crate) fn take_literal(&mut self) -> Option<ReadLiteral<'a>>
+        ensures word { MatchOption
+            result
+            (self.new.front ≡ self.old.front)
+            (λ r. IsFirst (IsLiteral r.literal.negated r.literal.name.now r.said) self.old.front self.new.front) }
+        ensures behind { self.new.behind ≡ self.old.behind }
+    {
+        self.left.take_literal()
     }
 
     /// Passes the next word before the `;` where it is an integer, and gives it.
@@ -67,11 +91,12 @@ impl<'a> BeforeSemicolon<'a> {
             (λ t. (t.kind ≡ Kind.Integer) × (self.old.front ≡ t.text.now ∷ self.new.front)) }
         ensures behind { self.new.behind ≡ self.old.behind }
     {
-        let token = self.next()?;
-        let Kind::Integer = token.kind else {
+        let found = self.peek()?;
+        let Kind::Integer = found.token.kind else {
             return None;
         };
-        self.take()
+        self.left = found.behind;
+        Some(found.token)
     }
 
     /// Passes an arrow, if one stands next.
@@ -79,9 +104,9 @@ impl<'a> BeforeSemicolon<'a> {
         ensures front { self.new.front ≡ words.past_arrow self.old.front }
         ensures behind { self.new.behind ≡ self.old.behind }
     {
-        if let Some(token) = self.next() {
-            if let Kind::Symbol(Symbol::Arrow) = token.kind {
-                self.take();
+        if let Some(found) = self.peek() {
+            if let Kind::Symbol(Symbol::Arrow) = found.token.kind {
+                self.left = found.behind;
             }
         }
     }
@@ -90,16 +115,15 @@ impl<'a> BeforeSemicolon<'a> {
     pub(crate) fn is_empty(&self) -> bool
         ensures { result ≡ words.is_empty self.now.front }
     {
-        self.next().is_none()
+        self.peek().is_none()
     }
 
     /// The words behind the `;`, which stands next; `None` where it is missing.
-    pub(crate) fn into_behind(self) -> Option<Lookahead<'a>>
+    pub(crate) fn into_behind(self) -> Option<Tokens<'a>>
         requires { self.front ≡ [] }
         ensures { MatchOption result (self.entry.behind ≡ None) (λ l. self.entry.behind ≡ Some (texts_of l)) }
     {
-        let mut left = self.left;
-        left.take()?;
-        Some(left)
+        let found = self.left.peek()?;
+        Some(found.behind)
     }
 }

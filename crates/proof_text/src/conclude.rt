@@ -18,7 +18,7 @@ use super::line_names::LineNames;
 use super::line_words::LineWords;
 use super::values::{lits, number};
 use linear::{Lit, Seq};
-use pb_text::{Kind, Lookahead, Symbol, Token};
+use pb_text::{Kind, Symbol, Token, Tokens};
 use proof_steps::{Conclusion, Lower, Upper};
 use std::alloc::Global;
 
@@ -142,7 +142,7 @@ fn of_kind(
 /// `conclusion ..`
 pub(crate) fn conclusion(
     alloc: Global,
-    mut words: Lookahead<'_>,
+    mut words: Tokens<'_>,
     table: &mut LineNames,
 ) -> Reading<Conclusion>
     ensures read { IfOk result (λ c. IsConclusionLineRead table.old (texts_of words.entry) c table.new) }
@@ -151,7 +151,7 @@ pub(crate) fn conclusion(
         IfErr result (λ f. Denies f (is_some (conclusions.conclusion_of [] ws)) (drop 1 (unclosed (drop 1 ws)))) }
     ensures plain { IfErr result IsPlain }
 {
-    let Some(token) = words.take() else {
+    let Some(token) = words.next() else {
         return Err(ProofFault::BadLine);
     };
     if token.text != b"conclusion".as_slice() {

@@ -3,10 +3,11 @@
 //! Terms stay as they are written, signs, zeros and repeated variables included: to bring them into normal form is the kernel's affair.
 //! `=` and `<=` would each be one constraint or two of the proof, with ids to match, and are left out where `>=` is due.
 
-ghost use Rattle.std.specs.Prelude.{◌≡◌, [], ◌∷◌, Some, is_some, false, ◌&&◌, IfOk, IfErr, OnOk};
+ghost use Rattle.std.specs.Prelude.{◌≡◌, ℕ, Bool, List, [], ◌∷◌, Some, is_some, false, ◌&&◌, MatchOption, IfOk, IfErr, OnOk};
 ghost use Rattle.pb_text.specs.TokensOf.{texts_of};
 ghost use Rattle.proof_text.specs.Words.{AreSmall, begins_integer};
 ghost use Rattle.proof_text.specs.Forms.{terms_of, behind_terms, closing_of};
+ghost use Rattle.proof_text.specs.Next.{begins_literal, IsFirst, IsMetLit, IsNumber};
 ghost use Rattle.proof_text.specs.PartsRead.{IsConstraintRead, Takes, SoFar};
 ghost use Rattle.proof_text.specs.PartsDenied.{Denies};
 
@@ -14,28 +15,59 @@ use super::before_semicolon::BeforeSemicolon;
 use super::fault::{ProofFault, Reading};
 use super::line_names::LineNames;
 use super::values::{lit, number};
-use linear::{Relation, Seq, Signed, Term};
-use pb_text::{Kind, Lookahead, Symbol, Token};
+use linear::{Lit, Relation, Seq, Signed, Term};
+use pb_text::{Kind, Symbol, Tokens};
 use std::alloc::Global;
 
-/// The term that begins with a coefficient.
-fn term(
-    coefficient: Token<'_>,
-    words: &mut BeforeSemicolon<'_>,
-    table: &mut LineNames,
-) -> Reading<Term>
-    requires { coefficient.kind ≡ Kind.Integer }
-    ensures takes { IfOk result (λ t. Takes behind_terms terms_of table.old (coefficient.entry.text.now ∷ words.old.front) t table.new words.new.front) }
+/// The integer that stands next, and none where no integer does.
+#[inline(always)]
+fn next_number(words: &mut BeforeSemicolon<'_>) -> Reading<Option<i128>>
+    ensures next { IfOk result (λ found. MatchOption
+        found
+        ((begins_integer words.old.front ≡ false) × (words.new.front ≡ words.old.front))
+        (λ n. IsFirst (IsNumber n) words.old.front words.new.front)) }
+    ensures behind { words.new.behind ≡ words.old.behind }
+    ensures denies { (form : Bool) → IfErr result (λ f. Denies f form words.old.front) }
+{
+    if let Some(number) = words.take_number() {
+        return Ok(Some(i128::from(number)));
+    }
+    let Some(token) = words.take_integer() else {
+        return Ok(None);
+    };
+    Ok(Some(number(token)?))
+}
+
+/// The literal that stands next, its name met.
+#[inline(always)]
+fn next_lit(words: &mut BeforeSemicolon<'_>, table: &mut LineNames) -> Reading<Lit>
+    ensures next { IfOk result (λ l. IsFirst (IsMetLit table.old l table.new) words.old.front words.new.front) }
     ensures behind { words.new.behind ≡ words.old.behind }
     ensures kept { table.new.before ≡ table.old.before }
-    ensures denies { let front = coefficient.entry.text.now ∷ words.old.front in
-        IfErr result (λ f. Denies f (is_some (closing_of (behind_terms front))) front) }
+    ensures denies { IfErr result (λ f. Denies f (begins_literal words.old.front) words.old.front) }
 {
-    let coef = number(coefficient)?;
+    if let Some(read) = words.take_literal() {
+        return Ok(table.lit(read.literal, read.said)?);
+    }
     let Some(token) = words.take() else {
         return Err(ProofFault::BadLine);
     };
-    let lit = lit(token, table)?;
+    lit(token, table)
+}
+
+/// The term of a coefficient, whose literal stands next.
+#[inline(always)]
+fn term(coef: i128, words: &mut BeforeSemicolon<'_>, table: &mut LineNames) -> Reading<Term>
+    ensures takes { (word : List ℕ) →
+        IsNumber coef word →
+        IfOk result (λ t. Takes behind_terms terms_of table.old (word ∷ words.old.front) t table.new words.new.front) }
+    ensures behind { words.new.behind ≡ words.old.behind }
+    ensures kept { table.new.before ≡ table.old.before }
+    ensures denies { (word : List ℕ) →
+        IsNumber coef word →
+        IfErr result (λ f. Denies f (is_some (closing_of (behind_terms (word ∷ words.old.front)))) (word ∷ words.old.front)) }
+{
+    let lit = next_lit(words, table)?;
     Ok(Term {
         coef,
         var: lit.var,
@@ -56,8 +88,8 @@ fn terms(
     ensures denies { IfErr result (λ f. Denies f (is_some (closing_of (behind_terms words.old.front))) words.old.front) }
 {
     let mut terms = Vec::new(alloc);
-    while let Some(coefficient) = words.take_integer() {
-        let term = term(coefficient, words, table)?;
+    while let Some(coef) = next_number(words)? {
+        let term = term(coef, words, table)?;
         terms.push(term)?;
     }
     Ok(Seq::short_lived(terms))
@@ -79,10 +111,9 @@ fn right_side(words: &mut BeforeSemicolon<'_>) -> Reading<i128>
         Kind::Symbol(Symbol::Equals | Symbol::AtMost) => return Err(ProofFault::RuleLeftOut),
         _ => return Err(ProofFault::BadLine),
     }
-    let Some(token) = words.take() else {
+    let Some(right) = next_number(words)? else {
         return Err(ProofFault::BadLine);
     };
-    let right = number(token)?;
     if words.is_empty() {
         Ok(right)
     } else {
@@ -95,7 +126,7 @@ pub(crate) fn constraint<'a>(
     alloc: Global,
     mut words: BeforeSemicolon<'a>,
     table: &mut LineNames,
-) -> Reading<(Signed, Lookahead<'a>)>
+) -> Reading<(Signed, Tokens<'a>)>
     ensures read { IfOk result (λ r. IsConstraintRead table.old words.entry.front r.0 table.new) }
     ensures behind { IfOk result (λ r. words.entry.behind ≡ Some (texts_of r.1)) }
     ensures kept { table.new.before ≡ table.old.before }

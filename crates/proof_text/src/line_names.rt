@@ -7,13 +7,15 @@
 //! The table is owned for the line: were it borrowed, contracts could not say what became of it, since they lose the end of a
 //! borrow of something that owns memory once a struct holds it.
 
-ghost use Rattle.std.specs.Prelude.{◌≡◌, ◌≤◌, true, false, length, take, if◌then◌else◌, IfOk, OnOk, OnErr};
+ghost use Rattle.std.specs.Prelude.{◌≡◌, ◌≤◌, None, true, false, length, take, if◌then◌else◌, MatchOption, IfOk, IfSome, OnOk, OnErr};
 ghost use Rattle.linear.specs.Largest.{most_names};
-ghost use Rattle.linear.specs.Table.{place_of, IsTable};
+ghost use Rattle.linear.specs.Table.{place_of, with_name, IsFullFor, IsTable};
+ghost use Rattle.pb_text.specs.Name.{is_name};
+ghost use Rattle.pb_text.specs.Said.{SaysName};
 ghost use Rattle.proof_text.specs.NamesMet.{NamesMet, met, but_last};
 
 use linear::{Lit, MOST_NAMES, Names, Var};
-use pb_text::Literal;
+use pb_text::{Literal, Said};
 use std::alloc::AllocError;
 use std::marker::Model;
 
@@ -37,6 +39,23 @@ impl Model for LineNames {
     ghost invariant = { λ t. (t.before ≤ length t.names) × IsTable t.names × (t.full ≡ true → most_names ≤ length t.names) };
 }
 
+/// The variable of a name, where it finds a number; a short name is not looked at again.
+#[inline(always)]
+fn interned(names: &mut Names, name: &[u8], said: Said) -> Result<Option<Var>, AllocError>
+    requires name { is_name name.now ≡ true }
+    requires says { SaysName said name.now }
+    ensures cases { IfOk result (λ found. MatchOption found (IsFullFor names.old most_names name.now) (λ v. v.0 ≡ place_of names.old name.now)) }
+    ensures some { IfOk result (λ found. IfSome found (λ _. names.new ≡ with_name names.old name.now)) }
+    ensures table { IsTable names.new }
+    ensures none { IfOk result (λ found. found ≡ None → names.new ≡ names.old) }
+    ensures err { OnErr result (names.new ≡ names.old) }
+{
+    match said {
+        Said::Short(number) => names.intern_short(name, number, MOST_NAMES),
+        _ => names.intern_within(name, MOST_NAMES),
+    }
+}
+
 impl LineNames {
     /// The names as a line begins.
     pub(crate) fn new(names: Names) -> Self
@@ -50,15 +69,17 @@ impl LineNames {
         }
     }
 
-    /// The literal that a word writes. A name that finds no number gets the greatest one, which counts for nothing.
-    pub(crate) fn lit(&mut self, literal: Literal<'_>) -> Result<Lit, AllocError>
+    /// The literal that a word writes, and what was read of its name. A name that finds no number gets the greatest one, which counts for nothing.
+    #[inline(always)]
+    pub(crate) fn lit(&mut self, literal: Literal<'_>, said: Said) -> Result<Lit, AllocError>
+        requires { SaysName said literal.name.now }
         ensures met { OnOk result (self.new ≡ met self.old literal.entry.name.now) }
         ensures variable { IfOk result (λ l. l.var.0 ≡ place_of self.new.names literal.entry.name.now) }
         ensures sign { IfOk result (λ l. l.negated ≡ literal.entry.negated) }
         ensures err { OnErr result (self.new ≡ self.old) }
     {
         let negated = literal.negated;
-        let var = match self.names.intern_within(literal.name, MOST_NAMES)? {
+        let var = match interned(&mut self.names, literal.name, said)? {
             Some(var) => var,
             None => {
                 self.full = true;

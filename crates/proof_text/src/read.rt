@@ -4,11 +4,11 @@
 //! them. The section decides which faults there are. Among the steps a rule may be unknown or left out; at the conclusion no rule is
 //! due, so that whatever stands there is a bad line; the header, the count and the text behind the end have one fault each.
 
-ghost use Rattle.std.specs.Prelude.{◌≡◌, ◌⊎◌, false, length, IfOk, IfErr, OnOk, OnErr};
+ghost use Rattle.std.specs.Prelude.{◌≡◌, ◌⊎◌, ℕ, List, ◌∷◌, Some, false, not, length, IfOk, IfErr, OnOk, OnErr};
 ghost use Rattle.pb_text.specs.TokensOf.{texts_of};
-ghost use Rattle.proof_text.specs.Words.{words, is_first};
+ghost use Rattle.proof_text.specs.Rules as rules;
+ghost use Rattle.proof_text.specs.Words.{words, begins_integer};
 ghost use Rattle.proof_text.specs.Steps.{IsStep};
-ghost use Rattle.proof_text.specs.StepsRead.{IsStepLineRead};
 ghost use Rattle.proof_text.specs.Spells as spells;
 ghost use Rattle.proof_text.specs.Spells.{IsLine};
 ghost use Rattle.proof_text.specs.Faults.{DeniesStep, DeniesLine};
@@ -18,7 +18,7 @@ ghost use Rattle.proof_text.specs.Writable.{IsStepWritable, IsLineWritable};
 use super::conclude::conclusion;
 use super::fault::{ProofFault, Reading};
 use super::frame::{count, is_end, is_header, output};
-use super::keyword::rule_of;
+use super::keyword::{Rule, rule_of};
 use super::line::{Line, Section};
 use super::line_names::LineNames;
 use super::line_words::LineWords;
@@ -26,35 +26,23 @@ use super::places::may_stand;
 use super::refusal::rule_fault;
 use super::step::step;
 use linear::Names;
-use pb_text::{Kind, Lookahead};
+use pb_text::{Kind, Token, Tokens};
 use proof_steps::Step;
 use std::alloc::Global;
 use std::mem;
 
-/// The step that the words of a line say.
-fn step_line(alloc: Global, mut words: Lookahead<'_>, table: &mut LineNames) -> Reading<Step>
-    requires { table.old.full ≡ false }
-    ensures read { IfOk result (λ s. IsStepLineRead table.old (texts_of words.entry) s table.new) }
-    ensures kept { table.new.before ≡ table.old.before }
-    ensures denies { IfErr result (λ f. DeniesStep f table.old.names (texts_of words.entry)) }
-{
-    let Some(token) = words.take() else {
-        return Err(ProofFault::BadLine);
-    };
-    match rule_of(token.text) {
-        Some(rule) => step(alloc, rule, words, table),
-        None => Err(rule_fault(token)),
-    }
-}
-
-/// The step that the words of a line say, its new names added; `read_step` says which fault comes where.
-fn step_of_words(alloc: Global, words: Lookahead<'_>, names: &mut Names) -> Reading<Step>
-    ensures step { IfOk result (λ s. IsStep names.old (texts_of words.entry) s names.new) }
+/// The step that the words behind the word of a rule say, its new names added.
+fn step_of_rule(alloc: Global, rule: Rule, words: Tokens<'_>, names: &mut Names) -> Reading<Step>
+    ensures step { (word : List ℕ) →
+        rules.rule_of word ≡ Some rule →
+        IfOk result (λ s. IsStep names.old (word ∷ texts_of words.entry) s names.new) }
     ensures err { OnErr result (names.new ≡ names.old) }
-    ensures denies { IfErr result (λ f. DeniesStep f names.old (texts_of words.entry)) }
+    ensures denies { (word : List ℕ) →
+        rules.rule_of word ≡ Some rule →
+        IfErr result (λ f. DeniesStep f names.old (word ∷ texts_of words.entry)) }
 {
     let mut table = LineNames::new(mem::replace(names, Names::new(alloc)));
-    match step_line(alloc, words, &mut table) {
+    match step(alloc, rule, words, &mut table) {
         Ok(step) => {
             if table.is_full() {
                 *names = table.undo();
@@ -67,6 +55,23 @@ fn step_of_words(alloc: Global, words: Lookahead<'_>, names: &mut Names) -> Read
             *names = table.undo();
             Err(fault)
         }
+    }
+}
+
+/// The step that a word and those behind it say, its new names added; `read_step` says which fault comes where.
+fn step_of_words(
+    alloc: Global,
+    first: Token<'_>,
+    behind: Tokens<'_>,
+    names: &mut Names,
+) -> Reading<Step>
+    ensures step { IfOk result (λ s. IsStep names.old (first.entry.text.now ∷ texts_of behind.entry) s names.new) }
+    ensures err { OnErr result (names.new ≡ names.old) }
+    ensures denies { IfErr result (λ f. DeniesStep f names.old (first.entry.text.now ∷ texts_of behind.entry)) }
+{
+    match rule_of(first.text) {
+        Some(rule) => step_of_rule(alloc, rule, behind, names),
+        None => Err(rule_fault(first)),
     }
 }
 
@@ -84,11 +89,15 @@ pub fn read_step(alloc: Global, line: &[u8], names: &mut Names) -> Result<Step, 
     ensures err { OnErr result (names.new ≡ names.old) }
     ensures denies { IfErr result (λ f. DeniesStep f names.old (words line.now)) }
 {
-    step_of_words(alloc, Lookahead::new(line), names)
+    let mut words = Tokens::new(line);
+    let Some(first) = words.next() else {
+        return Err(ProofFault::BadLine);
+    };
+    step_of_words(alloc, first, words, names)
 }
 
 /// The conclusion that the words of a line say, its new names added.
-fn conclusion_line(alloc: Global, words: Lookahead<'_>, names: &mut Names) -> Reading<Line>
+fn conclusion_line(alloc: Global, words: Tokens<'_>, names: &mut Names) -> Reading<Line>
     ensures line { IfOk result (λ l. IsLine Section.Conclusion names.old (texts_of words.entry) l names.new) }
     ensures err { OnErr result (names.new ≡ names.old) }
     ensures denies { IfErr result (λ f. DeniesLine f Section.Conclusion names.old (texts_of words.entry)) }
@@ -110,28 +119,16 @@ fn conclusion_line(alloc: Global, words: Lookahead<'_>, names: &mut Names) -> Re
     }
 }
 
-/// Whether this word stands next.
-fn begins(words: &Lookahead<'_>, word: &[u8]) -> bool
-    ensures { result ≡ is_first word.now (texts_of words.now) }
+/// Whether no step of a rule may stand at a section, where these words stand behind the rule's own.
+fn is_misplaced(rule: Rule, section: Section, behind: &Tokens<'_>) -> bool
+    ensures { result ≡ not (spells.may_stand rule section (begins_integer (texts_of behind.now))) }
 {
-    match words.next() {
-        Some(token) => token.text == word,
-        None => false,
-    }
-}
-
-/// Whether the words begin with the word of a rule of which no step may stand at a section.
-fn is_misplaced(section: Section, words: &Lookahead<'_>) -> bool
-    ensures { result ≡ spells.is_misplaced section (texts_of words.now) }
-{
-    let Some(token) = words.next() else {
-        return false;
+    // Of all rules `end` alone stands at one section with an id behind it, and at another without.
+    let Rule::End = rule else {
+        return !may_stand(rule, section, false);
     };
-    let Some(rule) = rule_of(token.text) else {
-        return false;
-    };
-    let numbered = match words.after() {
-        Some(token) => matches!(token.kind, Kind::Integer),
+    let numbered = match behind.peek() {
+        Some(found) => matches!(found.token.kind, Kind::Integer),
         None => false,
     };
     !may_stand(rule, section, numbered)
@@ -141,25 +138,29 @@ fn is_misplaced(section: Section, words: &Lookahead<'_>) -> bool
 fn step_at_section(
     alloc: Global,
     section: Section,
-    words: Lookahead<'_>,
+    first: Token<'_>,
+    behind: Tokens<'_>,
     names: &mut Names,
 ) -> Reading<Step>
-    ensures step { IfOk result (λ s. IsStep names.old (texts_of words.entry) s names.new) }
-    ensures placed { OnOk result (spells.is_misplaced section (texts_of words.entry) ≡ false) }
+    ensures step { IfOk result (λ s. IsStep names.old (first.entry.text.now ∷ texts_of behind.entry) s names.new) }
+    ensures placed { OnOk result (spells.is_misplaced section (first.entry.text.now ∷ texts_of behind.entry) ≡ false) }
     ensures err { OnErr result (names.new ≡ names.old) }
-    ensures denies { IfErr result (λ f. DeniesStepAt f section names.old (texts_of words.entry)) }
+    ensures denies { IfErr result (λ f. DeniesStepAt f section names.old (first.entry.text.now ∷ texts_of behind.entry)) }
 {
-    if is_misplaced(section, &words) {
+    let Some(rule) = rule_of(first.text) else {
+        return Err(rule_fault(first));
+    };
+    if is_misplaced(rule, section, &behind) {
         return Err(ProofFault::BadLine);
     }
-    step_of_words(alloc, words, names)
+    step_of_rule(alloc, rule, behind, names)
 }
 
 /// A step in a block or in a goal of one.
 fn step_inside(
     alloc: Global,
     section: Section,
-    words: Lookahead<'_>,
+    mut words: Tokens<'_>,
     names: &mut Names,
 ) -> Reading<Line>
     requires { (section ≡ Section.Block) ⊎ (section ≡ Section.Goal) }
@@ -167,23 +168,29 @@ fn step_inside(
     ensures err { OnErr result (names.new ≡ names.old) }
     ensures denies { IfErr result (λ f. DeniesLine f section names.old (texts_of words.entry)) }
 {
-    let step = step_at_section(alloc, section, words, names)?;
+    let Some(first) = words.next() else {
+        return Err(ProofFault::BadLine);
+    };
+    let step = step_at_section(alloc, section, first, words, names)?;
     Ok(Line::Step(step))
 }
 
 /// A step, or the output line behind the steps.
-fn step_or_output(alloc: Global, words: Lookahead<'_>, names: &mut Names) -> Reading<Line>
+fn step_or_output(alloc: Global, words: Tokens<'_>, names: &mut Names) -> Reading<Line>
     ensures line { IfOk result (λ l. IsLine Section.Step names.old (texts_of words.entry) l names.new) }
     ensures err { OnErr result (names.new ≡ names.old) }
     ensures denies { IfErr result (λ f. DeniesLine f Section.Step names.old (texts_of words.entry)) }
 {
     // That the names so far can be numbered is known by their table's type; this makes it known here.
     names.reveal();
-    if begins(&words, b"output") {
+    let Some(found) = words.peek() else {
+        return Err(ProofFault::BadLine);
+    };
+    if found.token.text == b"output".as_slice() {
         output(LineWords::new(words))?;
         return Ok(Line::Output);
     }
-    let step = step_at_section(alloc, Section::Step, words, names)?;
+    let step = step_at_section(alloc, Section::Step, found.token, found.behind, names)?;
     Ok(Line::Step(step))
 }
 
@@ -208,7 +215,7 @@ pub fn read_line(
 {
     // That the names so far can be numbered is known by their table's type; this makes it known here.
     names.reveal();
-    let words = Lookahead::new(line);
+    let words = Tokens::new(line);
     match section {
         Section::Header => {
             if is_header(LineWords::new(words)) {

@@ -20,7 +20,7 @@ use super::pol::items;
 use super::values::{lits, numbers};
 use super::witness::{begins_block, images, unless_twice};
 use linear::Signed;
-use pb_text::Lookahead;
+use pb_text::Tokens;
 use proof_steps::Step;
 use std::alloc::Global;
 use substitution::Substitution;
@@ -37,7 +37,7 @@ fn red_step(constraint: Signed, witness: Substitution, block: bool) -> Step
 }
 
 /// `red`: a constraint, `;`, a substitution, and perhaps `;` and `begin`.
-fn red(alloc: Global, words: Lookahead<'_>, table: &mut LineNames) -> Reading<Step>
+fn red(alloc: Global, words: Tokens<'_>, table: &mut LineNames) -> Reading<Step>
     requires { table.old.full ≡ false }
     ensures read { IfOk result (λ s. IsStepRead Rule.Red table.old (texts_of words.entry) s table.new) }
     ensures kept { table.new.before ≡ table.old.before }
@@ -61,12 +61,12 @@ fn red(alloc: Global, words: Lookahead<'_>, table: &mut LineNames) -> Reading<St
 }
 
 /// `del`: `id`, and ids.
-fn del(alloc: Global, mut words: Lookahead<'_>, table: &mut LineNames) -> Reading<Step>
+fn del(alloc: Global, mut words: Tokens<'_>, table: &mut LineNames) -> Reading<Step>
     ensures read { IfOk result (λ s. IsStepRead Rule.Del table.old (texts_of words.entry) s table.new) }
     ensures kept { table.new.before ≡ table.old.before }
     ensures denies { IfErr result (λ f. DeniesRule f Rule.Del table.old.names (texts_of words.entry)) }
 {
-    let Some(token) = words.take() else {
+    let Some(token) = words.next() else {
         return Err(ProofFault::BadLine);
     };
     if token.text == b"id".as_slice() {
@@ -83,7 +83,7 @@ fn del(alloc: Global, mut words: Lookahead<'_>, table: &mut LineNames) -> Readin
 pub(crate) fn step(
     alloc: Global,
     rule: Rule,
-    words: Lookahead<'_>,
+    words: Tokens<'_>,
     table: &mut LineNames,
 ) -> Reading<Step>
     requires { table.old.full ≡ false }

@@ -147,7 +147,7 @@ pub(crate) fn begins_block(words: BeforeSemicolon<'_>) -> Reading<bool>
     let Some(behind) = words.into_behind() else {
         return Ok(false);
     };
-    if behind.next().is_none() {
+    if behind.peek().is_none() {
         return Ok(false);
     }
     let mut behind = LineWords::new(behind);

@@ -1,5 +1,5 @@
 -- The best of logged solutions, as one more is looked at.
-use Rattle.std.proofs.Common.{◌≡◌, ℕ, ◌+◌, ◌<◌, length, get_or, take, ℤ, ◌<ℤ◌, ◌≤ℤ◌, inl, inr, Bool, false, is_some, List, [], ◌∷◌, ◌++◌, Option, Some, None, All, IfSome, refl, sym, ap, subst, ◌∙◌, append_assoc, arith}
+use Rattle.std.proofs.Common.{◌≡◌, ℕ, ◌+◌, ◌<◌, length, get_or, take, ℤ, ◌<ℤ◌, ◌≤ℤ◌, inl, inr, Bool, List, [], ◌∷◌, ◌++◌, Option, Some, None, All, IfSome, refl, sym, ap, subst, ◌∙◌, append_assoc, arith}
 use Rattle.std.proofs.lemmas.Int.{ints}
 use Rattle.std.proofs.lemmas.List.Elements.{All-nil, All-push, All-weaker, All-get_or}
 use Rattle.std.proofs.lemmas.List.{take_more}

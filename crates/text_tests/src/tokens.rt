@@ -87,3 +87,35 @@ fn integers_say_this(rt: HostRuntime) {
         assert!(&rt; integer(numbers.next().expect(&rt, "a token")) == number);
     }
 }
+
+#[test]
+fn expected_numbers_are_passed(rt: HostRuntime) {
+    let mut tokens = Tokens::new(b"7 -12 +0 8x 9");
+    for wanted in [Some(7), Some(-12), Some(0), None] {
+        assert!(&rt; tokens.take_number() == wanted);
+    }
+    // What was not passed is still there.
+    tokens.pass();
+    assert!(&rt; tokens.take_number() == Some(9));
+}
+
+#[test]
+fn expected_literals_are_passed(rt: HostRuntime) {
+    let mut tokens = Tokens::new(b"~x12 y_ 3");
+    let wanted: [(bool, &'static [u8]); 2] = [(true, b"x12"), (false, b"y_")];
+    for (negated, name) in wanted {
+        let read = tokens.take_literal().expect(&rt, "a literal");
+        assert!(&rt; read.literal.negated == negated);
+        assert!(&rt; read.literal.name == name);
+    }
+    assert!(&rt; tokens.take_literal().is_none());
+}
+
+#[test]
+fn an_expected_byte_is_passed(rt: HostRuntime) {
+    let mut tokens = Tokens::new(b" +\td dd;");
+    assert!(&rt; !tokens.takes_byte(b'*'));
+    assert!(&rt; tokens.takes_byte(b'+'));
+    assert!(&rt; tokens.takes_byte(b'd'));
+    assert!(&rt; !tokens.takes_byte(b'd'));
+}

@@ -8,8 +8,8 @@ use Rattle.proof_text.proofs.values.numbers.Given as goal
 abbrev pub none : NamesMet
 none = record { before = []; names = []; full = false }
 
-abbrev pub invariant-loop-token : goal.invariant-loop-token
-invariant-loop-token l = SoFar are_integers (λ names. integers_of) none l.fn.words l.numbers.items none l.words
+abbrev pub invariant-loop-numbers : goal.invariant-loop-numbers
+invariant-loop-numbers l = SoFar are_integers (λ names. integers_of) none l.fn.words l.numbers.items none l.words
 
-abbrev pub decreases-loop-token : goal.decreases-loop-token
-decreases-loop-token l = length l.words
+abbrev pub decreases-loop-numbers : goal.decreases-loop-numbers
+decreases-loop-numbers l = length l.words

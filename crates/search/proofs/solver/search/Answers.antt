@@ -1,5 +1,5 @@
 -- The log of the file is presolved, and the run goes on from there.
-use Rattle.std.proofs.Common.{ap, ◌∙◌, arith, subst, sym, IfOk}
+use Rattle.std.proofs.Common.{ap, ◌∙◌, subst, sym, IfOk}
 use Rattle.linear.specs.Opb.{Opb}
 use Rattle.proof_log.specs.Log.{Logbook}
 use Rattle.search.specs.Presolving.{BeginsPresolved}

@@ -1,10 +1,10 @@
 -- The goals are judged beside the negation of the new constraint; all of them are shown where its degree is 0.
-use Rattle.std.proofs.Common.{◌≡◌, ◌++◌, ◌∷◌, [], ap, sym, subst, ◌∙◌, All, IfErr, IfSome, List}
+use Rattle.std.proofs.Common.{◌++◌, sym, subst, ◌∙◌, All, IfErr, IfSome, List}
 use Rattle.std.proofs.lemmas.Result.{IfErr-weaker, on_ok_weaker}
 use Rattle.normal_form.specs.Normal.{NormalConstraint}
 use Rattle.normal_form.proofs.Negations.{negation}
 use Rattle.proof_rules.specs.Fault.{OrMemory, IsGoalFault}
-use Rattle.proof_rules.specs.Redundant.{IsShownNotRaised, IsShownUnder, Redundant}
+use Rattle.proof_rules.specs.Redundant.{IsShownNotRaised, IsShownUnder}
 use Rattle.proof_rules.specs.State.{constraints}
 use Rattle.proof_rules.proofs.PolFaults.{or_memory}
 use Rattle.kernel.specs.Held.{Held}

@@ -10,12 +10,12 @@ returns-in-Some-clause-variable c =
     let e = c.in_ok-var.ensures in
     let added = rw c.in-Some.is at e.some in
     let number = rw c.in-Some.is at e.cases in
-    found_number c.self.inside.names c.intern_within.new.self c.self.inside.full c.args.literal.name.now (c.in-Some.var.0) added c.self.invariant.2 e.table.numbered number
+    found_number c.self.inside.names c.interned.new.names c.self.inside.full c.args.literal.name.now (c.in-Some.var.0) added c.self.invariant.2 e.table.numbered number
 
 pub returns-in-None-clause-variable : goal.returns-in-None-clause-variable
 returns-in-None-clause-variable c =
     let e = c.in_ok-var.ensures in
-    let new = c.intern_within.new.self in
+    let new = c.interned.new.names in
     let name = c.args.literal.name.now in
     let full : IsFullFor c.self.inside.names most_names name = rw c.in-None.is at e.cases in
     let last : 1 + place_of (but_last new) name ≡ most_names = beyond_number c.self.inside.names new name full c.self.invariant.1.numbered (e.none c.in-None.is) in
