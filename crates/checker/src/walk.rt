@@ -16,10 +16,10 @@ ghost use Rattle.checker.specs.WalkOf.{position_of, AcceptsOn, AdvancesOn, IsRef
 use super::afterwards::Afterwards;
 use super::stop::{Stop, judging, reading};
 use kernel::{Accepted, Kernel};
-use linear::{Names, Problem};
+use linear::Problem;
 use proof_lines::NumberedLine;
 use proof_steps::{Conclusion, Step};
-use proof_text::{Line, ProofFault, Section, read_line};
+use proof_text::{Line, ProofFault, ProofNames, Section, read_line};
 use propagate::Propagator;
 use std::alloc::Global;
 
@@ -29,7 +29,7 @@ use std::alloc::Global;
 pub(crate) struct Walk<'a, P: Propagator> {
     allocator: Global,
     section: Section,
-    names: Names,
+    names: ProofNames,
     kernel: Kernel<'a, P>,
     concluded: Option<Accepted>,
 }
@@ -45,7 +45,7 @@ impl<'a, P: Propagator> Walk<'a, P> {
         Ok(Walk {
             allocator: alloc,
             section: Section::Header,
-            names: problem.names().copy(alloc)?,
+            names: ProofNames::new(problem.names().copy(alloc)?),
             kernel,
             concluded: None,
         })

@@ -1,7 +1,7 @@
 //! How the tests ask: a line and the number of the fault that the reader gives it.
 
 use linear::{Lit, Names, Var};
-use proof_text::{Section, read_line, read_step};
+use proof_text::{ProofNames, Section, read_line, read_step};
 use std::alloc::Global;
 
 /// A line and the number of its fault, 0 where it has none.
@@ -13,7 +13,7 @@ pub(crate) struct Case {
 
 /// The number of a line's fault among the steps.
 pub(crate) fn fault_of(alloc: Global, line: &[u8]) -> u8 {
-    let mut names = Names::new(alloc);
+    let mut names = ProofNames::new(Names::new(alloc));
     match read_step(alloc, line, &mut names) {
         Ok(_) => 0,
         Err(fault) => fault.number(),
@@ -22,7 +22,7 @@ pub(crate) fn fault_of(alloc: Global, line: &[u8]) -> u8 {
 
 /// The number of a line's fault at its section.
 pub(crate) fn fault_at(alloc: Global, section: Section, line: &[u8]) -> u8 {
-    let mut names = Names::new(alloc);
+    let mut names = ProofNames::new(Names::new(alloc));
     match read_line(alloc, section, line, &mut names) {
         Ok(_) => 0,
         Err(fault) => fault.number(),

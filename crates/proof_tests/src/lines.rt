@@ -4,7 +4,7 @@ use super::asking::{fault_at, lit};
 use linear::Names;
 use proof_lines::ProofReader;
 use proof_steps::{Conclusion, Lower, Upper};
-use proof_text::{Line, ProofFault, Section, read_line};
+use proof_text::{Line, ProofFault, ProofNames, Section, read_line};
 use std::alloc::Global;
 
 /// A line at its section, and the number of its fault, 0 where it has none.
@@ -580,7 +580,7 @@ fn hint_length(line: &Line) -> Option<usize> {
 
 /// Whether a line concludes `BOUNDS -3 INF` with that hint.
 fn reads_as_hinted_bounds(alloc: Global, line: &[u8]) -> bool {
-    let mut names = Names::new(alloc);
+    let mut names = ProofNames::new(Names::new(alloc));
     match read_line(alloc, Section::Conclusion, line, &mut names) {
         Ok(said) => is_hinted_bounds(&said),
         Err(_) => false,
@@ -595,7 +595,7 @@ fn bounds_with_a_hint(rt: HostRuntime) {
 
 /// How many literals the hint of a line has that is read as a conclusion.
 fn read_hint(alloc: Global, line: &[u8]) -> Result<Option<usize>, ProofFault> {
-    let mut names = Names::new(alloc);
+    let mut names = ProofNames::new(Names::new(alloc));
     let said = read_line(alloc, Section::Conclusion, line, &mut names)?;
     Ok(hint_length(&said))
 }

@@ -4,7 +4,7 @@
 use super::asking::{Case, fault_of};
 use linear::{Lit, Names, Relation, Term, Var};
 use proof_steps::{GoalName, Item, Step};
-use proof_text::{ProofFault, read_step};
+use proof_text::{ProofFault, ProofNames, read_step};
 use std::alloc::Global;
 
 const LINES: [Case; 152] = [
@@ -655,9 +655,9 @@ const ITEMS: [Item; 10] = [
 
 /// Whether a line is a `pol` step of these items, behind which there are so many names.
 fn is_pol(alloc: Global, line: &[u8], wanted: &[Item], count: usize) -> bool {
-    let mut names = Names::new(alloc);
+    let mut names = ProofNames::new(Names::new(alloc));
     match read_step(alloc, line, &mut names) {
-        Ok(Step::Pol(items)) => items.as_slice() == wanted && names.len() == count,
+        Ok(Step::Pol(items)) => items.as_slice() == wanted && names.table().len() == count,
         _ => false,
     }
 }
@@ -683,7 +683,7 @@ const GOALS: [(&[u8], GoalName); 6] = [
 
 /// Whether a line opens this goal.
 fn is_goal(alloc: Global, line: &[u8], wanted: GoalName) -> bool {
-    let mut names = Names::new(alloc);
+    let mut names = ProofNames::new(Names::new(alloc));
     match read_step(alloc, line, &mut names) {
         Ok(Step::Goal(goal)) => goal == wanted,
         _ => false,
@@ -699,7 +699,7 @@ fn goals(rt: HostRuntime) {
 
 /// Whether a line opens a block, by a constraint of so many terms and a substitution of so many names.
 fn is_block(alloc: Global, line: &[u8], terms: usize, images: usize) -> bool {
-    let mut names = Names::new(alloc);
+    let mut names = ProofNames::new(Names::new(alloc));
     match read_step(alloc, line, &mut names) {
         Ok(Step::RedBegin(constraint, witness)) => {
             constraint.terms.len() == terms && witness.as_slice().len() == images
@@ -724,8 +724,8 @@ fn blocks(rt: HostRuntime) {
 }
 
 /// The table of the names of a `sol` line.
-fn names_of(alloc: Global, line: &[u8]) -> Result<Names, ProofFault> {
-    let mut names = Names::new(alloc);
+fn names_of(alloc: Global, line: &[u8]) -> Result<ProofNames, ProofFault> {
+    let mut names = ProofNames::new(Names::new(alloc));
     read_step(alloc, line, &mut names)?;
     Ok(names)
 }
@@ -764,7 +764,7 @@ fn is_rup(step: &Step, wanted: &[Term]) -> bool {
 fn is_rup_behind(alloc: Global, line: &[u8], wanted: &[Term]) -> Result<bool, ProofFault> {
     let mut names = names_of(alloc, b"sol x2")?;
     let step = read_step(alloc, line, &mut names)?;
-    Ok(is_rup(&step, wanted) && names.len() == 2)
+    Ok(is_rup(&step, wanted) && names.table().len() == 2)
 }
 
 #[test]
@@ -787,7 +787,7 @@ const NAMES_BEHIND: [(&[u8], bool, usize); 5] = [
 fn names_behind(alloc: Global, line: &[u8]) -> Result<(bool, usize), ProofFault> {
     let mut names = names_of(alloc, b"sol x1")?;
     let is_read = read_step(alloc, line, &mut names).is_ok();
-    Ok((is_read, names.len()))
+    Ok((is_read, names.table().len()))
 }
 
 #[test]

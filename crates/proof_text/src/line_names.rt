@@ -4,8 +4,8 @@
 //! the table as they are met, by one look-up each, and a refused line takes its own out again from the end; and a name for
 //! which no number is left is only remembered, since a later word may be the one that cannot stand.
 //!
-//! The table is owned for the line: were it borrowed, contracts could not say what became of it, since they lose the end of a
-//! borrow of something that owns memory once a struct holds it.
+//! The table is owned here from line to line (`proof_names`): were it borrowed, contracts could not say what became of it, since
+//! they lose the end of a borrow of something that owns memory once a struct holds it.
 
 ghost use Rattle.std.specs.Prelude.{◌≡◌, ◌≤◌, None, true, false, length, take, if◌then◌else◌, MatchOption, IfOk, IfSome, OnOk, OnErr};
 ghost use Rattle.linear.specs.Largest.{most_names};
@@ -57,7 +57,7 @@ fn interned(names: &mut Names, name: &[u8], said: Said) -> Result<Option<Var>, A
 }
 
 impl LineNames {
-    /// The names as a line begins.
+    /// The names as a first line begins.
     pub(crate) fn new(names: Names) -> Self
         ensures { result ≡ record { before = names; names = names; full = false } }
     {
@@ -67,6 +67,14 @@ impl LineNames {
             before,
             full: false,
         }
+    }
+
+    /// The same names, as a line begins.
+    pub(crate) fn begin(&mut self)
+        requires { self.old.full ≡ false }
+        ensures { self.new ≡ record { before = self.old.names; names = self.old.names; full = false } }
+    {
+        self.before = self.names.len();
     }
 
     /// The literal that a word writes, and what was read of its name. A name that finds no number gets the greatest one, which counts for nothing.
@@ -96,21 +104,21 @@ impl LineNames {
         self.full
     }
 
-    /// The names as they are, where each found a number.
-    pub(crate) fn into_names(self) -> Names
-        requires { self.full ≡ false }
-        ensures names { result ≡ self.names }
-        ensures table { IsTable result }
+    /// The table of the names, where each found a number.
+    pub(crate) fn table(&self) -> &Names
+        requires { self.now.full ≡ false }
+        ensures names { result.now ≡ self.now.names }
+        ensures table { IsTable result.now }
     {
-        self.names
+        &self.names
     }
 
     /// The names as the line began.
-    pub(crate) fn undo(self) -> Names
-        ensures { result ≡ self.before }
+    pub(crate) fn undo(&mut self)
+        ensures { self.new ≡ record { before = self.old.before; names = self.old.before; full = false } }
     {
-        let mut names = self.names;
-        names.truncate(self.before);
-        names
+        self.names.truncate(self.before);
+        self.before = self.names.len();
+        self.full = false;
     }
 }

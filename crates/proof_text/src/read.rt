@@ -15,62 +15,31 @@ ghost use Rattle.proof_text.specs.Faults.{DeniesStep, DeniesLine};
 ghost use Rattle.proof_text.specs.PartsDenied.{DeniesStepAt};
 ghost use Rattle.proof_text.specs.Writable.{IsStepWritable, IsLineWritable};
 
-use super::conclude::conclusion;
 use super::fault::{ProofFault, Reading};
 use super::frame::{count, is_end, is_header, output};
 use super::keyword::{Rule, rule_of};
 use super::line::{Line, Section};
-use super::line_names::LineNames;
 use super::line_words::LineWords;
 use super::places::may_stand;
+use super::proof_names::ProofNames;
 use super::refusal::rule_fault;
-use super::step::step;
-use linear::Names;
 use pb_text::{Kind, Token, Tokens};
 use proof_steps::Step;
 use std::alloc::Global;
-use std::mem;
-
-/// The step that the words behind the word of a rule say, its new names added.
-fn step_of_rule(alloc: Global, rule: Rule, words: Tokens<'_>, names: &mut Names) -> Reading<Step>
-    ensures step { (word : List ℕ) →
-        rules.rule_of word ≡ Some rule →
-        IfOk result (λ s. IsStep names.old (word ∷ texts_of words.entry) s names.new) }
-    ensures err { OnErr result (names.new ≡ names.old) }
-    ensures denies { (word : List ℕ) →
-        rules.rule_of word ≡ Some rule →
-        IfErr result (λ f. DeniesStep f names.old (word ∷ texts_of words.entry)) }
-{
-    let mut table = LineNames::new(mem::replace(names, Names::new(alloc)));
-    match step(alloc, rule, words, &mut table) {
-        Ok(step) => {
-            if table.is_full() {
-                *names = table.undo();
-                return Err(ProofFault::TooManyIds);
-            }
-            *names = table.into_names();
-            Ok(step)
-        }
-        Err(fault) => {
-            *names = table.undo();
-            Err(fault)
-        }
-    }
-}
 
 /// The step that a word and those behind it say, its new names added; `read_step` says which fault comes where.
 fn step_of_words(
     alloc: Global,
     first: Token<'_>,
     behind: Tokens<'_>,
-    names: &mut Names,
+    names: &mut ProofNames,
 ) -> Reading<Step>
     ensures step { IfOk result (λ s. IsStep names.old (first.entry.text.now ∷ texts_of behind.entry) s names.new) }
     ensures err { OnErr result (names.new ≡ names.old) }
     ensures denies { IfErr result (λ f. DeniesStep f names.old (first.entry.text.now ∷ texts_of behind.entry)) }
 {
     match rule_of(first.text) {
-        Some(rule) => step_of_rule(alloc, rule, behind, names),
+        Some(rule) => names.step_of_rule(alloc, rule, behind),
         None => Err(rule_fault(first)),
     }
 }
@@ -83,7 +52,7 @@ fn step_of_words(
 /// `UnknownRule`, `RuleLeftOut` and `BadLine` come only where the line says no step, `IntegerTooLarge` only where an
 /// integer is too large, `TooManyIds` only where the line is well formed and the table would have more than 2^32 names.
 #[tactic(auto, unfolding(crate::specs::Words::words))]
-pub fn read_step(alloc: Global, line: &[u8], names: &mut Names) -> Result<Step, ProofFault>
+pub fn read_step(alloc: Global, line: &[u8], names: &mut ProofNames) -> Result<Step, ProofFault>
     ensures step { IfOk result (λ s. IsStep names.old (words line.now) s names.new) }
     ensures writable { IfOk result (λ s. IsStepWritable (length names.new) s) }
     ensures err { OnErr result (names.new ≡ names.old) }
@@ -94,29 +63,6 @@ pub fn read_step(alloc: Global, line: &[u8], names: &mut Names) -> Result<Step, 
         return Err(ProofFault::BadLine);
     };
     step_of_words(alloc, first, words, names)
-}
-
-/// The conclusion that the words of a line say, its new names added.
-fn conclusion_line(alloc: Global, words: Tokens<'_>, names: &mut Names) -> Reading<Line>
-    ensures line { IfOk result (λ l. IsLine Section.Conclusion names.old (texts_of words.entry) l names.new) }
-    ensures err { OnErr result (names.new ≡ names.old) }
-    ensures denies { IfErr result (λ f. DeniesLine f Section.Conclusion names.old (texts_of words.entry)) }
-{
-    let mut table = LineNames::new(mem::replace(names, Names::new(alloc)));
-    match conclusion(alloc, words, &mut table) {
-        Ok(conclusion) => {
-            if table.is_full() {
-                *names = table.undo();
-                return Err(ProofFault::TooManyIds);
-            }
-            *names = table.into_names();
-            Ok(Line::Conclusion(conclusion))
-        }
-        Err(fault) => {
-            *names = table.undo();
-            Err(fault)
-        }
-    }
 }
 
 /// Whether no step of a rule may stand at a section, where these words stand behind the rule's own.
@@ -140,7 +86,7 @@ fn step_at_section(
     section: Section,
     first: Token<'_>,
     behind: Tokens<'_>,
-    names: &mut Names,
+    names: &mut ProofNames,
 ) -> Reading<Step>
     ensures step { IfOk result (λ s. IsStep names.old (first.entry.text.now ∷ texts_of behind.entry) s names.new) }
     ensures placed { OnOk result (spells.is_misplaced section (first.entry.text.now ∷ texts_of behind.entry) ≡ false) }
@@ -153,7 +99,7 @@ fn step_at_section(
     if is_misplaced(rule, section, &behind) {
         return Err(ProofFault::BadLine);
     }
-    step_of_rule(alloc, rule, behind, names)
+    names.step_of_rule(alloc, rule, behind)
 }
 
 /// A step in a block or in a goal of one.
@@ -161,7 +107,7 @@ fn step_inside(
     alloc: Global,
     section: Section,
     mut words: Tokens<'_>,
-    names: &mut Names,
+    names: &mut ProofNames,
 ) -> Reading<Line>
     requires { (section ≡ Section.Block) ⊎ (section ≡ Section.Goal) }
     ensures line { IfOk result (λ l. IsLine section names.old (texts_of words.entry) l names.new) }
@@ -176,7 +122,7 @@ fn step_inside(
 }
 
 /// A step, or the output line behind the steps.
-fn step_or_output(alloc: Global, words: Tokens<'_>, names: &mut Names) -> Reading<Line>
+fn step_or_output(alloc: Global, words: Tokens<'_>, names: &mut ProofNames) -> Reading<Line>
     ensures line { IfOk result (λ l. IsLine Section.Step names.old (texts_of words.entry) l names.new) }
     ensures err { OnErr result (names.new ≡ names.old) }
     ensures denies { IfErr result (λ f. DeniesLine f Section.Step names.old (texts_of words.entry)) }
@@ -206,7 +152,7 @@ pub fn read_line(
     alloc: Global,
     section: Section,
     line: &[u8],
-    names: &mut Names,
+    names: &mut ProofNames,
 ) -> Result<Line, ProofFault>
     ensures line { IfOk result (λ l. IsLine section names.old (words line.now) l names.new) }
     ensures writable { IfOk result (λ l. IsLineWritable (length names.new) l) }
@@ -230,7 +176,7 @@ pub fn read_line(
         },
         Section::Step => step_or_output(alloc, words, names),
         Section::Block | Section::Goal => step_inside(alloc, section, words, names),
-        Section::Conclusion => conclusion_line(alloc, words, names),
+        Section::Conclusion => names.conclusion_line(alloc, words),
         Section::End => {
             if is_end(LineWords::new(words)) {
                 Ok(Line::End)

@@ -2,10 +2,10 @@
 //! too little, or where memory runs out.
 
 use kernel::Kernel;
-use linear::{Names, Problem};
+use linear::Problem;
 use opb_read::read;
 use proof_rules::StepFault;
-use proof_text::read_step;
+use proof_text::{ProofNames, read_step};
 use propagate::{Propagator, ScanPropagator};
 use std::alloc::{AllocError, Global};
 use std::process::Abort;
@@ -25,7 +25,7 @@ struct Run {
 fn answer<P: Propagator>(
     alloc: Global,
     kernel: &mut Kernel<'_, P>,
-    names: &mut Names,
+    names: &mut ProofNames,
     line: &str,
 ) -> Option<Answer> {
     let Ok(step) = read_step(alloc, line.as_bytes(), names) else {
@@ -38,7 +38,7 @@ fn answer<P: Propagator>(
 fn answer_each<P: Propagator>(
     alloc: Global,
     kernel: &mut Kernel<'_, P>,
-    names: &mut Names,
+    names: &mut ProofNames,
     lines: &[&str],
 ) -> Result<Vec<Option<Answer>>, AllocError> {
     let mut answers = Vec::new(alloc);
@@ -54,7 +54,7 @@ fn answers<P: Propagator>(
     problem: &Problem,
     lines: &[&str],
 ) -> Result<Vec<Option<Answer>>, StepFault> {
-    let mut names = problem.names().copy(alloc)?;
+    let mut names = ProofNames::new(problem.names().copy(alloc)?);
     let mut kernel: Kernel<'_, P> = Kernel::new(alloc, problem)?;
     Ok(answer_each(alloc, &mut kernel, &mut names, lines)?)
 }

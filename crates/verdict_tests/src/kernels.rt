@@ -11,7 +11,7 @@ use linear::{Lit, Names, Problem, Relation, Seq, Signed, Var};
 use opb_read::read;
 use proof_rules::StepFault;
 use proof_steps::{Conclusion, Item, Step};
-use proof_text::read_step;
+use proof_text::{ProofNames, read_step};
 use propagate::{Propagator, ScanPropagator};
 use std::alloc::{AllocError, Global};
 use std::process::Abort;
@@ -234,7 +234,7 @@ fn answer_to_line<P: Propagator>(
     problem: &Problem,
     line: &str,
 ) -> Result<Option<u32>, StepFault> {
-    let mut names = problem.names().copy(alloc)?;
+    let mut names = ProofNames::new(problem.names().copy(alloc)?);
     match read_step(alloc, line.as_bytes(), &mut names) {
         Ok(step) => applied_first::<P>(alloc, problem, &step),
         Err(_) => Err(StepFault::OutOfMemory),

@@ -39,7 +39,7 @@ returns-in-Block-clause-writable c =
 pub returns-in-Conclusion-clause-writable : goal.returns-in-Conclusion-clause-writable
 returns-in-Conclusion-clause-writable c =
     let old = c.args.names.now in
-    let new = c.conclusion_line.new.names in
+    let new = c.conclusion_line.new.self in
     let ws = texts_of c.new-words.result in
     IfOk-weaker c.conclusion_line.result (λ l. IsLine sections.Conclusion old ws l new) (λ l. IsLineWritable (length new) l)
     (λ l r. line_writable sections.Conclusion old ws new l r) c.conclusion_line.ensures.line

@@ -44,7 +44,7 @@ returns-then-eq-clause-line c =
     let here : bytes_eq w (codes "output") ≡ true = search rules in
     let first : is_first (codes "output") ws ≡ true = ap (is_first (codes "output")) at ∙ here in
     output_placed c.args.names.now ws first (ap (are_words output) (sym c.new.ensures) ∙ c.in_ok-output.ensures.ok)
-    c.reveal.ensures.numbered
+    c.reveal.ensures
 
 pub returns-in_err-step-clause-denies : goal.returns-in_err-step-clause-denies
 unfolding DeniesLine
