@@ -58,6 +58,7 @@ impl NormalBuilder {
     }
 
     /// Puts a term at the end: its coefficient is above 0, and its variable above all so far.
+    #[inline(always)]
     pub fn push(&mut self, term: NormalTerm) -> Result<(), AllocError>
         requires coefficient { 0 < term.coef }
         requires variable { variable_bound self.old ≤ term.var.0 }
@@ -72,6 +73,7 @@ impl NormalBuilder {
 
     /// Puts the term of a variable with a net coefficient at the end, none where that is 0: its literal is the
     /// variable where it is above 0, and the negation where it is below. The variable is above all so far.
+    #[inline(always)]
     pub fn push_net(&mut self, var: Var, net: i128) -> Result<(), AllocError>
         requires { variable_bound self.old ≤ var.0 }
         ensures ok { OnOk result (self.new ≡ self.old ++ net_term (var.0) net) }

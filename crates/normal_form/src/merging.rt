@@ -46,6 +46,7 @@ struct Run {
 }
 
 /// The run that begins at a place.
+#[inline(always)]
 fn run_from(sorted: &[Term], start: usize) -> Run
     requires place { start < length sorted.now }
     requires sizes { size_sum sorted.now ≤ largest_sum }

@@ -24,6 +24,7 @@ struct SmallTerm {
 
 impl SmallTerm {
     /// The term of this coefficient and literal.
+    #[inline(always)]
     fn widened(self) -> NormalTerm
         ensures { result ≡ widened self }
     {
@@ -48,6 +49,7 @@ impl SmallTerm {
 }
 
 /// The small form of a term, if its coefficient fits.
+#[inline(always)]
 fn narrowed(term: NormalTerm) -> Option<SmallTerm>
     ensures { MatchOption result (2 ^ 64 ≤ term.coef) (λ small. widened small ≡ term) }
 {
@@ -107,6 +109,7 @@ impl Terms {
     }
 
     /// The term at a place.
+    #[inline(always)]
     pub(crate) fn get(&self, place: usize) -> NormalTerm
         requires { place < length self.now }
         ensures { result ≡ slice_index_or self.now place result }
@@ -126,6 +129,7 @@ impl Terms {
     }
 
     /// Puts a term at the end. Where memory runs out the list stays as it was.
+    #[inline(always)]
     pub(crate) fn push(&mut self, term: NormalTerm) -> Result<(), AllocError>
         ensures ok { OnOk result (self.new ≡ self.old ++ term ∷ []) }
         ensures err { OnErr result (self.new ≡ self.old) }

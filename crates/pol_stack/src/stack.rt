@@ -3,7 +3,7 @@
 //! The two operands on top are held in hands, and the others stand on a pile. So most lines, which have no more than two at a time, need no
 //! memory for their stack, and an operand that a rule refuses goes back into the hand that it came from: a refusal changes nothing.
 
-ghost use Rattle.std.specs.Prelude.{◌≡◌, ◌↔◌, None, ◌∷◌, ◌++◌, [], IsTrue, MatchOption, IfOk, IfErr, OnOk, OnErr};
+ghost use Rattle.std.specs.Prelude.{◌≡◌, ◌↔◌, None, ◌∷◌, ◌++◌, [], IsTrue, MatchOption, IfOk, IfErr, IfSome, OnOk, OnErr};
 ghost use Rattle.pol_stack.specs.Stack.{operand_value, in_hand, with_hands, IsAddedOnTop, IsSumOnTop, IsSumFault, IsWeakeningOnTop};
 ghost use Rattle.proof_rules.specs.Fault.{OrMemory, IsAddFault};
 
@@ -59,6 +59,25 @@ fn take_top<'a>(
     pile.pop(alloc)
 }
 
+/// The sum of two operands as a constraint of its own, where a copy is cheap.
+fn add_copied<'a>(
+    alloc: Global,
+    pile: &mut Pile<'a>,
+    left: &Operand<'a>,
+    right: &Operand<'a>,
+) -> Result<Option<Operand<'a>>, StepFault>
+    ensures same { pile.new ≡ pile.old }
+    ensures made { IfOk result (λ made. IfSome made (λ o. IsSumOnTop (operand_value left.now) (operand_value right.now) pile.old (operand_value o ∷ pile.old))) }
+    ensures fault { IfErr result (λ f. OrMemory f (IsSumFault (operand_value left.now) (operand_value right.now) f)) }
+{
+    if !pile.is_cheap_to_copy(left, right) {
+        return Ok(None);
+    }
+    let made = add(alloc, left.constraint(), right.constraint())?;
+    pile.count_copy(made.len());
+    Ok(Some(Operand::Sum(made)))
+}
+
 /// The sum of two operands, to be held; none where it stands on the pile, as the running one.
 fn add_apart<'a>(
     alloc: Global,
@@ -70,13 +89,11 @@ fn add_apart<'a>(
     ensures err { OnErr result (pile.new ≡ pile.old) }
     ensures fault { IfErr result (λ f. OrMemory f (IsSumFault (operand_value left.now) (operand_value right.now) f)) }
 {
-    if pile.is_cheap_to_copy(left, right) {
-        let made = add(alloc, left.constraint(), right.constraint())?;
-        pile.count_copy(made.len());
-        return Ok(Some(Operand::Sum(made)));
+    let copied = add_copied(alloc, pile, left, right)?;
+    if copied.is_none() {
+        pile.start_sum(alloc, left.constraint(), right.constraint())?;
     }
-    pile.start_sum(alloc, left.constraint(), right.constraint())?;
-    Ok(None)
+    Ok(copied)
 }
 
 /// The sum of an operand and the one under it, to be held; none where it stands on the pile, as the running one.
@@ -188,7 +205,7 @@ fn put_down<'a>(hand: &mut Option<Operand<'a>>, pile: &mut Pile<'a>) -> Result<(
 }
 
 impl<'a> Stack<'a> {
-    ghost use Rattle.std.specs.Prelude.{◌≡◌, ◌≢◌, ◌∷◌, [], length, MatchResult, IfOk, IfErr, OnOk, OnErr};
+    ghost use Rattle.std.specs.Prelude.{◌≡◌, ◌≢◌, ◌∷◌, [], false, length, MatchResult, IfOk, IfErr, IsTrue, OnOk, OnErr};
     ghost use Rattle.pol_stack.specs.Stack.{operand_value};
     ghost use Rattle.proof_rules.specs.Expression.{Given};
     ghost use Rattle.proof_rules.specs.Running.{AppliesItem};
@@ -215,8 +232,13 @@ impl<'a> Stack<'a> {
     pub fn push(&mut self, operand: Operand<'a>) -> Result<(), AllocError>
         ensures { MatchResult result (λ _. self.new ≡ operand_value operand.entry ∷ self.old) (λ _. self.new ≡ self.old) }
     {
-        put_down(&mut self.under, &mut self.pile)?;
-        self.under = self.top.take();
+        // A hand that is empty is not moved.
+        if self.under.is_some() {
+            put_down(&mut self.under, &mut self.pile)?;
+        }
+        if self.top.is_some() {
+            self.under = self.top.take();
+        }
         self.top = Some(operand);
         Ok(())
     }
@@ -230,6 +252,36 @@ impl<'a> Stack<'a> {
         self.push(Operand::Made(made))
     }
 
+    /// Adds the two on top where they stand: what the hands hold, where a copy is cheap, or what one of them holds, or what stands below
+    /// the running sum, to that. Whether it did.
+    fn add_in_place(&mut self, alloc: Global) -> Result<bool, StepFault>
+        ensures added { (given : Given) → IfOk result (λ yes. IsTrue yes → AppliesItem given items.Add self.old self.new) }
+        ensures left { IfOk result (λ yes. yes ≡ false → self.new ≡ self.old) }
+        ensures err { OnErr result (self.new ≡ self.old) }
+        ensures fault { IfErr result (λ f. OrMemory f (IsAddFault self.old f)) }
+    {
+        if self.top.is_none() && self.under.is_none() {
+            let added = self.pile.add_from_below()?;
+            return Ok(added);
+        }
+        let Some(right) = &self.top else {
+            return Ok(false);
+        };
+        let Some(left) = &self.under else {
+            let added = self.pile.add_to_sum(right)?;
+            if added {
+                self.top = None;
+            }
+            return Ok(added);
+        };
+        let Some(sum) = add_copied(alloc, &mut self.pile, left, right)? else {
+            return Ok(false);
+        };
+        self.under = None;
+        self.top = Some(sum);
+        Ok(true)
+    }
+
     /// Adds the two on top: to the running sum, where it is one of them. `StackShape` where there are fewer than two;
     /// else `TooLarge` where the sum is not within the limits. After a fault all is as before.
     pub fn add_top_two(&mut self, alloc: Global) -> Result<(), StepFault>
@@ -237,7 +289,7 @@ impl<'a> Stack<'a> {
         ensures err { OnErr result (self.new ≡ self.old) }
         ensures fault { IfErr result (λ f. OrMemory f (IsAddFault self.old f)) }
     {
-        if self.top.is_none() && self.under.is_none() && self.pile.add_from_below()? {
+        if self.add_in_place(alloc)? {
             return Ok(());
         }
         let Some(right) = take_top(alloc, &mut self.top, &mut self.under, &mut self.pile)? else {
@@ -265,6 +317,11 @@ impl<'a> Stack<'a> {
         if self.top.is_none() && self.under.is_none() && self.pile.multiply_sum(factor)? {
             return Ok(());
         }
+        // What is held is changed where it stands.
+        if let Some(top) = &mut self.top {
+            top.multiply(alloc, factor)?;
+            return Ok(());
+        }
         let Some(mut top) = take_top(alloc, &mut self.top, &mut self.under, &mut self.pile)? else {
             return Err(StepFault::StackShape);
         };
@@ -283,6 +340,11 @@ impl<'a> Stack<'a> {
         if self.top.is_none() && self.under.is_none() && self.pile.divide_sum(divisor)? {
             return Ok(());
         }
+        // What is held is changed where it stands.
+        if let Some(top) = &mut self.top {
+            top.divide(alloc, divisor)?;
+            return Ok(());
+        }
         let Some(mut top) = take_top(alloc, &mut self.top, &mut self.under, &mut self.pile)? else {
             return Err(StepFault::StackShape);
         };
@@ -298,6 +360,11 @@ impl<'a> Stack<'a> {
         ensures fault { IfErr result (λ f. OrMemory f (IsShapeFault self.old f)) }
     {
         if self.top.is_none() && self.under.is_none() && self.pile.saturate_sum() {
+            return Ok(());
+        }
+        // What is held is changed where it stands.
+        if let Some(top) = &mut self.top {
+            top.saturate(alloc)?;
             return Ok(());
         }
         let Some(mut top) = take_top(alloc, &mut self.top, &mut self.under, &mut self.pile)? else {

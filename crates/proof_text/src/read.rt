@@ -1,8 +1,8 @@
 //! What a line says at its section.
 //!
-//! The words of a line are cut once, here, and handed on: the choice between a step and the output line looks at the first of
-//! them. The section decides which faults there are. Among the steps a rule may be unknown or left out; at the conclusion no rule is
-//! due, so that whatever stands there is a bad line; the header, the count and the text behind the end have one fault each.
+//! The first word of a line is cut here, since it says what line it is; the rest is cut by whoever reads it. The section decides
+//! which faults there are. Among the steps a rule may be unknown or left out; at the conclusion no rule is due, so that whatever
+//! stands there is a bad line; the header, the count and the text behind the end have one fault each.
 
 ghost use Rattle.std.specs.Prelude.{◌≡◌, ◌⊎◌, ℕ, List, ◌∷◌, Some, false, not, length, IfOk, IfErr, OnOk, OnErr};
 ghost use Rattle.pb_text.specs.TokensOf.{texts_of};

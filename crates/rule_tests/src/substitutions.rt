@@ -77,6 +77,56 @@ fn no_variable_twice(rt: HostRuntime) {
     assert!(&rt; images(rt.alloc(), &twice).expect(&rt, "memory").is_none());
 }
 
+/// Each of so many variables with the next one as its image, and the last one with the first.
+fn rotation(alloc: Global, count: u32) -> Result<Vec<(Var, Image)>, AllocError> {
+    let mut images = Vec::new(alloc);
+    for number in 0..count {
+        images.push((Var(number), to((number + 1) % count)))?;
+    }
+    Ok(images)
+}
+
+/// Whether a rotation gives each of its variables the image that it should, and another one itself.
+fn rotates(alloc: Global, count: u32) -> Result<bool, AllocError> {
+    let Some(rotation) = Substitution::new(alloc, rotation(alloc, count)?)? else {
+        return Ok(false);
+    };
+    for number in 0..count {
+        if rotation.image_of(Var(number)) != to((number + 1) % count) {
+            return Ok(false);
+        }
+    }
+    Ok(rotation.image_of(Var(count)) == to(count))
+}
+
+/// So many variables with one of them twice.
+fn with_first_again(alloc: Global, count: u32) -> Result<Option<Substitution>, AllocError> {
+    let mut images = rotation(alloc, count)?;
+    images.push((Var(0), Image::Zero))?;
+    Substitution::new(alloc, images)
+}
+
+/// Numbers of variables with images: some are passed over, and more are looked up in a table.
+const COUNTS: [u32; 5] = [1, 7, 8, 9, 40];
+
+#[test]
+fn few_images_and_many(rt: HostRuntime) {
+    for count in &COUNTS {
+        assert!(&rt;
+            rotates(rt.alloc(), *count).expect(&rt, "memory"),
+            "{count}"
+        );
+    }
+}
+
+#[test]
+fn no_variable_twice_among_few_and_many(rt: HostRuntime) {
+    for count in &COUNTS {
+        let made = with_first_again(rt.alloc(), *count).expect(&rt, "memory");
+        assert!(&rt; made.is_none(), "{count}");
+    }
+}
+
 #[test]
 fn opposites_of_images(rt: HostRuntime) {
     for (image, opposite) in &OPPOSITES {

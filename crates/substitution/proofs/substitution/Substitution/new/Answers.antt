@@ -7,12 +7,13 @@ pub returns-then-len-clause-none : goal.returns-then-len-clause-none
 returns-then-len-clause-none c =
     let images = c.args.images.items in
     let found = c.in_ok-by_variable.by_variable in
-    let made = collected_from c.as_slice.result.now images found c.as_slice.ensures.value c.in_ok-by_variable.ensures in
+    let made = collected_from c.as_slice-2.result.now images found c.as_slice-2.ensures.value c.in_ok-by_variable.ensures in
     λ _. twice_from_length images found made (omega (arith, c.args.images.ok.0))
 
-pub invariant_of-result : goal.invariant_of-result
-invariant_of-result c =
+pub invariant_of-result-2 : goal.invariant_of-result-2
+invariant_of-result-2 c =
     let images = c.args.images.items in
     let found = c.in_ok-by_variable.by_variable in
-    let made = collected_from c.as_slice.result.now images found c.as_slice.ensures.value c.in_ok-by_variable.ensures in
-    (once_from_length images found made (omega (arith, c.args.images.ok.0)), images_from_length images found made (omega (arith, c.args.images.ok.0)))
+    let made = collected_from c.as_slice-2.result.now images found c.as_slice-2.ensures.value c.in_ok-by_variable.ensures in
+    let whole = images_from_length images found made (omega (arith, c.args.images.ok.0)) in
+    (once_from_length images found made (omega (arith, c.args.images.ok.0)), rw (c.in_ok-new.ensures.ok) whole)
