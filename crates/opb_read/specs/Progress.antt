@@ -1,6 +1,6 @@
 -- What reading has made of the statements so far, token by token, and where it stops. These are the words of the reader's own
 -- functions; where a fault stands is said in FaultLine.
-use Rattle.std.specs.Prelude.{◌≡◌, ℕ, ℤ, pos, ◌+◌, ◌≤◌, false, if◌then◌else◌, Option, Some, None, List, [], ◌∷◌, ◌++◌, length, drop, unsigned_abs, ◌<◌}
+use Rattle.std.specs.Prelude.{◌≡◌, ℕ, ℤ, pos, ◌+◌, ◌≤◌, Bool, false, if◌then◌else◌, Option, Some, None, List, [], ◌∷◌, ◌++◌, length, drop, unsigned_abs, ◌<◌}
 use Rattle.pb_text.specs.Lexeme.{Lexeme}
 use Rattle.pb_text.specs.Number.{integer_value}
 use Rattle.pb_text.specs.Word.{is_negated, name_of}
@@ -36,9 +36,13 @@ pub record Progress : Type 0 where
 abbrev pub open_constraint : Progress → Signed
 open_constraint s = record { terms = s.terms; relation = s.relation; right = s.right }
 
--- the term of the last coefficient and of this literal
+-- the term of the last coefficient and of a literal of this sign and name
+abbrev pub term_of_literal : Progress → Bool → List ℕ → Term
+term_of_literal s negated name = record { coef = s.coefficient; var = record { 0 = place_of s.names name }; negated = negated }
+
+-- the same of a literal as it is written
 abbrev pub next_term : Progress → List ℕ → Term
-next_term s word = record { coef = s.coefficient; var = record { 0 = place_of s.names (name_of word) }; negated = is_negated word }
+next_term s word = term_of_literal s (is_negated word) (name_of word)
 
 -- what each token adds
 abbrev pub with_coefficient : Progress → List ℕ → Progress
@@ -50,8 +54,11 @@ with_right s word = record s { right = integer_value word }
 abbrev pub with_relation : Progress → Kind → Progress
 with_relation s k = record s { relation = relation_at k }
 
+abbrev pub with_literal : Progress → Bool → List ℕ → Progress
+with_literal s negated name = record s { names = with_name s.names name; terms = s.terms ++ term_of_literal s negated name ∷ [] }
+
 abbrev pub with_term : Progress → List ℕ → Progress
-with_term s word = record s { names = with_name s.names (name_of word); terms = s.terms ++ next_term s word ∷ [] }
+with_term s word = with_literal s (is_negated word) (name_of word)
 
 abbrev pub without_terms : Progress → Progress
 without_terms s = record s { terms = [] }
@@ -76,9 +83,9 @@ moved s t Literal = at_spot Literal (with_term s t.text)
 moved s t Relation = at_spot Relation (with_relation s t.kind)
 moved s t RightSide = at_spot RightSide (with_right s t.text)
 
--- a term more breaks a limit
-abbrev pub IsOneTooMany : Progress → List ℕ → Type 0
-IsOneTooMany s word = length (with_term s word).names ≤ most_variables → length (with_term s word).terms ≤ most_terms → ⊥
+-- a literal more breaks a limit
+abbrev pub IsOneTooMany : Progress → Bool → List ℕ → Type 0
+IsOneTooMany s negated name = length (with_literal s negated name).names ≤ most_variables → length (with_literal s negated name).terms ≤ most_terms → ⊥
 
 -- the code of an integer that is too large
 abbrev pub IsLargeCode : List ℕ → OpbCode → Type 0
@@ -96,6 +103,12 @@ pub record Step (s : Progress) (t : Lexeme) (q : Progress) : Type 0 where
   pub integer : IsLargeInteger t → ⊥
   pub counts : HoldsLimits q
   pub moves : q ≡ moved s t q.spot
+
+-- the token that stood next was passed, and what stood behind it stands next
+pub record IsPassed (s : Progress) (from : List Lexeme) (q : Progress) (to : List Lexeme) : Type 0 where
+  pub token : Lexeme
+  pub first : from ≡ token ∷ to
+  pub step : Step s token q
 
 -- tokens, passed one by one
 abbrev pub Passes : Progress → List Lexeme → Progress → Type 0

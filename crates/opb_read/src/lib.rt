@@ -9,6 +9,7 @@ pub mod cases;
 mod fault;
 pub mod laws;
 mod mark;
+mod plain_terms;
 mod reader;
 mod reading;
 mod spot;

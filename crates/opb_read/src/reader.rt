@@ -6,14 +6,16 @@
 //! of it, and at a fault the token that has it stands next. So all that is to be known of a run is proved of lists of steps,
 //! and the line of a fault is that of the next token.
 
-ghost use Rattle.std.specs.Prelude.{◌≡◌, ◌+◌, ◌<◌, ◌≤◌, ◌∷◌, ◌++◌, Some, [], length, drop, unsigned_abs, if◌then◌else◌, IfOk, IfErr, OnOk, OnErr, MatchOption};
+ghost use Rattle.std.specs.Prelude.{◌≡◌, ◌+◌, ◌<◌, ◌≤◌, ◌∷◌, ◌++◌, Some, true, [], length, drop, unsigned_abs, if◌then◌else◌, IfOk, IfErr, OnOk, OnErr, MatchOption};
 ghost use Rattle.linear.specs.Limits.{largest_integer, most_constraints, most_terms, most_variables};
 ghost use Rattle.pb_text.specs.Lexeme.{lexemes};
 ghost use Rattle.pb_text.specs.Number.{integer_value};
-ghost use Rattle.pb_text.specs.Said.{Says};
+ghost use Rattle.pb_text.specs.Name.{is_name};
+ghost use Rattle.pb_text.specs.Said.{Says, SaysName};
 ghost use Rattle.pb_text.specs.Token.{lexeme_of};
+ghost use Rattle.pb_text.specs.Word.{is_negated, name_of};
 ghost use Rattle.opb_read.specs.Kinds.{begins_objective, relation_at, statements_of};
-ghost use Rattle.opb_read.specs.Progress.{HoldsLimits, IsLargeCode, IsOneTooMany, Reaches, Refuses, Step, StopsAt, closed, start_of, with_coefficient, with_relation, with_right, with_term, without_terms};
+ghost use Rattle.opb_read.specs.Progress.{HoldsLimits, IsLargeCode, IsOneTooMany, Reaches, Refuses, Step, StopsAt, closed, start_of, with_coefficient, with_literal, with_relation, with_right, with_term, without_terms};
 ghost use Rattle.opb_read.specs.Codes.{IsForm, IsTooManyOr};
 ghost use Rattle.opb_read.specs.FaultCodes.{code_at};
 ghost use Rattle.opb_read.specs.Reading.{progress_at, progress_of};
@@ -24,7 +26,7 @@ use super::mark::begins_objective;
 use super::spot::Spot;
 use super::variables::Variables;
 use linear::{LARGEST_INTEGER, MOST_CONSTRAINTS, MOST_TERMS, Relation, Seq, Signed, Term};
-use pb_text::{Found, Kind, Lookahead, Said, Symbol, Token, Tokens, integer, literal_of};
+use pb_text::{Found, Kind, Literal, Lookahead, Said, Symbol, Token, Tokens, integer, literal_of};
 use std::alloc::Global;
 
 /// Where reading has come to. At a fault, the token that has it stands next.
@@ -75,8 +77,10 @@ impl<'a> Reader<'a> {
         ensures closed { OnOk result (self.new.spot ≡ Spot.Start) }
         ensures stops { IfErr result (λ code. StopsAt code (progress_of self.old) self.old.left self.new.left) }
     {
+        self.pass_terms()?;
         while let Some(found) = self.left.peek() {
             self.pass(alloc, found)?;
+            self.pass_terms()?;
         }
         match self.spot {
             Spot::Start => Ok(()),
@@ -205,9 +209,22 @@ impl<'a> Reader<'a> {
         ensures names { OnOk result (length self.new.variables ≤ most_variables) }
         ensures terms { OnOk result (length self.new.terms.items ≤ most_terms) }
         ensures left { self.new.left ≡ self.old.left }
-        ensures refused { IfErr result (IsTooManyOr (IsOneTooMany (progress_of self.old) token.entry.text.now)) }
+        ensures refused { IfErr result (IsTooManyOr (IsOneTooMany (progress_of self.old) (is_negated token.entry.text.now) (name_of token.entry.text.now))) }
     {
-        let literal = literal_of(token);
+        self.add_term(literal_of(token), said)
+    }
+
+    /// Adds the term of the last coefficient and a literal.
+    #[inline(always)]
+    pub(crate) fn add_term(&mut self, literal: Literal<'a>, said: Said) -> Result<(), OpbCode>
+        requires name { is_name literal.name.now ≡ true }
+        requires says { SaysName said literal.name.now }
+        ensures moves { OnOk result (progress_of self.new ≡ with_literal (progress_of self.old) literal.entry.negated literal.entry.name.now) }
+        ensures names { OnOk result (length self.new.variables ≤ most_variables) }
+        ensures terms { OnOk result (length self.new.terms.items ≤ most_terms) }
+        ensures left { self.new.left ≡ self.old.left }
+        ensures refused { IfErr result (IsTooManyOr (IsOneTooMany (progress_of self.old) literal.entry.negated literal.entry.name.now)) }
+    {
         if self.terms.len() >= MOST_TERMS {
             return Err(OpbCode::TooMany);
         }

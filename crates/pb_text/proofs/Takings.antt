@@ -38,6 +38,7 @@ unfolding scanned
 number_taken here there before size z same at w past = record {
   token = scanned here size;
   first = sym same ∙ word_token size (position_of here) here.rest.now at.plain w.some w.front ∙ ap (λ (xs : List Lexeme). scanned here size ∷ xs) (behind_ahead size here there at past);
+  kind = integer_is (take size here.rest.now) w.integer;
   integer = integer_is (take size here.rest.now) w.integer;
   value = w.value;
 }
@@ -50,6 +51,7 @@ unfolding scanned
 literal_taken here there before size x negated name same at w sign spelled past = record {
   token = scanned here size;
   first = sym same ∙ word_token size (position_of here) here.rest.now at.plain w.some w.front ∙ ap (λ (xs : List Lexeme). scanned here size ∷ xs) (behind_ahead size here there at past);
+  kind = literal_is (take size here.rest.now) w.literal;
   literal = literal_is (take size here.rest.now) w.literal;
   sign = sign;
   spelled = spelled;

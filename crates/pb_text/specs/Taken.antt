@@ -20,6 +20,7 @@ is_plain b = not (is_white b || (b == 59) || (b == 58) || (b == 61) || (b == 60)
 pub record IsNumberTaken (number : ℤ) (before after : List Lexeme) : Type 0 where
   pub token : Lexeme
   pub first : before ≡ token ∷ after
+  pub kind : token.kind ≡ kinds.Integer
   pub integer : kind_of token.text ≡ kinds.Integer
   pub value : number ≡ integer_value token.text
 
@@ -27,6 +28,7 @@ pub record IsNumberTaken (number : ℤ) (before after : List Lexeme) : Type 0 wh
 pub record IsLiteralTaken (negated : Bool) (name : List ℕ) (said : Said) (before after : List Lexeme) : Type 0 where
   pub token : Lexeme
   pub first : before ≡ token ∷ after
+  pub kind : token.kind ≡ kinds.Literal
   pub literal : kind_of token.text ≡ kinds.Literal
   pub sign : negated ≡ is_negated token.text
   pub spelled : name ≡ name_of token.text

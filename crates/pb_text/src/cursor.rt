@@ -58,9 +58,18 @@ fn past_gap(c: Cursor<'_>) -> Option<Cursor<'_>>
     let [b, tail @ ..] = c.rest else {
         return None;
     };
-    // Most bytes that stand here begin a word, which one look shows.
+    // Most bytes that stand here begin a word or are a space, which two looks show.
     if *b > b'*' {
         return None;
+    }
+    let behind = Cursor {
+        rest: tail,
+        start: c.start + 1,
+        breaks: c.breaks,
+        spot: c.spot,
+    };
+    if *b == b' ' {
+        return Some(behind);
     }
     match *b {
         b'\n' => Some(Cursor {
@@ -69,12 +78,7 @@ fn past_gap(c: Cursor<'_>) -> Option<Cursor<'_>>
             breaks: c.breaks + 1,
             spot: Spot::Front,
         }),
-        b' ' | b'\t' => Some(Cursor {
-            rest: tail,
-            start: c.start + 1,
-            breaks: c.breaks,
-            spot: c.spot,
-        }),
+        b'\t' => Some(behind),
         b'\r' => Some(Cursor {
             rest: tail,
             start: c.start + 1,
@@ -131,12 +135,15 @@ pub(crate) fn past_word_byte(text: &[u8]) -> Option<&[u8]>
     match text {
         [] => None,
         [b, rest @ ..] => {
-            // Most bytes are letters and digits, which need one look.
+            // Most words end at a space, and most of their bytes are letters and digits.
+            if *b == b' ' {
+                return None;
+            }
             if *b > b'>' || (*b >= b'0' && *b <= b'9') {
                 return Some(rest);
             }
             match *b {
-                b' ' | b'\t' | b'\r' | b'\n' | b';' | b':' | b'=' | b'<' | b'>' => None,
+                b'\t' | b'\r' | b'\n' | b';' | b':' | b'=' | b'<' | b'>' => None,
                 b'-' => {
                     if symbol_length(text) == 0 {
                         Some(rest)

@@ -1,4 +1,4 @@
-use Rattle.std.proofs.Common.{rules, ℤ, sym, subst, ◌∙◌, FitsSigned, to_z, of_z}
+use Rattle.std.proofs.Common.{rules, ℤ, sym, subst, ◌∙◌, FitsSigned}
 use mir.Syntax.{w64}
 use Rattle.std.proofs.lemmas.Int.{to_z-of_z}
 use Rattle.pb_text.specs.Cursor.{ahead}
