@@ -3,10 +3,13 @@ use Rattle.std.proofs.Common.{◌≡◌, ℕ, ℤ, ◌+◌, Bool, List, ◌∷�
 use Rattle.pb_text.specs.Cursor.{ahead, comment_at, position_of, IsAtToken}
 use Rattle.pb_text.specs.Cutting.{behind}
 use Rattle.pb_text.specs.Lexeme.{Lexeme, lexeme_at, lexemes_from}
-use Rattle.pb_text.specs.Scan.{IsIntegerWord, IsLiteralWord}
-use Rattle.pb_text.specs.Taken.{IsNumberTaken, IsLiteralTaken}
+use Rattle.pb_text.specs.Scan.{IsFirst, IsIntegerWord, IsLiteralWord}
+use Rattle.pb_text.specs.Taken.{IsNumberTaken, IsLiteralTaken, IsSymbolTaken}
 use Rattle.pb_text.specs.Word.{is_negated, name_of}
+use Rattle.pb_text.specs.declared.kind.Kind.TheVariants as kinds
+use Rattle.pb_text.specs.declared.kind.Symbol.{Symbol}
 use Rattle.pb_text.specs.declared.said.Said.{Said}
+use Rattle.pb_text.specs.declared.scan.Scanned.{Scanned}
 use Rattle.pb_text.specs.declared.spot.Cursor.{Cursor}
 use Rattle.pb_text.specs.declared.spot.Spot.TheVariants.{Within}
 use Rattle.pb_text.proofs.FirstToken.{word_token}
@@ -56,4 +59,15 @@ literal_taken here there before size x negated name same at w sign spelled past 
   sign = sign;
   spelled = spelled;
   says = w.says;
+}
+
+-- a symbol was scanned
+pub symbol_taken : (here there : Cursor) (before : List Lexeme) (s : Scanned) (symbol : Symbol) → ahead here ≡ before → IsAtToken here → IsFirst here.rest.now s →
+    s.kind ≡ kinds.Symbol symbol → IsPast s.size here there → IsSymbolTaken symbol before (ahead there)
+unfolding scanned
+symbol_taken here there before s symbol same at f k past = record {
+  token = scanned here s.size;
+  first = sym same ∙ f.token (position_of here) at.plain ∙ ap (λ (xs : List Lexeme). scanned here s.size ∷ xs) (behind_ahead s.size here there at past);
+  kind = sym f.kind ∙ k;
+  spelled = sym f.kind ∙ k;
 }

@@ -6,6 +6,7 @@ use Rattle.pb_text.specs.Said.{Says}
 use Rattle.pb_text.specs.Word.{is_negated, name_of}
 use Rattle.pb_text.specs.declared.said.Said.{Said}
 use Rattle.pb_text.specs.declared.kind.Kind.TheVariants as kinds
+use Rattle.pb_text.specs.declared.kind.Symbol.{Symbol}
 
 -- is the next token this word
 abbrev pub is_next : List ℕ → List Lexeme → Bool
@@ -33,3 +34,10 @@ pub record IsLiteralTaken (negated : Bool) (name : List ℕ) (said : Said) (befo
   pub sign : negated ≡ is_negated token.text
   pub spelled : name ≡ name_of token.text
   pub says : Says said token.text
+
+-- this symbol was passed
+pub record IsSymbolTaken (symbol : Symbol) (before after : List Lexeme) : Type 0 where
+  pub token : Lexeme
+  pub first : before ≡ token ∷ after
+  pub kind : token.kind ≡ kinds.Symbol symbol
+  pub spelled : kind_of token.text ≡ kinds.Symbol symbol

@@ -257,7 +257,7 @@ fn symbol_of(size: usize, symbol: Symbol) -> Scanned
 
 /// The symbol at the front of a text, where it is one of those that a problem has in each statement.
 #[inline(always)]
-fn symbol_word(text: &[u8]) -> Option<Scanned>
+pub(crate) fn symbol_word(text: &[u8]) -> Option<Scanned>
     ensures { IfSome result (IsFirst text.now) }
 {
     let Some((first, rest)) = text.split_first() else {

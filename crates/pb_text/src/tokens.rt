@@ -5,8 +5,9 @@ ghost use Rattle.std.specs.Prelude.{◌≡◌, ◌≤◌, ◌+◌, length, drop}
 ghost use Rattle.pb_text.specs.Span.{line_of};
 
 use super::cursor::past_gaps;
+use super::kind::{Kind, Symbol};
 use super::said::Said;
-use super::scan::{first_token, integer_word, is_lone_byte, literal_word};
+use super::scan::{first_token, integer_word, is_lone_byte, literal_word, symbol_word};
 use super::spot::{Cursor, Spot};
 use super::token::{Literal, Token, split_literal};
 use std::marker::Model;
@@ -119,7 +120,7 @@ impl<'a> Tokens<'a> {
 
 impl<'a> Tokens<'a> {
     ghost use Rattle.std.specs.Prelude.{◌≡◌, ◌∷◌, [], true, drop, if◌then◌else◌, MatchOption};
-    ghost use Rattle.pb_text.specs.Taken.{is_next, is_plain, IsNumberTaken, IsLiteralTaken};
+    ghost use Rattle.pb_text.specs.Taken.{is_next, is_plain, IsNumberTaken, IsLiteralTaken, IsSymbolTaken};
 
     /// Passes the next token where it is an integer of a few digits, and gives its number.
     ///
@@ -151,6 +152,22 @@ impl<'a> Tokens<'a> {
         let literal = split_literal(text);
         let said = found.said;
         Some(ReadLiteral { literal, said })
+    }
+
+    /// Passes the next token where it is `;`, `=` or `>=`, and gives which it is.
+    ///
+    /// Where it gives none, nothing is passed, and the token can be asked.
+    #[inline(always)]
+    pub fn take_symbol(&mut self) -> Option<Symbol>
+        ensures { MatchOption result (self.new ≡ self.old) (λ s. IsSymbolTaken s self.old self.new) }
+    {
+        let here = past_gaps(self.at);
+        let found = symbol_word(here.rest)?;
+        let Kind::Symbol(symbol) = found.kind else {
+            return None;
+        };
+        self.at = past_token(here, found.size);
+        Some(symbol)
     }
 
     /// Passes the next token where it is this byte alone, and says whether it is. The byte is one of words, and no `-`.
