@@ -9,7 +9,7 @@ pub mod cases;
 mod fault;
 pub mod laws;
 mod mark;
-mod plain_terms;
+mod plain_tokens;
 mod reader;
 mod reading;
 mod spot;

@@ -77,10 +77,10 @@ impl<'a> Reader<'a> {
         ensures closed { OnOk result (self.new.spot ≡ Spot.Start) }
         ensures stops { IfErr result (λ code. StopsAt code (progress_of self.old) self.old.left self.new.left) }
     {
-        self.pass_terms()?;
+        self.pass_plain_tokens(alloc)?;
         while let Some(found) = self.left.peek() {
             self.pass(alloc, found)?;
-            self.pass_terms()?;
+            self.pass_plain_tokens(alloc)?;
         }
         match self.spot {
             Spot::Start => Ok(()),
@@ -255,7 +255,7 @@ impl<'a> Reader<'a> {
     }
 
     /// Closes the statement that stands open.
-    fn close(&mut self, alloc: Global) -> Result<(), OpbCode>
+    pub(crate) fn close(&mut self, alloc: Global) -> Result<(), OpbCode>
         ensures moves { OnOk result (progress_at Spot.Start self.new ≡ closed self.old.spot (progress_of self.old)) }
         ensures left { self.new.left ≡ self.old.left }
         ensures refused { IfErr result (λ code. code ≡ OpbCode.OutOfMemory) }

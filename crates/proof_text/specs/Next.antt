@@ -4,6 +4,9 @@ use Rattle.pb_text.specs.Lexeme.{kind_of}
 use Rattle.pb_text.specs.Number.{integer_value}
 use Rattle.pb_text.specs.Said.{Says}
 use Rattle.pb_text.specs.Word.{is_negated, name_of}
+use Rattle.pb_text.specs.declared.kind.Kind.{Kind}
+use Rattle.pb_text.specs.declared.kind.Kind.TheVariants as kinds
+use Rattle.pb_text.specs.declared.kind.Symbol.{Symbol}
 use Rattle.pb_text.specs.declared.said.Said.{Said}
 use Rattle.linear.specs.declared.term.Lit.{Lit}
 use Rattle.proof_text.specs.Kinds.{is_integer, is_literal}
@@ -29,6 +32,14 @@ pub record IsLiteral (negated : Bool) (name : List ℕ) (said : Said) (word : Li
   pub sign : negated ≡ is_negated word
   pub spelled : name ≡ name_of word
   pub says : Says said word
+
+-- a word is this symbol
+abbrev pub IsSymbol : Symbol → List ℕ → Type 0
+IsSymbol symbol word = kind_of word ≡ kinds.Symbol symbol
+
+-- a word is of this kind
+abbrev pub IsOfKind : Kind → List ℕ → Type 0
+IsOfKind kind word = kind_of word ≡ kind
 
 -- the first of the words is such a one, and these stand behind it
 pub record IsFirst (test : List ℕ → Type 0) (ws rest : List (List ℕ)) : Type 0 where

@@ -4,9 +4,9 @@
 //! are never judged, or a substitution. So does a substitution behind which a block begins. So the words before a `;` and those behind
 //! it are read by different readers.
 
-ghost use Rattle.std.specs.Prelude.{◌≡◌, [], ◌∷◌, None, Some, false, IfSome, MatchOption};
+ghost use Rattle.std.specs.Prelude.{◌≡◌, [], ◌∷◌, None, Some, true, false, IfSome, MatchOption};
 ghost use Rattle.pb_text.specs.TokensOf.{texts_of};
-ghost use Rattle.proof_text.specs.Next.{IsFirst, IsLiteral, IsNumber};
+ghost use Rattle.proof_text.specs.Next.{IsFirst, IsLiteral, IsNumber, IsSymbol};
 ghost use Rattle.proof_text.specs.Words as words;
 
 use pb_text::{Found, Kind, ReadLiteral, Symbol, Token, Tokens};
@@ -99,6 +99,31 @@ impl<'a> BeforeSemicolon<'a> {
         Some(found.token)
     }
 
+    /// Whether a symbol is seen to stand next, which is no integer; where none is seen, the word may be anything.
+    #[inline(always)]
+    pub(crate) fn begins_symbol(&self) -> bool
+        ensures { result ≡ true → words.begins_integer self.now.front ≡ false }
+    {
+        let mut left = self.left.again();
+        left.take_symbol().is_some()
+    }
+
+    /// Passes the next word before the `;` where it is `=` or `>=`, and gives which; where it gives none, the word can be taken.
+    #[inline(always)]
+    pub(crate) fn take_symbol(&mut self) -> Option<Symbol>
+        ensures word { MatchOption result (self.new.front ≡ self.old.front) (λ s. IsFirst (IsSymbol s) self.old.front self.new.front) }
+        ensures behind { self.new.behind ≡ self.old.behind }
+    {
+        let mut left = self.left.again();
+        match left.take_symbol() {
+            Some(Symbol::Semicolon) | None => None,
+            Some(symbol) => {
+                self.left = left;
+                Some(symbol)
+            }
+        }
+    }
+
     /// Passes an arrow, if one stands next.
     pub(crate) fn pass_arrow(&mut self)
         ensures front { self.new.front ≡ words.past_arrow self.old.front }
@@ -112,17 +137,27 @@ impl<'a> BeforeSemicolon<'a> {
     }
 
     /// Whether no word is left before the `;`.
+    #[inline(always)]
     pub(crate) fn is_empty(&self) -> bool
         ensures { result ≡ words.is_empty self.now.front }
     {
-        self.peek().is_none()
+        let mut left = self.left.again();
+        match left.take_symbol() {
+            Some(Symbol::Semicolon) => true,
+            _ => self.peek().is_none(),
+        }
     }
 
     /// The words behind the `;`, which stands next; `None` where it is missing.
+    #[inline(always)]
     pub(crate) fn into_behind(self) -> Option<Tokens<'a>>
         requires { self.front ≡ [] }
         ensures { MatchOption result (self.entry.behind ≡ None) (λ l. self.entry.behind ≡ Some (texts_of l)) }
     {
+        let mut left = self.left.again();
+        if left.take_symbol().is_some() {
+            return Some(left);
+        }
         let found = self.left.peek()?;
         Some(found.behind)
     }

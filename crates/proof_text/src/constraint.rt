@@ -7,7 +7,7 @@ ghost use Rattle.std.specs.Prelude.{◌≡◌, ℕ, Bool, List, [], ◌∷◌, S
 ghost use Rattle.pb_text.specs.TokensOf.{texts_of};
 ghost use Rattle.proof_text.specs.Words.{AreSmall, begins_integer};
 ghost use Rattle.proof_text.specs.Forms.{terms_of, behind_terms, closing_of};
-ghost use Rattle.proof_text.specs.Next.{begins_literal, IsFirst, IsMetLit, IsNumber};
+ghost use Rattle.proof_text.specs.Next.{begins_literal, IsFirst, IsMetLit, IsNumber, IsOfKind};
 ghost use Rattle.proof_text.specs.PartsRead.{IsConstraintRead, Takes, SoFar};
 ghost use Rattle.proof_text.specs.PartsDenied.{Denies};
 
@@ -31,6 +31,9 @@ fn next_number(words: &mut BeforeSemicolon<'_>) -> Reading<Option<i128>>
 {
     if let Some(number) = words.take_number() {
         return Ok(Some(i128::from(number)));
+    }
+    if words.begins_symbol() {
+        return Ok(None);
     }
     let Some(token) = words.take_integer() else {
         return Ok(None);
@@ -95,6 +98,19 @@ fn terms(
     Ok(Seq::short_lived(terms))
 }
 
+/// The kind of the next word, which is passed.
+#[inline(always)]
+fn next_kind(words: &mut BeforeSemicolon<'_>) -> Option<Kind>
+    ensures word { MatchOption result ((words.old.front ≡ []) × (words.new.front ≡ [])) (λ k. IsFirst (IsOfKind k) words.old.front words.new.front) }
+    ensures behind { words.new.behind ≡ words.old.behind }
+{
+    if let Some(symbol) = words.take_symbol() {
+        return Some(Kind::Symbol(symbol));
+    }
+    let token = words.take()?;
+    Some(token.kind)
+}
+
 /// `>=` and the right side.
 fn right_side(words: &mut BeforeSemicolon<'_>) -> Reading<i128>
     ensures closing { IfOk result (λ n. closing_of words.old.front ≡ Some n) }
@@ -103,10 +119,10 @@ fn right_side(words: &mut BeforeSemicolon<'_>) -> Reading<i128>
     ensures behind { words.new.behind ≡ words.old.behind }
     ensures denies { IfErr result (λ f. Denies f (is_some (closing_of words.old.front)) words.old.front) }
 {
-    let Some(token) = words.take() else {
+    let Some(kind) = next_kind(words) else {
         return Err(ProofFault::BadLine);
     };
-    match token.kind {
+    match kind {
         Kind::Symbol(Symbol::AtLeast) => {}
         Kind::Symbol(Symbol::Equals | Symbol::AtMost) => return Err(ProofFault::RuleLeftOut),
         _ => return Err(ProofFault::BadLine),

@@ -7,4 +7,5 @@ pub returns-in_err-right-clause-denies : goal.returns-in_err-right-clause-denies
 returns-in_err-right-clause-denies c =
     let f = c.in_err-right.field-0.0 in
     let p = err_from_is_err_and c.from_residual.result c.from_residual.ensures.1 in
-    rw (p.1, p.2) (denied_number f _ c.in-Some.token.text.now c.args.words.now.front c.take.new.self.front c.in-Some.ensures.word (c.in_err-right.ensures.denies true))
+    let first = c.in-Some.ensures.word in
+    rw (p.1, p.2) (denied_number f _ first.word c.args.words.now.front c.next_kind.new.words.front first.first (c.in_err-right.ensures.denies true))
