@@ -12,7 +12,7 @@ use Rattle.proof_log.proofs.Growing.{logbook, put_last}
 use Rattle.proof_log.proofs.Taking.{Holds, goes_on_by, has_taken, improved, is_kept}
 use Rattle.proof_log.proofs.log.Log.improve.Given.{Over}
 use Rattle.proof_log.proofs.log.Log.improve.Goals as goal
-use Rattle.proof_log.proofs.log.Log.improve.Goals.{Joined-step-2}
+use Rattle.proof_log.proofs.log.Log.improve.Goals.{Joined-step-4}
 
 pub keep_legal-requires-clause-writable : goal.keep_legal-requires-clause-writable
 keep_legal-requires-clause-writable g c =
@@ -26,7 +26,7 @@ keep_legal-requires-clause-legal g c =
     subst (λ q. (t : State) × Legal q log.kernel.state step t) (sym c.self.invariant.0) (subst (λ (l : Logbook). IsLegal l step) (sym c.self.view_is) c.requires.legal)
 
 -- the value that was kept is the least one now
-value_kept : (g : Over) (c : Joined-step-2 g)
+value_kept : (g : Over) (c : Joined-step-4 g)
     → set c.push.new.self.items (c.len-place.result - 1) (to_z w128 (of_z w128 c.in-Some.value))
     ≡ c.self.inside.improved.items ++ improvement (kinds.Soli c.args.assigned) c.keep_legal.new.kernel.state
 value_kept g c =
