@@ -4,7 +4,8 @@
 //! tokens reads it: the spot says which token may stand next and where it leads, and beside that stands what the token does to
 //! the statement that is being read. What has come of the tokens so far is a `Progress`; each token that is passed is one `Step`
 //! of it, and at a fault the token that has it stands next. So all that is to be known of a run is proved of lists of steps,
-//! and the line of a fault is that of the next token.
+//! and the line of a fault is that of the next token. What stands in plain sight takes a short cut through the same steps
+//! (`plain_tokens`).
 
 ghost use Rattle.std.specs.Prelude.{◌≡◌, ◌+◌, ◌<◌, ◌≤◌, ◌∷◌, ◌++◌, Some, true, [], length, drop, unsigned_abs, if◌then◌else◌, IfOk, IfErr, OnOk, OnErr, MatchOption};
 ghost use Rattle.linear.specs.Limits.{largest_integer, most_constraints, most_terms, most_variables};
@@ -77,14 +78,27 @@ impl<'a> Reader<'a> {
         ensures closed { OnOk result (self.new.spot ≡ Spot.Start) }
         ensures stops { IfErr result (λ code. StopsAt code (progress_of self.old) self.old.left self.new.left) }
     {
-        self.pass_plain_tokens(alloc)?;
-        while let Some(found) = self.left.peek() {
-            self.pass(alloc, found)?;
-            self.pass_plain_tokens(alloc)?;
-        }
+        self.pass_all(alloc)?;
         match self.spot {
             Spot::Start => Ok(()),
             _ => Err(self.fault()),
+        }
+    }
+
+    /// Passes all tokens that are left.
+    #[inline(always)]
+    fn pass_all(&mut self, alloc: Global) -> Result<(), OpbCode>
+        requires { HoldsLimits (progress_of self.old) }
+        ensures all { OnOk result (Reaches (progress_of self.old) self.old.left (progress_of self.new) []) }
+        ensures left { OnOk result (self.new.left ≡ []) }
+        ensures stops { IfErr result (λ code. StopsAt code (progress_of self.old) self.old.left self.new.left) }
+    {
+        loop {
+            self.pass_plain_tokens(alloc)?;
+            let Some(found) = self.left.peek() else {
+                return Ok(());
+            };
+            self.pass(alloc, found)?;
         }
     }
 
