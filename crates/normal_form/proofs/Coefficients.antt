@@ -1,10 +1,9 @@
 -- A term with another coefficient: the variables still rise, the sum changes by the difference, and in the kept form one term is
 -- written.
-use Rattle.std.proofs.Common.{◌≡◌, ℕ, zero, suc, ◌+◌, ◌<◌, List, [], ◌∷◌, ◌++◌, length, get_or, set, map, ap, ◌∙◌, arith}
+use Rattle.std.proofs.Common.{◌≡◌, ℕ, zero, suc, ◌+◌, ◌<◌, List, [], ◌∷◌, ◌++◌, length, get_or, set, map, refl, ap, ◌∙◌, arith}
 use Rattle.normal_form.specs.declared.term.NormalTerm.{NormalTerm}
-use Rattle.normal_form.specs.declared.terms.SmallTerm.{SmallTerm}
 use Rattle.normal_form.specs.Normal.{total, Rises}
-use Rattle.normal_form.specs.Terms.{widened, with_coefficient}
+use Rattle.normal_form.specs.Terms.{with_coefficient}
 
 pub with_rises : (low : ℕ) (ts : List NormalTerm) (i c : ℕ) → Rises low ts → 0 < c → Rises low (with_coefficient ts i c)
 with_rises low [] i c r p = tt
@@ -16,19 +15,23 @@ with_total [] i c d h = absurd (omega (arith, h))
 with_total (t ∷ ts) zero c d h = omega arith
 with_total (t ∷ ts) (suc i) c d h = omega (arith, with_total ts i c d (omega (arith, h)))
 
-pub with_small : (ss : List SmallTerm) (rest : List NormalTerm) (i c : ℕ) (s : SmallTerm) → i < length ss → s ≡ get_or ss i s → map widened (set ss i (record { coef = c; var = s.var; negated = s.negated })) ++ rest ≡ with_coefficient (map widened ss ++ rest) i c
-with_small [] rest i c s h e = absurd (omega (arith, h))
-with_small (x ∷ ss) rest zero c s h e = ap (λ (t : SmallTerm). (record { coef = c; var = t.var; negated = t.negated }) ∷ (map widened ss ++ rest)) e
-with_small (x ∷ ss) rest (suc i) c s h e = ap (λ (us : List NormalTerm). widened x ∷ us) (with_small ss rest i c s (omega (arith, h)) e)
+-- one term is written of those that are made one by one of what is kept
+module _ {X : Type 0} (f : X → NormalTerm) where
+  pub with_made : (xs : List X) (i c : ℕ) (x y : X) → i < length xs → x ≡ get_or xs i x → f y ≡ record (f x) { coef = c } → map f (set xs i y) ≡ with_coefficient (map f xs) i c
+  with_made [] i c x y h e w = absurd (omega (arith, h))
+  with_made (z ∷ xs) zero c x y h e w = ap (λ t. t ∷ map f xs) (w ∙ ap (λ z. record (f z) { coef = c }) e)
+  with_made (z ∷ xs) (suc i) c x y h e w = ap (λ us. f z ∷ us) (with_made xs i c x y (omega (arith, h)) e w)
 
-with_at : (rest : List NormalTerm) (j c : ℕ) (t : NormalTerm) → j < length rest → t ≡ get_or rest j t → set rest j (record { coef = c; var = t.var; negated = t.negated }) ≡ with_coefficient rest j c
-with_at [] j c t h e = absurd (omega (arith, h))
-with_at (x ∷ rest) zero c t h e = ap (λ (u : NormalTerm). (record { coef = c; var = u.var; negated = u.negated }) ∷ rest) e
-with_at (x ∷ rest) (suc j) c t h e = ap (λ (us : List NormalTerm). x ∷ us) (with_at rest j c t (omega (arith, h)) e)
+-- one term is written among the first ones, or behind them
 
-pub with_rest : (ts rest : List NormalTerm) (i j c : ℕ) (t : NormalTerm) → i ≡ length ts + j → j < length rest → t ≡ get_or rest j t → ts ++ set rest j (record { coef = c; var = t.var; negated = t.negated }) ≡ with_coefficient (ts ++ rest) i c
-with_rest [] rest i j c t p h e =
+pub with_before : (ts rest : List NormalTerm) (i c : ℕ) → i < length ts → with_coefficient ts i c ++ rest ≡ with_coefficient (ts ++ rest) i c
+with_before [] rest i c h = absurd (omega (arith, h))
+with_before (t ∷ ts) rest zero c h = refl
+with_before (t ∷ ts) rest (suc i) c h = ap (λ us. t ∷ us) (with_before ts rest i c (omega (arith, h)))
+
+pub with_behind : (ts rest : List NormalTerm) (i j c : ℕ) → i ≡ length ts + j → ts ++ with_coefficient rest j c ≡ with_coefficient (ts ++ rest) i c
+with_behind [] rest i j c p =
     let at : j ≡ i = omega (arith, p) in
-    with_at rest j c t h e ∙ ap (λ (n : ℕ). with_coefficient rest n c) at
-with_rest (x ∷ ts) rest zero j c t p h e = absurd (omega (arith, p))
-with_rest (x ∷ ts) rest (suc i) j c t p h e = ap (λ (us : List NormalTerm). x ∷ us) (with_rest ts rest i j c t (omega (arith, p)) h e)
+    ap (λ (n : ℕ). with_coefficient rest n c) at
+with_behind (t ∷ ts) rest zero j c p = absurd (omega (arith, p))
+with_behind (t ∷ ts) rest (suc i) j c p = ap (λ us. t ∷ us) (with_behind ts rest i j c (omega (arith, p)))

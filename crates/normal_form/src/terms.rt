@@ -1,83 +1,84 @@
 //! The terms of a normal constraint, kept small where their coefficients are.
 //!
-//! Coefficients may be up to 2^120, and of most files none reaches 2^64. A constraint is kept for as long as its id lives, so
-//! half the memory is less to fill, to read and to give back. The terms before the first large coefficient are kept small, the
-//! first large one and all after it are not; nobody above sees which. Narrower numbers than these save memory and cost time: a term
-//! is looked at far more often than it is kept, and at each look it would have to be put together again.
+//! Coefficients may be up to 2^120, and of most files none reaches 2^31. A constraint is kept for as long as its id lives, so what is small
+//! is less to fill, to read and to give back. The terms before the first coefficient of 2^31 or more take eight bytes each; that one and all
+//! after it stand apart (`wide_terms`), and where there are none they take a word. Nobody above sees which.
 
 ghost use Rattle.std.specs.Prelude.{◌≡◌, ◌≤◌, ◌<◌, ◌^◌, ◌++◌, ◌∷◌, [], IfOk, MatchOption, OnOk, OnErr, length, slice_index_or};
 ghost use Rattle.normal_form.specs.declared.term.NormalTerm.{NormalTerm};
-ghost use Rattle.normal_form.specs.Terms.{widened, with_coefficient};
+ghost use Rattle.normal_form.specs.Terms.{unpacked, with_coefficient};
 
 use super::term::NormalTerm;
+use super::wide_terms::WideTerms;
 use linear::Var;
 use std::alloc::{AllocError, Global};
 use std::marker::Model;
 
-/// A term whose coefficient fits in 64 bits.
+/// Coefficients below this one are packed.
+const LARGE: u128 = 1 << 31;
+
+/// A term whose coefficient is small, beside which the sign of its literal stands.
 #[derive(Clone, Copy, Debug)]
-struct SmallTerm {
-    coef: u64,
+struct PackedTerm {
+    /// Twice the coefficient, and one more where the literal is negated.
+    packed: u32,
     var: Var,
-    negated: bool,
 }
 
-impl SmallTerm {
-    /// The term of this coefficient and literal.
+impl PackedTerm {
+    /// The term that it stands for.
     #[inline(always)]
-    fn widened(self) -> NormalTerm
-        ensures { result ≡ widened self }
+    fn unpacked(self) -> NormalTerm
+        ensures { result ≡ unpacked self }
     {
         NormalTerm {
-            coef: u128::from(self.coef),
+            coef: u128::from(self.packed / 2),
             var: self.var,
-            negated: self.negated,
+            negated: self.packed % 2 == 1,
         }
     }
 
     /// The same with a coefficient that is no greater.
-    fn lowered(self, coef: u128) -> SmallTerm
-        requires { coef ≤ self.coef }
-        ensures { result ≡ record { coef = coef; var = self.var; negated = self.negated } }
+    fn lowered(self, coef: u128) -> PackedTerm
+        requires { coef ≤ (unpacked self).coef }
+        ensures { unpacked result ≡ record { coef = coef; var = self.var; negated = (unpacked self).negated } }
     {
-        SmallTerm {
-            coef: coef as u64,
+        PackedTerm {
+            packed: coef as u32 * 2 + self.packed % 2,
             var: self.var,
-            negated: self.negated,
         }
     }
 }
 
-/// The small form of a term, if its coefficient fits.
+/// The packed form of a term, if its coefficient fits.
 #[inline(always)]
-fn narrowed(term: NormalTerm) -> Option<SmallTerm>
-    ensures { MatchOption result (2 ^ 64 ≤ term.coef) (λ small. widened small ≡ term) }
+fn packed(term: NormalTerm) -> Option<PackedTerm>
+    ensures { MatchOption result (2 ^ 31 ≤ term.coef) (λ packed. unpacked packed ≡ term) }
 {
-    match u64::try_from(term.coef) {
-        Ok(coef) => Some(SmallTerm {
-            coef,
-            var: term.var,
-            negated: term.negated,
-        }),
-        Err(_) => None,
+    if term.coef >= LARGE {
+        return None;
     }
+    Some(PackedTerm {
+        packed: term.coef as u32 * 2 + u32::from(term.negated),
+        var: term.var,
+    })
 }
 
-/// A list of terms: small ones, and after them the rest from the first large one on.
+/// A list of terms: packed ones, and after them the rest from the first large one on.
 #[derive(Debug, Drop)]
 pub(crate) struct Terms {
-    small: Vec<SmallTerm>,
-    rest: Vec<NormalTerm>,
+    packed: Vec<PackedTerm>,
+    rest: Option<Box<WideTerms>>,
 }
 
 impl Model for Terms {
     ghost use Rattle.std.specs.Prelude.{List, map, ◌++◌};
     ghost use Rattle.normal_form.specs.declared.term.NormalTerm.{NormalTerm};
-    ghost use Rattle.normal_form.specs.Terms.{widened};
+    ghost use Rattle.normal_form.specs.Terms.{apart, unpacked};
 
     ghost Value = { List NormalTerm };
 
-    ghost view = { λ t. map widened t.small.items ++ t.rest.items };
+    ghost view = { λ t. map unpacked t.packed.items ++ apart t.rest };
 }
 
 impl Terms {
@@ -86,8 +87,8 @@ impl Terms {
         ensures { result ≡ [] }
     {
         Terms {
-            small: Vec::new(alloc),
-            rest: Vec::new(alloc),
+            packed: Vec::new(alloc),
+            rest: None,
         }
     }
 
@@ -96,8 +97,8 @@ impl Terms {
         ensures { IfOk result (λ terms. terms ≡ []) }
     {
         Ok(Terms {
-            small: Vec::with_capacity(alloc, count)?,
-            rest: Vec::new(alloc),
+            packed: Vec::with_capacity(alloc, count)?,
+            rest: None,
         })
     }
 
@@ -105,7 +106,10 @@ impl Terms {
     pub(crate) fn len(&self) -> usize
         ensures { result ≡ length self.now }
     {
-        self.small.len() + self.rest.len()
+        match &self.rest {
+            None => self.packed.len(),
+            Some(rest) => self.packed.len() + rest.len(),
+        }
     }
 
     /// The term at a place.
@@ -114,17 +118,13 @@ impl Terms {
         requires { place < length self.now }
         ensures { result ≡ slice_index_or self.now place result }
     {
-        let small = self.small.len();
-        if place < small {
-            self.small[place].widened()
-        } else {
-            // Field by field: a copy of the whole took with it what lies between fields, and cost more than all else here.
-            let term = self.rest[place - small];
-            NormalTerm {
-                coef: term.coef,
-                var: term.var,
-                negated: term.negated,
-            }
+        let packed = self.packed.len();
+        if place < packed {
+            return self.packed[place].unpacked();
+        }
+        match &self.rest {
+            Some(rest) => rest.get(place - packed),
+            None => unreachable!(),
         }
     }
 
@@ -134,13 +134,29 @@ impl Terms {
         ensures ok { OnOk result (self.new ≡ self.old ++ term ∷ []) }
         ensures err { OnErr result (self.new ≡ self.old) }
     {
-        if self.rest.is_empty() {
-            if let Some(small) = narrowed(term) {
-                self.small.push(small)?;
+        if self.rest.is_none() {
+            if let Some(packed) = packed(term) {
+                self.packed.push(packed)?;
                 return Ok(());
             }
         }
-        self.rest.push(term)?;
+        self.push_to_rest(term)
+    }
+
+    /// Puts a term behind those that are not packed.
+    // Kept out of the loops that put terms at the end, nearly all of which are packed.
+    #[inline(never)]
+    fn push_to_rest(&mut self, term: NormalTerm) -> Result<(), AllocError>
+        ensures ok { OnOk result (self.new ≡ self.old ++ term ∷ []) }
+        ensures err { OnErr result (self.new ≡ self.old) }
+    {
+        if let Some(rest) = &mut self.rest {
+            return rest.push(term);
+        }
+        let alloc = *self.packed.allocator();
+        let mut rest = WideTerms::new(alloc);
+        rest.push(term)?;
+        self.rest = Some(Box::new(alloc, rest)?);
         Ok(())
     }
 
@@ -150,34 +166,32 @@ impl Terms {
         requires no_greater { (d : NormalTerm) → coef ≤ (slice_index_or self.old place d).coef }
         ensures { self.new ≡ with_coefficient self.old place coef }
     {
-        let small = self.small.len();
-        if place < small {
-            self.small[place] = self.small[place].lowered(coef);
-        } else {
-            let term = self.rest[place - small];
-            self.rest[place - small] = NormalTerm {
-                coef,
-                var: term.var,
-                negated: term.negated,
-            };
+        let packed = self.packed.len();
+        if place < packed {
+            self.packed[place] = self.packed[place].lowered(coef);
+            return;
+        }
+        match &mut self.rest {
+            Some(rest) => rest.replace(place - packed, coef),
+            None => unreachable!(),
         }
     }
 
-    /// Takes all terms away. The memory stays.
+    /// Takes all terms away. The memory of the packed ones stays.
     pub(crate) fn clear(&mut self)
         ensures { self.new ≡ [] }
     {
-        self.small.clear();
-        self.rest.clear();
+        self.packed.clear();
+        self.rest = None;
     }
 
-    /// Gives back room that the list does not use, unless it is little.
+    /// Gives back room that the packed terms do not use, unless it is little.
     pub(crate) fn trim(&mut self)
         ensures { self.new ≡ self.old }
     {
-        let unused = self.small.capacity().saturating_sub(self.small.len());
-        if unused > self.small.len() / 4 {
-            self.small.shrink_to_fit();
+        let unused = self.packed.capacity().saturating_sub(self.packed.len());
+        if unused > self.packed.len() / 4 {
+            self.packed.shrink_to_fit();
         }
     }
 
@@ -185,9 +199,11 @@ impl Terms {
     pub(crate) fn copy(&self, alloc: Global) -> Result<Terms, AllocError>
         ensures { IfOk result (λ terms. terms ≡ self.now) }
     {
-        Ok(Terms {
-            small: Vec::from_slice(alloc, self.small.as_slice())?,
-            rest: Vec::from_slice(alloc, self.rest.as_slice())?,
-        })
+        let packed = Vec::from_slice(alloc, self.packed.as_slice())?;
+        let rest = match &self.rest {
+            Some(rest) => Some(Box::new(alloc, rest.copy(alloc)?)?),
+            None => None,
+        };
+        Ok(Terms { packed, rest })
     }
 }
