@@ -29,7 +29,7 @@ use std::alloc::Global;
 pub(crate) struct Walk<'a, P: Propagator> {
     allocator: Global,
     section: Section,
-    names: ProofNames,
+    names: ProofNames<'a>,
     kernel: Kernel<'a, P>,
     concluded: Option<Accepted>,
 }
@@ -45,7 +45,7 @@ impl<'a, P: Propagator> Walk<'a, P> {
         Ok(Walk {
             allocator: alloc,
             section: Section::Header,
-            names: ProofNames::new(problem.names().copy(alloc)?),
+            names: ProofNames::new(alloc, problem.names()),
             kernel,
             concluded: None,
         })

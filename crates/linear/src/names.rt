@@ -161,9 +161,10 @@ impl Names {
         self.intern_within(name, most)
     }
 
-    /// The variable of a short name, where its place is kept by its number.
+    /// The variable of a short name whose number is known, where its place is kept by its number; of another name the table may
+    /// have it all the same.
     #[inline(always)]
-    fn find_short(&self, name: &[u8], number: usize) -> Option<Var>
+    pub fn find_short(&self, name: &[u8], number: usize) -> Option<Var>
         requires { IsShort name.now number }
         ensures found { IfSome result (λ v. (has_name self.now name.now ≡ true) × (v.0 ≡ place_of self.now name.now)) }
         ensures table { IsTable self.now }

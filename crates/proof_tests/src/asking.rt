@@ -13,7 +13,8 @@ pub(crate) struct Case {
 
 /// The number of a line's fault among the steps.
 pub(crate) fn fault_of(alloc: Global, line: &[u8]) -> u8 {
-    let mut names = ProofNames::new(Names::new(alloc));
+    let file = Names::new(alloc);
+    let mut names = ProofNames::new(alloc, &file);
     match read_step(alloc, line, &mut names) {
         Ok(_) => 0,
         Err(fault) => fault.number(),
@@ -22,7 +23,8 @@ pub(crate) fn fault_of(alloc: Global, line: &[u8]) -> u8 {
 
 /// The number of a line's fault at its section.
 pub(crate) fn fault_at(alloc: Global, section: Section, line: &[u8]) -> u8 {
-    let mut names = ProofNames::new(Names::new(alloc));
+    let file = Names::new(alloc);
+    let mut names = ProofNames::new(alloc, &file);
     match read_line(alloc, section, line, &mut names) {
         Ok(_) => 0,
         Err(fault) => fault.number(),

@@ -580,7 +580,8 @@ fn hint_length(line: &Line) -> Option<usize> {
 
 /// Whether a line concludes `BOUNDS -3 INF` with that hint.
 fn reads_as_hinted_bounds(alloc: Global, line: &[u8]) -> bool {
-    let mut names = ProofNames::new(Names::new(alloc));
+    let file = Names::new(alloc);
+    let mut names = ProofNames::new(alloc, &file);
     match read_line(alloc, Section::Conclusion, line, &mut names) {
         Ok(said) => is_hinted_bounds(&said),
         Err(_) => false,
@@ -595,7 +596,8 @@ fn bounds_with_a_hint(rt: HostRuntime) {
 
 /// How many literals the hint of a line has that is read as a conclusion.
 fn read_hint(alloc: Global, line: &[u8]) -> Result<Option<usize>, ProofFault> {
-    let mut names = ProofNames::new(Names::new(alloc));
+    let file = Names::new(alloc);
+    let mut names = ProofNames::new(alloc, &file);
     let said = read_line(alloc, Section::Conclusion, line, &mut names)?;
     Ok(hint_length(&said))
 }

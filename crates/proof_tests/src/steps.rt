@@ -655,9 +655,10 @@ const ITEMS: [Item; 10] = [
 
 /// Whether a line is a `pol` step of these items, behind which there are so many names.
 fn is_pol(alloc: Global, line: &[u8], wanted: &[Item], count: usize) -> bool {
-    let mut names = ProofNames::new(Names::new(alloc));
+    let file = Names::new(alloc);
+    let mut names = ProofNames::new(alloc, &file);
     match read_step(alloc, line, &mut names) {
-        Ok(Step::Pol(items)) => items.as_slice() == wanted && names.table().len() == count,
+        Ok(Step::Pol(items)) => items.as_slice() == wanted && names.added().len() == count,
         _ => false,
     }
 }
@@ -683,7 +684,8 @@ const GOALS: [(&[u8], GoalName); 6] = [
 
 /// Whether a line opens this goal.
 fn is_goal(alloc: Global, line: &[u8], wanted: GoalName) -> bool {
-    let mut names = ProofNames::new(Names::new(alloc));
+    let file = Names::new(alloc);
+    let mut names = ProofNames::new(alloc, &file);
     match read_step(alloc, line, &mut names) {
         Ok(Step::Goal(goal)) => goal == wanted,
         _ => false,
@@ -699,7 +701,8 @@ fn goals(rt: HostRuntime) {
 
 /// Whether a line opens a block, by a constraint of so many terms and a substitution of so many names.
 fn is_block(alloc: Global, line: &[u8], terms: usize, images: usize) -> bool {
-    let mut names = ProofNames::new(Names::new(alloc));
+    let file = Names::new(alloc);
+    let mut names = ProofNames::new(alloc, &file);
     match read_step(alloc, line, &mut names) {
         Ok(Step::RedBegin(constraint, witness)) => {
             constraint.terms.len() == terms && witness.as_slice().len() == images
@@ -723,9 +726,9 @@ fn blocks(rt: HostRuntime) {
     assert!(&rt; !is_block(alloc, b"red 1 x1 2 x2 >= 1 ; x1 -> x2 x3 0 x2 1 ;", 2, 3));
 }
 
-/// The table of the names of a `sol` line.
-fn names_of(alloc: Global, line: &[u8]) -> Result<ProofNames, ProofFault> {
-    let mut names = ProofNames::new(Names::new(alloc));
+/// The names of a `sol` line behind those of a file.
+fn names_of<'a>(alloc: Global, file: &'a Names, line: &[u8]) -> Result<ProofNames<'a>, ProofFault> {
+    let mut names = ProofNames::new(alloc, file);
     read_step(alloc, line, &mut names)?;
     Ok(names)
 }
@@ -762,9 +765,10 @@ fn is_rup(step: &Step, wanted: &[Term]) -> bool {
 
 /// Whether a line is a `rup` step of these terms behind a line that brought `x2`, and brings one name.
 fn is_rup_behind(alloc: Global, line: &[u8], wanted: &[Term]) -> Result<bool, ProofFault> {
-    let mut names = names_of(alloc, b"sol x2")?;
+    let file = Names::new(alloc);
+    let mut names = names_of(alloc, &file, b"sol x2")?;
     let step = read_step(alloc, line, &mut names)?;
-    Ok(is_rup(&step, wanted) && names.table().len() == 2)
+    Ok(is_rup(&step, wanted) && names.added().len() == 2)
 }
 
 #[test]
@@ -785,9 +789,10 @@ const NAMES_BEHIND: [(&[u8], bool, usize); 5] = [
 
 /// Whether a line is read behind one that brought `x1`, and how many names there are then.
 fn names_behind(alloc: Global, line: &[u8]) -> Result<(bool, usize), ProofFault> {
-    let mut names = names_of(alloc, b"sol x1")?;
+    let file = Names::new(alloc);
+    let mut names = names_of(alloc, &file, b"sol x1")?;
     let is_read = read_step(alloc, line, &mut names).is_ok();
-    Ok((is_read, names.table().len()))
+    Ok((is_read, names.added().len()))
 }
 
 #[test]

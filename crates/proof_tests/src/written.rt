@@ -18,11 +18,11 @@ struct Rewriting {
 fn rewrite_step(
     alloc: Global,
     line: &[u8],
-    names: &mut ProofNames,
+    names: &mut ProofNames<'_>,
     out: &mut Vec<u8>,
 ) -> Result<(), ProofFault> {
     let step = read_step(alloc, line, names)?;
-    write_step(&step, names.table(), out)?;
+    write_step(&step, names.added(), out)?;
     Ok(())
 }
 
@@ -30,11 +30,11 @@ fn rewrite_step(
 fn rewrite_end(
     alloc: Global,
     line: &[u8],
-    names: &mut ProofNames,
+    names: &mut ProofNames<'_>,
     out: &mut Vec<u8>,
 ) -> Result<(), ProofFault> {
     match read_line(alloc, Section::Conclusion, line, names)? {
-        Line::Conclusion(conclusion) => Ok(write_end(&conclusion, names.table(), out)?),
+        Line::Conclusion(conclusion) => Ok(write_end(&conclusion, names.added(), out)?),
         _ => Err(ProofFault::BadLine),
     }
 }
@@ -128,7 +128,8 @@ const STEPS: [Rewriting; 21] = [
 
 /// What is written for the line of a step.
 fn rewritten_step(alloc: Global, line: &[u8]) -> Result<Vec<u8>, ProofFault> {
-    let mut names = ProofNames::new(Names::new(alloc));
+    let file = Names::new(alloc);
+    let mut names = ProofNames::new(alloc, &file);
     let mut out = Vec::new(alloc);
     rewrite_step(alloc, line, &mut names, &mut out)?;
     Ok(out)
@@ -222,7 +223,8 @@ fn end_lines(alloc: Global, conclusion: &[u8]) -> Result<Vec<u8>, ProofFault> {
 
 /// Whether the lines behind the steps that are written for a conclusion's line are those with this conclusion.
 fn is_end_written(alloc: Global, line: &[u8], conclusion: &[u8]) -> Result<bool, ProofFault> {
-    let mut names = ProofNames::new(Names::new(alloc));
+    let file = Names::new(alloc);
+    let mut names = ProofNames::new(alloc, &file);
     let mut out = Vec::new(alloc);
     rewrite_end(alloc, line, &mut names, &mut out)?;
     Ok(out.as_slice() == end_lines(alloc, conclusion)?.as_slice())
@@ -252,7 +254,7 @@ const WRITTEN: &[u8] =
 fn rewrite_steps(
     alloc: Global,
     lines: &[&[u8]],
-    names: &mut ProofNames,
+    names: &mut ProofNames<'_>,
     out: &mut Vec<u8>,
 ) -> Result<(), ProofFault> {
     for line in lines {
@@ -268,7 +270,8 @@ fn rewritten_proof(
     steps: &[&[u8]],
     conclusion: &[u8],
 ) -> Result<Vec<u8>, ProofFault> {
-    let mut names = ProofNames::new(Names::new(alloc));
+    let file = Names::new(alloc);
+    let mut names = ProofNames::new(alloc, &file);
     let mut out = Vec::from_slice(alloc, first)?;
     rewrite_steps(alloc, steps, &mut names, &mut out)?;
     rewrite_end(alloc, conclusion, &mut names, &mut out)?;
@@ -316,7 +319,8 @@ const NESTED: &[u8] =
 
 /// The section that is due behind a line that is read at a section.
 fn section_behind(alloc: Global, section: Section, line: &[u8]) -> Result<Section, ProofFault> {
-    let mut names = ProofNames::new(Names::new(alloc));
+    let file = Names::new(alloc);
+    let mut names = ProofNames::new(alloc, &file);
     let said = read_line(alloc, section, line, &mut names)?;
     Ok(section.behind(&said))
 }

@@ -1,5 +1,6 @@
 pub mod ClosingSemicolon
 pub mod FirstSemicolon
+pub mod NamesBehind
 pub mod NamesNumbered
 pub mod WordsByKind
 pub mod ByFirstWord

@@ -23,7 +23,11 @@ use proof_steps::{Conclusion, Lower, Upper};
 use std::alloc::Global;
 
 /// A hint of literals, if one stands here.
-fn hint(alloc: Global, mut words: LineWords<'_>, table: &mut LineNames) -> Reading<Option<Seq<Lit>>>
+fn hint(
+    alloc: Global,
+    mut words: LineWords<'_>,
+    table: &mut LineNames<'_>,
+) -> Reading<Option<Seq<Lit>>>
     ensures read { IfOk result (λ h. IsHintRead table.old words.entry h table.new) }
     ensures kept { table.new.before ≡ table.old.before }
     ensures denies { IfErr result (λ f. Denies f (conclusions.is_hint words.entry) words.entry) }
@@ -92,7 +96,7 @@ fn upper(token: Token<'_>) -> Reading<Upper>
 }
 
 /// `BOUNDS`, behind the word.
-fn bounds(alloc: Global, mut words: LineWords<'_>, table: &mut LineNames) -> Reading<Conclusion>
+fn bounds(alloc: Global, mut words: LineWords<'_>, table: &mut LineNames<'_>) -> Reading<Conclusion>
     ensures read { IfOk result (λ c. IsConclusionRead ConclusionKind.Bounds table.old words.entry c table.new) }
     ensures kept { table.new.before ≡ table.old.before }
     ensures denies { IfErr result (λ f. Denies f (conclusions.is_conclusion ConclusionKind.Bounds words.entry) words.entry) }
@@ -116,7 +120,7 @@ fn of_kind(
     alloc: Global,
     kind: ConclusionKind,
     mut words: LineWords<'_>,
-    table: &mut LineNames,
+    table: &mut LineNames<'_>,
 ) -> Reading<Conclusion>
     ensures read { IfOk result (λ c. IsConclusionRead kind table.old words.entry c table.new) }
     ensures kept { table.new.before ≡ table.old.before }
@@ -143,7 +147,7 @@ fn of_kind(
 pub(crate) fn conclusion(
     alloc: Global,
     mut words: Tokens<'_>,
-    table: &mut LineNames,
+    table: &mut LineNames<'_>,
 ) -> Reading<Conclusion>
     ensures read { IfOk result (λ c. IsConclusionLineRead table.old (texts_of words.entry) c table.new) }
     ensures kept { table.new.before ≡ table.old.before }

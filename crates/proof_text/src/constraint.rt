@@ -43,7 +43,7 @@ fn next_number(words: &mut BeforeSemicolon<'_>) -> Reading<Option<i128>>
 
 /// The literal that stands next, its name met.
 #[inline(always)]
-fn next_lit(words: &mut BeforeSemicolon<'_>, table: &mut LineNames) -> Reading<Lit>
+fn next_lit(words: &mut BeforeSemicolon<'_>, table: &mut LineNames<'_>) -> Reading<Lit>
     ensures next { IfOk result (λ l. IsFirst (IsMetLit table.old l table.new) words.old.front words.new.front) }
     ensures behind { words.new.behind ≡ words.old.behind }
     ensures kept { table.new.before ≡ table.old.before }
@@ -60,7 +60,7 @@ fn next_lit(words: &mut BeforeSemicolon<'_>, table: &mut LineNames) -> Reading<L
 
 /// The term of a coefficient, whose literal stands next.
 #[inline(always)]
-fn term(coef: i128, words: &mut BeforeSemicolon<'_>, table: &mut LineNames) -> Reading<Term>
+fn term(coef: i128, words: &mut BeforeSemicolon<'_>, table: &mut LineNames<'_>) -> Reading<Term>
     ensures takes { (word : List ℕ) →
         IsNumber coef word →
         IfOk result (λ t. Takes behind_terms terms_of table.old (word ∷ words.old.front) t table.new words.new.front) }
@@ -82,7 +82,7 @@ fn term(coef: i128, words: &mut BeforeSemicolon<'_>, table: &mut LineNames) -> R
 fn terms(
     alloc: Global,
     words: &mut BeforeSemicolon<'_>,
-    table: &mut LineNames,
+    table: &mut LineNames<'_>,
 ) -> Reading<Seq<Term>>
     ensures read { IfOk result (λ v. SoFar behind_terms terms_of table.old words.old.front v table.new words.new.front) }
     ensures end { OnOk result (begins_integer words.new.front ≡ false) }
@@ -141,7 +141,7 @@ fn right_side(words: &mut BeforeSemicolon<'_>) -> Reading<i128>
 pub(crate) fn constraint<'a>(
     alloc: Global,
     mut words: BeforeSemicolon<'a>,
-    table: &mut LineNames,
+    table: &mut LineNames<'_>,
 ) -> Reading<(Signed, Tokens<'a>)>
     ensures read { IfOk result (λ r. IsConstraintRead table.old words.entry.front r.0 table.new) }
     ensures behind { IfOk result (λ r. words.entry.behind ≡ Some (texts_of r.1)) }

@@ -59,7 +59,7 @@ fn operation(words: &mut LineWords<'_>) -> Option<Item>
 }
 
 /// The item that a word begins which is no operation.
-fn item(token: Token<'_>, words: &mut LineWords<'_>, table: &mut LineNames) -> Reading<Item>
+fn item(token: Token<'_>, words: &mut LineWords<'_>, table: &mut LineNames<'_>) -> Reading<Item>
     requires { IsNoOperation (token.text.now ∷ words.old) }
     ensures takes { IfOk result (λ i. Takes are_items items_of table.old (token.entry.text.now ∷ words.old) i table.new words.new) }
     ensures kept { table.new.before ≡ table.old.before }
@@ -77,7 +77,7 @@ fn item(token: Token<'_>, words: &mut LineWords<'_>, table: &mut LineNames) -> R
 
 /// The item that stands next; none at the end.
 #[inline(always)]
-fn next_item(words: &mut LineWords<'_>, table: &mut LineNames) -> Reading<Option<Item>>
+fn next_item(words: &mut LineWords<'_>, table: &mut LineNames<'_>) -> Reading<Option<Item>>
     ensures next { IfOk result (λ found. MatchOption
         found
         ((words.old ≡ []) × (table.new ≡ table.old))
@@ -105,7 +105,7 @@ fn next_item(words: &mut LineWords<'_>, table: &mut LineNames) -> Reading<Option
 pub(crate) fn items(
     alloc: Global,
     mut words: LineWords<'_>,
-    table: &mut LineNames,
+    table: &mut LineNames<'_>,
 ) -> Reading<Seq<Item>>
     ensures read { IfOk result (λ v. IsRead are_items items_of table.old words.entry v table.new) }
     ensures kept { table.new.before ≡ table.old.before }

@@ -1,9 +1,9 @@
 //! The names of a proof from line to line.
 //!
-//! A line that is read adds its new names in order, and a line that is refused adds none. The table stays where it is: a line adds to
-//! it in place, and takes its own names out again where one of its words cannot stand.
+//! A line that is read adds its new names in order, and a line that is refused adds none. The table of what was added stays where it is: a
+//! line adds to it in place, and takes its own names out again where one of its words cannot stand.
 
-ghost use Rattle.std.specs.Prelude.{◌≡◌, ◌∷◌, ◌≤◌, List, ℕ, Some, false, length, IfOk, IfErr, OnErr};
+ghost use Rattle.std.specs.Prelude.{◌≡◌, ◌∷◌, ◌++◌, ◌≤◌, List, ℕ, Some, false, length, IfOk, IfErr, OnErr};
 ghost use Rattle.linear.specs.Largest.{most_names};
 ghost use Rattle.pb_text.specs.TokensOf.{texts_of};
 ghost use Rattle.proof_text.specs.Rules as rules;
@@ -25,11 +25,11 @@ use std::marker::Model;
 
 /// The names that the problem and the lines of its proof have so far, none twice; the variable of number `n` has the name at place `n`.
 #[derive(Drop)]
-pub struct ProofNames {
-    line: LineNames,
+pub struct ProofNames<'a> {
+    line: LineNames<'a>,
 }
 
-impl Model for ProofNames {
+impl<'a> Model for ProofNames<'a> {
     ghost Value = { List (List ℕ) };
 
     ghost view = { λ n. n.line.names };
@@ -37,28 +37,28 @@ impl Model for ProofNames {
     ghost invariant = { λ n. n.line.full ≡ false };
 }
 
-impl ProofNames {
+impl<'a> ProofNames<'a> {
     /// The names with which a proof begins, which are those of its problem.
-    pub fn new(names: Names) -> Self
-        ensures { result ≡ names }
+    pub fn new(alloc: Global, file: &'a Names) -> Self
+        ensures { result ≡ file.now }
     {
         ProofNames {
-            line: LineNames::new(names),
+            line: LineNames::new(alloc, file),
         }
     }
 
-    /// The table of the names so far.
-    pub fn table(&self) -> &Names
-        ensures { result.now ≡ self.now }
+    /// The names that its lines have added behind those of the problem.
+    pub fn added(&self) -> &Names
+        ensures { (file : List (List ℕ)) × (self.now ≡ file ++ result.now) }
     {
-        self.line.table()
+        self.line.added()
     }
 
     /// That they can be numbered, for a proof that needs it.
     pub(crate) fn reveal(&self)
         ensures { length self.now ≤ most_names }
     {
-        let _ = self.line.table();
+        let _ = self.line.added();
     }
 
     /// The step that the words behind the word of a rule say, its new names added.

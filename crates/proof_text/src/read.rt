@@ -32,7 +32,7 @@ fn step_of_words(
     alloc: Global,
     first: Token<'_>,
     behind: Tokens<'_>,
-    names: &mut ProofNames,
+    names: &mut ProofNames<'_>,
 ) -> Reading<Step>
     ensures step { IfOk result (λ s. IsStep names.old (first.entry.text.now ∷ texts_of behind.entry) s names.new) }
     ensures err { OnErr result (names.new ≡ names.old) }
@@ -52,7 +52,7 @@ fn step_of_words(
 /// `UnknownRule`, `RuleLeftOut` and `BadLine` come only where the line says no step, `IntegerTooLarge` only where an
 /// integer is too large, `TooManyIds` only where the line is well formed and the table would have more than 2^32 names.
 #[tactic(auto, unfolding(crate::specs::Words::words))]
-pub fn read_step(alloc: Global, line: &[u8], names: &mut ProofNames) -> Result<Step, ProofFault>
+pub fn read_step(alloc: Global, line: &[u8], names: &mut ProofNames<'_>) -> Result<Step, ProofFault>
     ensures step { IfOk result (λ s. IsStep names.old (words line.now) s names.new) }
     ensures writable { IfOk result (λ s. IsStepWritable (length names.new) s) }
     ensures err { OnErr result (names.new ≡ names.old) }
@@ -86,7 +86,7 @@ fn step_at_section(
     section: Section,
     first: Token<'_>,
     behind: Tokens<'_>,
-    names: &mut ProofNames,
+    names: &mut ProofNames<'_>,
 ) -> Reading<Step>
     ensures step { IfOk result (λ s. IsStep names.old (first.entry.text.now ∷ texts_of behind.entry) s names.new) }
     ensures placed { OnOk result (spells.is_misplaced section (first.entry.text.now ∷ texts_of behind.entry) ≡ false) }
@@ -107,7 +107,7 @@ fn step_inside(
     alloc: Global,
     section: Section,
     mut words: Tokens<'_>,
-    names: &mut ProofNames,
+    names: &mut ProofNames<'_>,
 ) -> Reading<Line>
     requires { (section ≡ Section.Block) ⊎ (section ≡ Section.Goal) }
     ensures line { IfOk result (λ l. IsLine section names.old (texts_of words.entry) l names.new) }
@@ -122,7 +122,7 @@ fn step_inside(
 }
 
 /// A step, or the output line behind the steps.
-fn step_or_output(alloc: Global, words: Tokens<'_>, names: &mut ProofNames) -> Reading<Line>
+fn step_or_output(alloc: Global, words: Tokens<'_>, names: &mut ProofNames<'_>) -> Reading<Line>
     ensures line { IfOk result (λ l. IsLine Section.Step names.old (texts_of words.entry) l names.new) }
     ensures err { OnErr result (names.new ≡ names.old) }
     ensures denies { IfErr result (λ f. DeniesLine f Section.Step names.old (texts_of words.entry)) }
@@ -152,7 +152,7 @@ pub fn read_line(
     alloc: Global,
     section: Section,
     line: &[u8],
-    names: &mut ProofNames,
+    names: &mut ProofNames<'_>,
 ) -> Result<Line, ProofFault>
     ensures line { IfOk result (λ l. IsLine section names.old (words line.now) l names.new) }
     ensures writable { IfOk result (λ l. IsLineWritable (length names.new) l) }

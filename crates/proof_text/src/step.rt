@@ -37,7 +37,7 @@ fn red_step(constraint: Signed, witness: Substitution, block: bool) -> Step
 }
 
 /// `red`: a constraint, `;`, a substitution, and perhaps `;` and `begin`.
-fn red(alloc: Global, words: Tokens<'_>, table: &mut LineNames) -> Reading<Step>
+fn red(alloc: Global, words: Tokens<'_>, table: &mut LineNames<'_>) -> Reading<Step>
     requires { table.old.full ≡ false }
     ensures read { IfOk result (λ s. IsStepRead Rule.Red table.old (texts_of words.entry) s table.new) }
     ensures kept { table.new.before ≡ table.old.before }
@@ -61,7 +61,7 @@ fn red(alloc: Global, words: Tokens<'_>, table: &mut LineNames) -> Reading<Step>
 }
 
 /// `del`: `id`, and ids.
-fn del(alloc: Global, mut words: Tokens<'_>, table: &mut LineNames) -> Reading<Step>
+fn del(alloc: Global, mut words: Tokens<'_>, table: &mut LineNames<'_>) -> Reading<Step>
     ensures read { IfOk result (λ s. IsStepRead Rule.Del table.old (texts_of words.entry) s table.new) }
     ensures kept { table.new.before ≡ table.old.before }
     ensures denies { IfErr result (λ f. DeniesRule f Rule.Del table.old.names (texts_of words.entry)) }
@@ -84,7 +84,7 @@ pub(crate) fn step(
     alloc: Global,
     rule: Rule,
     words: Tokens<'_>,
-    table: &mut LineNames,
+    table: &mut LineNames<'_>,
 ) -> Reading<Step>
     requires { table.old.full ≡ false }
     ensures read { IfOk result (λ s. IsStepRead rule table.old (texts_of words.entry) s table.new) }

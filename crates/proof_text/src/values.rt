@@ -42,7 +42,7 @@ pub(crate) fn number(token: Token<'_>) -> Reading<i128>
 }
 
 /// The literal of a word, its name met.
-pub(crate) fn lit(token: Token<'_>, table: &mut LineNames) -> Reading<Lit>
+pub(crate) fn lit(token: Token<'_>, table: &mut LineNames<'_>) -> Reading<Lit>
     ensures literal { OnOk result (is_literal (kind_of token.entry.text.now) ≡ true) }
     ensures value { IfOk result (λ l. l ≡ lit_of table.new.names token.entry.text.now) }
     ensures met { OnOk result (table.new ≡ met table.old (name_of token.entry.text.now)) }
@@ -58,7 +58,7 @@ pub(crate) fn lit(token: Token<'_>, table: &mut LineNames) -> Reading<Lit>
 
 /// The literal that stands next, its name met; none at the end.
 #[inline(always)]
-fn next_lit(words: &mut LineWords<'_>, table: &mut LineNames) -> Reading<Option<Lit>>
+fn next_lit(words: &mut LineWords<'_>, table: &mut LineNames<'_>) -> Reading<Option<Lit>>
     ensures next { IfOk result (λ found. MatchOption
         found
         ((words.old ≡ []) × (table.new ≡ table.old))
@@ -95,7 +95,7 @@ fn next_number(words: &mut LineWords<'_>) -> Reading<Option<i128>>
 pub(crate) fn lits(
     alloc: Global,
     mut words: LineWords<'_>,
-    table: &mut LineNames,
+    table: &mut LineNames<'_>,
 ) -> Reading<Seq<Lit>>
     ensures read { IfOk result (λ v. IsRead are_literals literals_of table.old words.entry v table.new) }
     ensures kept { table.new.before ≡ table.old.before }

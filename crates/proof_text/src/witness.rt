@@ -59,7 +59,7 @@ fn repeats(words: &[&[u8]]) -> bool
 }
 
 /// The image that a word writes: a literal, or the very text `0` or `1`.
-fn image(token: Token<'_>, table: &mut LineNames) -> Reading<Image>
+fn image(token: Token<'_>, table: &mut LineNames<'_>) -> Reading<Image>
     ensures read { IfOk result (λ i. IsImageRead table.old token.entry.text.now i table.new) }
     ensures kept { table.new.before ≡ table.old.before }
     ensures denies { IfErr result (λ f. Denies f (forms.is_image token.entry.text.now) (token.entry.text.now ∷ [])) }
@@ -91,7 +91,7 @@ pub(crate) fn unless_twice(witness: &Witness<'_>, fault: ProofFault) -> ProofFau
 fn pair(
     token: Token<'_>,
     words: &mut BeforeSemicolon<'_>,
-    table: &mut LineNames,
+    table: &mut LineNames<'_>,
 ) -> Reading<(Var, Image)>
     ensures takes { IfOk result (λ p. Takes forms.are_images forms.images_of table.old (token.entry.text.now ∷ words.old.front) p table.new words.new.front) }
     ensures left { OnOk result (forms.lefts (token.entry.text.now ∷ words.old.front) ≡ token.entry.text.now ∷ forms.lefts words.new.front) }
@@ -118,7 +118,7 @@ fn pair(
 pub(crate) fn images<'a>(
     alloc: Global,
     words: &mut BeforeSemicolon<'a>,
-    table: &mut LineNames,
+    table: &mut LineNames<'_>,
 ) -> Reading<Witness<'a>>
     ensures read { IfOk result (λ w. IsRead forms.are_images forms.images_of table.old words.old.front w.images.items table.new) }
     ensures names { IfOk result (λ w. map (λ s. s.now) w.names.items ≡ forms.lefts words.old.front) }

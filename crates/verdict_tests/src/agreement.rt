@@ -25,7 +25,7 @@ struct Run {
 fn answer<P: Propagator>(
     alloc: Global,
     kernel: &mut Kernel<'_, P>,
-    names: &mut ProofNames,
+    names: &mut ProofNames<'_>,
     line: &str,
 ) -> Option<Answer> {
     let Ok(step) = read_step(alloc, line.as_bytes(), names) else {
@@ -38,7 +38,7 @@ fn answer<P: Propagator>(
 fn answer_each<P: Propagator>(
     alloc: Global,
     kernel: &mut Kernel<'_, P>,
-    names: &mut ProofNames,
+    names: &mut ProofNames<'_>,
     lines: &[&str],
 ) -> Result<Vec<Option<Answer>>, AllocError> {
     let mut answers = Vec::new(alloc);
@@ -54,7 +54,7 @@ fn answers<P: Propagator>(
     problem: &Problem,
     lines: &[&str],
 ) -> Result<Vec<Option<Answer>>, StepFault> {
-    let mut names = ProofNames::new(problem.names().copy(alloc)?);
+    let mut names = ProofNames::new(alloc, problem.names());
     let mut kernel: Kernel<'_, P> = Kernel::new(alloc, problem)?;
     Ok(answer_each(alloc, &mut kernel, &mut names, lines)?)
 }

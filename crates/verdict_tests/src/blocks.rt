@@ -26,7 +26,7 @@ const TRIANGLE: &str = "min: 2 x1 3 x2 4 x3 ; 1 x1 1 x2 >= 1 ; 1 x2 1 x3 >= 1 ; 
 fn answer<P: Propagator>(
     alloc: Global,
     kernel: &mut Kernel<'_, P>,
-    names: &mut ProofNames,
+    names: &mut ProofNames<'_>,
     line: &str,
 ) -> Answer {
     let Ok(step) = read_step(alloc, line.as_bytes(), names) else {
@@ -48,7 +48,7 @@ enum Concluded {
 fn all_answer<P: Propagator>(
     alloc: Global,
     kernel: &mut Kernel<'_, P>,
-    names: &mut ProofNames,
+    names: &mut ProofNames<'_>,
     rows: &[Row],
 ) -> bool {
     for (line, wanted) in rows {
@@ -81,7 +81,7 @@ fn kernel_answers<P: Propagator>(
     concluded: Concluded,
     fault: Option<StepFault>,
 ) -> Result<bool, StepFault> {
-    let mut names = ProofNames::new(problem.names().copy(alloc)?);
+    let mut names = ProofNames::new(alloc, problem.names());
     let mut kernel: Kernel<'_, P> = Kernel::new(alloc, problem)?;
     Ok(
         all_answer(alloc, &mut kernel, &mut names, rows)

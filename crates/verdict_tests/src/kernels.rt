@@ -234,7 +234,7 @@ fn answer_to_line<P: Propagator>(
     problem: &Problem,
     line: &str,
 ) -> Result<Option<u32>, StepFault> {
-    let mut names = ProofNames::new(problem.names().copy(alloc)?);
+    let mut names = ProofNames::new(alloc, problem.names());
     match read_step(alloc, line.as_bytes(), &mut names) {
         Ok(step) => applied_first::<P>(alloc, problem, &step),
         Err(_) => Err(StepFault::OutOfMemory),
