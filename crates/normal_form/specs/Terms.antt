@@ -1,8 +1,8 @@
 -- Terms as they are kept, and a term with another coefficient.
-use Rattle.std.specs.Prelude.{ℕ, zero, suc, ◌+◌, ◌*◌, ◌/◌, ◌%◌, ◌^◌, ◌==◌, Box, List, [], ◌∷◌, Option, Some, None, box_value}
+use Rattle.std.specs.Prelude.{ℕ, zero, suc, ◌+◌, ◌*◌, ◌/◌, ◌%◌, ◌^◌, ◌==◌, List, [], ◌∷◌}
 use Rattle.normal_form.specs.declared.term.NormalTerm.{NormalTerm}
 use Rattle.normal_form.specs.declared.terms.PackedTerm.{PackedTerm}
-use Rattle.normal_form.specs.declared.wide_terms.WideTerm.{WideTerm}
+use Rattle.normal_form.specs.declared.wide_term.WideTerm.{WideTerm}
 
 -- what is packed is twice the coefficient, and one more where the literal is negated
 abbrev pub unpacked : PackedTerm → NormalTerm
@@ -11,11 +11,6 @@ unpacked t = record { coef = t.packed / 2; var = t.var; negated = t.packed % 2 =
 -- the coefficient stands in two halves
 abbrev pub widened : WideTerm → NormalTerm
 widened t = record { coef = t.high * 2 ^ 64 + t.low; var = t.var; negated = t.negated }
-
--- the terms that stand apart, if there are any
-abbrev pub apart : {Z : Type 0} → Option (Box (List NormalTerm) Z) → List NormalTerm
-apart None = []
-apart (Some b) = box_value b
 
 -- the terms, that at a place with another coefficient
 abbrev pub with_coefficient : List NormalTerm → ℕ → ℕ → List NormalTerm

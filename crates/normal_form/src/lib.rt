@@ -16,7 +16,7 @@ mod opposites;
 mod term;
 mod terms;
 mod truth;
-mod wide_terms;
+mod wide_term;
 
 pub use builder::NormalBuilder;
 pub use conversion::{Normalizer, both, normalize, normalize_fitting};

@@ -1,15 +1,15 @@
 //! The terms of a normal constraint, kept small where their coefficients are.
 //!
 //! Coefficients may be up to 2^120, and of most files none reaches 2^31. A constraint is kept for as long as its id lives, so what is small
-//! is less to fill, to read and to give back. The terms before the first coefficient of 2^31 or more take eight bytes each; that one and all
-//! after it stand apart (`wide_terms`), and where there are none they take a word. Nobody above sees which.
+//! is less to fill, to read and to give back. The terms before the first coefficient of 2^31 or more take eight bytes each, that one and all
+//! after it three times as much (`wide_term`). Nobody above sees which.
 
 ghost use Rattle.std.specs.Prelude.{◌≡◌, ◌≤◌, ◌<◌, ◌^◌, ◌++◌, ◌∷◌, [], IfOk, MatchOption, OnOk, OnErr, length, slice_index_or};
 ghost use Rattle.normal_form.specs.declared.term.NormalTerm.{NormalTerm};
 ghost use Rattle.normal_form.specs.Terms.{unpacked, with_coefficient};
 
 use super::term::NormalTerm;
-use super::wide_terms::WideTerms;
+use super::wide_term::WideTerm;
 use linear::Var;
 use std::alloc::{AllocError, Global};
 use std::marker::Model;
@@ -68,17 +68,17 @@ fn packed(term: NormalTerm) -> Option<PackedTerm>
 #[derive(Debug, Drop)]
 pub(crate) struct Terms {
     packed: Vec<PackedTerm>,
-    rest: Option<Box<WideTerms>>,
+    rest: Vec<WideTerm>,
 }
 
 impl Model for Terms {
     ghost use Rattle.std.specs.Prelude.{List, map, ◌++◌};
     ghost use Rattle.normal_form.specs.declared.term.NormalTerm.{NormalTerm};
-    ghost use Rattle.normal_form.specs.Terms.{apart, unpacked};
+    ghost use Rattle.normal_form.specs.Terms.{unpacked, widened};
 
     ghost Value = { List NormalTerm };
 
-    ghost view = { λ t. map unpacked t.packed.items ++ apart t.rest };
+    ghost view = { λ t. map unpacked t.packed.items ++ map widened t.rest.items };
 }
 
 impl Terms {
@@ -88,7 +88,7 @@ impl Terms {
     {
         Terms {
             packed: Vec::new(alloc),
-            rest: None,
+            rest: Vec::new(alloc),
         }
     }
 
@@ -98,7 +98,7 @@ impl Terms {
     {
         Ok(Terms {
             packed: Vec::with_capacity(alloc, count)?,
-            rest: None,
+            rest: Vec::new(alloc),
         })
     }
 
@@ -106,10 +106,7 @@ impl Terms {
     pub(crate) fn len(&self) -> usize
         ensures { result ≡ length self.now }
     {
-        match &self.rest {
-            None => self.packed.len(),
-            Some(rest) => self.packed.len() + rest.len(),
-        }
+        self.packed.len() + self.rest.len()
     }
 
     /// The term at a place.
@@ -120,11 +117,9 @@ impl Terms {
     {
         let packed = self.packed.len();
         if place < packed {
-            return self.packed[place].unpacked();
-        }
-        match &self.rest {
-            Some(rest) => rest.get(place - packed),
-            None => unreachable!(),
+            self.packed[place].unpacked()
+        } else {
+            self.rest[place - packed].widened()
         }
     }
 
@@ -134,29 +129,13 @@ impl Terms {
         ensures ok { OnOk result (self.new ≡ self.old ++ term ∷ []) }
         ensures err { OnErr result (self.new ≡ self.old) }
     {
-        if self.rest.is_none() {
+        if self.rest.is_empty() {
             if let Some(packed) = packed(term) {
                 self.packed.push(packed)?;
                 return Ok(());
             }
         }
-        self.push_to_rest(term)
-    }
-
-    /// Puts a term behind those that are not packed.
-    // Kept out of the loops that put terms at the end, nearly all of which are packed.
-    #[inline(never)]
-    fn push_to_rest(&mut self, term: NormalTerm) -> Result<(), AllocError>
-        ensures ok { OnOk result (self.new ≡ self.old ++ term ∷ []) }
-        ensures err { OnErr result (self.new ≡ self.old) }
-    {
-        if let Some(rest) = &mut self.rest {
-            return rest.push(term);
-        }
-        let alloc = *self.packed.allocator();
-        let mut rest = WideTerms::new(alloc);
-        rest.push(term)?;
-        self.rest = Some(Box::new(alloc, rest)?);
+        self.rest.push(WideTerm::of(term))?;
         Ok(())
     }
 
@@ -169,20 +148,22 @@ impl Terms {
         let packed = self.packed.len();
         if place < packed {
             self.packed[place] = self.packed[place].lowered(coef);
-            return;
-        }
-        match &mut self.rest {
-            Some(rest) => rest.replace(place - packed, coef),
-            None => unreachable!(),
+        } else {
+            let term = self.rest[place - packed].widened();
+            self.rest[place - packed] = WideTerm::of(NormalTerm {
+                coef,
+                var: term.var,
+                negated: term.negated,
+            });
         }
     }
 
-    /// Takes all terms away. The memory of the packed ones stays.
+    /// Takes all terms away. The memory stays.
     pub(crate) fn clear(&mut self)
         ensures { self.new ≡ [] }
     {
         self.packed.clear();
-        self.rest = None;
+        self.rest.clear();
     }
 
     /// Gives back room that the packed terms do not use, unless it is little.
@@ -199,11 +180,9 @@ impl Terms {
     pub(crate) fn copy(&self, alloc: Global) -> Result<Terms, AllocError>
         ensures { IfOk result (λ terms. terms ≡ self.now) }
     {
-        let packed = Vec::from_slice(alloc, self.packed.as_slice())?;
-        let rest = match &self.rest {
-            Some(rest) => Some(Box::new(alloc, rest.copy(alloc)?)?),
-            None => None,
-        };
-        Ok(Terms { packed, rest })
+        Ok(Terms {
+            packed: Vec::from_slice(alloc, self.packed.as_slice())?,
+            rest: Vec::from_slice(alloc, self.rest.as_slice())?,
+        })
     }
 }
