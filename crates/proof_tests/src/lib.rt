@@ -14,6 +14,8 @@ mod steps;
 #[cfg(test)]
 mod subproofs;
 #[cfg(test)]
+mod writable;
+#[cfg(test)]
 mod written;
 #[cfg(test)]
 mod wrong_words;

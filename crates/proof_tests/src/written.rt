@@ -1,10 +1,12 @@
 //! What is written: the very bytes, which read back and are written the same again.
 
 use super::asking::fault_at;
+use super::writable::is_conclusion_writable;
 use linear::Names;
 use proof_lines::ProofReader;
+use proof_steps::Conclusion;
 use proof_text::{Line, ProofFault, ProofNames, Section, read_line, read_step};
-use proof_write::{write_end, write_step};
+use proof_write::{is_step_writable, write_end, write_step};
 use std::alloc::Global;
 
 /// A line, and how what it says is written.
@@ -22,7 +24,24 @@ fn rewrite_step(
     out: &mut Vec<u8>,
 ) -> Result<(), ProofFault> {
     let step = read_step(alloc, line, names)?;
-    write_step(&step, names.added(), out)?;
+    let table = names.added();
+    if !is_step_writable(table.len(), &step) {
+        return Err(ProofFault::TooManyIds);
+    }
+    write_step(&step, table, out)?;
+    Ok(())
+}
+
+/// Writes the lines behind the steps.
+fn write_conclusion(
+    conclusion: &Conclusion,
+    table: &Names,
+    out: &mut Vec<u8>,
+) -> Result<(), ProofFault> {
+    if !is_conclusion_writable(table.len(), conclusion) {
+        return Err(ProofFault::TooManyIds);
+    }
+    write_end(conclusion, table, out)?;
     Ok(())
 }
 
@@ -34,7 +53,7 @@ fn rewrite_end(
     out: &mut Vec<u8>,
 ) -> Result<(), ProofFault> {
     match read_line(alloc, Section::Conclusion, line, names)? {
-        Line::Conclusion(conclusion) => Ok(write_end(&conclusion, names.added(), out)?),
+        Line::Conclusion(conclusion) => write_conclusion(&conclusion, names.added(), out),
         _ => Err(ProofFault::BadLine),
     }
 }
