@@ -14,7 +14,7 @@
 use super::brancher::{Brancher, Value};
 use super::heap::Heap;
 use super::progress::Progress;
-use linear::{Integer, Lit, Problem, Relation, Signed, Term, Var};
+use linear::{Constraints, Integer, LentConstraint, Lit, Problem, Relation, Term, Var};
 use std::alloc::{AllocError, Global};
 
 /// The increment at first: small steps of it are told apart.
@@ -63,11 +63,12 @@ impl Activity {
     }
 
     /// Has each variable take the value at first that serves more of some constraints than it harms.
-    fn serve(&mut self, alloc: Global, constraints: &[Signed]) -> Result<(), AllocError> {
+    fn serve(&mut self, alloc: Global, constraints: &Constraints) -> Result<(), AllocError> {
         let mut votes: Vec<i64> = vec![in alloc; 0; self.phases.len()]?;
-        for constraint in constraints {
-            if constraint.relation == Relation::AtLeast {
-                vote(&mut votes, constraint.terms.as_slice());
+        for place in 0..constraints.len() {
+            let constraint = constraints.get(place);
+            if constraint.relation() == Relation::AtLeast {
+                vote(&mut votes, &constraint);
             }
         }
         for (phase, balance) in self.phases.iter_mut().zip(&votes) {
@@ -120,12 +121,13 @@ impl Activity {
 }
 
 /// Counts for each variable of a sum that is asked to be large whether it helps as true or as false.
-fn vote(votes: &mut [i64], terms: &[Term]) {
+fn vote(votes: &mut [i64], constraint: &LentConstraint<'_>) {
     let zero: Integer = 0;
-    for term in terms {
+    for index in 0..constraint.len() {
+        let term = constraint.term(index);
         let place = term.var.0 as usize;
         if place < votes.len() && term.coef != zero {
-            let step = if costs_less_as_true(*term) { -1 } else { 1 };
+            let step = if costs_less_as_true(term) { -1 } else { 1 };
             votes[place] = votes[place].saturating_add(step);
         }
     }

@@ -24,8 +24,11 @@ pub(crate) fn constraints_of_file<P: Propagator>(
 {
     let mut database = Database::empty(alloc);
     let mut normalizer = Normalizer::new(alloc);
-    for constraint in problem.constraints() {
-        push_forms(&mut normalizer, &mut database, constraint)?;
+    let constraints = problem.constraints();
+    let mut constraint = Signed::new(alloc);
+    for place in 0..constraints.len() {
+        constraints.copy_to(place, &mut constraint)?;
+        push_forms(&mut normalizer, &mut database, &constraint)?;
     }
     Ok(database)
 }

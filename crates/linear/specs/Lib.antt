@@ -6,3 +6,4 @@ pub mod Table
 pub mod Opb
 pub mod Limits
 pub mod ShortNames
+pub mod Packed

@@ -1,7 +1,10 @@
 //! Constraints on signed sums.
 
+ghost use Rattle.std.specs.Prelude.{◌≡◌, [], pos};
+
 use super::seq::Seq;
 use super::term::{Integer, Term};
+use std::alloc::Global;
 
 /// How a sum stands to its right side.
 #[derive(Clone, Copy, Debug, PartialEq, Eq)]
@@ -16,4 +19,17 @@ pub struct Signed {
     pub terms: Seq<Term>,
     pub relation: Relation,
     pub right: Integer,
+}
+
+impl Signed {
+    /// `0 >= 0`, to be copied over.
+    pub fn new(alloc: Global) -> Self
+        ensures { result ≡ record { terms = []; relation = Relation.AtLeast; right = pos 0 } }
+    {
+        Signed {
+            terms: Seq::short_lived(Vec::new(alloc)),
+            relation: Relation::AtLeast,
+            right: 0,
+        }
+    }
 }

@@ -4,8 +4,10 @@
 
 mod assignment;
 mod constraint;
+mod constraints;
 mod limits;
 mod names;
+mod packed_terms;
 mod problem;
 mod seq;
 mod short_names;
@@ -14,6 +16,7 @@ mod term;
 
 pub use assignment::Assignment;
 pub use constraint::{Relation, Signed};
+pub use constraints::{Constraints, LentConstraint};
 pub use limits::{LARGEST_INTEGER, MOST_CONSTRAINTS, MOST_NAMES, MOST_TERMS, MOST_VARIABLES};
 pub use names::Names;
 pub use problem::Problem;

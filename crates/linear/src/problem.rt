@@ -8,7 +8,7 @@ ghost use Rattle.std.specs.Prelude.{◌≡◌, ◌↔◌, length, IsTrue};
 ghost use Rattle.std.specs.Option.{option_copied};
 
 use super::assignment::Assignment;
-use super::constraint::Signed;
+use super::constraints::Constraints;
 use super::names::Names;
 use super::seq::Seq;
 use super::sums::{meets, sum};
@@ -21,7 +21,7 @@ use std::marker::Model;
 pub struct Problem {
     names: Names,
     objective: Option<Seq<Term>>,
-    constraints: Vec<Signed>,
+    constraints: Constraints,
 }
 
 impl Model for Problem {
@@ -30,9 +30,9 @@ impl Model for Problem {
 
     ghost Value = { Opb };
 
-    ghost view = { λ p. record { names = p.names; objective = p.objective; constraints = p.constraints.items } };
+    ghost view = { λ p. record { names = p.names; objective = p.objective; constraints = p.constraints } };
 
-    ghost invariant = { λ p. IsWithin (record { names = p.names; objective = p.objective; constraints = p.constraints.items }) };
+    ghost invariant = { λ p. IsWithin (record { names = p.names; objective = p.objective; constraints = p.constraints }) };
 }
 
 impl Problem {
@@ -41,9 +41,9 @@ impl Problem {
     ghost use Rattle.linear.specs.Valuation.{valuation_of};
 
     /// The problem of these parts, which are within the limits.
-    pub fn new(names: Names, objective: Option<Seq<Term>>, constraints: Vec<Signed>) -> Self
-        requires { IsWithin (record { names = names; objective = objective; constraints = constraints.items }) }
-        ensures { result ≡ record { names = names; objective = objective; constraints = constraints.items } }
+    pub fn new(names: Names, objective: Option<Seq<Term>>, constraints: Constraints) -> Self
+        requires { IsWithin (record { names = names; objective = objective; constraints = constraints }) }
+        ensures { result ≡ record { names = names; objective = objective; constraints = constraints } }
     {
         Problem {
             names,
@@ -75,11 +75,11 @@ impl Problem {
     }
 
     /// The constraints, in order.
-    pub fn constraints(&self) -> &[Signed]
+    pub fn constraints(&self) -> &Constraints
         ensures constraints { result.now ≡ self.now.constraints }
         ensures within { IsWithin self.now }
     {
-        self.constraints.as_slice()
+        &self.constraints
     }
 
     /// Whether an assignment, one value for each name, meets every constraint.
@@ -87,8 +87,8 @@ impl Problem {
         requires { length assignment.now ≡ length self.now.names }
         ensures { IsTrue result ↔ Satisfies (valuation_of assignment.now) self.now }
     {
-        for constraint in &self.constraints {
-            if !meets(assignment, constraint) {
+        for place in 0..self.constraints.len() {
+            if !meets(assignment, &self.constraints.get(place)) {
                 return false;
             }
         }

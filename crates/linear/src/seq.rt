@@ -1,8 +1,9 @@
 //! A list that owns its elements, seen by contracts as just that list. It stands for the `Vec` fields of the
 //! public types, whose capacity no contract speaks of.
 
-ghost use Rattle.std.specs.Prelude.{◌≡◌, ◌↔◌, [], IsTrue, length};
+ghost use Rattle.std.specs.Prelude.{◌≡◌, ◌↔◌, ◌++◌, ◌∷◌, [], IsTrue, OnErr, OnOk, length};
 
+use std::alloc::AllocError;
 use std::marker::Model;
 
 /// A list of values, made from a `Vec` and giving it back without taking memory.
@@ -63,5 +64,24 @@ impl<T> Seq<T> {
         ensures { IsTrue result ↔ (self.now ≡ []) }
     {
         self.items.is_empty()
+    }
+}
+
+impl<T: Drop> Seq<T> {
+    /// Puts an element at the end. Where memory runs out the list stays as it was.
+    #[inline(always)]
+    pub fn push(&mut self, item: T) -> Result<(), AllocError>
+        ensures ok { OnOk result (self.new ≡ self.old ++ item ∷ []) }
+        ensures err { OnErr result (self.new ≡ self.old) }
+    {
+        self.items.push(item)?;
+        Ok(())
+    }
+
+    /// Takes all elements away. The memory stays.
+    pub fn clear(&mut self)
+        ensures { self.new ≡ [] }
+    {
+        self.items.clear();
     }
 }

@@ -7,7 +7,8 @@ ghost use Rattle.linear.specs.Sum.{worth, sum_of, Meets};
 ghost use Rattle.linear.specs.Valuation.{valuation_of};
 
 use super::assignment::Assignment;
-use super::constraint::{Relation, Signed};
+use super::constraint::Relation;
+use super::constraints::LentConstraint;
 use super::term::{Integer, Term};
 
 /// What a term adds to a sum: its coefficient where its literal is true.
@@ -34,14 +35,26 @@ pub(crate) fn sum(assignment: &Assignment, terms: &[Term]) -> Integer
     sum
 }
 
+/// The sum of the terms of a constraint whose literals are true.
+fn constraint_sum(assignment: &Assignment, constraint: &LentConstraint<'_>) -> Integer
+    requires { IsSumWithin (length assignment.now) constraint.now.terms }
+    ensures { result ≡ sum_of (valuation_of assignment.now) constraint.now.terms }
+{
+    let mut sum = 0;
+    for place in 0..constraint.len() {
+        sum += worth(assignment, constraint.term(place));
+    }
+    sum
+}
+
 /// Whether an assignment meets a constraint.
-pub(crate) fn meets(assignment: &Assignment, constraint: &Signed) -> bool
+pub(crate) fn meets(assignment: &Assignment, constraint: &LentConstraint<'_>) -> bool
     requires { IsConstraintWithin (length assignment.now) constraint.now }
     ensures { IsTrue result ↔ Meets (valuation_of assignment.now) constraint.now }
 {
-    let sum = sum(assignment, constraint.terms.as_slice());
-    match constraint.relation {
-        Relation::AtLeast => sum >= constraint.right,
-        Relation::Equal => sum == constraint.right,
+    let sum = constraint_sum(assignment, constraint);
+    match constraint.relation() {
+        Relation::AtLeast => sum >= constraint.right(),
+        Relation::Equal => sum == constraint.right(),
     }
 }

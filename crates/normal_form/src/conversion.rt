@@ -92,10 +92,25 @@ impl Normalizer {
         ensures small { size_sum constraint.now.terms + unsigned_abs constraint.now.right ≤ largest_sum → IsErrOf result CutFault.TooLarge → ⊥ }
         ensures factor { IsErrOf result CutFault.BadFactor → ⊥ }
     {
-        let terms = constraint.terms.as_slice();
-        if !sizes_fit(terms) {
+        if !sizes_fit(constraint.terms.as_slice()) {
             return Err(CutFault::TooLarge);
         }
+        self.merged_form(constraint)
+    }
+
+    /// The normal form of a constraint with `>=` whose sizes add up to no more than the limit.
+    fn merged_form(&mut self, constraint: &Signed) -> Result<Normal, CutFault>
+        requires relation { constraint.now.relation ≡ Relation.AtLeast }
+        requires sizes { size_sum constraint.now.terms ≤ largest_sum }
+        ensures form { IfOk result (IsNormalOf constraint.now) }
+        ensures normal { IfOk result IsNormal }
+        ensures same { IfOk result (λ n. (a : Valuation) → Holds a n ↔ Meets a constraint.now) }
+        ensures too_large { IsErrOf result CutFault.TooLarge → IsTooLarge constraint.now }
+        ensures within { OnOk result (IsTooLarge constraint.now → ⊥) }
+        ensures small { size_sum constraint.now.terms + unsigned_abs constraint.now.right ≤ largest_sum → IsErrOf result CutFault.TooLarge → ⊥ }
+        ensures factor { IsErrOf result CutFault.BadFactor → ⊥ }
+    {
+        let terms = constraint.terms.as_slice();
         at_least(merge(self.allocator, &mut self.sorted, terms)?, constraint)
     }
 
@@ -129,7 +144,7 @@ impl Normalizer {
         ensures normal { IfOk result IsNormal }
         ensures same { IfOk result (λ n. (a : Valuation) → Holds a n ↔ Meets a constraint.now) }
     {
-        match self.normalize(constraint) {
+        match self.merged_form(constraint) {
             Ok(form) => Ok(form),
             Err(_) => Err(AllocError),
         }

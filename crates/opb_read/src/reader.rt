@@ -26,7 +26,7 @@ use super::fault::OpbCode;
 use super::mark::begins_objective;
 use super::spot::Spot;
 use super::variables::Variables;
-use linear::{LARGEST_INTEGER, MOST_CONSTRAINTS, MOST_TERMS, Relation, Seq, Signed, Term};
+use linear::{Constraints, LARGEST_INTEGER, MOST_CONSTRAINTS, MOST_TERMS, Relation, Seq, Term};
 use pb_text::{Found, Kind, Literal, Lookahead, Said, Symbol, Token, Tokens, integer, literal_of};
 use std::alloc::Global;
 
@@ -38,9 +38,8 @@ pub struct Reader<'a> {
     pub spot: Spot,
     pub variables: Variables,
     pub objective: Option<Seq<Term>>,
-    pub constraints: Vec<Signed>,
-    /// Where the terms of a statement are gathered before they are copied to memory of their own, so that each sum takes
-    /// memory once and just what it needs.
+    pub constraints: Constraints,
+    /// Where the terms of a statement are gathered until it is closed.
     pub terms: Vec<Term>,
     /// The coefficient that was read last.
     pub coefficient: i128,
@@ -63,7 +62,7 @@ impl<'a> Reader<'a> {
             spot,
             variables: Variables::new(alloc),
             objective: None,
-            constraints: Vec::new(alloc),
+            constraints: Constraints::new(alloc),
             terms: Vec::new(alloc),
             coefficient: 0,
             relation: Relation::AtLeast,
@@ -154,7 +153,7 @@ impl<'a> Reader<'a> {
         requires says { Says said token.text.now }
         requires stands { next_spot self.old.spot token.kind ≡ Some next }
         requires holds { HoldsLimits (progress_of self.old) }
-        requires room { length self.old.constraints.items + begun next ≤ most_constraints }
+        requires room { length self.old.constraints + begun next ≤ most_constraints }
         ensures step { OnOk result (Step (progress_of self.old) (lexeme_of token.entry) (progress_at next self.new)) }
         ensures left { self.new.left ≡ self.old.left }
         ensures refuses { IfErr result (λ code. Refuses code (progress_of self.old) self.old.left) }
@@ -274,19 +273,17 @@ impl<'a> Reader<'a> {
         ensures left { self.new.left ≡ self.old.left }
         ensures refused { IfErr result (λ code. code ≡ OpbCode.OutOfMemory) }
     {
-        let terms = self.own_terms(alloc)?;
         let Spot::RightSide = self.spot else {
-            self.objective = Some(terms);
+            self.objective = Some(self.own_terms(alloc)?);
             return Ok(());
         };
-        let constraint = Signed {
-            terms,
-            relation: self.relation,
-            right: self.right,
-        };
-        if self.constraints.push(constraint).is_err() {
+        let kept = self
+            .constraints
+            .push(self.terms.as_slice(), self.relation, self.right);
+        if kept.is_err() {
             return Err(OpbCode::OutOfMemory);
         }
+        self.terms.clear();
         Ok(())
     }
 }

@@ -64,8 +64,11 @@ fn keys_of(alloc: Global, problem: &Problem) -> Result<IndexSet<Form>, AllocErro
 {
     let mut normalizer = Normalizer::new(alloc);
     let mut keys = IndexSet::new(alloc);
-    for constraint in problem.constraints() {
-        add_forms(alloc, &mut normalizer, &mut keys, constraint)?;
+    let constraints = problem.constraints();
+    let mut constraint = Signed::new(alloc);
+    for place in 0..constraints.len() {
+        constraints.copy_to(place, &mut constraint)?;
+        add_forms(alloc, &mut normalizer, &mut keys, &constraint)?;
     }
     Ok(keys)
 }

@@ -89,8 +89,11 @@ pub(crate) fn note_file(
     ensures { OnOk result (Notes (λ v s. StandsNowhere problem.now.constraints v s) table.old table.new) }
 {
     let mut normalizer = Normalizer::new(alloc);
-    for constraint in problem.constraints() {
-        note_forms(&mut normalizer, table, constraint)?;
+    let constraints = problem.constraints();
+    let mut constraint = Signed::new(alloc);
+    for place in 0..constraints.len() {
+        constraints.copy_to(place, &mut constraint)?;
+        note_forms(&mut normalizer, table, &constraint)?;
     }
     Ok(())
 }

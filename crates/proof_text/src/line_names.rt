@@ -69,27 +69,8 @@ fn found_short(file: &Names, added: &Names, name: &[u8], number: usize) -> Optio
     Some(behind(file, var))
 }
 
-/// The variable of a name, where it finds a number: that of the problem's or the proof's, or else the next one.
-fn found_or_added(file: &Names, added: &mut Names, name: &[u8]) -> Result<Option<Var>, AllocError>
-    requires name { is_name name.now ≡ true }
-    requires table { IsTable (file.now ++ added.old) }
-    ensures cases { IfOk result (λ found. MatchOption found (IsFullFor (file.now ++ added.old) most_names name.now) (λ v. v.0 ≡ place_of (file.now ++ added.old) name.now)) }
-    ensures some { IfOk result (λ found. IfSome found (λ _. file.now ++ added.new ≡ with_name (file.now ++ added.old) name.now)) }
-    ensures more { length added.old ≤ length added.new }
-    ensures table { IsTable (file.now ++ added.new) }
-    ensures none { IfOk result (λ found. found ≡ None → added.new ≡ added.old) }
-    ensures err { OnErr result (added.new ≡ added.old) }
-{
-    if let Some(var) = file.find(name) {
-        return Ok(Some(var));
-    }
-    match added.intern_within(name, MOST_NAMES - file.len())? {
-        Some(var) => Ok(Some(behind(file, var))),
-        None => Ok(None),
-    }
-}
-
-/// The variable of a name, where it finds a number; a short name is not looked at again.
+/// The variable of a name, where it finds a number: that of the problem's or the proof's, or else the next one. A short name is not looked at
+/// where its number is found.
 #[inline(always)]
 fn interned(
     file: &Names,
@@ -112,7 +93,13 @@ fn interned(
             return Ok(Some(var));
         }
     }
-    found_or_added(file, added, name)
+    if let Some(var) = file.find(name) {
+        return Ok(Some(var));
+    }
+    match added.intern_within(name, MOST_NAMES - file.len())? {
+        Some(var) => Ok(Some(behind(file, var))),
+        None => Ok(None),
+    }
 }
 
 impl<'a> LineNames<'a> {

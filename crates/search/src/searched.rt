@@ -25,14 +25,10 @@ pub(crate) struct Searched {
 impl Searched {
     /// Nothing was looked at in a search of this problem.
     pub(crate) fn new(problem: &Problem) -> Self {
-        let mut file: u64 = 0;
-        for constraint in problem.constraints() {
-            file = file.saturating_add(constraint.terms.len() as u64);
-        }
         Searched {
             terms: 0,
             variables: problem.names().len() as u64,
-            file,
+            file: problem.constraints().term_count() as u64,
             learned: 0,
             literals: 0,
         }

@@ -1,6 +1,8 @@
 //! Names, lists, assignments and problems, with ample memory.
 
-use linear::{Assignment, Lit, Names, Problem, Relation, Seq, Signed, Term, Var};
+use linear::{
+    Assignment, Constraints, LentConstraint, Lit, Names, Problem, Relation, Seq, Signed, Term, Var,
+};
 use opb_read::{OpbFault, read};
 use pb_text::{Literal, Tokens, as_literal};
 use std::alloc::{AllocError, Global};
@@ -75,11 +77,31 @@ fn same_terms(left: &Seq<Term>, right: &Seq<Term>) -> bool {
     left.as_slice() == right.as_slice()
 }
 
-fn same_constraints(left: &[Signed], right: &[Signed]) -> bool {
-    left.len() == right.len()
-        && left.iter().zip(right.iter()).all(|(a, b)| {
-            same_terms(&a.terms, &b.terms) && a.relation == b.relation && a.right == b.right
-        })
+/// Whether two constraints are the same.
+fn same_constraint(left: &LentConstraint<'_>, right: &LentConstraint<'_>) -> bool {
+    let same_sides = left.relation() == right.relation() && left.right() == right.right();
+    if !same_sides || left.len() != right.len() {
+        return false;
+    }
+    for place in 0..left.len() {
+        if left.term(place) != right.term(place) {
+            return false;
+        }
+    }
+    true
+}
+
+/// Whether two lists of constraints are the same.
+fn same_constraints(left: &Constraints, right: &Constraints) -> bool {
+    if left.len() != right.len() {
+        return false;
+    }
+    for place in 0..left.len() {
+        if !same_constraint(&left.get(place), &right.get(place)) {
+            return false;
+        }
+    }
+    true
 }
 
 /// Whether two problems are the same in objective and constraints, and in the number of their names.
@@ -111,12 +133,20 @@ fn wanted_terms(alloc: Global) -> Result<Seq<Term>, AllocError> {
 }
 
 /// Whether each constraint says that these terms add up to 0.
-fn are_equalities(constraints: &[Signed], terms: &Seq<Term>) -> bool {
-    constraints.iter().all(|constraint| {
-        constraint.relation == Relation::Equal
-            && constraint.right == 0
-            && same_terms(&constraint.terms, terms)
-    })
+fn are_equalities(
+    alloc: Global,
+    constraints: &Constraints,
+    terms: &Seq<Term>,
+) -> Result<bool, AllocError> {
+    let mut constraint = Signed::new(alloc);
+    for place in 0..constraints.len() {
+        constraints.copy_to(place, &mut constraint)?;
+        let is_equality = constraint.relation == Relation::Equal && constraint.right == 0;
+        if !is_equality || !same_terms(&constraint.terms, terms) {
+            return Ok(false);
+        }
+    }
+    Ok(true)
 }
 
 #[test]
@@ -124,7 +154,8 @@ fn a_problem_is_read(rt: HostRuntime) {
     let alloc = rt.alloc();
     let terms = wanted_terms(alloc).expect(&rt, "memory");
     let problem = read(alloc, b"min: 1 x1 ; +02 x2 -3 ~x1 = -0 ;").expect(&rt, "a problem");
-    assert!(&rt; are_equalities(problem.constraints(), &terms));
+    assert!(&rt; are_equalities(alloc, problem.constraints(), &terms) == Ok(true));
+    assert!(&rt; problem.constraints().term_count() == terms.len());
     assert!(&rt; problem.names().get(Var(1)) == Some(b"x2".as_slice()));
 }
 
@@ -162,7 +193,7 @@ fn lists_are_given_back(rt: HostRuntime) {
 
 #[test]
 fn the_empty_problem_is_satisfied(rt: HostRuntime) {
-    let problem = Problem::new(Names::new(rt.alloc()), None, Vec::new(rt.alloc()));
+    let problem = Problem::new(Names::new(rt.alloc()), None, Constraints::new(rt.alloc()));
     problem.reveal();
     let assignment = Assignment::from_vec(Vec::new(rt.alloc()));
     assert!(&rt; problem.satisfied(&assignment));

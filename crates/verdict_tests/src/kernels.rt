@@ -3,11 +3,10 @@
 //! equality two of them, and what a step adds has the next one.
 
 ghost use Rattle.std.specs.Prelude.{IfOk};
-ghost use Rattle.linear.specs.Limits.{IsConstraintWithin};
 ghost use Rattle.kernel.specs.Held.{HasAtLeast};
 
 use kernel::Kernel;
-use linear::{Lit, Names, Problem, Relation, Seq, Signed, Var};
+use linear::{Constraints, Lit, Names, Problem, Relation, Seq, Var};
 use opb_read::read;
 use proof_rules::StepFault;
 use proof_steps::{Conclusion, Item, Step};
@@ -16,22 +15,11 @@ use propagate::{Propagator, ScanPropagator};
 use std::alloc::{AllocError, Global};
 use std::process::Abort;
 
-/// A constraint without terms, so that the file needs no names.
-fn statement(alloc: Global, relation: Relation, right: i8) -> Result<Signed, AllocError>
-    ensures { IfOk result (IsConstraintWithin 0) }
-{
-    Ok(Signed {
-        terms: Seq::from_vec(Vec::new(alloc)),
-        relation,
-        right: i128::from(right),
-    })
-}
-
-/// The file `>= LEAST ; = 0 ;`, whose constraints have the ids 1, and 2 and 3.
+/// The file `>= LEAST ; = 0 ;`, whose constraints have the ids 1, and 2 and 3. They have no terms, so that it needs no names.
 fn problem(alloc: Global, least: i8) -> Result<Problem, AllocError> {
-    let mut constraints = Vec::new(alloc);
-    constraints.push(statement(alloc, Relation::AtLeast, least)?)?;
-    constraints.push(statement(alloc, Relation::Equal, 0)?)?;
+    let mut constraints = Constraints::new(alloc);
+    constraints.push(&[], Relation::AtLeast, i128::from(least))?;
+    constraints.push(&[], Relation::Equal, 0)?;
     Ok(Problem::new(Names::new(alloc), None, constraints))
 }
 

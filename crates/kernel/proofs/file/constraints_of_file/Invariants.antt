@@ -3,5 +3,5 @@ use Rattle.kernel.specs.File.{AreOfFile}
 use Rattle.kernel.proofs.file.constraints_of_file.Given as goal
 
 -- the constraints so far
-abbrev pub invariant-loop-constraint : goal.invariant-loop-constraint
-invariant-loop-constraint g l = AreOfFile (take l.constraint-index l.problem.constraints) l.database
+abbrev pub invariant-loop-place : goal.invariant-loop-place
+invariant-loop-place g l = AreOfFile (take l.place l.problem.constraints) l.database

@@ -1,4 +1,4 @@
-use Rattle.std.proofs.Common.{◌<◌, ◌≤◌, length, sym, subst}
+use Rattle.std.proofs.Common.{◌<◌, ◌≤◌, arith, length, sym, subst}
 use Rattle.std.proofs.lemmas.List.{take_all}
 use Rattle.std.proofs.lemmas.List.Elements.{All-get_or}
 use Rattle.linear.specs.Limits.{IsConstraintWithin}
@@ -12,26 +12,26 @@ use Rattle.presolve.proofs.file_forms.keys_of.Goals as goal
 pub add_forms-requires : goal.add_forms-requires
 add_forms-requires c =
     let p = c.args.problem.now in
-    let i = c.loop-constraint.constraint-index in
-    let item = c.constraint-item.result in
-    let within = c.constraints-constraint-items.ensures.within in
-    let h : i < length p.constraints = subst (λ xs. i < length xs) c.constraints-constraint-items.ensures.constraints c.loop-constraint-test.true in
-    let is = read_constraint p.constraints c.constraints-constraint-items.result.now item i c.constraints-constraint-items.ensures.constraints c.constraint-item.is in
+    let i = c.loop-place.place in
+    let item = c.copy_to.new.constraint in
+    let within = c.constraints-constraints.ensures.within in
+    let h : i < length p.constraints = subst (λ xs. i < length xs) c.constraints-constraints.ensures.constraints (omega (arith, c.loop-place-test.true, c.len-place-end.ensures)) in
+    let is = read_constraint p.constraints c.constraints-constraints.result.now item i c.constraints-constraints.ensures.constraints c.in_ok-copy_to.ensures in
     record { small = constraint_small (length p.names) item (subst (IsConstraintWithin (length p.names)) (sym is) (All-get_or (IsConstraintWithin (length p.names)) p.constraints i item h within.constraints)) }
 
-pub loop-constraint-preserved : goal.loop-constraint-preserved
-loop-constraint-preserved c =
+pub loop-place-preserved : goal.loop-place-preserved
+loop-place-preserved c =
     let cs = c.args.problem.now.constraints in
-    let i = c.loop-constraint.constraint-index in
-    let item = c.constraint-item.result in
-    let old = c.loop-constraint.keys.keys in
+    let i = c.loop-place.place in
+    let item = c.copy_to.new.constraint in
+    let old = c.loop-place.keys.keys in
     let new = c.add_forms.new.keys.keys in
-    let h : i < length cs = subst (λ xs. i < length xs) c.constraints-constraint-items.ensures.constraints c.loop-constraint-test.true in
-    let is = read_constraint cs c.constraints-constraint-items.result.now item i c.constraints-constraint-items.ensures.constraints c.constraint-item.is in
-    keys_more cs i item old new h c.loop-constraint.invariant (subst (λ (x : Signed). Adds (IsFormOf x) old new) is c.in_ok-add_forms.ensures)
+    let h : i < length cs = subst (λ xs. i < length xs) c.constraints-constraints.ensures.constraints (omega (arith, c.loop-place-test.true, c.len-place-end.ensures)) in
+    let is = read_constraint cs c.constraints-constraints.result.now item i c.constraints-constraints.ensures.constraints c.in_ok-copy_to.ensures in
+    keys_more cs i item old new h c.loop-place.invariant (subst (λ (x : Signed). Adds (IsFormOf x) old new) is c.in_ok-add_forms.ensures)
 
 pub returns : goal.returns
 returns c =
     let cs = c.args.problem.now.constraints in
-    let end : length cs ≤ c.loop-constraint.constraint-index = subst (λ xs. length xs ≤ c.loop-constraint.constraint-index) c.constraints-constraint-items.ensures.constraints c.loop-constraint-test.false in
-    subst (λ xs. AreKeysOf xs c.loop-constraint.keys.keys) (take_all c.loop-constraint.constraint-index cs end) c.loop-constraint.invariant
+    let end : length cs ≤ c.loop-place.place = subst (λ xs. length xs ≤ c.loop-place.place) c.constraints-constraints.ensures.constraints (omega (arith, c.loop-place-test.false, c.len-place-end.ensures)) in
+    subst (λ xs. AreKeysOf xs c.loop-place.keys.keys) (take_all c.loop-place.place cs end) c.loop-place.invariant

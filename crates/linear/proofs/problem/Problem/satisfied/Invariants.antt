@@ -5,6 +5,5 @@ use Rattle.linear.specs.Valuation.{valuation_of}
 use Rattle.linear.proofs.problem.Problem.satisfied.Given as goal
 
 -- the constraints so far are met
-abbrev pub invariant-loop-constraint : goal.invariant-loop-constraint
-invariant-loop-constraint l =
-    (k : ℕ) (d : Signed) → k < l.constraint-index → Meets (valuation_of l.assignment) (get_or l.constraint-items k d)
+abbrev pub invariant-loop-place : goal.invariant-loop-place
+invariant-loop-place l = (k : ℕ) (d : Signed) → k < l.place → Meets (valuation_of l.assignment) (get_or l.self.constraints k d)
