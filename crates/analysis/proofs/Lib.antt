@@ -1,5 +1,5 @@
 pub mod Expressions
 pub mod Forcing
-pub mod SpotTable
+pub mod Spots
 pub mod LongerLines
 pub mod Trails

@@ -13,9 +13,9 @@ ghost use Rattle.analysis.specs.Lines.{BeginsWith};
 use super::learned::Learned;
 use super::met::Met;
 use super::resolvent::Resolvent;
+use super::search_trail::SearchTrail;
 use super::seen::Seen;
 use super::stop::Stop;
-use super::trail::Trail;
 use super::walk::walk;
 use accumulate::Accumulator;
 use kernel::Kernel;
@@ -52,13 +52,13 @@ impl Analyser {
         &mut self,
         alloc: Global,
         kernel: &Kernel<'a, P>,
-        trail: &Trail,
+        trail: &SearchTrail,
         conflict: Id,
     ) -> Result<Option<Learned>, AllocError>
         ensures begins { IfOk result (λ found. IfSome found (λ l. BeginsWith conflict l.items)) }
         ensures derived { IfOk result (λ found. IfSome found (λ l. IsPostfixOf (constraint_of kernel.now.state) l.items l.constraint)) }
-        ensures biting { IfOk result (λ found. IfSome found (λ l. BitesAt trail.now l.level l.constraint)) }
-        ensures lower { IfOk result (λ found. IfSome found (λ l. l.level < greatest_level trail.now)) }
+        ensures biting { IfOk result (λ found. IfSome found (λ l. BitesAt trail.now.entries l.level l.constraint)) }
+        ensures lower { IfOk result (λ found. IfSome found (λ l. l.level < greatest_level trail.now.entries)) }
     {
         self.met.clear();
         match walk(alloc, kernel, trail, conflict, self) {

@@ -7,8 +7,8 @@ ghost use Rattle.std.specs.Prelude.{IfOk, IfSome};
 ghost use Rattle.analysis.specs.Biting.{BitesAt};
 
 use super::level::{LeastLevel, least_level};
+use super::search_trail::SearchTrail;
 use super::slack::slack;
-use super::trail::Trail;
 use normal_form::Normal;
 use std::alloc::{AllocError, Global};
 
@@ -25,9 +25,9 @@ pub struct Bite {
 pub fn bite_on(
     alloc: Global,
     constraint: &Normal,
-    trail: &Trail,
+    trail: &SearchTrail,
 ) -> Result<Option<Bite>, AllocError>
-    ensures { IfOk result (λ found. IfSome found (λ bite. BitesAt trail.now bite.level constraint.now)) }
+    ensures { IfOk result (λ found. IfSome found (λ bite. BitesAt trail.now.entries bite.level constraint.now)) }
 {
     let limit = trail.open_decisions().saturating_add(1);
     let Some(least) = least_level(alloc, constraint, trail, limit)? else {

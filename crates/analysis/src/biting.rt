@@ -7,14 +7,14 @@ ghost use Rattle.propagate.specs.Slack.{IsForced, not_false};
 ghost use Rattle.propagate.specs.Walk.{CanForce};
 ghost use Rattle.analysis.specs.Biting.{BitesAt, literals_up_to};
 
+use super::search_trail::SearchTrail;
 use super::slack::slack;
-use super::trail::Trail;
 use linear::Lit;
 use normal_form::Normal;
 
 /// Whether a literal with this coefficient is forced where the slack is this.
-fn is_forced(trail: &Trail, level: u32, literal: Lit, coef: u128, slack: u128) -> bool
-    ensures { IsTrue result ↔ CanForce (literals_up_to level trail.now) slack coef literal }
+fn is_forced(trail: &SearchTrail, level: u32, literal: Lit, coef: u128, slack: u128) -> bool
+    ensures { IsTrue result ↔ CanForce (literals_up_to level trail.now.entries) slack coef literal }
 {
     coef > slack
         && !trail.is_true_at(literal, level)
@@ -22,9 +22,9 @@ fn is_forced(trail: &Trail, level: u32, literal: Lit, coef: u128, slack: u128) -
 }
 
 /// Whether a constraint forces a literal where its slack is this.
-fn forces(constraint: &Normal, trail: &Trail, level: u32, slack: u128) -> bool
-    requires { sum_over (not_false (literals_up_to level trail.now)) constraint.now.terms ≡ constraint.now.degree + slack }
-    ensures { IsTrue result ↔ (l : Lit) × IsForced (literals_up_to level trail.now) l constraint.now }
+fn forces(constraint: &Normal, trail: &SearchTrail, level: u32, slack: u128) -> bool
+    requires { sum_over (not_false (literals_up_to level trail.now.entries)) constraint.now.terms ≡ constraint.now.degree + slack }
+    ensures { IsTrue result ↔ (l : Lit) × IsForced (literals_up_to level trail.now.entries) l constraint.now }
 {
     for place in 0..constraint.len() {
         let term = constraint.term(place);
@@ -36,8 +36,8 @@ fn forces(constraint: &Normal, trail: &Trail, level: u32, slack: u128) -> bool
 }
 
 /// Whether a constraint has negative slack or forces a literal under the literals up to a level.
-pub(crate) fn bites(constraint: &Normal, trail: &Trail, level: u32) -> bool
-    ensures { IsTrue result ↔ BitesAt trail.now level constraint.now }
+pub(crate) fn bites(constraint: &Normal, trail: &SearchTrail, level: u32) -> bool
+    ensures { IsTrue result ↔ BitesAt trail.now.entries level constraint.now }
 {
     match slack(constraint, trail, level) {
         Some(slack) => forces(constraint, trail, level, slack),

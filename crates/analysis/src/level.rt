@@ -8,8 +8,8 @@ ghost use Rattle.std.specs.Prelude.{◌<◌, ◌≤◌, IfOk, IfSome, length};
 ghost use Rattle.analysis.specs.Biting.{BitesAt};
 
 use super::biting::bites;
+use super::search_trail::SearchTrail;
 use super::seen::Seen;
-use super::trail::Trail;
 use accumulate::Accumulator;
 use linear::{Lit, Var};
 use normal_form::{Normal, NormalTerm};
@@ -25,7 +25,7 @@ struct Turn {
 }
 
 /// The turn of a term's literal, if that is set.
-fn turn_of(term: NormalTerm, trail: &Trail) -> Option<Turn> {
+fn turn_of(term: NormalTerm, trail: &SearchTrail) -> Option<Turn> {
     let spot = trail.spot(term.var)?;
     Some(Turn {
         level: spot.level,
@@ -35,7 +35,7 @@ fn turn_of(term: NormalTerm, trail: &Trail) -> Option<Turn> {
 }
 
 /// The turns of a constraint's set literals, the one of the greatest level last.
-fn turns(alloc: Global, constraint: &Normal, trail: &Trail) -> Result<Vec<Turn>, AllocError> {
+fn turns(alloc: Global, constraint: &Normal, trail: &SearchTrail) -> Result<Vec<Turn>, AllocError> {
     let mut turns = Vec::with_capacity(alloc, constraint.len())?;
     for place in 0..constraint.len() {
         if let Some(turn) = turn_of(constraint.term(place), trail) {
@@ -61,7 +61,7 @@ impl Sweep {
     }
 
     /// Of a constraint's literals, under all that stand.
-    fn under_all(constraint: &Normal, trail: &Trail) -> Sweep {
+    fn under_all(constraint: &Normal, trail: &SearchTrail) -> Sweep {
         let level = trail.open_decisions();
         let mut sweep = Sweep::new();
         for place in 0..constraint.len() {
@@ -83,7 +83,7 @@ impl Sweep {
     }
 
     /// With a literal of this coefficient, under the literals up to a level.
-    fn with(self, literal: Lit, coef: u128, trail: &Trail, level: u32) -> Sweep {
+    fn with(self, literal: Lit, coef: u128, trail: &SearchTrail, level: u32) -> Sweep {
         match trail.spot(literal.var) {
             Some(spot) if spot.level <= level => Sweep {
                 sum: if spot.negated == literal.negated {
@@ -163,10 +163,10 @@ pub(crate) struct LeastLevel {
 pub(crate) fn least_level(
     alloc: Global,
     constraint: &Normal,
-    trail: &Trail,
+    trail: &SearchTrail,
     decisions: u32,
 ) -> Result<Option<LeastLevel>, AllocError>
-    ensures biting { IfOk result (λ found. IfSome found (λ least. BitesAt trail.now least.level constraint.now)) }
+    ensures biting { IfOk result (λ found. IfSome found (λ least. BitesAt trail.now.entries least.level constraint.now)) }
     ensures lower { IfOk result (λ found. IfSome found (λ least. least.level < decisions)) }
 {
     let turns = turns(alloc, constraint, trail)?;
@@ -185,7 +185,7 @@ pub(crate) fn least_level(
 /// order.
 pub(crate) fn bites_before_last(
     sum: &Accumulator,
-    trail: &Trail,
+    trail: &SearchTrail,
     decisions: u32,
     seen: &mut Seen,
 ) -> Result<bool, AllocError> {

@@ -10,8 +10,8 @@ ghost use Rattle.normal_form.specs.Normal.{coefficient, only, sum_over};
 ghost use Rattle.proof_rules.specs.Expression.{Given, IsPostfixOf};
 
 use super::derivation::Derivation;
+use super::search_trail::SearchTrail;
 use super::stop::Stop;
-use super::trail::Trail;
 use accumulate::Accumulator;
 use linear::{Lit, Var};
 use normal_form::{Normal, NormalTerm};
@@ -52,7 +52,7 @@ fn uneven(
     reason: &Normal,
     literal: Lit,
     divisor: u128,
-    trail: &Trail,
+    trail: &SearchTrail,
     place: usize,
 ) -> Result<Vec<Var>, AllocError>
     requires { 0 < divisor }
@@ -76,7 +76,7 @@ pub(crate) fn reduced(
     alloc: Global,
     reason: Derivation,
     literal: Lit,
-    trail: &Trail,
+    trail: &SearchTrail,
     place: usize,
     sum: &mut Accumulator,
 ) -> Result<Derivation, Stop>

@@ -10,8 +10,8 @@ ghost use Rattle.std.specs.Prelude.{◌<◌};
 
 use super::derivation::{Derivation, written};
 use super::resolvent::Resolvent;
+use super::search_trail::SearchTrail;
 use super::stop::Stop;
-use super::trail::Trail;
 use accumulate::Accumulator;
 use linear::{Integer, Lit, Var};
 use proof_steps::Item;
@@ -51,7 +51,7 @@ fn divisor_of(sum: &Accumulator) -> u128
 fn open_variables(
     alloc: Global,
     sum: &Accumulator,
-    trail: &Trail,
+    trail: &SearchTrail,
     place: usize,
 ) -> Result<Vec<Var>, AllocError> {
     let mut variables = Vec::new(alloc);
@@ -111,7 +111,12 @@ impl Resolvent {
     }
 
     /// Makes the numbers of a sum smaller where they are large. Where its slack was negative under the literals before a place it stays so.
-    pub(crate) fn shrink(&mut self, alloc: Global, trail: &Trail, place: usize) -> Result<(), Stop>
+    pub(crate) fn shrink(
+        &mut self,
+        alloc: Global,
+        trail: &SearchTrail,
+        place: usize,
+    ) -> Result<(), Stop>
         ensures more { OnOk result (GoesOnFrom self.old.items.items self.new.items.items) }
         ensures derived { (given : Given) → IsPostfixOf given self.old.items.items self.old.sum → OnOk result (IsPostfixOf given self.new.items.items self.new.sum) }
     {

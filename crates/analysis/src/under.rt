@@ -7,12 +7,12 @@ ghost use Rattle.std.specs.Prelude.{◌↔◌, IsTrue, map};
 ghost use Rattle.analysis.specs.Biting.{Bites};
 
 use super::biting::bites;
-use super::trail::Trail;
+use super::search_trail::SearchTrail;
 use normal_form::Normal;
 
 /// Whether a constraint has negative slack, or forces a literal, under all literals of a trail.
-pub fn bites_under(constraint: &Normal, trail: &Trail) -> bool
-    ensures { IsTrue result ↔ Bites (map (λ e. e.literal) trail.now) constraint.now }
+pub fn bites_under(constraint: &Normal, trail: &SearchTrail) -> bool
+    ensures { IsTrue result ↔ Bites (map (λ e. e.literal) trail.now.entries) constraint.now }
 {
     bites(constraint, trail, trail.open_decisions())
 }

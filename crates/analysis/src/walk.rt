@@ -16,9 +16,9 @@ use super::derivation::Derivation;
 use super::learned::Learned;
 use super::level::{LeastLevel, bites_before_last, least_level};
 use super::reduction::{coefficient_of, reduced};
+use super::search_trail::SearchTrail;
 use super::size::Size;
 use super::stop::Stop;
-use super::trail::Trail;
 use accumulate::Accumulator;
 use kernel::Kernel;
 use linear::{Lit, Seq};
@@ -45,14 +45,14 @@ fn coefficient_in(sum: &Accumulator, literal: Lit) -> u128 {
 }
 
 /// The literal of a sum that became false last before a place.
-fn latest_false(sum: &Accumulator, trail: &Trail, before: usize) -> Option<Falsified>
-    requires { before ≤ length trail.now }
+fn latest_false(sum: &Accumulator, trail: &SearchTrail, before: usize) -> Option<Falsified>
+    requires { before ≤ length trail.now.entries }
     ensures { IfSome result (λ at. at.place < before) }
 {
     let mut place = before;
     while place > 0 {
         place -= 1;
-        let coef = coefficient_in(sum, trail.entries()[place].literal.opposite());
+        let coef = coefficient_in(sum, trail.entry(place).literal.opposite());
         if coef > 0 {
             return Some(Falsified { place, coef });
         }
@@ -82,16 +82,16 @@ fn add_reason(
     alloc: Global,
     id: Id,
     reason: &Normal,
-    trail: &Trail,
+    trail: &SearchTrail,
     at: Falsified,
     analyser: &mut Analyser,
 ) -> Result<(), Stop>
-    requires place { at.place < length trail.now }
+    requires place { at.place < length trail.now.entries }
     ensures more { OnOk result (GoesOnFrom analyser.old.resolvent.items.items analyser.new.resolvent.items.items) }
     ensures derived { (given : Given) → IsPostfixOf given analyser.old.resolvent.items.items analyser.old.resolvent.sum → given (pos id) ≡ Some reason.now
         → OnOk result (IsPostfixOf given analyser.new.resolvent.items.items analyser.new.resolvent.sum) }
 {
-    let literal = trail.entries()[at.place].literal;
+    let literal = trail.entry(at.place).literal;
     if at.coef == 1 && coefficient_of(reason, literal) == 1 {
         analyser.met.note(id, reason)?;
         return Ok(analyser.resolvent.add_cited(id, reason)?);
@@ -107,16 +107,16 @@ fn add_reason(
 fn resolve<'a, P: Propagator>(
     alloc: Global,
     kernel: &Kernel<'a, P>,
-    trail: &Trail,
+    trail: &SearchTrail,
     at: Falsified,
     analyser: &mut Analyser,
 ) -> Result<(), Stop>
-    requires place { at.place < length trail.now }
+    requires place { at.place < length trail.now.entries }
     requires derived { IsPostfixOf (constraint_of kernel.now.state) analyser.old.resolvent.items.items analyser.old.resolvent.sum }
     ensures more { OnOk result (GoesOnFrom analyser.old.resolvent.items.items analyser.new.resolvent.items.items) }
     ensures derived { OnOk result (IsPostfixOf (constraint_of kernel.now.state) analyser.new.resolvent.items.items analyser.new.resolvent.sum) }
 {
-    let Some(id) = trail.entries()[at.place].reason else {
+    let Some(id) = trail.entry(at.place).reason else {
         return Err(Stop::NothingLearned);
     };
     let Some(reason) = kernel.constraint(id) else {
@@ -131,7 +131,7 @@ fn resolve<'a, P: Propagator>(
 /// What the walk has, where it bites under fewer decisions than are open.
 fn learn(
     alloc: Global,
-    trail: &Trail,
+    trail: &SearchTrail,
     decisions: u32,
     analyser: &mut Analyser,
 ) -> Result<Option<Learned>, Stop>
@@ -139,7 +139,7 @@ fn learn(
         → IfOk result (λ found. MatchOption found (BeginsWith id analyser.new.resolvent.items.items) (λ l. BeginsWith id l.items)) }
     ensures derived { (given : Given) → IsPostfixOf given analyser.old.resolvent.items.items analyser.old.resolvent.sum
         → IfOk result (λ found. MatchOption found (IsPostfixOf given analyser.new.resolvent.items.items analyser.new.resolvent.sum) (λ l. IsPostfixOf given l.items l.constraint)) }
-    ensures biting { IfOk result (λ found. IfSome found (λ l. BitesAt trail.now l.level l.constraint)) }
+    ensures biting { IfOk result (λ found. IfSome found (λ l. BitesAt trail.now.entries l.level l.constraint)) }
     ensures lower { IfOk result (λ found. IfSome found (λ l. l.level < decisions)) }
 {
     let sum = &analyser.resolvent.sum;
@@ -166,18 +166,18 @@ fn learn(
 pub(crate) fn walk<'a, P: Propagator>(
     alloc: Global,
     kernel: &Kernel<'a, P>,
-    trail: &Trail,
+    trail: &SearchTrail,
     conflict: Id,
     analyser: &mut Analyser,
 ) -> Result<Learned, Stop>
     ensures begins { IfOk result (λ l. BeginsWith conflict l.items) }
     ensures derived { IfOk result (λ l. IsPostfixOf (constraint_of kernel.now.state) l.items l.constraint) }
-    ensures biting { IfOk result (λ l. BitesAt trail.now l.level l.constraint) }
-    ensures lower { IfOk result (λ l. l.level < greatest_level trail.now) }
+    ensures biting { IfOk result (λ l. BitesAt trail.now.entries l.level l.constraint) }
+    ensures lower { IfOk result (λ l. l.level < greatest_level trail.now.entries) }
 {
     let decisions = trail.open_decisions();
     begin(kernel, conflict, analyser)?;
-    let mut before = trail.entries().len();
+    let mut before = trail.len();
     loop {
         if let Some(learned) = learn(alloc, trail, decisions, analyser)? {
             return Ok(learned);

@@ -11,11 +11,12 @@
 //! search that was led there again and again found few others. Where the linear relaxation has a best point, its variables take the
 //! signs that are nearest to that.
 
-use super::brancher::{Brancher, Value};
+use super::brancher::Brancher;
 use super::heap::Heap;
 use super::progress::Progress;
 use linear::{Constraints, Integer, LentConstraint, Lit, Problem, Relation, Term, Var};
 use std::alloc::{AllocError, Global};
+use trail::Value;
 
 /// The increment at first: small steps of it are told apart.
 const FIRST_INCREMENT: u64 = 1 << 16;

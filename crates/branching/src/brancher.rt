@@ -9,15 +9,7 @@ ghost use Rattle.std.specs.Prelude.{◌≡◌, None};
 
 use super::progress::Progress;
 use linear::{Lit, Problem, Var};
-
-/// What a search knows of a variable at a time.
-#[derive(Clone, Copy, Debug, PartialEq, Eq)]
-pub enum Value {
-    True,
-    False,
-    /// Neither decided nor forced.
-    Free,
-}
+use trail::Value;
 
 /// A rule of choice.
 pub trait Brancher: Drop {

@@ -12,5 +12,6 @@ mod heap;
 mod progress;
 
 pub use activity::Activity;
-pub use brancher::{Brancher, First, Value};
+pub use brancher::{Brancher, First};
 pub use progress::Progress;
+pub use trail::Value;

@@ -7,7 +7,6 @@ pub mod Spans
 pub mod EntrySums
 pub mod ChosenLiterals
 pub mod ClauseLists
-pub mod RoundAbout
 pub mod Coefficients
 pub mod Standing
 pub mod EntryPlaces
@@ -25,3 +24,4 @@ pub mod PlacedOrders
 pub mod DecreasingTerms
 pub mod ForcedLiterals
 pub mod Notes
+pub mod Sought

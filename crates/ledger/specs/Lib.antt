@@ -5,7 +5,6 @@ pub mod Hints
 pub mod Ledgers
 pub mod Orders
 pub mod Passed
-pub mod Rounds
 pub mod Spans
 pub mod Waiting
 pub mod Watched

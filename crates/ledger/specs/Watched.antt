@@ -41,9 +41,13 @@ AreWithin variables ls = (k : ℕ) (d : Lit) → k < length ls → (slice_index_
 abbrev pub AreOthersFalse : List Lit → NormalConstraint → Pair → Type 0
 AreOthersFalse assigned n p = (l : Lit) → 0 < coefficient_of n l → IsFalseBeside assigned p l
 
--- the literals of a list behind the first two are made false, or one of two
+-- the literals of a list from an index to another are made false, or one of two
+abbrev pub AreFalseWithin : List Lit → List Lit → Pair → ℕ → ℕ → Type 0
+AreFalseWithin assigned ls p from to = (i : ℕ) (d : Lit) → from ≤ i → i < to → IsFalseBeside assigned p (slice_index_or ls i d)
+
+-- those behind the first two are
 abbrev pub AreRestFalse : List Lit → List Lit → Pair → Type 0
-AreRestFalse assigned ls p = (i : ℕ) (d : Lit) → 2 ≤ i → i < length ls → IsFalseBeside assigned p (slice_index_or ls i d)
+AreRestFalse assigned ls p = AreFalseWithin assigned ls p 2 (length ls)
 
 -- an index behind the first two of a list, at which there is an open literal beside two
 pub record IsOpenAt (assigned : List Lit) (ls : List Lit) (p : Pair) (index : ℕ) : Type 0 where

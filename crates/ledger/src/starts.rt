@@ -5,9 +5,6 @@
 //! (Gent, Optimal implementation of watched literals and more general techniques, 2013). Where literals are backtracked nothing is taken back.
 //! That is a matter of time alone, so no clause speaks of it: wherever a search begins, it finds a literal where there is one.
 
-ghost use Rattle.std.specs.Prelude.{◌≡◌, ◌+◌, ◌<◌, ◌≤◌};
-ghost use Rattle.ledger.specs.Rounds.{index_after};
-
 use std::alloc::{AllocError, Global};
 
 /// For the clause of each place the index at which the next search in it begins.
@@ -45,20 +42,5 @@ impl Starts {
             self.indices.push(0)?;
         }
         Ok(())
-    }
-}
-
-/// The index after some steps round about.
-pub(crate) fn index_after(count: usize, start: usize, step: usize) -> usize
-    requires start { start ≤ count }
-    requires step { step < count }
-    ensures value { result ≡ index_after count start step }
-    ensures below { result < count }
-{
-    let left = count - start;
-    if step < left {
-        start + step
-    } else {
-        step - left
     }
 }

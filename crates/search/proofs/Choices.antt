@@ -10,9 +10,10 @@ use Rattle.propagate.specs.Literals.{among, lists}
 use Rattle.propagate.proofs.Consistency.{only_here}
 use Rattle.propagate.proofs.Assignments.{among_cases, among_head, among_left, among_right}
 use Rattle.propagate.proofs.SearchEnds.{fewer_unset, unset_below}
-use Rattle.branching.specs.declared.brancher.Value.{Value}
-use Rattle.branching.specs.declared.brancher.Value.TheVariants.{True, False, Free}
-use Rattle.search.specs.Values.{AreValuesUnder, IsFree, IsValueUnder, unlisted_below, value_given}
+use Rattle.trail.specs.Values.{AreValuesUnder, makes_true}
+use Rattle.trail.specs.declared.value.Value.{Value}
+use Rattle.trail.specs.declared.value.Value.TheVariants.{True, False, Free}
+use Rattle.search.specs.Values.{IsFree, IsUnlisted, unlisted_below}
 
 -- a place behind the table is not free
 pub behind : (values : List Value) (v : ℕ) → length values ≤ v → IsFree values v → ⊥
@@ -31,86 +32,21 @@ equal_number n = grind (arith, nat_tests)
 abbrev pub LeavesFree : List Lit → List Value → Type 0
 LeavesFree assigned values = (v : ℕ) → IsFree values v → (s : Bool) → among assigned v s ≡ false
 
-listed_last : (assigned : List Lit) (l : Lit) (v : ℕ) → v ≡ l.var.0 → among (assigned ++ l ∷ []) v l.negated ≡ true
-listed_last assigned l v same = among_right assigned (l ∷ []) v l.negated (ap (λ n. among (l ∷ []) n l.negated) same ∙ itself l)
-  where
-    itself : (l : Lit) → among (l ∷ []) (l.var.0) l.negated ≡ true
-    itself l = ap (λ b. b || false) (ap (λ b. b && same_sign l.negated l.negated) (equal_number (l.var.0)) ∙ own_sign l.negated)
-      where
-        own_sign : (b : Bool) → (true && same_sign b b) ≡ true
-        own_sign true = refl
-        own_sign false = refl
-
--- by the literal that comes last
-given_last : (b : Bool) (assigned : List Lit) (v : ℕ) → among assigned v b ≡ true → IsValueUnder assigned v (cond b False True)
-given_last true assigned v h = h
-given_last false assigned v h = h
-
--- by those before, where the last literal is of another variable
-kept : (value : Value) (assigned : List Lit) (l : Lit) (v : ℕ) → v ≢ l.var.0 → IsValueUnder assigned v value → IsValueUnder (assigned ++ l ∷ []) v value
-kept True assigned l v other h = among_left assigned (l ∷ []) v false h
-kept False assigned l v other h = among_left assigned (l ∷ []) v true h
-kept Free assigned l v other h = (still false h.0, still true h.1)
-  where
-    still : (s : Bool) → among assigned v s ≡ false → among (assigned ++ l ∷ []) v s ≡ false
-    still s absent = is_none (among (assigned ++ l ∷ []) v s) (λ e. elim (among_cases assigned (l ∷ []) v s e) [
-      | inl a ↦ false≢true (sym absent ∙ a)
-      | inr a ↦ other (only_here l v s a).0
-    ])
-
--- one more literal
-pub values_more : (assigned : List Lit) (l : Lit) (values : List Value) → AreValuesUnder assigned values → AreValuesUnder (assigned ++ l ∷ []) (set values (l.var.0) (value_given l))
-values_more assigned l values are v within =
-    let x : ℕ = l.var.0 in
-    let inside : v < length values = subst (λ n. v < n) (length-set values x (value_given l)) within in
-    elim (cases_eq v x) as (λ _. IsValueUnder (assigned ++ l ∷ []) v (get_or (set values x (value_given l)) v Free)) [
-      | inl same ↦
-          subst (IsValueUnder (assigned ++ l ∷ []) v) (sym (ap (λ n. get_or (set values x (value_given l)) n Free) same ∙ get_or-set_same values x (value_given l) Free (subst (λ n. n < length values) same inside)))
-          (given_last l.negated (assigned ++ l ∷ []) v (listed_last assigned l v same))
-      | inr other ↦
-          subst (IsValueUnder (assigned ++ l ∷ []) v) (sym (get_or-set_other values x v (value_given l) Free other)) (kept (get_or values v Free) assigned l v other (are v inside))
-    ]
-
--- by those before the last literal, where that one is of another variable
-still_given : (value : Value) (before : List Lit) (l : Lit) (v : ℕ) → v ≢ l.var.0 → IsValueUnder (before ++ l ∷ []) v value → IsValueUnder before v value
-still_given value before l v other h = by value h
-  where
-    listed : (s : Bool) → among (before ++ l ∷ []) v s ≡ true → among before v s ≡ true
-    listed s e = elim (among_cases before (l ∷ []) v s e) [
-      | inl a ↦ a
-      | inr a ↦ absurd (other (only_here l v s a).0)
-    ]
-
-    absent : (s : Bool) → among (before ++ l ∷ []) v s ≡ false → among before v s ≡ false
-    absent s e = is_none (among before v s) (λ a. false≢true (sym e ∙ among_left before (l ∷ []) v s a))
-
-    by : (value : Value) → IsValueUnder (before ++ l ∷ []) v value → IsValueUnder before v value
-    by True h = listed false h
-    by False h = listed true h
-    by Free h = (absent false h.0, absent true h.1)
-
--- one literal less, whose variable stands nowhere else
-pub values_less : (before : List Lit) (l : Lit) (values : List Value) → AreValuesUnder (before ++ l ∷ []) values → ((s : Bool) → among before (l.var.0) s ≡ false) → AreValuesUnder before (set values (l.var.0) Free)
-values_less before l values are apart v within =
-    let x : ℕ = l.var.0 in
-    let inside : v < length values = subst (λ n. v < n) (length-set values x Free) within in
-    elim (cases_eq v x) as (λ _. IsValueUnder before v (get_or (set values x Free) v Free)) [
-      | inl same ↦
-          subst (IsValueUnder before v) (sym (ap (λ n. get_or (set values x Free) n Free) same ∙ get_or-set_same values x Free Free (subst (λ n. n < length values) same inside)))
-          (ap (λ n. among before n false) same ∙ apart false, ap (λ n. among before n true) same ∙ apart true)
-      | inr other ↦ subst (IsValueUnder before v) (sym (get_or-set_other values x v Free Free other)) (still_given (get_or values v Free) before l v other (are v inside))
-    ]
-
 -- what a table of what is listed has as free is not listed
 pub values_leave_free : (assigned : List Lit) (values : List Value) → AreValuesUnder assigned values → LeavesFree assigned values
 values_leave_free assigned values are v free s = elim (cases_lt v (length values)) as (λ _. among assigned v s ≡ false) [
-  | inl inside ↦ neither s (subst (IsValueUnder assigned v) (get_or_default values v Free True inside ∙ free) (are v inside))
+  | inl inside ↦ are v s inside ∙ ap (λ (o : Value). makes_true o s) (get_or_default values v Free True inside ∙ free)
   | inr outside ↦ absurd (behind values v (omega (arith, outside)) free)
 ]
+
+-- and what is not listed it has as free
+pub free_where : (assigned : List Lit) (values : List Value) (v : ℕ) → AreValuesUnder assigned values → v < length values → IsUnlisted assigned v → IsFree values v
+free_where assigned values v are inside none = get_or_default values v True Free inside ∙ by (get_or values v Free) (λ s. sym (are v s inside) ∙ none s)
   where
-    neither : (s : Bool) → IsValueUnder assigned v Free → among assigned v s ≡ false
-    neither true h = h.1
-    neither false h = h.0
+    by : (o : Value) → ((s : Bool) → makes_true o s ≡ false) → o ≡ Free
+    by True h = absurd (false≢true (sym (h false)))
+    by False h = absurd (false≢true (sym (h true)))
+    by Free h = refl
 
 -- a literal that is none of those before, nor the next one
 same_literal : (x l : Lit) → x.var.0 ≡ l.var.0 → x.negated ≡ l.negated → x ≡ l

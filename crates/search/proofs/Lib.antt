@@ -16,4 +16,4 @@ pub mod BegunLogs
 pub mod Entitling
 pub mod Settling
 pub mod Stepping
-pub mod TakenOff
+pub mod MoreStands

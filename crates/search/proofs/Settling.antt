@@ -6,7 +6,7 @@ use Rattle.linear.specs.declared.term.Lit.{Lit}
 use Rattle.normal_form.specs.Normal.{NormalConstraint}
 use Rattle.propagate.specs.Chain.{IsChain, IsClosure, IsReached, LeadsToConflict}
 use Rattle.propagate.specs.Content.{IsEnd}
-use Rattle.propagate.specs.Literals.{IsConsistent, lists}
+use Rattle.propagate.specs.Literals.{IsConsistent, among, lists}
 use Rattle.propagate.proofs.Assignments.{among_left, among_right}
 use Rattle.propagate.proofs.ChainEnds.{given_within}
 use Rattle.propagate.proofs.Closure.{closure_fixpoint}
@@ -14,12 +14,13 @@ use Rattle.propagate.proofs.Consistency.{chain_consistent}
 use Rattle.propagate.proofs.JoinedChains.{joined}
 use Rattle.proof_rules.specs.Solution.{NamesAll, literal_for}
 use Rattle.proof_rules.specs.State.{constraints}
-use Rattle.branching.specs.declared.brancher.Value.{Value}
-use Rattle.branching.specs.declared.brancher.Value.TheVariants.{True, False, Free}
+use Rattle.trail.specs.Values.{AreValuesUnder, makes_true}
+use Rattle.trail.specs.declared.value.Value.{Value}
+use Rattle.trail.specs.declared.value.Value.TheVariants.{True, False, Free}
 use Rattle.search.specs.Descents.{IsSettled}
 use Rattle.proof_log.specs.Log.{Logbook}
 use Rattle.proof_log.specs.Named.{LiveIsNamed}
-use Rattle.search.specs.Values.{AreValuesUnder, IsValueUnder, NoneIsFree}
+use Rattle.search.specs.Values.{NoneIsFree}
 use Rattle.search.proofs.Decisions.{closure_named}
 use Rattle.search.specs.Decisions.{AreDecisions}
 
@@ -29,7 +30,7 @@ as_chain live given l (inl here) = ([], tt, among_left given [] (l.var.0) l.nega
 as_chain live given l (inr (xs, chain, here)) = (xs, chain, among_right given xs (l.var.0) l.negated here)
 
 -- what follows without a conflict from literals without opposites has none
-closure_consistent : (live : List NormalConstraint) (given closed : List Lit) → IsConsistent given → (LeadsToConflict live given → ⊥) → IsClosure live given closed → IsConsistent closed
+pub closure_consistent : (live : List NormalConstraint) (given closed : List Lit) → IsConsistent given → (LeadsToConflict live given → ⊥) → IsClosure live given closed → IsConsistent closed
 closure_consistent live given closed consistent none closure (l, here, there) =
     let xs = as_chain live given l ((closure l).0 here) in
     let ys = as_chain live given (opposite l) ((closure (opposite l)).0 there) in
@@ -40,11 +41,11 @@ closure_consistent live given closed consistent none closure (l, here, there) =
 named : (assigned : List Lit) (values : List Value) (count : ℕ) → AreValuesUnder assigned values → NoneIsFree values count → length values ≡ count → NamesAll count assigned
 named assigned values count are none same v below =
     let inside : v < length values = subst (λ n. v < n) (sym same) below in
-    by (get_or values v Free) (λ free. none v below (get_or_default values v True Free inside ∙ free)) (are v inside)
+    by (get_or values v Free) (λ free. none v below (get_or_default values v True Free inside ∙ free)) (λ s. are v s inside)
   where
-    by : (value : Value) → (value ≡ Free → ⊥) → IsValueUnder assigned v value → (b : Bool) × (lists assigned (literal_for v b) ≡ true)
-    by True other h = (true, h)
-    by False other h = (false, h)
+    by : (value : Value) → (value ≡ Free → ⊥) → ((s : Bool) → among assigned v s ≡ makes_true value s) → (b : Bool) × (lists assigned (literal_for v b) ≡ true)
+    by True other h = (true, h false)
+    by False other h = (false, h true)
     by Free other h = absurd (other refl)
 
 pub settled : (l : Logbook) (decisions standing : List Lit) (table : List Value) (count : ℕ) → LiveIsNamed l.problem l.state → AreDecisions l decisions → IsEnd l.state.live decisions standing → AreValuesUnder standing table

@@ -12,8 +12,9 @@ use Rattle.linear.specs.Literal.{opposite}
 use Rattle.propagate.specs.Literals.{IsConsistent, among}
 use Rattle.propagate.proofs.Consistency.{push_consistent}
 use Rattle.search.specs.Conflicts.{TakesLast}
-use Rattle.search.specs.Values.{AreValuesUnder, IsFree, unlisted_below}
-use Rattle.branching.specs.declared.brancher.Value.{Value}
+use Rattle.trail.specs.Values.{AreValuesUnder}
+use Rattle.trail.specs.declared.value.Value.{Value}
+use Rattle.search.specs.Values.{IsFree, unlisted_below}
 use Rattle.search.proofs.Choices.{LeavesFree, fewer, values_leave_free}
 
 -- a conflict takes a decision that was made where the others led to none, and not to its opposite
@@ -46,19 +47,18 @@ pub record IsChosen (content : Content) (decisions : List Lit) (l : Lit) (count 
   pub takes : TakesLast (fin.values content) (decisions ++ l ∷ [])
   pub fewer : unlisted_below count (decisions ++ l ∷ []) < unlisted_below count decisions
 
-pub chosen : (content : Content) (decisions assigned : List Lit) (table values : List Value) (l : Lit) (count : ℕ) → IsEnd content decisions assigned → AreValuesUnder assigned table → values ≡ table → IsFree values (l.var.0) → l.var.0 < length values
-    → length table ≡ count → IsConsistent decisions → IsChosen content decisions l count
-chosen content decisions assigned table values l count end are same free inside size consistent =
-    let is_free : IsFree table (l.var.0) = subst (λ vs. IsFree vs (l.var.0)) same free in
-    let leaves = free_not_decided content decisions assigned table end are in
+pub chosen : (content : Content) (decisions assigned : List Lit) (values : List Value) (l : Lit) (count : ℕ) → IsEnd content decisions assigned → AreValuesUnder assigned values → IsFree values (l.var.0) → l.var.0 < length values
+    → length values ≡ count → IsConsistent decisions → IsChosen content decisions l count
+chosen content decisions assigned values l count end are is_free inside size consistent =
+    let leaves = free_not_decided content decisions assigned values end are in
     let possible : (LeadsToConflict (fin.values content) decisions → ⊥) → IsImpossible (fin.values content) decisions → ⊥ = λ none h. elim h [
       | inl both ↦ consistent both
       | inr conflict ↦ none conflict
     ] in
-    let within : l.var.0 < count = subst (λ n. l.var.0 < n) (ap length same ∙ size) inside in
+    let within : l.var.0 < count = subst (λ n. l.var.0 < n) size inside in
     record {
       consistent = push_consistent decisions l consistent (leaves (l.var.0) is_free (not l.negated));
       within = within;
-      takes = takes_free (fin.values content) decisions l (possible end.no_conflict) (opposite_not_reached content decisions assigned table l end are is_free);
-      fewer = fewer count decisions table l leaves is_free within;
+      takes = takes_free (fin.values content) decisions l (possible end.no_conflict) (opposite_not_reached content decisions assigned values l end are is_free);
+      fewer = fewer count decisions values l leaves is_free within;
     }

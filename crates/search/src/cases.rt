@@ -1,11 +1,9 @@
 //! Worked cases: the definitions computed on small logs.
 
-ghost use Rattle.std.specs.Prelude.{◌≡◌, ℕ, [], ◌∷◌, ◌++◌, List, None, Some, false, length, pos, true};
-ghost use Rattle.linear.specs.declared.term.Lit.{Lit};
+ghost use Rattle.std.specs.Prelude.{◌≡◌, ℕ, [], ◌∷◌, ◌++◌, List, None, Some, length, pos, true};
 ghost use Rattle.linear.specs.declared.constraint.Relation.TheVariants.{AtLeast};
 ghost use Rattle.normal_form.specs.Cases.{negated, normal, plain, signed, signed_not};
 ghost use Rattle.propagate.specs.Cases.{one_of_two, x, not_x};
-ghost use Rattle.propagate.specs.Literals.{IsConsistent, among};
 ghost use Rattle.proof_rules.specs.Cases.{cover_file};
 ghost use Rattle.proof_rules.specs.State.{HasRoom, constraints};
 ghost use Rattle.proof_steps.specs.declared.conclusion.Conclusion.TheVariants as conclusions;
@@ -17,9 +15,6 @@ ghost use Rattle.search.specs.Conflicts.{LeadsAtLast, MeetsConflict, TakesLast};
 ghost use Rattle.proof_log.specs.Log.{Logbook};
 ghost use Rattle.search.specs.Presolving.{BeginsPresolved, fixing};
 ghost use Rattle.search.specs.Solving.{BearsOut, MayStop};
-ghost use Rattle.search.specs.Values.{AreValuesUnder, IsValueUnder};
-ghost use Rattle.branching.specs.declared.brancher.Value.{Value};
-ghost use Rattle.branching.specs.declared.brancher.Value.TheVariants as values;
 ghost use Rattle.search.specs.declared.found.Found.TheVariants as founds;
 ghost use Rattle.search.specs.declared.found.Unfinished.TheVariants as reasons;
 ghost use Rattle.search.specs.Decisions.{AreDecisions};
@@ -58,18 +53,6 @@ pub fn borne_out()
     ensures other_bound { (l : Logbook) → l.state.least ≡ Some (pos 7) → l.conclusion ≡ conclusions.Bounds (lowers.At (pos 6)) (uppers.At (pos 7)) None → BearsOut 1 l founds.Optimum → ⊥ }
     ensures memory { (l : Logbook) → BearsOut 1 l (founds.Unknown reasons.Memory) → ⊥ }
     ensures solved { (l : Logbook) → l.problem.objective ≡ None → l.state.logged ≡ [] → BearsOut 1 l founds.Sat → ⊥ }
-{}
-
-/// Under x0 and ~x2 the first of three variables is true, the second one free, and the third one false. A value that is turned, or
-/// left out, is none; and where no literal stands beside its opposite there is one.
-pub fn values_of_an_assignment()
-    ensures told { AreValuesUnder (x 0 ∷ not_x 2 ∷ []) (values.True ∷ values.Free ∷ values.False ∷ []) }
-    ensures turned { AreValuesUnder (x 0 ∷ not_x 2 ∷ []) (values.False ∷ values.Free ∷ values.True ∷ []) → ⊥ }
-    ensures left_out { AreValuesUnder (x 0 ∷ []) (values.Free ∷ []) → ⊥ }
-    ensures one_true { (assigned : List Lit) → (v : ℕ) → (value : Value) → IsConsistent assigned → among assigned v false ≡ true
-        → IsValueUnder assigned v value → value ≡ values.True }
-    ensures one_false { (assigned : List Lit) → (v : ℕ) → (value : Value) → IsConsistent assigned → among assigned v true ≡ true
-        → IsValueUnder assigned v value → value ≡ values.False }
 {}
 
 /// Of a file with two variables x2 is no decision, nor is a literal beside its opposite.

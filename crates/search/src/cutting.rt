@@ -68,7 +68,7 @@ fn learn<'a, P: Propagator>(
     if !log.can_write(&step) {
         return Ok(false);
     }
-    if !try_under(alloc, log, left, &constraint, standing, brancher)? {
+    if !try_under(log, left, &constraint, standing, brancher)? {
         return Ok(false);
     }
     let variables = variables_of(alloc, &constraint)?;

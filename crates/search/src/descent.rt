@@ -15,7 +15,7 @@ ghost use Rattle.proof_rules.specs.State.{constraints};
 ghost use Rattle.search.specs.Conflicts.{LeadsAtLast};
 ghost use Rattle.search.specs.Descents.{IfAdvised, IfConflict, IfFixpoint, IfUndone, IsAdvisedUnder, IsSettled};
 ghost use Rattle.search.specs.Decisions.{AreDecisions};
-ghost use Rattle.search.specs.Values.{IsFree, unlisted_below};
+ghost use Rattle.search.specs.Values.{IsUnlisted, unlisted_below};
 
 use super::advisers::{Advisers, Line};
 use super::choice::{choose, is_free, pick_more};
@@ -70,9 +70,9 @@ fn note(
     standing: &mut Standing,
     decided: &Decided,
 ) -> Result<Option<Id>, AllocError>
-    ensures count { length standing.new.values ≡ length standing.old.values }
+    ensures count { standing.new.count ≡ standing.old.count }
     ensures decided { OnOk result (decisions.new.items ≡ decisions.old.items ++ decided.now.literal ∷ []) }
-    ensures end { IfOk result (λ falsified. (live : Content) → IsEnd live decisions.old.items standing.old.literals → IsTraceOfLast live decisions.old.items decided.now.literal decided.now.trace
+    ensures end { IfOk result (λ falsified. (live : Content) → IsConsistent (decisions.old.items ++ decided.now.literal ∷ []) → IsEnd live decisions.old.items standing.old.literals → IsTraceOfLast live decisions.old.items decided.now.literal decided.now.trace
         → MatchOption falsified (IsEnd live decisions.new.items standing.new.literals) (λ id. LeadsToConflict (map.values live) decisions.new.items)) }
 {
     decisions.push(decided.literal)?;
@@ -94,11 +94,11 @@ fn decide<'a, P: Propagator>(
     requires decisions { AreDecisions log.old decisions.old.items }
     requires consistent { IsConsistent (decisions.old.items ++ first ∷ []) }
     requires end { IsEnd log.old.state.live decisions.old.items standing.old.literals }
-    requires free { IsFree standing.old.values (first.var.0) }
-    requires inside { first.var.0 < length standing.old.values }
-    requires count { length standing.old.values ≡ length log.old.problem.names }
+    requires free { IsUnlisted standing.old.literals (first.var.0) }
+    requires inside { first.var.0 < standing.old.count }
+    requires count { standing.old.count ≡ length log.old.problem.names }
     ensures same { log.new ≡ log.old }
-    ensures count { length standing.new.values ≡ length standing.old.values }
+    ensures count { standing.new.count ≡ standing.old.count }
     ensures decisions { OnOk result (AreDecisions log.old decisions.new.items) }
     ensures fewer { OnOk result (unlisted_below (length log.old.problem.names) decisions.new.items < unlisted_below (length log.old.problem.names) decisions.old.items) }
     ensures end { IfOk result (λ falsified. MatchOption falsified (IsEnd log.old.state.live decisions.new.items standing.new.literals)
@@ -141,25 +141,19 @@ pub(crate) fn descend<'a, P: Propagator>(
     log.reveal();
     let begun = decisions.len();
     standing.fit(alloc, count as usize)?;
-    let extent = stand(
-        alloc,
-        log,
-        decisions.as_slice(),
-        standing,
-        &mut advisers.brancher,
-    )?;
+    let extent = stand(log, decisions.as_slice(), standing, &mut advisers.brancher)?;
     if !is_closed(extent) {
         return end_in_conflict(log, decisions, falsified(extent));
     }
     'decisions: loop {
         let pushed = standing.pushed();
-        let found = advisers.ask(log, standing.assigned(), decisions.len(), pushed)?;
+        let found = advisers.ask(log, standing.literals(), decisions.len(), pushed)?;
         if let Some(line) = found {
             return Ok(Descent::Advised(line));
         }
         let picked = advisers.brancher.pick(standing.values());
         let Some(first) = choose(standing.values(), count, picked) else {
-            return Ok(Descent::Fixpoint(standing.to_assigned(alloc)?));
+            return Ok(Descent::Fixpoint(standing.to_literals(alloc)?));
         };
         let further = decisions.len().saturating_sub(begun) / DECISIONS_FOR_ONE_MORE;
         let more = pick_more(alloc, &mut advisers.brancher, standing.values(), further)?;

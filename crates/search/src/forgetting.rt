@@ -20,7 +20,7 @@ impl<'a, P: Propagator> Run<'a, P> {
         if !self.learned.put_off_if_due() {
             return Ok(());
         }
-        let trail = self.standing.trail().entries();
+        let trail = self.standing.trail();
         let gone = self.learned.take_half(self.alloc, trail)?;
         self.log.forget(self.alloc, gone.as_slice())?;
         self.forget_outdone()
@@ -47,7 +47,7 @@ impl<'a, P: Propagator> Run<'a, P> {
         ensures biting { OnOk result (self.new.log.biting ≡ self.old.log.biting) }
         ensures decisions { self.new.decisions.items ≡ self.old.decisions.items }
     {
-        let trail = self.standing.trail().entries();
+        let trail = self.standing.trail();
         let gone = self.outdone.take(self.alloc, trail)?;
         self.log.forget(self.alloc, gone.as_slice())
     }

@@ -9,7 +9,7 @@ ghost use Rattle.std.specs.Prelude.{All, IfOk, IfSome};
 ghost use Rattle.propagate.specs.Ids.{HasId};
 ghost use Rattle.search.specs.Undoing.{IsNoReason};
 
-use analysis::{Entry, Size};
+use analysis::{SearchTrail, Size};
 use propagate::{Id, Ids};
 use std::alloc::{AllocError, Global};
 use std::cmp::Reverse;
@@ -86,12 +86,12 @@ pub(crate) struct LearnedConstraints {
 }
 
 /// The ids in whose constraints literals of a trail are forced.
-pub(crate) fn reasons_of(alloc: Global, trail: &[Entry]) -> Result<Ids, AllocError>
-    ensures { IfOk result (λ ids. All (λ e. IfSome e.reason (HasId ids)) trail.now) }
+pub(crate) fn reasons_of(alloc: Global, trail: &SearchTrail) -> Result<Ids, AllocError>
+    ensures { IfOk result (λ ids. All (λ e. IfSome e.reason (HasId ids)) trail.now.entries) }
 {
     let mut reasons = Ids::empty(alloc);
-    for entry in trail {
-        if let Some(reason) = entry.reason {
+    for place in 0..trail.len() {
+        if let Some(reason) = trail.entry(place).reason {
             reasons.insert(reason)?;
         }
     }
@@ -190,9 +190,9 @@ impl LearnedConstraints {
     pub(crate) fn take_half(
         &mut self,
         alloc: Global,
-        trail: &[Entry],
+        trail: &SearchTrail,
     ) -> Result<Vec<Id>, AllocError>
-        ensures { IfOk result (λ gone. All (IsNoReason trail.now) gone.items) }
+        ensures { IfOk result (λ gone. All (IsNoReason trail.now.entries) gone.items) }
     {
         let reasons = reasons_of(alloc, trail)?;
         let middle = self.middle_rank(alloc, &reasons)?;

@@ -30,7 +30,6 @@ mod searched;
 mod solution;
 mod solver;
 mod standing;
-mod values;
 
 pub use branching::{Activity, Brancher, First, Progress, Value};
 pub use found::{Found, Unfinished};

@@ -6,7 +6,7 @@
 //! the trail is forced in it.
 
 use super::learned::reasons_of;
-use analysis::Entry;
+use analysis::SearchTrail;
 use propagate::Id;
 use std::alloc::{AllocError, Global};
 
@@ -58,8 +58,8 @@ impl Outdone {
     }
 
     /// Takes out those in which no literal of a trail is forced.
-    pub(crate) fn take(&mut self, alloc: Global, trail: &[Entry]) -> Result<Vec<Id>, AllocError>
-        ensures { IfOk result (λ gone. All (IsNoReason trail.now) gone.items) }
+    pub(crate) fn take(&mut self, alloc: Global, trail: &SearchTrail) -> Result<Vec<Id>, AllocError>
+        ensures { IfOk result (λ gone. All (IsNoReason trail.now.entries) gone.items) }
     {
         let reasons = reasons_of(alloc, trail)?;
         let mut gone = Vec::new(alloc);

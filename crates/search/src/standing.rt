@@ -1,18 +1,16 @@
 //! What stands during a run: the literals that are decided or forced, in the order in which they came, each with its reason and the number of
 //! decisions since which it stands, and the value of each variable under them.
 //!
-//! There is one of it from the first turn to the last. A decision adds what it forces. Where decisions are undone, or something was learned, the
-//! propagator tells which of the literals stay, the first ones, and what stands behind them (`retracing`): the others are taken off one by one.
-//! So a turn costs what has changed, and nothing is made anew for a conflict.
+//! There is one of it from the first turn to the last, and all of it is the trail that the analysis reads. A decision adds what it forces. Where decisions
+//! are undone, or something was learned, the propagator tells which of the literals stay, the first ones, and what stands behind them (`retracing`): the
+//! others are taken off one by one. So a turn costs what has changed, and nothing is made anew for a conflict.
 //!
-//! A literal that is taken off leaves its variable free, since a variable stands once: that is known by the type of the analysis' trail, which
-//! refuses it a second time. Where the trail has refused a literal it lacks one, and all begins anew instead; no propagator tells such a
-//! literal in fact, so nobody has to prove that none does. Of reasons and levels nothing is promised. They are for the analysis alone: what that comes
-//! to is a derivation whatever they are, and whether it bites is asked under the literals.
+//! A variable stands once. A propagator may tell a literal again that stands already, and that is left out; one whose opposite stands it tells only on the
+//! way to a conflict, and then nothing is promised of the literals. Of reasons and levels nothing is promised either. They are for the analysis alone: what
+//! that comes to is a derivation whatever they are, and whether it bites is asked under the literals.
 
 use super::choice::is_free;
-use super::values::{free, note};
-use analysis::{Entry, Trail, bites_under};
+use analysis::{Entry, SearchTrail, bites_under};
 use branching::{Brancher, Value};
 use linear::{Lit, Seq};
 use normal_form::Normal;
@@ -26,9 +24,9 @@ fn level_of(decisions: usize) -> u32 {
 }
 
 /// How many entries come before the last ones that are above a level.
-fn count_up_to(entries: &[Entry], level: u32) -> usize {
-    let mut count = entries.len();
-    while count > 0 && entries[count - 1].level > level {
+fn count_up_to(trail: &SearchTrail, level: u32) -> usize {
+    let mut count = trail.len();
+    while count > 0 && trail.entry(count - 1).level > level {
         count -= 1;
     }
     count
@@ -43,94 +41,71 @@ fn tell_unassigned(literals: &[Lit], kept: usize, brancher: &mut Box<dyn Branche
     }
 }
 
-/// Literals, with what they say of the first variables, and whether the trail has all of them.
+/// The literals that stand, with the values that they give the first variables.
 #[derive(Drop)]
 pub(crate) struct Standing {
-    trail: Trail,
-    assigned: Vec<Lit>,
-    values: Vec<Value>,
-    is_whole: bool,
+    trail: SearchTrail,
+    count: usize,
     /// How many literals came so far, those among them that were taken off and came back.
     pushed: u64,
 }
 
 impl Model for Standing {
+    ghost use Rattle.std.specs.Prelude.{◌≤◌};
+    ghost use Rattle.analysis.specs.Trails.{literals_of};
     ghost use Rattle.search.specs.Standing.{Assigned};
-    ghost use Rattle.search.specs.Values.{AreOfTrail, AreValuesUnder};
 
     ghost Value = { Assigned };
 
-    ghost view = { λ s. record { literals = s.assigned.items; values = s.values.items; whole = s.is_whole } };
+    ghost view = { λ s. record { literals = literals_of s.trail.entries; count = s.count } };
 
-    ghost invariant = { λ s. AreValuesUnder s.assigned.items s.values.items × AreOfTrail s.is_whole s.trail s.assigned.items };
+    ghost invariant = { λ s. s.count ≤ s.trail.variables };
 }
 
 impl Standing {
-    ghost use Rattle.std.specs.Prelude.{◌≡◌, ◌-◌, ◌↔◌, [], ◌∷◌, ◌++◌, true, IfOk, IsTrue, OnOk, length, map, take};
+    ghost use Rattle.std.specs.Prelude.{◌≡◌, ◌-◌, ◌↔◌, [], ◌∷◌, IfOk, IsTrue, OnOk, length, map, take};
     ghost use Rattle.analysis.specs.Biting.{Bites};
-    ghost use Rattle.search.specs.Values.{AreValuesUnder};
+    ghost use Rattle.propagate.specs.Literals.{IsOnce};
+    ghost use Rattle.search.specs.Standing.{HasMore};
+    ghost use Rattle.trail.specs.Values.{AreValuesUnder};
 
     /// No literal, and a number of variables, all free.
     pub(crate) fn new(alloc: Global, count: usize) -> Result<Self, AllocError>
-        ensures assigned { IfOk result (λ s. s.literals ≡ []) }
-        ensures count { IfOk result (λ s. length s.values ≡ count) }
-        ensures whole { IfOk result (λ s. s.whole ≡ true) }
+        ensures literals { IfOk result (λ s. s.literals ≡ []) }
+        ensures count { IfOk result (λ s. s.count ≡ count) }
     {
         Ok(Standing {
-            trail: Trail::new(alloc, count)?,
-            assigned: Vec::new(alloc),
-            values: vec![in alloc; Value::Free; count]?,
-            is_whole: true,
+            trail: SearchTrail::new(alloc, count)?,
+            count,
             pushed: 0,
         })
     }
 
     /// Begins anew with so many variables, where it has another number of them.
     pub(crate) fn fit(&mut self, alloc: Global, count: usize) -> Result<(), AllocError>
-        ensures { OnOk result (length self.new.values ≡ count) }
+        ensures { OnOk result (self.new.count ≡ count) }
     {
-        if self.values().len() != count {
+        if self.count != count {
             *self = Standing::new(alloc, count)?;
         }
         Ok(())
     }
 
-    /// Begins anew where the trail lacks a literal.
-    pub(crate) fn make_whole(
-        &mut self,
-        alloc: Global,
-        brancher: &mut Box<dyn Brancher>,
-    ) -> Result<(), AllocError>
-        ensures whole { OnOk result (self.new.whole ≡ true) }
-        ensures count { length self.new.values ≡ length self.old.values }
-    {
-        if !self.is_whole {
-            tell_unassigned(self.assigned(), 0, brancher);
-            *self = Standing::new(alloc, self.values().len())?;
-        }
-        Ok(())
-    }
-
-    /// One literal more.
+    /// One literal more, unless its variable stands already.
     fn push(&mut self, entry: Entry) -> Result<(), AllocError>
-        ensures ok { OnOk result (self.new.literals ≡ self.old.literals ++ entry.literal ∷ []) }
-        ensures count { length self.new.values ≡ length self.old.values }
+        ensures more { OnOk result (HasMore self.old self.new (entry.literal ∷ [])) }
+        ensures count { self.new.count ≡ self.old.count }
     {
-        let was_whole = self.is_whole;
-        // Where memory runs out on the way the trail may have a literal more.
-        self.is_whole = false;
-        let is_pushed = self.trail.push(entry)?;
-        self.assigned.push(entry.literal)?;
-        note(&mut self.values, entry.literal);
-        self.is_whole = was_whole && is_pushed;
-        self.pushed = self.pushed.saturating_add(1);
+        if self.trail.push(entry)? {
+            self.pushed = self.pushed.saturating_add(1);
+        }
         Ok(())
     }
 
     /// A literal is decided, the last one of so many.
     pub(crate) fn decide(&mut self, literal: Lit, decisions: usize) -> Result<(), AllocError>
-        ensures ok { OnOk result (self.new.literals ≡ self.old.literals ++ literal ∷ []) }
-        ensures count { length self.new.values ≡ length self.old.values }
+        ensures more { OnOk result (HasMore self.old self.new (literal ∷ [])) }
+        ensures count { self.new.count ≡ self.old.count }
     {
         self.push(Entry {
             literal,
@@ -141,8 +116,8 @@ impl Standing {
 
     /// The literals of a chain are forced, where so many are decided.
     pub(crate) fn force(&mut self, forced: &[(Lit, Id)], decisions: usize) -> Result<(), AllocError>
-        ensures ok { OnOk result (self.new.literals ≡ self.old.literals ++ map (λ p. p.0) forced.now) }
-        ensures count { length self.new.values ≡ length self.old.values }
+        ensures more { OnOk result (HasMore self.old self.new (map (λ p. p.0) forced.now)) }
+        ensures count { self.new.count ≡ self.old.count }
     {
         let level = level_of(decisions);
         for (literal, reason) in forced {
@@ -173,8 +148,8 @@ impl Standing {
         rest: &[(Lit, Option<Id>)],
         decisions: &[Lit],
     ) -> Result<(), AllocError>
-        ensures ok { OnOk result (self.new.literals ≡ self.old.literals ++ map (λ p. p.0) rest.now) }
-        ensures count { length self.new.values ≡ length self.old.values }
+        ensures more { OnOk result (HasMore self.old self.new (map (λ p. p.0) rest.now)) }
+        ensures count { self.new.count ≡ self.old.count }
     {
         let mut level = self.trail().open_decisions();
         for (literal, reason) in rest {
@@ -192,37 +167,29 @@ impl Standing {
 
     /// Takes the last literal off, if there is one. Its variable is free then.
     fn pop(&mut self)
-        requires { self.old.whole ≡ true }
-        ensures assigned { self.new.literals ≡ take (length self.old.literals - 1) self.old.literals }
-        ensures count { length self.new.values ≡ length self.old.values }
-        ensures whole { self.new.whole ≡ true }
+        ensures literals { self.new.literals ≡ take (length self.old.literals - 1) self.old.literals }
+        ensures count { self.new.count ≡ self.old.count }
     {
-        if let Some(entry) = self.trail.pop() {
-            self.assigned.pop();
-            free(&mut self.values, entry.literal.var);
-        }
+        self.trail.pop();
     }
 
     /// The first so many literals alone. A brancher is told of the others, from the last one on.
     pub(crate) fn keep(&mut self, count: usize, brancher: &mut Box<dyn Brancher>)
-        requires { self.old.whole ≡ true }
-        ensures assigned { self.new.literals ≡ take count self.old.literals }
-        ensures count { length self.new.values ≡ length self.old.values }
+        ensures literals { self.new.literals ≡ take count self.old.literals }
+        ensures count { self.new.count ≡ self.old.count }
     {
-        tell_unassigned(self.assigned(), count, brancher);
-        while self.assigned().len() > count {
+        tell_unassigned(self.literals(), count, brancher);
+        while self.literals().len() > count {
             self.pop();
         }
     }
 
-    /// Takes off what came with more decisions than so many, as far as the trail tells. A brancher is told, from the last literal on.
+    /// Takes off what came with more decisions than so many. A brancher is told, from the last literal on.
     pub(crate) fn go_back(&mut self, decisions: usize, brancher: &mut Box<dyn Brancher>)
-        ensures { length self.new.values ≡ length self.old.values }
+        ensures { self.new.count ≡ self.old.count }
     {
-        if self.is_whole {
-            let count = count_up_to(self.trail.entries(), level_of(decisions));
-            self.keep(count, brancher);
-        }
+        let count = count_up_to(&self.trail, level_of(decisions));
+        self.keep(count, brancher);
     }
 
     /// Tells a brancher which of its picks do not stand, so that it may pick them again.
@@ -234,42 +201,40 @@ impl Standing {
         }
     }
 
-    /// Whether a constraint has negative slack, or forces a literal, under the literals. The answer is no where the trail lacks one of them.
+    /// Whether a constraint has negative slack, or forces a literal, under the literals.
     pub(crate) fn bites(&self, constraint: &Normal) -> bool
-        ensures { IsTrue result ↔ ((self.now.whole ≡ true) × Bites self.now.literals constraint.now) }
+        ensures { IsTrue result ↔ Bites self.now.literals constraint.now }
     {
-        if !self.is_whole {
-            return false;
-        }
         bites_under(constraint, &self.trail)
     }
 
     /// The value of each of the first variables.
     pub(crate) fn values(&self) -> &[Value]
-        ensures values { result.now ≡ self.now.values }
-        ensures exact { AreValuesUnder self.now.literals self.now.values }
+        ensures count { length result.now ≡ self.now.count }
+        ensures exact { AreValuesUnder self.now.literals result.now }
     {
-        self.values.as_slice()
+        &self.trail.values()[..self.count]
     }
 
-    /// The literals.
-    pub(crate) fn assigned(&self) -> &[Lit]
-        ensures { result.now ≡ self.now.literals }
+    /// The literals, none of them twice.
+    pub(crate) fn literals(&self) -> &[Lit]
+        ensures value { result.now ≡ self.now.literals }
+        ensures once { IsOnce result.now }
     {
-        self.assigned.as_slice()
+        self.trail.literals()
     }
 
     /// A copy of the literals.
-    pub(crate) fn to_assigned(&self, alloc: Global) -> Result<Seq<Lit>, AllocError>
+    pub(crate) fn to_literals(&self, alloc: Global) -> Result<Seq<Lit>, AllocError>
         ensures { IfOk result (λ all. all ≡ self.now.literals) }
     {
-        let mut all = Vec::with_capacity(alloc, self.assigned.len())?;
-        all.extend_from_slice(self.assigned())?;
+        let mut all = Vec::with_capacity(alloc, self.literals().len())?;
+        all.extend_from_slice(self.literals())?;
         Ok(Seq::from_vec(all))
     }
 
-    /// The literals as far as the trail has them, with reasons and levels.
-    pub(crate) fn trail(&self) -> &Trail {
+    /// The trail of the literals, with reasons and levels.
+    pub(crate) fn trail(&self) -> &SearchTrail {
         &self.trail
     }
 

@@ -1,5 +1,5 @@
 -- The literals of a trail: none twice, and none beside its opposite.
-use Rattle.std.proofs.Common.{◌≡◌, ℕ, zero, suc, ◌+◌, ◌<◌, ◌≤◌, Bool, Option, false, List, [], ◌∷◌, ◌++◌, length, get_or, take, ap, sym, subst, ◌∙◌, arith}
+use Rattle.std.proofs.Common.{◌≡◌, ℕ, zero, suc, ◌+◌, ◌<◌, ◌≤◌, false, List, [], ◌∷◌, ◌++◌, length, get_or, take, ap, sym, subst, ◌∙◌, arith}
 use Rattle.std.proofs.lemmas.Bool.{false≢true}
 use Rattle.std.proofs.lemmas.List.{take_more}
 use Rattle.std.proofs.Math.Seq.{take-length}
@@ -7,6 +7,7 @@ use Rattle.linear.specs.declared.term.Lit.{Lit}
 use Rattle.propagate.specs.Literals.{IsConsistent, IsOnce}
 use Rattle.propagate.proofs.Consistency.{push_consistent}
 use Rattle.propagate.proofs.Assignments.{once_push}
+use Rattle.trail.specs.declared.value.Value.{Value}
 use Rattle.trail.specs.Trails.{IsFree, IsTrail}
 
 abbrev AreApart : List Lit → Type 0
@@ -29,5 +30,5 @@ apart_to xs fresh (suc k) h =
     let next : take (suc k) xs ≡ take k xs ++ get_or xs k any ∷ [] = ap (λ (j : ℕ). take j xs) one ∙ take_more xs k any low in
     subst AreApart (sym next) (apart_more (take k xs) (get_or xs k any) (apart_to xs fresh k (omega (arith, low))) (fresh k any low))
 
-pub apart : (assigned : List Lit) (values : List (Option Bool)) → IsTrail assigned values → IsOnce assigned × IsConsistent assigned
+pub apart : (assigned : List Lit) (values : List Value) → IsTrail assigned values → IsOnce assigned × IsConsistent assigned
 apart assigned values t = subst AreApart (take-length assigned) (apart_to assigned t.fresh (length assigned) (omega arith))

@@ -5,7 +5,10 @@
 #![tactic(auto)]
 
 mod assignment;
+pub mod cases;
 mod trail;
+mod value;
 
 pub use assignment::Assignment;
 pub use trail::Trail;
+pub use value::Value;

@@ -4,13 +4,15 @@
 //! memory. Taken off, a literal leaves its variable without a value, since nothing else gave it one.
 
 ghost use Rattle.std.specs.Prelude.{◌≡◌, ◌+◌, ◌<◌, ◌≤◌, ◌++◌, ◌∷◌, ◌⊎◌, []};
-ghost use Rattle.std.specs.Prelude.{ℕ, false, true, OnOk, OnErr, IsTrue, ◌↔◌, None};
+ghost use Rattle.std.specs.Prelude.{ℕ, false, true, OnOk, OnErr, IsTrue, ◌↔◌};
 ghost use Rattle.std.specs.Prelude.{length, slice_index_or, take, MatchOption, IfSome};
 ghost use Rattle.linear.specs.declared.term.Lit.{Lit};
 ghost use Rattle.linear.specs.Literal.{opposite};
 ghost use Rattle.propagate.specs.Literals.{IsConsistent, IsOnce, lists};
 ghost use Rattle.trail.specs.Trails.{IsFree};
+ghost use Rattle.trail.specs.Values.{AreValuesUnder};
 
+use super::value::Value;
 use linear::Lit;
 use std::alloc::{AllocError, Global};
 use std::marker::Model;
@@ -19,7 +21,7 @@ use std::marker::Model;
 #[derive(Debug, Drop)]
 pub struct Trail {
     assigned: Vec<Lit>,
-    values: Vec<Option<bool>>,
+    values: Vec<Value>,
     /// Where the literal of each variable stands, where it has one.
     positions: Vec<usize>,
 }
@@ -68,7 +70,7 @@ impl Trail {
         let more = self.values.len() + 1 - self.assigned.len();
         self.assigned.reserve(more)?;
         self.positions.reserve(1)?;
-        self.values.push(None)?;
+        self.values.push(Value::Free)?;
         self.positions.push_reserved(0);
         Ok(())
     }
@@ -106,6 +108,14 @@ impl Trail {
         self.assigned.as_slice()
     }
 
+    /// The value of each variable.
+    pub fn values(&self) -> &[Value]
+        ensures count { length result.now ≡ self.now.1 }
+        ensures values { AreValuesUnder self.now.0 result.now }
+    {
+        self.values.as_slice()
+    }
+
     /// How many literals there are: no more than variables.
     pub fn len(&self) -> usize
         ensures value { result ≡ length self.now.0 }
@@ -119,7 +129,7 @@ impl Trail {
         requires { literal.var.0 < self.now.1 }
         ensures { IsTrue result ↔ (lists self.now.0 literal ≡ false) × (lists self.now.0 (opposite literal) ≡ false) }
     {
-        self.values[literal.var.0 as usize].is_none()
+        self.values[literal.var.0 as usize].is_free()
     }
 
     /// Whether a literal is listed.
@@ -127,10 +137,7 @@ impl Trail {
         requires { literal.var.0 < self.now.1 }
         ensures { result ≡ lists self.now.0 literal }
     {
-        match self.values[literal.var.0 as usize] {
-            Some(value) => value != literal.negated,
-            None => false,
-        }
+        self.values[literal.var.0 as usize].makes_true(literal)
     }
 
     /// Where the literal of a variable stands, if one is listed.
@@ -152,7 +159,7 @@ impl Trail {
     {
         self.positions[literal.var.0 as usize] = self.assigned.len();
         self.assigned.push_reserved(literal);
-        self.values[literal.var.0 as usize] = Some(!literal.negated);
+        self.values[literal.var.0 as usize] = Value::given_by(literal);
     }
 
     /// Takes the last literal away.
@@ -165,7 +172,7 @@ impl Trail {
         ensures variable { IfSome result (λ l. l.var.0 < self.old.1) }
     {
         let literal = self.assigned.pop()?;
-        self.values[literal.var.0 as usize] = None;
+        self.values[literal.var.0 as usize] = Value::Free;
         Some(literal)
     }
 }

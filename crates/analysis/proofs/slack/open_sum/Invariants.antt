@@ -6,4 +6,4 @@ use Rattle.analysis.specs.Biting.{literals_up_to}
 use Rattle.analysis.proofs.slack.open_sum.Given as goal
 
 abbrev pub invariant-loop-place : goal.invariant-loop-place
-invariant-loop-place l = l.sum ≡ sum_over (not_false (literals_up_to l.level l.trail)) (take l.place l.constraint.terms)
+invariant-loop-place l = l.sum ≡ sum_over (not_false (literals_up_to l.level l.trail.entries)) (take l.place l.constraint.terms)

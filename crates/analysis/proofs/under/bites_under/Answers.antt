@@ -8,7 +8,7 @@ use Rattle.analysis.proofs.under.bites_under.Goals as goal
 pub returns : goal.returns
 returns c =
     let n = c.args.constraint.now in
-    let all = all_up_to c.open_decisions.result c.args.trail.now (omega (arith, c.open_decisions.ensures)) in (
+    let all = all_up_to c.open_decisions.result c.args.trail.now.entries (omega (arith, c.open_decisions.ensures)) in (
       λ yes. subst (λ (xs : List Lit). Bites xs n) all (c.bites.ensures.0 yes),
       λ h. c.bites.ensures.1 (subst (λ (xs : List Lit). Bites xs n) (sym all) h),
     )

@@ -7,7 +7,7 @@ use Rattle.analysis.proofs.walk.walk.Given as goal
 
 abbrev pub invariant-loop-learned : goal.invariant-loop-learned
 invariant-loop-learned g l = record {
-  place : l.before ≤ length l.trail;
+  place : l.before ≤ length l.trail.entries;
   begins : BeginsWith l.conflict l.analyser.resolvent.items.items;
   derived : IsPostfixOf (constraint_of l.kernel.state) l.analyser.resolvent.items.items l.analyser.resolvent.sum;
 }

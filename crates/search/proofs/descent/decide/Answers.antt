@@ -4,10 +4,10 @@ use Rattle.std.proofs.lemmas.Bool.{false≢true}
 use Rattle.linear.specs.declared.term.Lit.{Lit}
 use Rattle.propagate.specs.Content.{IsEnd}
 use Rattle.proof_rules.specs.State.{constraints}
-use Rattle.branching.specs.declared.brancher.Value.{Value}
 use Rattle.search.specs.Conflicts.{LeadsAtLast}
 use Rattle.search.specs.Standing.{Assigned}
-use Rattle.search.specs.Values.{IsFree}
+use Rattle.search.specs.Values.{IsFree, IsUnlisted}
+use Rattle.search.proofs.Choices.{free_where}
 use Rattle.search.proofs.Deciding.{IsNoted, later, noted, unless}
 use Rattle.search.proofs.Descending.{far_more, first_taken, told_at}
 use Rattle.search.proofs.Taking.{chosen}
@@ -33,10 +33,10 @@ ended g c =
     let d = c.one-item.result in
     let far = i.so_far in
     let told = told_at l.state.live c.args.decisions.now.items c.as_slice.result.now c.loop-one.decisions.items c.in_ok-decided.decided.items items c.loop-one.one-index d c.as_slice.ensures.value c.deref-one-items.ensures.value far c.in_ok-decided.ensures.decided c.loop-one-test.true (sym c.one-item.is) in
-    let is = chosen l.state.live c.loop-one.decisions.items c.loop-one.standing.literals c.loop-one.standing.values c.values.result.now d.literal (length l.problem.names) i.end c.values.ensures.exact c.values.ensures.values
-    (c.is_free.ensures.free.0 c.if-not-is_free.false) (c.is_free.ensures.inside c.if-not-is_free.false) i.count i.named.consistent in
+    let is = chosen l.state.live c.loop-one.decisions.items c.loop-one.standing.literals c.values.result.now d.literal (length l.problem.names) i.end c.values.ensures.exact
+    (c.is_free.ensures.free.0 c.if-not-is_free.false) (c.is_free.ensures.inside c.if-not-is_free.false) (c.values.ensures.count ∙ i.count) i.named.consistent in
     noted l c.args.decisions.now.items c.loop-one.decisions.items c.note.new.decisions.items c.note.new.standing.literals items c.loop-one.one-index d.literal c.in_ok-conflict.conflict is i.named far i.fewer c.in_ok-conflict.ensures.decided
-    (c.in_ok-conflict.ensures.end l.state.live i.end told)
+    (c.in_ok-conflict.ensures.end l.state.live is.consistent i.end told)
 
 going : (g : Over) (c : goal.Else-is_some g) → IsNoted c.args.log.now c.args.decisions.now.items c.note.new.decisions.items c.note.new.standing.literals c.in_ok-conflict.conflict
 going g c =
@@ -46,10 +46,10 @@ going g c =
     let d = c.one-item.result in
     let far = i.so_far in
     let told = told_at l.state.live c.args.decisions.now.items c.as_slice.result.now c.loop-one.decisions.items c.in_ok-decided.decided.items items c.loop-one.one-index d c.as_slice.ensures.value c.deref-one-items.ensures.value far c.in_ok-decided.ensures.decided c.loop-one-test.true (sym c.one-item.is) in
-    let is = chosen l.state.live c.loop-one.decisions.items c.loop-one.standing.literals c.loop-one.standing.values c.values.result.now d.literal (length l.problem.names) i.end c.values.ensures.exact c.values.ensures.values
-    (c.is_free.ensures.free.0 c.if-not-is_free.false) (c.is_free.ensures.inside c.if-not-is_free.false) i.count i.named.consistent in
+    let is = chosen l.state.live c.loop-one.decisions.items c.loop-one.standing.literals c.values.result.now d.literal (length l.problem.names) i.end c.values.ensures.exact
+    (c.is_free.ensures.free.0 c.if-not-is_free.false) (c.is_free.ensures.inside c.if-not-is_free.false) (c.values.ensures.count ∙ i.count) i.named.consistent in
     noted l c.args.decisions.now.items c.loop-one.decisions.items c.note.new.decisions.items c.note.new.standing.literals items c.loop-one.one-index d.literal c.in_ok-conflict.conflict is i.named far i.fewer c.in_ok-conflict.ensures.decided
-    (c.in_ok-conflict.ensures.end l.state.live i.end told)
+    (c.in_ok-conflict.ensures.end l.state.live is.consistent i.end told)
 
 pub returns-then-is_some-clause-decisions : goal.returns-then-is_some-clause-decisions
 returns-then-is_some-clause-decisions g c = (ended g c).named
@@ -84,8 +84,9 @@ returns-then-not-is_free-clause-fewer g c =
     later (length l.problem.names) c.loop-one.decisions.items c.args.decisions.now.items c.loop-one.one-index
     (λ start.
     let same = first_taken c.args.first c.args.more.now c.in_ok-decided.decided.items c.deref-one-items.result.now c.loop-one.one-index c.one-item.result c.in_ok-decided.ensures.taken c.deref-one-items.ensures.value start (sym c.one-item.is) in
-    let table : c.args.standing.now.values ≡ c.values.result.now = sym (c.values.ensures.values ∙ ap (λ (s : Assigned). s.values) (i.fresh start)) in
+    let unlisted : IsUnlisted c.loop-one.standing.literals c.args.first.var.0 = subst (λ (s : Assigned). IsUnlisted s.literals c.args.first.var.0) (sym (i.fresh start)) c.requires.free in
     let free : IsFree c.values.result.now c.one-item.result.literal.var.0 =
-    subst (λ (x : Lit). IsFree c.values.result.now x.var.0) (sym same) (subst (λ (vs : List Value). IsFree vs c.args.first.var.0) table c.requires.free) in
+    subst (λ (x : Lit). IsFree c.values.result.now x.var.0) (sym same)
+    (free_where c.loop-one.standing.literals c.values.result.now c.args.first.var.0 c.values.ensures.exact (omega (arith, c.requires.inside, c.requires.count, i.count, c.values.ensures.count)) unlisted) in
     false≢true (sym c.if-not-is_free.true ∙ c.is_free.ensures.free.1 free))
     i.fewer

@@ -10,7 +10,7 @@ abbrev pub invariant-loop-one : goal.invariant-loop-one
 invariant-loop-one g l = record {
   so_far : l.decisions.items ≡ l.fn.decisions.items ++ literals (take l.one-index l.one-items);
   named : AreDecisions l.fn.log l.decisions.items;
-  count : length l.standing.values ≡ length l.fn.log.problem.names;
+  count : l.standing.count ≡ length l.fn.log.problem.names;
   end : IsEnd l.fn.log.state.live l.decisions.items l.standing.literals;
   fresh : l.one-index ≡ 0 → l.standing ≡ l.fn.standing;
   fewer : 0 < l.one-index → unlisted_below (length l.fn.log.problem.names) l.decisions.items < unlisted_below (length l.fn.log.problem.names) l.fn.decisions.items;

@@ -6,12 +6,11 @@ use Rattle.propagate.specs.Content.{IsEnd}
 use Rattle.propagate.specs.Reach.{IsReach, reach_told}
 use Rattle.propagate.specs.declared.reach.Reach.TheVariants as reaches
 use Rattle.proof_rules.specs.State.{constraints}
-use Rattle.branching.specs.declared.brancher.Value.{Value}
 use Rattle.search.specs.Conflicts.{LeadsAtLast}
 use Rattle.search.specs.Descents.{IfConflict, IsSettled}
 use Rattle.proof_log.specs.Log.{Logbook}
 use Rattle.search.specs.Decisions.{AreDecisions}
-use Rattle.search.specs.Values.{NoneIsFree}
+use Rattle.search.proofs.Choices.{values_leave_free}
 use Rattle.search.proofs.Extending.{extended, led}
 use Rattle.search.proofs.Settling.{settled}
 use Rattle.search.proofs.Taking.{chosen}
@@ -19,8 +18,12 @@ use Rattle.search.proofs.descent.descend.Goals as goal
 
 pub decide-requires-clause-consistent : goal.decide-requires-clause-consistent
 decide-requires-clause-consistent g c =
-    (chosen c.decisions.log.state.live c.decisions.decisions.items c.decisions.standing.literals c.decisions.standing.values c.values-in-decisions.result.now c.in-Some-choose.first c.args.count
-    c.decisions.invariant.3 c.values-in-decisions.ensures.exact c.values-in-decisions.ensures.values c.in-Some-choose.ensures.free c.in-Some-choose.ensures.inside c.decisions.invariant.2 c.decisions.invariant.1.consistent).consistent
+    (chosen c.decisions.log.state.live c.decisions.decisions.items c.decisions.standing.literals c.values-in-decisions.result.now c.in-Some-choose.first c.args.count
+    c.decisions.invariant.3 c.values-in-decisions.ensures.exact c.in-Some-choose.ensures.free c.in-Some-choose.ensures.inside (c.values-in-decisions.ensures.count ∙ c.decisions.invariant.2) c.decisions.invariant.1.consistent).consistent
+
+pub decide-requires-clause-free : goal.decide-requires-clause-free
+decide-requires-clause-free g c =
+    values_leave_free c.decisions.standing.literals c.values-in-decisions.result.now c.values-in-decisions.ensures.exact (c.in-Some-choose.first.var.0) c.in-Some-choose.ensures.free
 
 -- what the decisions extend to is a conflict
 pub end_in_conflict-requires-clause-conflict : goal.end_in_conflict-requires-clause-conflict
@@ -70,7 +73,6 @@ returns-in_default-choose-clause-settled g c =
     let end : IsEnd l.state.live decisions standing =
     subst (λ (x : Logbook). IsEnd x.state.live decisions standing) (c.decisions.invariant.0 ∙ c.stand.ensures.same) c.decisions.invariant.3 in
     let decided_here : AreDecisions l decisions = subst (λ (x : Logbook). AreDecisions x decisions) (c.decisions.invariant.0 ∙ c.stand.ensures.same) c.decisions.invariant.1 in
-    let none : NoneIsFree c.decisions.standing.values c.args.count =
-    subst (λ (vs : List Value). NoneIsFree vs c.args.count) c.values-in-decisions.ensures.values (c.in_default-choose.ensures.none refl) in
-    subst (IsSettled l) (sym c.in_ok-to_assigned.ensures)
-    (settled l decisions standing c.decisions.standing.values c.args.count c.reveal.ensures.named decided_here end c.values-in-decisions.ensures.exact c.decisions.invariant.2 c.requires.count none)
+    subst (IsSettled l) (sym c.in_ok-to_literals.ensures)
+    (settled l decisions standing c.values-in-decisions.result.now c.args.count c.reveal.ensures.named decided_here end c.values-in-decisions.ensures.exact (c.values-in-decisions.ensures.count ∙ c.decisions.invariant.2) c.requires.count
+    (c.in_default-choose.ensures.none refl))

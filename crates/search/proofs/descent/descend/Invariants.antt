@@ -6,7 +6,7 @@ use Rattle.search.proofs.descent.descend.Given as goal
 
 abbrev pub invariant-decisions : goal.invariant-decisions
 invariant-decisions g l =
-    (l.log ≡ l.initial.log) × AreDecisions l.log l.decisions.items × (length l.standing.values ≡ l.count)
+    (l.log ≡ l.initial.log) × AreDecisions l.log l.decisions.items × (l.standing.count ≡ l.count)
     × IsEnd l.log.state.live l.decisions.items l.standing.literals
 
 abbrev pub decreases-decisions : goal.decreases-decisions

@@ -14,4 +14,4 @@ returns-clause-biting g c says =
     let standing : List Lit = c.stand.new.standing.literals in
     let reach : IsReach live given (reaches.Closed standing) =
     subst (λ extent. IsReach live given (reach_told standing extent)) (c.is_closed.ensures.closed c.if-not-is_closed.false) c.in_ok-extent.ensures.reach in
-    fixpoint_bites live given standing c.args.constraint.now reach (c.bites.ensures.0 says).1
+    fixpoint_bites live given standing c.args.constraint.now reach (c.bites.ensures.0 says)

@@ -3,4 +3,4 @@ use Rattle.search.specs.Undoing.{IsNoReason}
 use Rattle.search.proofs.learned.LearnedConstraints.take_half.Given as goal
 
 abbrev pub invariant-loop-one : goal.invariant-loop-one
-invariant-loop-one l = All (IsNoReason l.trail) l.gone.items
+invariant-loop-one l = All (IsNoReason l.trail.entries) l.gone.items

@@ -1,5 +1,7 @@
-use Rattle.std.proofs.Common.{◌≡◌, ◌++◌, length, map, take}
+-- The literals so far stand.
+use Rattle.std.proofs.Common.{◌≡◌, map, take}
+use Rattle.search.specs.Standing.{HasMore}
 use Rattle.search.proofs.standing.Standing.extend.Given as goal
 
 abbrev pub invariant-loop-literal : goal.invariant-loop-literal
-invariant-loop-literal l = (l.self.literals ≡ l.initial.self.literals ++ map (λ p. p.0) (take l.literal-index l.rest)) × (length l.self.values ≡ length l.initial.self.values)
+invariant-loop-literal l = HasMore l.initial.self l.self (map (λ p. p.0) (take l.literal-index l.rest)) × (l.self.count ≡ l.initial.self.count)

@@ -1,12 +1,11 @@
 -- The first literals that are to stay are there.
-use Rattle.std.proofs.Common.{◌≡◌, true, length, take}
+use Rattle.std.proofs.Common.{◌≡◌, length, take}
 use Rattle.search.proofs.standing.Standing.keep.Given as goal
 
 abbrev pub invariant-loop-self : goal.invariant-loop-self
 invariant-loop-self g l = record {
   same : take l.count l.self.literals ≡ take l.count l.initial.self.literals;
-  table : length l.self.values ≡ length l.initial.self.values;
-  whole : l.self.whole ≡ true;
+  table : l.self.count ≡ l.initial.self.count;
 }
 
 abbrev pub decreases-loop-self : goal.decreases-loop-self

@@ -1,25 +1,17 @@
--- One literal more says of its own variable what it says, and of the others nothing; a trail that is whole stays so where it takes it.
-use Rattle.std.proofs.Common.{◌≡◌, ◌∙◌, ◌++◌, ◌∷◌, [], Bool, ◌&&◌, List, ap, sym, subst}
+-- A literal that the trail refuses has a variable that stands.
+use Rattle.std.proofs.Common.{◌≡◌, ◌∙◌, ◌++◌, ◌∷◌, [], List, ap, sym, subst}
 use Rattle.linear.specs.declared.term.Lit.{Lit}
-use Rattle.search.specs.Values.{AreValuesUnder}
-use Rattle.branching.specs.declared.brancher.Value.{Value}
-use Rattle.search.proofs.Choices.{values_more}
-use Rattle.search.proofs.TakenOff.{whole_more}
+use Rattle.propagate.specs.Literals.{SameLiterals, among}
+use Rattle.analysis.specs.Trails.{TrailState, literals_of}
+use Rattle.search.specs.Standing.{Assigned}
+use Rattle.search.proofs.MoreStands.{stands_already}
 use Rattle.search.proofs.standing.Standing.push.Goals as goal
-use Rattle.search.proofs.standing.Standing.push.Goals.{then-was_whole, else-was_whole}
 
-pub invariant_of-self-2 : goal.invariant_of-self-2
-invariant_of-self-2 c =
-    let s = c.self.inside in
-    let assigned : List Lit = s.assigned.items in
+pub returns-else-branch-clause-more : goal.returns-else-branch-clause-more
+returns-else-branch-clause-more c consistent =
     let l : Lit = c.args.entry.literal in
-    let pushed : Bool = c.in_ok-is_pushed.is_pushed in
-    let both : c.if-was_whole.self ≡ (s.is_whole && pushed) =
-    elim c.if-was_whole.branch as (λ _. c.if-was_whole.self ≡ (s.is_whole && pushed)) [
-      | then-was_whole w ↦ w.self-is ∙ ap (λ b. b && pushed) (sym w.if-was_whole.true)
-      | else-was_whole w ↦ w.self-is ∙ w.if-was_whole.false ∙ ap (λ b. b && pushed) (sym w.if-was_whole.false)
-    ] in (
-      subst (λ (xs : List Lit). AreValuesUnder xs c.note.new.values.items) (sym c.in_ok-push.ensures.items)
-          (subst (λ (vs : List Value). AreValuesUnder (assigned ++ l ∷ []) vs) (sym c.note.ensures) (values_more assigned l s.values.items c.self.invariant.0)),
-      λ is. whole_more s.is_whole pushed s.trail c.push.new.self assigned c.push-2.new.self.items c.args.entry c.in_ok-is_pushed.ensures.pushed c.self.invariant.1 c.in_ok-push.ensures.items (sym both ∙ is),
-    )
+    let old : List Lit = c.args.self.now.literals in
+    let view : literals_of c.self.inside.trail.entries ≡ old = ap (λ (s : Assigned). s.literals) c.self.view_is in
+    let same : literals_of c.push.new.self.entries ≡ old = ap (λ (t : TrailState). literals_of t.entries) (c.in_ok-push.ensures.unchanged c.if-branch.false) ∙ view in
+    subst (λ (xs : List Lit). SameLiterals xs (old ++ l ∷ [])) (sym same)
+    (stands_already old l (λ none. c.in_ok-push.ensures.refused c.if-branch.false (λ s. ap (λ (xs : List Lit). among xs (l.var.0) s) view ∙ none s)) consistent)

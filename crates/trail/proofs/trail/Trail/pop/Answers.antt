@@ -1,7 +1,8 @@
 -- The last literal's variable has no value any more.
-use Rattle.std.proofs.Common.{ℕ, List, None, ap, arith, subst}
+use Rattle.std.proofs.Common.{ℕ, List, ap, arith, subst}
 use Rattle.std.proofs.lemmas.List.{length-set}
 use Rattle.linear.specs.declared.term.Lit.{Lit}
+use Rattle.trail.specs.declared.value.Value.TheVariants.{Free}
 use Rattle.trail.specs.Trails.{ArePositions, IsTrail}
 use Rattle.trail.proofs.TrailChanges.{last_below, popped}
 use Rattle.trail.proofs.Positions.{positions_popped}
@@ -19,8 +20,8 @@ invariant_of-self-2 c =
     let it = subst (λ (xs : List Lit). IsTrail xs t.values.items) c.in_ok-literal.ensures.items c.self.invariant.0 in
     let at = subst (λ (xs : List Lit). ArePositions xs t.positions.items) c.in_ok-literal.ensures.items c.self.invariant.3 in (
       popped c.pop.new.self.items c.in_ok-literal.literal t.values.items it,
-      omega (arith, length-set t.values.items (c.in_ok-literal.literal.var.0) None),
-      omega (arith, c.self.invariant.2, length-set t.values.items (c.in_ok-literal.literal.var.0) None),
+      omega (arith, length-set t.values.items (c.in_ok-literal.literal.var.0) Free),
+      omega (arith, c.self.invariant.2, length-set t.values.items (c.in_ok-literal.literal.var.0) Free),
       positions_popped c.pop.new.self.items t.positions.items c.in_ok-literal.literal at,
     )
 
