@@ -7,7 +7,7 @@ use Rattle.std.proofs.lemmas.List.Recursion.{max_push}
 use Rattle.linear.specs.declared.term.Lit.{Lit}
 use Rattle.normal_form.specs.Normal.{only, same_sign}
 use Rattle.propagate.specs.Literals.{among, lists}
-use Rattle.trail.proofs.AssignedLiterals.{stands_at}
+use Rattle.propagate.proofs.Positions.{stands_at}
 use Rattle.analysis.specs.declared.entry.Entry.{Entry}
 use Rattle.analysis.specs.declared.note.Note.{Note}
 use Rattle.analysis.specs.Biting.{greatest_level, literals_up_to}

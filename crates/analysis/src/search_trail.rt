@@ -8,7 +8,7 @@
 ghost use Rattle.std.specs.Prelude.{◌≡◌, ◌<◌, ◌≤◌, ◌↔◌, ◌∷◌, ◌++◌, [], ℕ, Bool, false, length, slice_index_or};
 ghost use Rattle.std.specs.Prelude.{IfOk, IsTrue, MatchOption, OnErr, OnOk};
 ghost use Rattle.propagate.specs.Literals.{IsConsistent, IsOnce, among, lists};
-ghost use Rattle.trail.specs.Values.{AreValuesUnder};
+ghost use Rattle.propagate.specs.Values.{AreValuesUnder};
 ghost use Rattle.analysis.specs.Biting.{greatest_level, literals_up_to};
 ghost use Rattle.analysis.specs.Spots.{makes_true};
 ghost use Rattle.analysis.specs.Trails.{literals_of, raised};
@@ -17,9 +17,9 @@ use super::entry::Entry;
 use super::note::Note;
 use super::spot::Spot;
 use linear::{Lit, Var};
+use propagate::{Trail, Value};
 use std::alloc::{AllocError, Global};
 use std::marker::Model;
-use trail::{Trail, Value};
 
 /// A trail, seen as its entries, with room for the variables below a number.
 #[derive(Drop)]

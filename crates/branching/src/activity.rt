@@ -15,8 +15,8 @@ use super::brancher::Brancher;
 use super::heap::Heap;
 use super::progress::Progress;
 use linear::{Constraints, Integer, LentConstraint, Lit, Problem, Relation, Term, Var};
+use propagate::Value;
 use std::alloc::{AllocError, Global};
-use trail::Value;
 
 /// The increment at first: small steps of it are told apart.
 const FIRST_INCREMENT: u64 = 1 << 16;

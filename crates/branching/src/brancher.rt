@@ -9,7 +9,7 @@ ghost use Rattle.std.specs.Prelude.{◌≡◌, None};
 
 use super::progress::Progress;
 use linear::{Lit, Problem, Var};
-use trail::Value;
+use propagate::Value;
 
 /// A rule of choice.
 pub trait Brancher: Drop {

@@ -14,4 +14,4 @@ mod progress;
 pub use activity::Activity;
 pub use brancher::{Brancher, First};
 pub use progress::Progress;
-pub use trail::Value;
+pub use propagate::Value;

@@ -26,7 +26,7 @@ use Rattle.proof_rules.specs.declared.fault.StepFault.TheVariants as faults
 use Rattle.proof_rules.proofs.LiveConstraints.{All-from_get, Any-from_get}
 use Rattle.proof_rules.proofs.ShownHolds.{zero_shown}
 use Rattle.kernel.specs.Redundance.{AreAskedShown, IsAsked, IsOpenLive}
-use Rattle.kernel.proofs.Showing.{any_left}
+use Rattle.database.proofs.Showing.{any_left}
 
 -- what a constraint becomes is shown or not
 pub shown_under : (from : List NormalConstraint) (images : Images) (n r : NormalConstraint) (yes : Bool) → IsUnder n images r → IsTrue yes ↔ IsShown from r → IsTrue yes ↔ IsShownUnder from images n

@@ -8,8 +8,8 @@ use Rattle.proof_rules.specs.State.{State, IsStart}
 use Rattle.proof_rules.specs.Forms.{problem_ids}
 use Rattle.proof_rules.proofs.FileForms.{start_preserved, start_normal, all_count}
 use Rattle.proof_rules.proofs.Preserving.{step_preserves, step_normal}
-use Rattle.kernel.specs.Database.{Constraints}
-use Rattle.kernel.specs.File.{AreOfFile}
+use Rattle.database.specs.Database.{Constraints}
+use Rattle.database.specs.File.{AreOfFile}
 use Rattle.kernel.specs.Held.{IsKept, state_with}
 use Rattle.solutions.specs.Logged.{unlogged}
 

@@ -1,16 +1,10 @@
-pub mod Between
 pub mod Completed
 pub mod Concluded
-pub mod CoveredAt
-pub mod CoveringShares
 pub mod Deleting
 pub mod GoalsShown
 pub mod Improving
 pub mod Keeping
-pub mod Listed
 pub mod OpenBlocks
-pub mod Showing
 pub mod Standing
-pub mod TakenBack
-pub mod Touched
 pub mod TouchedJudged
+pub mod Untouched

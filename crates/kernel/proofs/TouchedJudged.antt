@@ -1,21 +1,22 @@
 -- The touched constraints are judged by rising id: what is no more in the set of those to be judged is shown.
-use Rattle.std.proofs.Common.{◌≡◌, ◌↔◌, inl, inr, ℕ, ◌-◌, ◌<◌, Bool, true, false, not, ◌&&◌, cond, Some, List, ◌++◌, All, sym, ap, subst, ◌∙◌, arith}
-use Rattle.std.proofs.lemmas.Bool.{cases_eq, cases_lt, false≢true}
-use Rattle.std.proofs.lemmas.Cmp.{nat_cmp_total}
+use Rattle.std.proofs.Common.{◌≡◌, ◌↔◌, inl, inr, ℕ, ◌-◌, false, Some, List, ◌++◌, All, sym, subst, ◌∙◌, arith}
+use Rattle.std.proofs.lemmas.Bool.{cases_eq, false≢true}
 use Rattle.std.specs.FinMap as map
 use Rattle.std.specs.FinSet as set
-use Rattle.std.specs.Ordering.{nat_cmp, eq_by_cmp}
+use Rattle.std.specs.Ordering.{nat_cmp}
 use Rattle.normal_form.specs.Normal.{NormalConstraint, Rises}
 use Rattle.propagate.specs.Ids.{IdSet, HasId, IsLeastId}
-use Rattle.propagate.proofs.Entries.{other_key}
 use Rattle.substitution.specs.Images.{Images}
 use Rattle.proof_rules.specs.Redundant.{IsShownUnder}
 use Rattle.proof_rules.specs.State.{Live}
 use Rattle.proof_rules.specs.declared.fault.StepFault.TheVariants.{GoalOpen}
 use Rattle.proof_rules.proofs.LiveConstraints.{All-get}
-use Rattle.kernel.specs.Database.{Constraints}
-use Rattle.kernel.specs.Redundance.{AreAskedShown, IsAsked, IsOpenLive, IsTouched}
-use Rattle.kernel.proofs.Touched.{touched_live, untouched_shown}
+use Rattle.database.specs.Database.{Constraints}
+use Rattle.database.proofs.IdSets.{others_stay, removed_keeps}
+use Rattle.database.specs.Touched.{IsTouched}
+use Rattle.kernel.specs.Redundance.{AreAskedShown, IsAsked, IsOpenLive}
+use Rattle.database.proofs.Touched.{touched_live}
+use Rattle.kernel.proofs.Untouched.{untouched_shown}
 
 -- the ids still to be judged are live, and what is asked of the constraints of all others is shown
 pub record IsJudging (live : Live) (end : ℕ) (opened : IdSet) (from : List NormalConstraint) (images : Images) (ids : IdSet) : Type 0 where
@@ -28,16 +29,6 @@ judging_first live end opened beside images ids rises touched = record {
   there = λ k h. touched_live live images k ((touched k).0 h);
   shown = λ k n asked is absent. untouched_shown live beside images k n is (All-get (λ m. Rises 0 m.terms) live k n rises is) (λ h. absent ((touched k).1 h));
 }
-
-pub removed_keeps : (ids : IdSet) (id k : ℕ) → HasId (set.remove ids id) k → HasId ids k
-removed_keeps ids id k h = second (not (eq_by_cmp nat_cmp k id)) (set.contains ids k) (sym (set.contains-remove nat_cmp_total ids id k) ∙ h)
-  where
-    second : (a b : Bool) → (a && b) ≡ true → b ≡ true
-    second true b h = h
-    second false b h = absurd (cc)
-
-pub others_stay : (ids : IdSet) (id k : ℕ) → (k ≡ id → ⊥) → HasId ids k → HasId (set.remove ids id) k
-others_stay ids id k other h = set.contains-remove nat_cmp_total ids id k ∙ ap (λ (b : Bool). not b && set.contains ids k) (other_key k id other) ∙ h
 
 pub judging_more : (live : Live) (end : ℕ) (opened : IdSet) (from : List NormalConstraint) (images : Images) (ids new : IdSet) (id : ℕ) → IsJudging live end opened from images ids
     → new ≡ set.remove ids id → ((n : NormalConstraint) → map.get live id ≡ Some n → IsAsked end opened id → IsShownUnder from images n) → IsJudging live end opened from images new
@@ -60,17 +51,6 @@ pub judging_end : (live : Live) (end : ℕ) (opened : IdSet) (from : List Normal
     → AreAskedShown live end opened from images
 judging_end live end opened from images ids j none k n asked is =
     j.shown k n asked is (λ h. false≢true (sym (set.contains-empty nat_cmp k) ∙ subst (λ (s : IdSet). HasId s k) none h))
-
--- a set without its least id is smaller
-pub fewer : (ids new : IdSet) (id : ℕ) → HasId ids id → new ≡ set.remove ids id → set.len new < set.len ids
-fewer ids new id h is =
-    let length : set.len new ≡ set.len ids - 1 = ap (λ (s : IdSet). set.len s) is ∙ set.len-remove nat_cmp_total ids id ∙ ap (λ (b : Bool). cond b (set.len ids - 1) (set.len ids)) h in
-    elim (cases_lt 0 (set.len ids)) as (λ _. set.len new < set.len ids) [
-      | inl some ↦ omega (arith, length, some)
-      | inr none ↦
-          let empty : ids ≡ set.empty = set.empty_of_len ids (omega (arith, none)) in
-          absurd (false≢true (sym (set.contains-empty nat_cmp id) ∙ subst (λ (s : IdSet). HasId s id) empty h))
-    ]
 
 -- what was answered of a constraint, in the words of what the judging began with
 pub judged : (d e : Constraints) (beside now : List NormalConstraint) (images : Images) (id : ℕ) (P : (NormalConstraint → Type 0) → NormalConstraint → Type 0) → e ≡ d → now ≡ beside

@@ -16,7 +16,7 @@ use Rattle.proof_rules.specs.Preserved.{IsPreserved, AreNormal}
 use Rattle.proof_rules.specs.Legal.{with_solution}
 use Rattle.proof_rules.specs.State.{State, Block}
 use Rattle.proof_rules.specs.Forms.{problem_ids}
-use Rattle.kernel.specs.Database.{Constraints}
+use Rattle.database.specs.Database.{Constraints}
 use Rattle.solutions.specs.Logged.{Logged}
 
 -- a problem, and the state of a proof of it

@@ -1,9 +1,6 @@
 pub mod Accepted
-pub mod Covered
-pub mod Database
 pub mod Deletion
 pub mod Derived
-pub mod File
 pub mod Held
 pub mod Place
 pub mod Redundance

@@ -18,11 +18,10 @@ ghost use Rattle.kernel.specs.Place.{AreUnopenedShown, IsAskedFor, IsAskedIn, Is
 
 use super::admission::admitted;
 use super::conclusion::absurd;
-use super::database::{Database, id_of};
 use super::kernel::{Applied, Kernel};
 use super::open_block::{OpenBlock, Place};
 use super::redundance::judge_live;
-use super::shown::is_shown;
+use database::{Database, id_of, is_shown};
 use linear::{Integer, Signed};
 use normal_form::{Normal, negate};
 use proof_rules::StepFault;

@@ -2,10 +2,8 @@
 //! state has an answer for the problem is a fact of the type: each rule's file shows that what it does keeps it, by the laws
 //! of `proof_rules`, and nobody has to believe in the order of the code.
 
-use super::database::Database;
-use super::file::constraints_of_file;
 use super::open_block::OpenBlock;
-use super::shown::is_shown;
+use database::{Database, constraints_of_file, is_shown};
 use linear::Problem;
 use normal_form::Normal;
 use pol_stack::Accumulator;

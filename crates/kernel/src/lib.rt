@@ -6,10 +6,7 @@ mod accepted;
 mod admission;
 mod block;
 mod conclusion;
-mod database;
 mod deletion;
-mod duplicates;
-mod file;
 mod holdings;
 mod kernel;
 mod objective;
@@ -18,7 +15,6 @@ mod pol;
 mod propagation;
 mod redundance;
 mod rup;
-mod shown;
 mod solution;
 
 pub use accepted::Accepted;

@@ -9,7 +9,7 @@ ghost use Rattle.proof_rules.specs.Block.{IsUnopened, new_block, with_goal};
 ghost use Rattle.proof_rules.specs.State.{id_limit};
 ghost use Rattle.kernel.specs.Place.{IsNameWithin};
 
-use super::database::id_of;
+use database::id_of;
 use normal_form::Normal;
 use proof_steps::GoalName;
 use propagate::{Id, Ids};

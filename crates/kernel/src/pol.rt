@@ -9,11 +9,11 @@ ghost use Rattle.proof_rules.specs.Running.{AppliesItem};
 ghost use Rattle.proof_rules.specs.Fault.{OrMemory, IsItemFault, IsIdFault, IsWritingFault, IsPolFault};
 ghost use Rattle.proof_rules.specs.Legal.{Adds, LegalPol};
 ghost use Rattle.proof_rules.specs.State.{HasRoom};
-ghost use Rattle.kernel.specs.Database.{found};
+ghost use Rattle.database.specs.Database.{found};
 ghost use Rattle.kernel.specs.Derived.{IsDerived};
 
-use super::database::Database;
 use super::kernel::{Applied, Kernel};
+use database::Database;
 use linear::Integer;
 use normal_form::Normal;
 use pol_stack::{Accumulator, Operand, Stack};

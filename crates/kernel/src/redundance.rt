@@ -17,9 +17,8 @@ ghost use Rattle.proof_rules.specs.Shown.{IsShown};
 ghost use Rattle.kernel.specs.Redundance.{AreAskedShown, AreGoalsShown, IsAsked, IsGoalOpen, IsOpenLive};
 
 use super::admission::admitted;
-use super::database::Database;
 use super::kernel::{Applied, Kernel};
-use super::shown::is_shown;
+use database::{Database, is_shown};
 use linear::Signed;
 use normal_form::{Normal, negate};
 use proof_rules::StepFault;

@@ -19,7 +19,8 @@ use Rattle.propagate.proofs.Occurrences.{TermForces, nothing_forced}
 use Rattle.ledger.specs.Forcing.{AreForced, IsForcedOn}
 use Rattle.ledger.specs.Ledgers.{AreReasons, constraint_at, constraint_in, open_sum, shown}
 use Rattle.ledger.specs.Orders.{ArePassed, IsDecreasing, coefficient_at, place_in, placed}
-use Rattle.trail.specs.Trails.{IsFree, on_trail}
+use Rattle.propagate.specs.Trails.{IsFree}
+use Rattle.trail.specs.Trails.{on_trail}
 use Rattle.trail.proofs.AssignedLiterals.{fewer}
 use Rattle.ledger.proofs.Opening.{open_less}
 use Rattle.ledger.proofs.Reasons.{reasons_push}

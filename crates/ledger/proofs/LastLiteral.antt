@@ -19,7 +19,7 @@ use Rattle.ledger.specs.declared.hint.Hint.{Hint}
 use Rattle.ledger.specs.declared.hint.Hint.TheVariants as hints
 use Rattle.ledger.specs.Hints.{HasFallen, IsHint, IsHintOf}
 use Rattle.ledger.specs.Ledgers.{open_sum}
-use Rattle.trail.specs.Trails.{IsFree}
+use Rattle.propagate.specs.Trails.{IsFree}
 use Rattle.ledger.specs.Watched.{AreOthersFalse, IsPairOf, Tell}
 use Rattle.ledger.proofs.ChosenLiterals.{occurs_at}
 use Rattle.ledger.proofs.WatchMoves.{others_fallen}

@@ -10,7 +10,7 @@ use Rattle.ledger.specs.declared.hint.Hint.{Hint}
 use Rattle.ledger.specs.declared.hint.Hint.TheVariants as hints
 use Rattle.ledger.specs.declared.pair.Pair.{Pair}
 use Rattle.ledger.specs.Falls.{IsBeside, IsOneTrue}
-use Rattle.trail.specs.Trails.{IsFree}
+use Rattle.propagate.specs.Trails.{IsFree}
 use Rattle.ledger.specs.Watched.{IsOpen}
 
 -- a literal that is made false

@@ -4,7 +4,7 @@ use Rattle.linear.specs.declared.term.Lit.{Lit}
 use Rattle.normal_form.specs.declared.term.NormalTerm.{NormalTerm}
 use Rattle.normal_form.specs.Normal.{NormalConstraint}
 use Rattle.propagate.specs.Passes.{literal_of}
-use Rattle.trail.specs.Trails.{IsFree}
+use Rattle.propagate.specs.Trails.{IsFree}
 
 -- the place at an index of an order: the index itself, where the order ends before it
 abbrev pub place_in : List ℕ → ℕ → ℕ

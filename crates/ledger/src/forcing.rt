@@ -11,7 +11,8 @@ ghost use Rattle.propagate.specs.Slack.{IsForced};
 ghost use Rattle.ledger.specs.Forcing.{IsForcedOn};
 ghost use Rattle.ledger.specs.Ledgers.{open_sum};
 ghost use Rattle.ledger.specs.Orders.{ArePassed, IsDecreasing};
-ghost use Rattle.trail.specs.Trails.{IsFree, on_trail};
+ghost use Rattle.propagate.specs.Trails.{IsFree};
+ghost use Rattle.trail.specs.Trails.{on_trail};
 
 use super::order::place_in;
 use normal_form::{Normal, NormalTerm};

@@ -9,7 +9,9 @@ pub mod SearchEnds
 pub mod Consistency
 pub mod Closure
 pub mod Entries
-pub mod ValueTable
+pub mod Positions
+pub mod TrailChanges
+pub mod TrailLiterals
 pub mod Occurrences
 pub mod SeenLists
 pub mod ReasonedChains

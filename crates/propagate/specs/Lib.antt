@@ -5,6 +5,7 @@ pub mod Biting
 pub mod Passes
 pub mod Cases
 pub mod Values
+pub mod Trails
 pub mod Walk
 pub mod Reach
 pub mod Content

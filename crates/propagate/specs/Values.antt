@@ -1,17 +1,26 @@
--- A table of the values that an assignment gives the variables. The private functions that propagate speak of this.
-use Rattle.std.specs.Prelude.{◌≡◌, ℕ, ◌<◌, Bool, true, false, not, List, Option, Some, None, length, slice_index_or}
+-- The values that an assignment gives variables.
+use Rattle.std.specs.Prelude.{◌≡◌, ℕ, ◌<◌, Bool, true, false, not, List, length, slice_index_or, if◌then◌else◌}
 use Rattle.linear.specs.declared.term.Lit.{Lit}
 use Rattle.propagate.specs.Literals.{among}
+use Rattle.propagate.specs.declared.value.Value.{Value}
+use Rattle.propagate.specs.declared.value.Value.TheVariants.{True, False, Free}
 
--- whether a kept value is this one
-abbrev pub is_value : Bool → Option Bool → Bool
-is_value true None = false
-is_value false None = false
-is_value true (Some c) = c
-is_value false (Some c) = not c
+-- the value that a literal gives its variable
+abbrev pub value_given : Lit → Value
+value_given l = if l.negated then False else True
 
--- the table has what is listed: each listed literal's variable is in it, with the value that makes the literal true,
--- and no other variable has a value
-pub record Agrees (assigned : List Lit) (values : List (Option Bool)) : Type 0 where
-  pub listed : (v : ℕ) (s : Bool) → v < length values → among assigned v s ≡ is_value (not s) (slice_index_or values v None)
-  pub inside : (v : ℕ) (s : Bool) → among assigned v s ≡ true → v < length values
+-- whether the literal of this sign is true where its variable has the value
+abbrev pub makes_true : Value → Bool → Bool
+makes_true True negated = not negated
+makes_true False negated = negated
+makes_true Free negated = false
+
+-- each variable of the table has the value that an assignment gives it: a literal of it is listed exactly where the value makes it true
+abbrev pub AreValuesUnder : List Lit → List Value → Type 0
+AreValuesUnder assigned values = (v : ℕ) (negated : Bool) → v < length values → among assigned v negated ≡ makes_true (slice_index_or values v Free) negated
+
+-- whether it is one
+abbrev pub is_given : Value → Bool
+is_given True = true
+is_given False = true
+is_given Free = false

@@ -1,13 +1,17 @@
 //! The definitions computed on small constraints, each the contract of a function that does nothing.
 
-ghost use Rattle.std.specs.Prelude.{◌≡◌, ℕ, List, All, [], ◌∷◌, ◌++◌, pos, None, Some};
+ghost use Rattle.std.specs.Prelude.{◌≡◌, ℕ, Bool, List, All, [], ◌∷◌, ◌++◌, pos, None, Some, false, true};
 ghost use Rattle.linear.specs.declared.term.Lit.{Lit};
 ghost use Rattle.normal_form.specs.Cases.{plain, negated, normal};
 ghost use Rattle.propagate.specs.Cases.{x, not_x, decision, unit, unit_not, four_clauses, one_of_two, weighted, pigeons, two_ids, two_of_three, two_of_three_negated, improving_moved};
 ghost use Rattle.propagate.specs.Chain.{IsForcedByOne, IsChain, IsRefuted, IsClosure, IsImpossible, LeadsToConflict};
 ghost use Rattle.propagate.specs.declared.trace.Trace.{Trace};
 ghost use Rattle.propagate.specs.Content.{AreDecided, AreTaken, IsLeastAbove, IsTrace};
+ghost use Rattle.propagate.specs.Literals.{among};
 ghost use Rattle.propagate.specs.Slack.{slack, IsFalsified};
+ghost use Rattle.propagate.specs.Values.{AreValuesUnder, makes_true};
+ghost use Rattle.propagate.specs.declared.value.Value.{Value};
+ghost use Rattle.propagate.specs.declared.value.Value.TheVariants as values;
 
 /// `1 ~x2 1 x3 >= 1 ; 1 ~x1 1 x2 >= 1 ; 1 x1 >= 1 ; 1 ~x3 >= 1`: the first two force something only after the
 /// third, so one pass over the four in order does not do.
@@ -109,4 +113,16 @@ pub fn taken_in_part()
     ensures none { AreTaken (x 1) (x 2 ∷ x 3 ∷ []) [] → ⊥ }
     ensures without_first { AreTaken (x 1) (x 2 ∷ x 3 ∷ []) (decision (x 3) [] None ∷ []) → ⊥ }
     ensures not_asked { AreTaken (x 1) (x 3 ∷ []) (decision (x 1) [] None ∷ decision (x 2) [] None ∷ []) → ⊥ }
+{}
+
+/// Under x0 and ~x2 the first of three variables is true, the second one free, and the third one false. A value that is turned, or
+/// left out, is none; and a variable has one value, so that no literal stands beside its opposite where all have one.
+pub fn values_of_an_assignment()
+    ensures told { AreValuesUnder (x 0 ∷ not_x 2 ∷ []) (values.True ∷ values.Free ∷ values.False ∷ []) }
+    ensures turned { AreValuesUnder (x 0 ∷ not_x 2 ∷ []) (values.False ∷ values.Free ∷ values.True ∷ []) → ⊥ }
+    ensures left_out { AreValuesUnder (x 0 ∷ []) (values.Free ∷ []) → ⊥ }
+    ensures one_true { (assigned : List Lit) → (v : ℕ) → (value : Value) → among assigned v false ≡ true
+        → ((negated : Bool) → among assigned v negated ≡ makes_true value negated) → value ≡ values.True }
+    ensures one_false { (assigned : List Lit) → (v : ℕ) → (value : Value) → among assigned v true ≡ true
+        → ((negated : Bool) → among assigned v negated ≡ makes_true value negated) → value ≡ values.False }
 {}

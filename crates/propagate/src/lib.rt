@@ -16,6 +16,7 @@ mod scan_propagator;
 mod slack;
 mod trace;
 mod trail;
+mod value;
 mod walk;
 
 pub use assigned::{literal_count, with_last};
@@ -25,3 +26,5 @@ pub use reach::Reach;
 pub use retrace::{Extent, Retrace};
 pub use scan_propagator::ScanPropagator;
 pub use trace::{Decided, Trace, decided_alone};
+pub use trail::Trail;
+pub use value::Value;

@@ -34,7 +34,7 @@ fn list(trail: &mut Trail, steps: &mut Vec<Forced>, forced: Forced) -> Result<()
     ensures trail { OnOk result (trail.new ≡ (trail.old.0 ++ forced.literal ∷ [], trail.old.1)) }
     ensures steps { OnOk result (steps.new.items ≡ steps.old.items ++ forced ∷ []) }
 {
-    trail.push(forced.literal)?;
+    trail.push(forced.literal);
     steps.push(forced)?;
     Ok(())
 }

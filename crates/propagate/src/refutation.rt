@@ -26,7 +26,7 @@ pub(crate) fn variable_count(constraints: &[&Normal]) -> usize
 pub(crate) fn refuted(alloc: Global, constraints: &[&Normal]) -> Result<bool, AllocError>
     ensures { IfOk result (λ yes. IsTrue yes ↔ IsRefuted (map (λ n. n.now) constraints.now)) }
 {
-    let nothing = Trail::new(alloc, variable_count(constraints))?;
+    let nothing = Trail::with_room(alloc, variable_count(constraints))?;
     let walk = complete(alloc, constraints, nothing)?;
     Ok(walk.falsified.is_some())
 }

@@ -10,9 +10,9 @@ use Rattle.propagate.specs.Literals.{among, lists}
 use Rattle.propagate.proofs.Consistency.{only_here}
 use Rattle.propagate.proofs.Assignments.{among_cases, among_head, among_left, among_right}
 use Rattle.propagate.proofs.SearchEnds.{fewer_unset, unset_below}
-use Rattle.trail.specs.Values.{AreValuesUnder, makes_true}
-use Rattle.trail.specs.declared.value.Value.{Value}
-use Rattle.trail.specs.declared.value.Value.TheVariants.{True, False, Free}
+use Rattle.propagate.specs.Values.{AreValuesUnder, makes_true}
+use Rattle.propagate.specs.declared.value.Value.{Value}
+use Rattle.propagate.specs.declared.value.Value.TheVariants.{True, False, Free}
 use Rattle.search.specs.Values.{IsFree, IsUnlisted, unlisted_below}
 
 -- a place behind the table is not free

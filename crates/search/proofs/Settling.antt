@@ -14,9 +14,9 @@ use Rattle.propagate.proofs.Consistency.{chain_consistent}
 use Rattle.propagate.proofs.JoinedChains.{joined}
 use Rattle.proof_rules.specs.Solution.{NamesAll, literal_for}
 use Rattle.proof_rules.specs.State.{constraints}
-use Rattle.trail.specs.Values.{AreValuesUnder, makes_true}
-use Rattle.trail.specs.declared.value.Value.{Value}
-use Rattle.trail.specs.declared.value.Value.TheVariants.{True, False, Free}
+use Rattle.propagate.specs.Values.{AreValuesUnder, makes_true}
+use Rattle.propagate.specs.declared.value.Value.{Value}
+use Rattle.propagate.specs.declared.value.Value.TheVariants.{True, False, Free}
 use Rattle.search.specs.Descents.{IsSettled}
 use Rattle.proof_log.specs.Log.{Logbook}
 use Rattle.proof_log.specs.Named.{LiveIsNamed}

@@ -12,8 +12,8 @@ use Rattle.linear.specs.Literal.{opposite}
 use Rattle.propagate.specs.Literals.{IsConsistent, among}
 use Rattle.propagate.proofs.Consistency.{push_consistent}
 use Rattle.search.specs.Conflicts.{TakesLast}
-use Rattle.trail.specs.Values.{AreValuesUnder}
-use Rattle.trail.specs.declared.value.Value.{Value}
+use Rattle.propagate.specs.Values.{AreValuesUnder}
+use Rattle.propagate.specs.declared.value.Value.{Value}
 use Rattle.search.specs.Values.{IsFree, unlisted_below}
 use Rattle.search.proofs.Choices.{LeavesFree, fewer, values_leave_free}
 

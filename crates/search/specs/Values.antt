@@ -2,8 +2,8 @@
 use Rattle.std.specs.Prelude.{◌≡◌, ℕ, zero, suc, ◌+◌, ◌<◌, ◌||◌, Bool, true, false, List, slice_index_or, if◌then◌else◌}
 use Rattle.linear.specs.declared.term.Lit.{Lit}
 use Rattle.propagate.specs.Literals.{among}
-use Rattle.trail.specs.declared.value.Value.{Value}
-use Rattle.trail.specs.declared.value.Value.TheVariants.{True, Free}
+use Rattle.propagate.specs.declared.value.Value.{Value}
+use Rattle.propagate.specs.declared.value.Value.TheVariants.{True, Free}
 
 -- the table has the variable, as a free one
 abbrev pub IsFree : List Value → ℕ → Type 0

@@ -67,7 +67,7 @@ impl Standing {
     ghost use Rattle.analysis.specs.Biting.{Bites};
     ghost use Rattle.propagate.specs.Literals.{IsOnce};
     ghost use Rattle.search.specs.Standing.{HasMore};
-    ghost use Rattle.trail.specs.Values.{AreValuesUnder};
+    ghost use Rattle.propagate.specs.Values.{AreValuesUnder};
 
     /// No literal, and a number of variables, all free.
     pub(crate) fn new(alloc: Global, count: usize) -> Result<Self, AllocError>

@@ -5,11 +5,9 @@ use Rattle.std.proofs.lemmas.List.{get_or-take, take-append-drop, take-append-le
 use Rattle.linear.specs.declared.term.Lit.{Lit}
 use Rattle.linear.specs.Literal.{opposite}
 use Rattle.propagate.specs.Literals.{IsConsistent, among, lists}
-use Rattle.propagate.proofs.Consistency.{only_here}
-use Rattle.propagate.proofs.Assignments.{among_cases, among_head, among_left, among_right}
-use Rattle.propagate.proofs.Occurrences.{same_literal}
+use Rattle.propagate.proofs.Assignments.{among_head, among_left, among_right}
 use Rattle.trail.specs.Trails.{on_trail}
-use Rattle.trail.proofs.Positions.{listed_at}
+use Rattle.propagate.proofs.Positions.{listed_at, stands_at}
 use Rattle.std.proofs.Math.ListN.{drop_of_length-le}
 use Rattle.std.proofs.Math.Seq.{take-length}
 
@@ -17,23 +15,6 @@ use Rattle.std.proofs.Math.Seq.{take-length}
 pub fewer : (xs ys : List Lit) (v : ℕ) (s b : Bool) → among xs v s ≡ b → among (xs ++ ys) v s ≡ false → among xs v s ≡ false
 fewer xs ys v s false e h = e
 fewer xs ys v s true e h = absurd (false≢true (sym h ∙ among_left xs ys v s e))
-
--- a literal that is listed has a place
-pub record StandsAt (xs : List Lit) (l : Lit) : Type 0 where
-  pub index : ℕ
-  pub low : index < length xs
-  pub is : (d : Lit) → get_or xs index d ≡ l
-
-pub stands_at : (xs : List Lit) (l : Lit) → lists xs l ≡ true → StandsAt xs l
-stands_at [] l e = absurd (false≢true e)
-stands_at (x ∷ xs) l e = elim (among_cases (x ∷ []) xs (l.var.0) l.negated e) [
-  | inl here ↦
-      let same = only_here x (l.var.0) l.negated here in
-      record { index = 0; low = omega arith; is = λ d. same_literal x l (sym same.0) (sym same.1) }
-  | inr rest ↦
-      let r = stands_at xs l rest in
-      record { index = suc r.index; low = omega (arith, r.low); is = r.is }
-]
 
 -- what is listed at the beginning is listed
 pub among_all : (xs : List Lit) (p : ℕ) (v : ℕ) (s : Bool) → among (take p xs) v s ≡ true → among xs v s ≡ true

@@ -1,4 +1,1 @@
-pub mod TrailChanges
-pub mod TrailLiterals
-pub mod Positions
 pub mod AssignedLiterals

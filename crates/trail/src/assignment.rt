@@ -11,8 +11,8 @@ ghost use Rattle.linear.specs.Literal.{opposite};
 ghost use Rattle.propagate.specs.Literals.{IsConsistent, IsOnce, lists};
 ghost use Rattle.trail.specs.Trails.{on_trail};
 
-use super::trail::Trail;
 use linear::Lit;
+use propagate::Trail;
 use std::alloc::{AllocError, Global};
 use std::marker::Model;
 

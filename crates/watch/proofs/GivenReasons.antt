@@ -18,7 +18,7 @@ use Rattle.watch.specs.Roots.{AllForced}
 use Rattle.watch.specs.Steps.{AreGiven, Clashes}
 use Rattle.watch.proofs.Deciding.{reason_at}
 use Rattle.watch.proofs.GivenOnes.{one_within}
-use Rattle.trail.proofs.Positions.{listed_at}
+use Rattle.propagate.proofs.Positions.{listed_at}
 use Rattle.watch.proofs.ToldTrail.{HasEnd}
 
 some_is_not_none : (p : ℕ) (o : Option ℕ) → o ≡ Some p → o ≡ None → ⊥

@@ -18,7 +18,7 @@ use Rattle.watch.specs.Keeping.{IsFixpointOrFalsified}
 use Rattle.ledger.specs.Ledgers.{State, AreReasons, IsReason}
 use Rattle.watch.specs.Steps.{AreGiven, AreSteps, IsFound, IsFoundOfLast, IsTold, literals_of}
 use Rattle.watch.proofs.Deciding.{reason_at}
-use Rattle.trail.proofs.Positions.{listed_at}
+use Rattle.propagate.proofs.Positions.{listed_at}
 use Rattle.watch.proofs.ToldTrail.{literals_push, not_listed, reason_is, same_steps, steps_push, told_given, told_none, told_one}
 
 any : Lit

@@ -6,7 +6,7 @@ use Rattle.std.proofs.Math.Seq.{take-length}
 use Rattle.linear.specs.declared.term.Lit.{Lit}
 use Rattle.propagate.specs.Literals.{lists}
 use Rattle.ledger.specs.Ledgers.{State}
-use Rattle.trail.proofs.Positions.{listed_at}
+use Rattle.propagate.proofs.Positions.{listed_at}
 use Rattle.watch.specs.Keeping.{IsKept}
 use Rattle.watch.proofs.KeptLevels.{top_has}
 

@@ -12,8 +12,8 @@ ghost use Rattle.watch.specs.Steps.{AreGiven, IsTold, IsToldTo, LeadsTo};
 use super::chain::{Chain, Step};
 use ledger::Ledger;
 use linear::Lit;
+use propagate::Trail;
 use std::alloc::{AllocError, Global};
-use trail::Trail;
 
 /// Lists a literal unless it is listed.
 fn mark(marks: &mut Trail, literal: Lit)

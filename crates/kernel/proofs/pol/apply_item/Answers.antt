@@ -3,7 +3,7 @@ use Rattle.std.proofs.lemmas.Int.{to_z-of_z}
 use mir.Syntax.{w128}
 use Rattle.proof_steps.specs.declared.step.Item.TheVariants as items
 use Rattle.proof_rules.specs.Running.{AppliesItem}
-use Rattle.kernel.specs.Database.{found}
+use Rattle.database.specs.Database.{found}
 use Rattle.kernel.proofs.pol.apply_item.Goals as goal
 
 pub returns-in_ok-push_axiom-in-Axiom-clause-ok : goal.returns-in_ok-push_axiom-in-Axiom-clause-ok

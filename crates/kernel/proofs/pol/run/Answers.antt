@@ -7,7 +7,7 @@ use Rattle.proof_rules.specs.Fault.{OrMemory, IsItemFault, IsWritingFault}
 use Rattle.proof_rules.specs.Running.{Runs}
 use Rattle.proof_rules.proofs.PolFaults.{Runs-take, or_memory, stops_here, leaves_writing}
 use Rattle.proof_rules.proofs.Postfix.{LeavesStack-take}
-use Rattle.kernel.specs.Database.{found}
+use Rattle.database.specs.Database.{found}
 use Rattle.kernel.proofs.pol.run.Goals as goal
 
 pub loop-item-preserved : goal.loop-item-preserved

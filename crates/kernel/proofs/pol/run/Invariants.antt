@@ -1,7 +1,7 @@
 use Rattle.std.proofs.Common.{[], take}
 use Rattle.proof_rules.specs.Running.{LeavesStack}
 use Rattle.proof_rules.specs.Running.{Runs}
-use Rattle.kernel.specs.Database.{found}
+use Rattle.database.specs.Database.{found}
 use Rattle.kernel.proofs.pol.run.Given as goal
 
 -- the items so far write what stands on the stack, and run to it

@@ -1,9 +1,10 @@
 use Rattle.std.proofs.Common.{◌++◌, List, refl, ◌∙◌}
 use Rattle.std.specs.FinMap as map
 use Rattle.normal_form.specs.Normal.{NormalConstraint}
-use Rattle.kernel.specs.Database.{Constraints}
+use Rattle.database.specs.Database.{Constraints}
 use Rattle.kernel.specs.Redundance.{IsAsked}
-use Rattle.kernel.proofs.TouchedJudged.{judging_first, judging_more, judging_open, judging_end, judged, fewer}
+use Rattle.database.proofs.IdSets.{fewer}
+use Rattle.kernel.proofs.TouchedJudged.{judging_first, judging_more, judging_open, judging_end, judged}
 use Rattle.kernel.proofs.redundance.judge_live.Goals as goal
 
 pub loop-id-init : goal.loop-id-init

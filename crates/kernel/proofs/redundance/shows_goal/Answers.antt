@@ -3,8 +3,8 @@ use Rattle.std.specs.FinMap as map
 use Rattle.normal_form.specs.Normal.{NormalConstraint}
 use Rattle.substitution.specs.Covering.{Covers}
 use Rattle.proof_rules.specs.Shown.{IsShown}
-use Rattle.kernel.specs.Database.{Constraints}
-use Rattle.kernel.proofs.Showing.{any_left}
+use Rattle.database.specs.Database.{Constraints}
+use Rattle.database.proofs.Showing.{any_left}
 use Rattle.kernel.proofs.redundance.shows_goal.Goals as goal
 
 pub returns-then-branch-clause-shown : goal.returns-then-branch-clause-shown

@@ -5,7 +5,8 @@ use Rattle.linear.specs.declared.term.Lit.{Lit}
 use Rattle.linear.specs.Literal.{opposite}
 use Rattle.propagate.specs.Literals.{lists}
 use Rattle.propagate.specs.Passes.{literal_of}
-use Rattle.trail.specs.Trails.{IsFree, on_trail}
+use Rattle.propagate.specs.Trails.{IsFree}
+use Rattle.trail.specs.Trails.{on_trail}
 use Rattle.ledger.proofs.ForcedLiterals.{forced_none, forced_one, free_no_more, pushed_on}
 use Rattle.ledger.proofs.forcing.force_term.Goals as goal
 

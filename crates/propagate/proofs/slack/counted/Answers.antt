@@ -8,7 +8,7 @@ pub has-requires : goal.has-requires
 has-requires c = grind (arith, bound_at c.args.constraint.now.terms c.args.place c.term-term.result c.requires.place, c.term-term.ensures.value, c.requires.variables, c.opposite.ensures, c.literal.ensures)
 
 pub returns-then-has : goal.returns-then-has
-returns-then-has c = grind (arith, sum_over_more (not_false c.args.trail.now.0) c.args.constraint.now.terms c.args.place c.term-term.result c.requires.place, c.term-term.ensures.value, c.has.ensures.value, c.opposite.ensures, c.literal.ensures, c.if-has.true)
+returns-then-has c = grind (arith, sum_over_more (not_false c.args.trail.now.0) c.args.constraint.now.terms c.args.place c.term-term.result c.requires.place, c.term-term.ensures.value, c.has.ensures, c.opposite.ensures, c.literal.ensures, c.if-has.true)
 
 pub returns-else-has : goal.returns-else-has
-returns-else-has c = grind (arith, sum_over_more (not_false c.args.trail.now.0) c.args.constraint.now.terms c.args.place c.term-term.result c.requires.place, c.term-term.ensures.value, c.has.ensures.value, c.opposite.ensures, c.literal.ensures, c.if-has.false)
+returns-else-has c = grind (arith, sum_over_more (not_false c.args.trail.now.0) c.args.constraint.now.terms c.args.place c.term-term.result c.requires.place, c.term-term.ensures.value, c.has.ensures, c.opposite.ensures, c.literal.ensures, c.if-has.false)

@@ -13,7 +13,7 @@ pub loop-steps-smaller : goal.loop-steps-smaller
 loop-steps-smaller c =
     let ns : List NormalConstraint = map (λ n. n.now) c.args.constraints.now in
     goes_fewer ns c.loop-steps.trail.0 c.pass.new.trail.0 c.loop-steps.steps.items c.pass.new.steps.items c.in_ok-falsified.ensures.goes_on
-    (λ same. c.if-len-before.false (c.len.ensures ∙ same ∙ sym c.len-before.ensures))
+    (λ same. c.if-len-before.false (c.len.ensures.value ∙ same ∙ sym c.len-before.ensures.value))
 
 pub loop-steps-preserved : goal.loop-steps-preserved
 loop-steps-preserved c =

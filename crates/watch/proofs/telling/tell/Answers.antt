@@ -5,7 +5,7 @@ use Rattle.linear.specs.declared.term.Lit.{Lit}
 use Rattle.normal_form.specs.Normal.{NormalConstraint}
 use Rattle.propagate.specs.Literals.{lists}
 use Rattle.ledger.specs.Ledgers.{IsReason, shown}
-use Rattle.trail.proofs.Positions.{listed_at}
+use Rattle.propagate.proofs.Positions.{listed_at}
 use Rattle.watch.proofs.ToldTrail.{reason_is, told_falsified, told_given, told_one}
 use Rattle.watch.proofs.telling.tell.Goals as goal
 

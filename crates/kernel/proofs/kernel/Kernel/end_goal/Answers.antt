@@ -6,9 +6,9 @@ use Rattle.proof_rules.specs.Fault.{IsEndFault}
 use Rattle.proof_rules.specs.Shown.{IsShown, absurdity}
 use Rattle.proof_rules.specs.State.{Block, constraints, up_to}
 use Rattle.proof_rules.specs.declared.fault.StepFault.TheVariants as faults
-use Rattle.kernel.specs.Database.{Constraints, without_between}
+use Rattle.database.specs.Database.{Constraints, without_between}
 use Rattle.kernel.specs.Held.{Held, IsKept, Keeps, state_with}
-use Rattle.kernel.proofs.Between.{all_between}
+use Rattle.database.proofs.Between.{all_between}
 use Rattle.kernel.proofs.Keeping.{kept_step}
 use Rattle.kernel.proofs.kernel.Kernel.end_goal.Given.{Over}
 use Rattle.kernel.proofs.kernel.Kernel.end_goal.Goals as goal

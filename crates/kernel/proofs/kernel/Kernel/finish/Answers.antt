@@ -4,9 +4,9 @@ use Rattle.proof_rules.specs.Block.{finished}
 use Rattle.proof_rules.specs.Preserved.{IsBlockKept}
 use Rattle.proof_rules.specs.State.{State, Block, up_to}
 use Rattle.proof_rules.proofs.NotLegal.{one_block}
-use Rattle.kernel.specs.Database.{Constraints, pushed, without_between}
+use Rattle.database.specs.Database.{Constraints, pushed, without_between}
 use Rattle.kernel.specs.Held.{Held, IsKept, Keeps, state_with}
-use Rattle.kernel.proofs.Between.{between_pushed}
+use Rattle.database.proofs.Between.{between_pushed}
 use Rattle.kernel.proofs.kernel.Kernel.finish.Given.{Over}
 use Rattle.kernel.proofs.kernel.Kernel.finish.Goals as goal
 use Rattle.kernel.proofs.kernel.Kernel.finish.Goals.{Joined-self-2}

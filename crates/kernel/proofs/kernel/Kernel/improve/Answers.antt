@@ -1,7 +1,7 @@
 use Rattle.std.proofs.Common.{◌≡◌, sym, ap, subst, ◌∙◌}
-use Rattle.kernel.specs.Database.{taken_back}
+use Rattle.database.specs.Database.{taken_back}
 use Rattle.kernel.specs.Held.{Keeps, state_with}
-use Rattle.kernel.proofs.TakenBack.{pushed_back, of_err}
+use Rattle.database.proofs.TakenBack.{pushed_back, of_err}
 use Rattle.kernel.proofs.kernel.Kernel.improve.Given.{Over}
 use Rattle.kernel.proofs.kernel.Kernel.improve.Goals as goal
 

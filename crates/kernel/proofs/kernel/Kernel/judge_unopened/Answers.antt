@@ -9,7 +9,7 @@ use Rattle.proof_rules.specs.State.{Block, constraints}
 use Rattle.proof_rules.specs.declared.fault.StepFault.TheVariants as faults
 use Rattle.proof_rules.proofs.NotLegal.{one_block}
 use Rattle.proof_rules.proofs.PolFaults.{or_memory}
-use Rattle.kernel.specs.Database.{Constraints}
+use Rattle.database.specs.Database.{Constraints}
 use Rattle.kernel.specs.Held.{Held}
 use Rattle.kernel.specs.Place.{AreUnopenedShown}
 use Rattle.kernel.specs.Redundance.{AreAskedShown, IsOpenLive}

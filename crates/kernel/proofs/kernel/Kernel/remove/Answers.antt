@@ -5,7 +5,7 @@ use Rattle.proof_steps.specs.declared.step.Step.TheVariants as steps
 use Rattle.linear.specs.Opb.{Opb}
 use Rattle.proof_rules.specs.Legal.{without}
 use Rattle.proof_rules.specs.State.{State, IsOutside, constraint_of, id_of}
-use Rattle.kernel.specs.Database.{removed}
+use Rattle.database.specs.Database.{removed}
 use Rattle.kernel.specs.Held.{Held, Keeps, state_with}
 use Rattle.kernel.proofs.Keeping.{kept_step}
 use Rattle.kernel.proofs.kernel.Kernel.remove.Goals as goal

@@ -1,10 +1,10 @@
 use Rattle.std.proofs.Common.{◌≡◌, Some, sym, ap, subst, ◌∙◌}
 use Rattle.proof_rules.specs.Block.{with_block, with_goal}
 use Rattle.proof_rules.specs.State.{Block}
-use Rattle.kernel.specs.Database.{pushed, taken_back}
+use Rattle.database.specs.Database.{pushed, taken_back}
 use Rattle.kernel.specs.Held.{Held, IsKept, Keeps, state_with}
 use Rattle.kernel.proofs.OpenBlocks.{of_ok}
-use Rattle.kernel.proofs.TakenBack.{pushed_back, of_err}
+use Rattle.database.proofs.TakenBack.{pushed_back, of_err}
 use Rattle.kernel.proofs.kernel.Kernel.suppose.Given.{Over}
 use Rattle.kernel.proofs.kernel.Kernel.suppose.Goals as goal
 

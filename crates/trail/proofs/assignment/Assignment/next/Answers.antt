@@ -2,9 +2,9 @@
 use Rattle.std.proofs.Common.{◌≡◌, ◌<◌, ◌≤◌, ℕ, List, [], length, get_or, take, drop, ap, sym, subst, ◌∙◌, true, false, arith}
 use Rattle.linear.specs.declared.term.Lit.{Lit}
 use Rattle.propagate.specs.Literals.{lists}
-use Rattle.trail.specs.Trails.{IsFree}
+use Rattle.propagate.specs.Trails.{IsFree}
 use Rattle.trail.proofs.AssignedLiterals.{before_end}
-use Rattle.trail.proofs.Positions.{listed_at}
+use Rattle.propagate.proofs.Positions.{listed_at}
 use Rattle.trail.proofs.assignment.Assignment.next.Goals as goal
 
 abbrev Whole : Type 0

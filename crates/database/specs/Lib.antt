@@ -1,0 +1,4 @@
+pub mod Covered
+pub mod Database
+pub mod File
+pub mod Touched
