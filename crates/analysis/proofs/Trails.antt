@@ -142,10 +142,17 @@ listed_there ls v at s e places =
       there = λ d. ap (λ (k : ℕ). (get_or ls k d).var.0) (sym here) ∙ ap (λ (m : Lit). m.var.0) (st.is d);
     }
 
-pub stands_there : (ls : List Lit) (v at : ℕ) (b c : Bool) → among ls v false ≡ b → among ls v true ≡ c → (((s : Bool) → among ls v s ≡ false) → ⊥) → ((k : ℕ) (d : Lit) → k < length ls → (get_or ls k d).var.0 ≡ v → k ≡ at) → StandsAt ls v at
+stands_there : (ls : List Lit) (v at : ℕ) (b c : Bool) → among ls v false ≡ b → among ls v true ≡ c → (((s : Bool) → among ls v s ≡ false) → ⊥) → ((k : ℕ) (d : Lit) → k < length ls → (get_or ls k d).var.0 ≡ v → k ≡ at) → StandsAt ls v at
 stands_there ls v at true c e f some places = listed_there ls v at false e places
 stands_there ls v at false true e f some places = listed_there ls v at true f places
 stands_there ls v at false false e f some places = absurd (some (λ s. by_sign ls v s e f))
+
+-- so does one that was found to be told
+pub spotted : (ls : List Lit) (es : List Entry) (v at : ℕ) (told : Bool) → literals_of es ≡ ls → told ≡ true → (((s : Bool) → among (literals_of es) v s ≡ false) → told ≡ false)
+    → ((k : ℕ) (d : Lit) → k < length ls → (get_or ls k d).var.0 ≡ v → k ≡ at) → StandsAt ls v at
+spotted ls es v at told same is none places =
+    stands_there ls v at (among ls v false) (among ls v true) refl refl
+    (λ free. false≢true (sym (none (λ s. ap (λ (xs : List Lit). among xs v s) same ∙ free s)) ∙ is)) places
 
 -- and what is listed of it at a level is told by the entry there
 pub told_there : (ls : List Lit) (ns : List Note) (es : List Entry) (v at level : ℕ) (s : Bool) (e : Entry) → length ns ≡ length ls → entries_of ls ns ≡ es → StandsAt ls v at

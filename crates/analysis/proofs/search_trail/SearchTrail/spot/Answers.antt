@@ -1,11 +1,9 @@
 -- A variable that is listed has one place, and the entry there tells its sign and its level.
-use Rattle.std.proofs.Common.{◌≡◌, ◌∙◌, true, false, List, ap, length, refl, sym, arith}
-use Rattle.std.proofs.lemmas.Bool.{false≢true}
+use Rattle.std.proofs.Common.{◌≡◌, List, ap, length, arith}
 use Rattle.linear.specs.declared.term.Lit.{Lit}
-use Rattle.propagate.specs.Literals.{among}
 use Rattle.analysis.specs.declared.entry.Entry.{Entry}
 use Rattle.analysis.specs.Trails.{TrailState, literals_of}
-use Rattle.analysis.proofs.Trails.{as_many, fewer_listed, standing, stands_there, told_there}
+use Rattle.analysis.proofs.Trails.{as_many, fewer_listed, spotted, standing, told_there}
 use Rattle.analysis.proofs.search_trail.SearchTrail.spot.Goals as goal
 
 pub returns-then-not-has : goal.returns-then-not-has
@@ -20,8 +18,7 @@ entry-level-requires c =
     let v = c.args.variable.0 in
     let entries = ap (λ (s : TrailState). s.entries) c.self.view_is in
     let same : literals_of c.args.self.now.entries ≡ t.trail.0 = standing t.trail.0 t.notes.items c.args.self.now.entries c.self.invariant.0 entries in
-    let there = stands_there t.trail.0 v c.position-place.result (among t.trail.0 v false) (among t.trail.0 v true) refl refl
-    (λ none. false≢true (sym (c.has.ensures.stands.1 (λ s. ap (λ (xs : List Lit). among xs v s) same ∙ none s)) ∙ c.if-not-has.false)) c.position-place.ensures in
+    let there = spotted t.trail.0 c.args.self.now.entries v c.position-place.result c.has.result same c.if-not-has.false c.has.ensures.stands.1 c.position-place.ensures in
     omega (arith, there.low, as_many t.trail.0 t.notes.items c.self.invariant.0, ap (λ (xs : List Entry). length xs) entries)
 
 pub returns : goal.returns
@@ -30,6 +27,5 @@ returns c level s =
     let v = c.args.variable.0 in
     let entries = ap (λ (s : TrailState). s.entries) c.self.view_is in
     let same : literals_of c.args.self.now.entries ≡ t.trail.0 = standing t.trail.0 t.notes.items c.args.self.now.entries c.self.invariant.0 entries in
-    let there = stands_there t.trail.0 v c.position-place.result (among t.trail.0 v false) (among t.trail.0 v true) refl refl
-    (λ none. false≢true (sym (c.has.ensures.stands.1 (λ x. ap (λ (xs : List Lit). among xs v x) same ∙ none x)) ∙ c.if-not-has.false)) c.position-place.ensures in
+    let there = spotted t.trail.0 c.args.self.now.entries v c.position-place.result c.has.result same c.if-not-has.false c.has.ensures.stands.1 c.position-place.ensures in
     told_there t.trail.0 t.notes.items c.args.self.now.entries v c.position-place.result level s c.entry-level.result c.self.invariant.0 entries there c.position-place.ensures c.entry-level.ensures
