@@ -129,6 +129,20 @@ impl Closure {
         }
     }
 
+    /// How many entries the constraint of a place leaves behind in the lists of literals when it goes: none where no question has met it. It is
+    /// a measure for the order of work, so no clause speaks of it.
+    pub(crate) fn entry_count(&self, place: usize) -> usize {
+        if place >= self.ledger.count() {
+            return 0;
+        }
+        match self.ledger.get(place) {
+            // Two literals watch a clause.
+            Some(constraint) if constraint.degree() <= 1 => constraint.len().min(2),
+            Some(constraint) => constraint.len(),
+            None => 0,
+        }
+    }
+
     /// How many variables there is room for.
     pub(crate) fn variable_count(&self) -> usize {
         self.ledger.variable_count()
