@@ -79,8 +79,8 @@ impl Closure {
         }
     }
 
-    /// Adds a constraint at the next place.
-    pub(crate) fn attach(&mut self, constraint: Normal) -> Result<(), AllocError>
+    /// Adds a constraint at the next place, where it waits until something is asked.
+    pub(crate) fn add(&mut self, constraint: Normal) -> Result<(), AllocError>
         ensures ok { OnOk result (self.new ≡ self.old ++ Some constraint ∷ []) }
         ensures err { OnErr result (self.new ≡ self.old) }
     {

@@ -68,7 +68,7 @@ impl WatchPropagator {
         self.ids.reserve(1)?;
         let place = self.ids.len();
         self.places.insert(id, place)?;
-        match self.closure.attach(constraint) {
+        match self.closure.add(constraint) {
             Err(_) => {
                 self.places.remove(id);
                 return Err(AllocError);
