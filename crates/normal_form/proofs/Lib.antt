@@ -14,4 +14,3 @@ pub mod Reorder
 pub mod Floors
 pub mod FormDegrees
 pub mod Coefficients
-mod PlainTerms

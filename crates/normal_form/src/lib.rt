@@ -13,7 +13,6 @@ mod merging;
 mod negation;
 mod normal;
 mod opposites;
-mod plain;
 mod term;
 mod terms;
 mod truth;
