@@ -1,7 +1,7 @@
 /* pbcheck.h: the proof checker of Fernbirdbunk as a library, libpbcheck.a or libpbcheck.so.
  *
- * What a call says is proved (crates/c_library, docs/theorem.md), for all bytes that are handed in. What is not, since no proof reaches
- * what a C program does, is what the caller owes:
+ * What a call says is proved (in the repository: crates/c_library, docs/theorem.md), for all bytes that are handed in. What is not, since
+ * no proof reaches what a C program does, is what the caller owes:
  *  - each pointer leads to as many bytes as the length behind it says, and is not null, not even where the length is 0;
  *  - as long as a call runs nobody writes where it reads, and nobody reads or writes where it writes (report, values, text);
  *  - malloc, realloc and free are those of one allocator, and no call comes from a signal handler.
@@ -56,8 +56,8 @@ struct pbcheck_report {
 size_t pbcheck_check(const uint8_t *problem, size_t problem_length, const uint8_t *proof, size_t proof_length,
                      struct pbcheck_report *report, uint8_t *values, size_t values_room, uint8_t *text, size_t text_room);
 
-/* The same for a proof that comes in pieces. They are kept until the end (docs/DECISIONS.md says why), and are judged there. These four are
- * written in C, and are not proved: they put the pieces behind one another, and call pbcheck_check. */
+/* The same for a proof that comes in pieces. They are kept until the end, and are judged there. These four are written in C, and are not
+ * proved: they put the pieces behind one another, and call pbcheck_check. */
 struct pbcheck_pieces;
 
 /* Begins a proof; null where there is no memory. */

@@ -1,4 +1,4 @@
-/* Calls the checker from C, once over two buffers and once with the proof in pieces: `check PROBLEM PROOF` (`make demo-embed`). */
+/* Calls the checker from C, once over two buffers and once with the proof in pieces: `check PROBLEM PROOF`. */
 #include "pbcheck.h"
 
 #include <inttypes.h>
@@ -66,11 +66,20 @@ int main(int count, char **words) {
     size_t printed = pbcheck_check(problem.at, problem.length, proof.at, proof.length, &report, values, sizeof values, text, sizeof text);
     print(&report, values);
     fwrite(text, 1, printed < sizeof text ? printed : sizeof text, stdout);
+    if (printed > sizeof text)
+        fprintf(stderr, "the text has %zu bytes, of which %zu are printed\n", printed, sizeof text);
 
     struct pbcheck_pieces *pieces = pbcheck_begin();
     for (size_t at = 0; pieces && at < proof.length; at += 7)
-        pbcheck_piece(pieces, proof.at + at, proof.length - at < 7 ? proof.length - at : 7);
-    if (!pieces || pbcheck_end(pieces, problem.at, problem.length, &again, values, sizeof values, text, sizeof text) != printed ||
+        if (!pbcheck_piece(pieces, proof.at + at, proof.length - at < 7 ? proof.length - at : 7)) {
+            pbcheck_forget(pieces);
+            pieces = NULL;
+        }
+    if (!pieces) {
+        fprintf(stderr, "no memory for the pieces of the proof\n");
+        return PBCHECK_NO_MEMORY;
+    }
+    if (pbcheck_end(pieces, problem.at, problem.length, &again, values, sizeof values, text, sizeof text) != printed ||
         again.status != report.status) {
         fprintf(stderr, "in pieces the verdict is another one\n");
         return 1;

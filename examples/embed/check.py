@@ -1,5 +1,5 @@
 #!/usr/bin/env python3
-"""Calls the checker from Python, by ctypes and libpbcheck.so: `check.py LIBRARY PROBLEM PROOF` (`make demo-embed`)."""
+"""Calls the checker from Python, by ctypes and libpbcheck.so: `check.py LIBRARY PROBLEM PROOF`."""
 import ctypes, sys
 
 
@@ -29,11 +29,13 @@ CONCLUSIONS = {1: "NONE", 2: "SAT", 3: "UNSAT", 4: "BOUNDS"}
 
 
 def check(library, problem, proof, room=1 << 16):
-    """The report, the values of the best solution (as many as there is room for), and the text."""
+    """The report, the values of the best solution, and the text. Where there was no room for all of these it calls once more."""
     report, values, text = Report(), (ctypes.c_uint8 * room)(), (ctypes.c_uint8 * room)()
     sizes = ctypes.c_size_t
     library.pbcheck_check.restype = sizes
     printed = library.pbcheck_check(problem, sizes(len(problem)), proof, sizes(len(proof)), ctypes.byref(report), values, sizes(room), text, sizes(room))
+    if max(printed, report.variables) > room:
+        return check(library, problem, proof, max(printed, report.variables))
     return report, list(values[: report.variables]), bytes(text[:printed]).decode()
 
 

@@ -15,7 +15,7 @@ use Rattle.std.proofs.lemmas.Map.Keys.{IsStrictlyIncreasing-dedup}
 use Rattle.accumulate.specs.Nets.{AreTidy, IsKept, IsMarked, is_live}
 
 -- what has a net coefficient is live
-live_at : (n : ℕ) → 0 < n → not (n == 0) ≡ true
+pub live_at : (n : ℕ) → 0 < n → not (n == 0) ≡ true
 live_at zero h = absurd (omega (arith, h))
 live_at (suc n) h = ap not (eqb-suc-zero n)
 
@@ -27,7 +27,7 @@ front : (b : Bool) (l : List ℕ) (y x : ℕ) → b ≡ true → y ≡ x → Con
 front true l y x h e = (zero, omega arith, e)
 front false l y x h e = absurd (false≢true h)
 
-filter_contains : (p : ℕ → Bool) (xs : List ℕ) (x : ℕ) → p x ≡ true → Contains xs x → Contains (filter p xs) x
+pub filter_contains : (p : ℕ → Bool) (xs : List ℕ) (x : ℕ) → p x ≡ true → Contains xs x → Contains (filter p xs) x
 filter_contains p [] x ok h = absurd (omega (arith, h.1))
 filter_contains p (y ∷ xs) x ok (zero, l, e) = front (p y) (filter p xs) y x (ap p e ∙ ok) e
 filter_contains p (y ∷ xs) x ok (suc k, l, e) = behind (p y) (filter p xs) y x (filter_contains p xs x ok (k, omega (arith, l), e))

@@ -52,3 +52,9 @@ changed_next f ts us next i c t h e k g n =
 
 pub changed_all : (f : ℕ → ℕ → ℕ) (ts us : List NormalTerm) (i : ℕ) → Rises 0 ts → ((v n : ℕ) → 0 < n → 0 < f v n) → i ≡ length ts → us ≡ partly_changed f i ts → us ≡ changed f ts
 changed_all f ts us i r p e h = h ∙ ap (λ (n : ℕ). partly_changed f n ts) e ∙ all f 0 ts r p
+
+-- with the coefficient that it has, a term is as it was
+pub with_own : (ts : List NormalTerm) (i c : ℕ) → i < length ts → ((d : NormalTerm) → c ≡ (get_or ts i d).coef) → ts ≡ with_coefficient ts i c
+with_own [] i c h is = refl
+with_own (t ∷ ts) zero c h is = ap (λ (x : ℕ). (record t { coef = x }) ∷ ts) (sym (is t))
+with_own (t ∷ ts) (suc i) c h is = ap (λ (us : List NormalTerm). t ∷ us) (with_own ts i c (omega (arith, h)) is)

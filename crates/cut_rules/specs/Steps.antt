@@ -1,29 +1,30 @@
 -- What the private functions speak of: merging the terms of two constraints variable by variable, and terms with
 -- other coefficients.
-use Rattle.std.specs.Prelude.{◌≡◌, ℕ, zero, suc, Bool, ◌*◌, ◌≤◌, ◌+ℤ◌, ℤ, pos, unsigned_abs, List, [], ◌∷◌, ◌++◌, ◌==◌, if◌then◌else◌}
+use Rattle.std.specs.Prelude.{◌≡◌, ℕ, zero, suc, Bool, ◌+◌, ◌*◌, ◌≤◌, ◌+ℤ◌, List, [], ◌∷◌, ◌++◌, ◌==◌, if◌then◌else◌}
 use Rattle.std.specs.Int.{div_ceil}
 use Rattle.linear.specs.Largest.{most_names}
 use Rattle.normal_form.specs.declared.term.NormalTerm.{NormalTerm}
-use Rattle.normal_form.specs.Balance.{rise_of, rises_of}
-use Rattle.normal_form.specs.Normal.{largest_sum}
+use Rattle.normal_form.specs.Balance.{rises_of}
+use Rattle.normal_form.specs.Normal.{Rises, variable_bound}
 
 -- the variable of the first term, or the number of names that there may be, which is above all variables
 abbrev pub first_variable : List NormalTerm → ℕ
 first_variable [] = most_names
 first_variable (t ∷ ts) = t.var.0
 
--- what the first term gives its variable, 0 where there is none
-abbrev pub first_rise : List NormalTerm → ℤ
-first_rise [] = pos 0
-first_rise (t ∷ ts) = rise_of t
-
--- the variable of the first term, what it gives that, and the terms behind it; the end is known by its number
-pub record IsHead (ts behind : List NormalTerm) (variable : ℕ) (net : ℤ) : Type 0 where
+-- the variable of the first term; the end is known by its number
+pub record IsFirst (ts : List NormalTerm) (variable : ℕ) : Type 0 where
   pub first : variable ≡ first_variable ts
-  pub gives : net ≡ first_rise ts
-  pub size : unsigned_abs net ≤ largest_sum
   pub last : most_names ≤ variable → ts ≡ []
-  pub rest : (t : NormalTerm) (more : List NormalTerm) → ts ≡ t ∷ more → behind ≡ more
+
+-- the terms of the least variable v of two sides are merged: m and s are left of l and r, and `out` has become `new`, which gives each set
+-- of variables what went from the sides
+pub record IsMergedAt (v : ℕ) (l m r s out new : List NormalTerm) : Type 0 where
+  pub balance : (set : ℕ → Bool) → (rises_of set new +ℤ rises_of set m) +ℤ rises_of set s ≡ (rises_of set out +ℤ rises_of set l) +ℤ rises_of set r
+  pub left : Rises (v + 1) m
+  pub right : Rises (v + 1) s
+  pub bound : variable_bound new ≤ v + 1
+  pub rises : Rises 0 out → Rises 0 new
 
 -- the terms of r give each set of variables what those of d and e give together
 abbrev pub SumBalances : List NormalTerm → List NormalTerm → List NormalTerm → Type 0

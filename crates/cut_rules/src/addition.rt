@@ -6,20 +6,19 @@
 
 ghost use Rattle.std.specs.Prelude.{◌≡◌, IfOk, OnOk, IsErrOf};
 ghost use Rattle.linear.specs.Valuation.{Valuation};
-ghost use Rattle.normal_form.specs.Normal.{NormalConstraint, IsNormal, Fits, Holds, Rises, total};
+ghost use Rattle.normal_form.specs.Normal.{NormalConstraint, IsNormal, Fits, Holds, Rises};
 ghost use Rattle.cut_rules.specs.Rules.{IsSum, IsTooLarge};
 ghost use Rattle.cut_rules.specs.Steps.{SumBalances};
 
-use super::merging::{Merged, merge};
-use normal_form::{CutFault, Normal};
+use super::merging::merge;
+use normal_form::{CutFault, Normal, NormalBuilder};
 use std::alloc::Global;
 
 /// The sum of two constraints, of their merged terms. What cancels goes from both of two opposite literals, so
 /// the coefficient sum falls by twice as much.
-fn with_degree(merged: Merged, left: &Normal, right: &Normal) -> Result<Normal, CutFault>
-    requires balance { SumBalances left.now.terms right.now.terms merged.terms }
-    requires rises { Rises 0 merged.terms }
-    requires sum { merged.sum ≡ total merged.terms }
+fn with_degree(merged: NormalBuilder, left: &Normal, right: &Normal) -> Result<Normal, CutFault>
+    requires balance { SumBalances left.now.terms right.now.terms merged }
+    requires rises { Rises 0 merged }
     ensures sum { IfOk result (IsSum left.now right.now) }
     ensures normal { IfOk result IsNormal }
     ensures keeps { IfOk result (λ r. (a : Valuation) → Holds a left.now → Holds a right.now → Holds a r) }
@@ -27,9 +26,9 @@ fn with_degree(merged: Merged, left: &Normal, right: &Normal) -> Result<Normal, 
     ensures within { OnOk result ((r : NormalConstraint) → IsSum left.now right.now r → Fits r) }
     ensures factor { IsErrOf result CutFault.BadFactor → ⊥ }
 {
-    let cancelled = (left.sum() + right.sum() - merged.sum) / 2;
+    let cancelled = (left.sum() + right.sum() - merged.capped_sum()) / 2;
     let degree = (left.degree() + right.degree()).saturating_sub(cancelled);
-    merged.terms.finish(degree)
+    merged.finish(degree)
 }
 
 /// The sum of two constraints: coefficients and degrees add, and what opposite literals have in common goes from

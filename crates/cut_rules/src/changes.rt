@@ -8,6 +8,7 @@ use normal_form::{NormalBuilder, NormalTerm};
 use std::alloc::AllocError;
 
 /// Puts a term with another coefficient at the end, unless that is 0.
+#[inline(always)]
 pub(crate) fn push_kept(
     terms: &mut NormalBuilder,
     term: NormalTerm,

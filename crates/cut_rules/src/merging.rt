@@ -1,19 +1,17 @@
 //! Merging the terms of two constraints: the terms of each variable become one with their net coefficient, or
 //! none where that is 0 (addition of cutting planes: Cook, Coullard and Turán, 1987).
 //!
-//! Both lists rise by variable, so one pass takes the least variable on either side each time, reads it where it
-//! stands, and puts the result at the end: the merged terms rise again. A literal and its opposite are one variable with
-//! coefficients of two signs, so cancelling is an addition of signed numbers, and no rule needs to tell the cases apart.
-//! The sum of the result is added up on the way: what cancelled is half of what the sums of the two had more, and by it
-//! the degree falls.
+//! Both lists rise by variable, so one pass takes the least variable on either side each time, and puts what becomes of it at the end: the
+//! merged terms rise again. A term that one side alone has stays as it is, and most do. Of a variable that both have, coefficients of two signs
+//! are added, since a literal and its opposite are one variable: so no rule needs to tell apart what cancels.
 
-ghost use Rattle.std.specs.Prelude.{◌≡◌, ℕ, Bool, ◌+◌, ◌<◌, ◌≤◌, pos, ◌+ℤ◌, unsigned_abs, IfOk, drop, if◌then◌else◌};
+ghost use Rattle.std.specs.Prelude.{◌≡◌, ◌+◌, ◌<◌, ◌≤◌, min, unsigned_abs, IfOk, drop, length};
 ghost use Rattle.linear.specs.Largest.{most_names};
-ghost use Rattle.normal_form.specs.Normal.{largest_sum, total, Rises};
-ghost use Rattle.normal_form.specs.Balance.{rise_of, rises_of};
-ghost use Rattle.cut_rules.specs.Steps.{IsHead, SumBalances};
+ghost use Rattle.normal_form.specs.Normal.{IsNormal, Rises, largest_sum, variable_bound};
+ghost use Rattle.normal_form.specs.Balance.{rise_of};
+ghost use Rattle.cut_rules.specs.Steps.{IsFirst, IsMergedAt, SumBalances};
 
-use linear::{MOST_NAMES, Var};
+use linear::MOST_NAMES;
 use normal_form::{Normal, NormalBuilder, NormalTerm};
 use std::alloc::{AllocError, Global};
 
@@ -33,98 +31,112 @@ fn rise(term: NormalTerm) -> i128
     }
 }
 
-/// The term that is next on one side, read once: its variable, or the end, what it gives that variable, and the place behind it.
+/// The next term of one side: its place, and its variable, or the end.
 #[derive(Clone, Copy)]
-struct Head {
+struct Front {
+    place: usize,
     variable: u64,
-    net: i128,
-    behind: usize,
 }
 
-/// The term at a place.
-fn head_at(constraint: &Normal, place: usize) -> Head
-    ensures { IsHead (drop place constraint.now.terms) (drop result.behind constraint.now.terms) result.variable result.net }
+/// The term at a place as the next one.
+#[inline(always)]
+fn front_at(constraint: &Normal, place: usize) -> Front
+    ensures place { result.place ≡ place }
+    ensures variable { IsFirst (drop place constraint.now.terms) result.variable }
 {
-    if place >= constraint.len() {
-        return Head {
-            variable: END,
-            net: 0,
-            behind: place,
-        };
-    }
-    let term = constraint.term(place);
-    Head {
-        variable: term.var.0 as u64,
-        net: rise(term),
-        behind: place + 1,
-    }
+    let variable = if place < constraint.len() {
+        constraint.term(place).var.0 as u64
+    } else {
+        END
+    };
+    Front { place, variable }
 }
 
-/// What one side gives a variable, the place after what was read, and the term there.
+/// The term behind the one at a place as the next one.
+#[inline(always)]
+fn front_behind(constraint: &Normal, place: usize) -> Front
+    requires { place < length constraint.now.terms }
+    ensures place { result.place ≡ place + 1 }
+    ensures variable { IsFirst (drop (place + 1) constraint.now.terms) result.variable }
+{
+    let count = constraint.len();
+    front_at(constraint, count.min(place + 1))
+}
+
+/// The next terms of both sides.
 #[derive(Clone, Copy)]
-struct Part {
-    net: i128,
-    next: usize,
-    head: Head,
+struct Fronts {
+    left: Front,
+    right: Front,
 }
 
-/// Reads the term at a place if it is one of this variable.
-fn read_part(constraint: &Normal, place: usize, head: Head, variable: u64) -> Part
-    requires rises { Rises variable (drop place constraint.now.terms) }
-    requires head { IsHead (drop place constraint.now.terms) (drop head.behind constraint.now.terms) head.variable head.net }
-    requires variable { variable < most_names }
-    ensures ahead { Rises (variable + 1) (drop result.next constraint.now.terms) }
-    ensures gives { (set : ℕ → Bool) → rises_of set (drop place constraint.now.terms) ≡ (if set variable then result.net else pos 0) +ℤ rises_of set (drop result.next constraint.now.terms) }
-    ensures total { total (drop place constraint.now.terms) ≡ unsigned_abs result.net + total (drop result.next constraint.now.terms) }
-    ensures size { unsigned_abs result.net ≤ largest_sum }
-    ensures head { IsHead (drop result.next constraint.now.terms) (drop result.head.behind constraint.now.terms) result.head.variable result.head.net }
+/// Merges the terms of the least variable, and gives the next ones.
+#[inline(always)]
+fn merge_least(
+    terms: &mut NormalBuilder,
+    left: &Normal,
+    right: &Normal,
+    at: Fronts,
+) -> Result<Fronts, AllocError>
+    requires left_normal { IsNormal left.now }
+    requires right_normal { IsNormal right.now }
+    requires left { IsFirst (drop at.left.place left.now.terms) at.left.variable }
+    requires right { IsFirst (drop at.right.place right.now.terms) at.right.variable }
+    requires some { min at.left.variable at.right.variable < most_names }
+    requires left_rises { Rises (min at.left.variable at.right.variable) (drop at.left.place left.now.terms) }
+    requires right_rises { Rises (min at.left.variable at.right.variable) (drop at.right.place right.now.terms) }
+    requires bound { variable_bound terms.old ≤ min at.left.variable at.right.variable }
+    ensures merged { IfOk result (λ next. IsMergedAt
+        (min at.left.variable at.right.variable)
+        (drop at.left.place left.now.terms)
+        (drop next.left.place left.now.terms)
+        (drop at.right.place right.now.terms)
+        (drop next.right.place right.now.terms)
+        terms.old
+        terms.new) }
+    ensures left { IfOk result (λ next. IsFirst (drop next.left.place left.now.terms) next.left.variable) }
+    ensures right { IfOk result (λ next. IsFirst (drop next.right.place right.now.terms) next.right.variable) }
 {
-    if head.variable != variable {
-        return Part {
-            net: 0,
-            next: place,
-            head,
-        };
+    if at.left.variable < at.right.variable {
+        terms.push(left.term(at.left.place))?;
+        return Ok(Fronts {
+            left: front_behind(left, at.left.place),
+            right: at.right,
+        });
     }
-    Part {
-        net: head.net,
-        next: head.behind,
-        head: head_at(constraint, head.behind),
+    if at.right.variable < at.left.variable {
+        terms.push(right.term(at.right.place))?;
+        return Ok(Fronts {
+            left: at.left,
+            right: front_behind(right, at.right.place),
+        });
     }
-}
-
-/// The merged terms, and what their coefficients add up to.
-#[derive(Drop)]
-pub(crate) struct Merged {
-    pub(crate) terms: NormalBuilder,
-    pub(crate) sum: u128,
+    let from_left = left.term(at.left.place);
+    let net = rise(from_left) + rise(right.term(at.right.place));
+    terms.push_net(from_left.var, net)?;
+    Ok(Fronts {
+        left: front_behind(left, at.left.place),
+        right: front_behind(right, at.right.place),
+    })
 }
 
 /// Merges the terms of two constraints, in one pass.
-pub(crate) fn merge(alloc: Global, left: &Normal, right: &Normal) -> Result<Merged, AllocError>
-    ensures balance { IfOk result (λ m. SumBalances left.now.terms right.now.terms m.terms) }
-    ensures rises { IfOk result (λ m. Rises 0 m.terms) }
-    ensures sum { IfOk result (λ m. m.sum ≡ total m.terms) }
+pub(crate) fn merge(
+    alloc: Global,
+    left: &Normal,
+    right: &Normal,
+) -> Result<NormalBuilder, AllocError>
+    ensures balance { IfOk result (SumBalances left.now.terms right.now.terms) }
+    ensures rises { IfOk result (Rises 0) }
 {
     let count = left.len().saturating_add(right.len());
     let mut terms = NormalBuilder::with_capacity(alloc, count)?;
-    let mut sum: u128 = 0;
-    let mut i = 0;
-    let mut j = 0;
-    let mut on_left = head_at(left, i);
-    let mut on_right = head_at(right, j);
-    let mut variable = on_left.variable.min(on_right.variable);
-    while variable < END {
-        let from_left = read_part(left, i, on_left, variable);
-        let from_right = read_part(right, j, on_right, variable);
-        let net = from_left.net + from_right.net;
-        terms.push_net(Var(variable as u32), net)?;
-        sum += net.unsigned_abs();
-        i = from_left.next;
-        j = from_right.next;
-        on_left = from_left.head;
-        on_right = from_right.head;
-        variable = on_left.variable.min(on_right.variable);
+    let mut at = Fronts {
+        left: front_at(left, 0),
+        right: front_at(right, 0),
+    };
+    while at.left.variable.min(at.right.variable) < END {
+        at = merge_least(&mut terms, left, right, at)?;
     }
-    Ok(Merged { terms, sum })
+    Ok(terms)
 }

@@ -4,9 +4,11 @@
 //! a false one counts for nothing in both. Smaller coefficients make the same constraint force more after additions. No number
 //! becomes greater, so a constraint that nobody else has is saturated where it stands.
 
-ghost use Rattle.std.specs.Prelude.{◌≡◌, ◌<◌, min, IfOk};
+ghost use Rattle.std.specs.Prelude.{◌≡◌, ◌<◌, min, IfOk, length, slice_index_or};
 ghost use Rattle.linear.specs.Valuation.{Valuation};
+ghost use Rattle.normal_form.specs.declared.term.NormalTerm.{NormalTerm};
 ghost use Rattle.normal_form.specs.Normal.{IsNormal, Holds};
+ghost use Rattle.normal_form.specs.Terms.{with_coefficient};
 ghost use Rattle.cut_rules.specs.Rules.{IsSaturation};
 ghost use Rattle.cut_rules.specs.Steps.{changed};
 
@@ -38,6 +40,20 @@ pub fn saturate(alloc: Global, constraint: &Normal) -> Result<Normal, AllocError
     Ok(terms.finish_fitting(degree))
 }
 
+/// Caps the coefficient at a place, which is this one. Most are within the cap, and nothing is written then.
+#[inline(always)]
+fn cap_term(constraint: &mut Normal, place: usize, coef: u128, cap: u128)
+    requires place { place < length constraint.old.terms }
+    requires coefficient { (d : NormalTerm) → coef ≡ (slice_index_or constraint.old.terms place d).coef }
+    requires cap { 0 < cap }
+    ensures terms { constraint.new.terms ≡ with_coefficient constraint.old.terms place (min coef cap) }
+    ensures degree { constraint.new.degree ≡ constraint.old.degree }
+{
+    if coef > cap {
+        constraint.lower_coefficient(place, cap);
+    }
+}
+
 /// Caps each coefficient where it stands.
 fn cap_terms(constraint: &mut Normal, cap: u128)
     requires { 0 < cap }
@@ -45,8 +61,8 @@ fn cap_terms(constraint: &mut Normal, cap: u128)
     ensures degree { constraint.new.degree ≡ constraint.old.degree }
 {
     for place in 0..constraint.len() {
-        let coef = constraint.term(place).coef.min(cap);
-        constraint.lower_coefficient(place, coef);
+        let coef = constraint.term(place).coef;
+        cap_term(constraint, place, coef, cap);
     }
 }
 

@@ -1,7 +1,7 @@
 -- A ledger with a constraint more at the end, and with one fewer.
 use Rattle.std.proofs.Common.{◌≡◌, ℕ, ◌+◌, ◌-◌, ◌*◌, ◌<◌, ◌≤◌, ◌⊎◌, inl, inr, IfSome, Option, None, Some, List, [], ◌∷◌, ◌++◌, length, get_or, set, take, min, refl, ap, sym, subst, ◌∙◌, append-nil, length-append, arith}
 use Rattle.std.proofs.lemmas.Bool.{cases_eq, cases_lt}
-use Rattle.std.proofs.lemmas.List.{get_or_push, get_or_append_left, get_or-set_same, get_or-set_other, length-set, get_or-take, length-take-le, length-map, take_more, take-append-le, take-set-le, take-take, map_push, get_or_past}
+use Rattle.std.proofs.lemmas.List.{get_or_push, get_or_append_left, get_or-set_same, get_or-set_other, length-set, get_or-take, length-take, length-take-le, length-map, take_more, take-append-le, take-set-le, take-take, map_push, get_or_past}
 use Rattle.std.proofs.lemmas.List.Elements.{All-push, All-set, All-take, All-weaker}
 use Rattle.std.proofs.Math.Seq.{take-length}
 use Rattle.linear.specs.declared.term.Lit.{Lit}
@@ -36,23 +36,58 @@ earlier_or_last ns n k h = elim (cases_eq k (length ns)) [
 pub shown_more : (slots : List (Option NormalConstraint)) (s : Option NormalConstraint) → shown (slots ++ s ∷ []) ≡ shown slots ++ constraint_in s ∷ []
 shown_more slots s = map_push constraint_in slots s
 
-counters_more : (ns : List NormalConstraint) (assigned : List Lit) (counters : List ℕ) (n : NormalConstraint) (opened : ℕ) → AreCounters ns assigned counters → opened ≡ open_sum assigned n → AreCounters (ns ++ n ∷ []) assigned (counters ++ opened ∷ [])
-counters_more ns assigned counters n opened a is = record {
-  counted = omega (arith, a.counted, length-append ns (n ∷ []), length-append counters (opened ∷ []));
-  open_sums = λ k h. elim (earlier_or_last ns n k h) [
-    | inl low ↦ get_or_append_left counters (opened ∷ []) 0 k (omega (arith, low, a.counted)) ∙ a.open_sums k low ∙ ap (open_sum assigned) (sym (earlier_is ns n k low))
-    | inr e ↦ get_or_push counters opened 0 k (omega (arith, e, a.counted)) ∙ is ∙ ap (open_sum assigned) (sym (last_is ns n k e))
+-- nothing more at the end shows nowhere
+nothing_more : (ns : List NormalConstraint) (k : ℕ) → constraint_at (ns ++ nothing ∷ []) k ≡ constraint_at ns k
+nothing_more ns k = elim (cases_lt k (length ns)) [
+  | inl low ↦ earlier_is ns nothing k low
+  | inr high ↦ elim (cases_eq k (length ns)) [
+    | inl e ↦ last_is ns nothing k e ∙ sym (get_or_past ns k nothing high)
+    | inr other ↦ get_or_past (ns ++ nothing ∷ []) k nothing (omega (arith, high, other, length-append ns (nothing ∷ []))) ∙ sym (get_or_past ns k nothing high)
+  ]
+]
+
+-- the counters and limits with one more that is counted, where each place has one
+counters_more : (ns : List NormalConstraint) (assigned : List Lit) (counters : List ℕ) (n : NormalConstraint) (opened : ℕ) → AreCounters ns assigned counters → length counters ≡ length ns → opened ≡ open_sum assigned n → AreCounters (ns ++ n ∷ []) assigned (counters ++ opened ∷ [])
+counters_more ns assigned counters n opened a all is = record {
+  few = omega (arith, all, length-append ns (n ∷ []), length-append counters (opened ∷ []));
+  beyond = λ k h. get_or_past (ns ++ n ∷ []) k nothing (omega (arith, h, all, length-append ns (n ∷ []), length-append counters (opened ∷ [])));
+  open_sums = λ k. elim (cases_lt k (length ns)) [
+    | inl low ↦ get_or_append_left counters (opened ∷ []) 0 k (omega (arith, low, all)) ∙ a.open_sums k ∙ ap (open_sum assigned) (sym (earlier_is ns n k low))
+    | inr high ↦ elim (cases_eq k (length ns)) [
+      | inl e ↦ get_or_push counters opened 0 k (omega (arith, e, all)) ∙ is ∙ ap (open_sum assigned) (sym (last_is ns n k e))
+      | inr other ↦
+          get_or_past (counters ++ opened ∷ []) k 0 (omega (arith, high, other, all, length-append counters (opened ∷ [])))
+          ∙ ap (open_sum assigned) (sym (get_or_past (ns ++ n ∷ []) k nothing (omega (arith, high, other, length-append ns (n ∷ [])))))
+    ]
   ];
 }
 
-limits_more : (ns : List NormalConstraint) (limits : List ℕ) (n : NormalConstraint) (limit : ℕ) → AreLimits ns limits → ((l : Lit) → n.degree + coefficient_of n l ≤ limit) → AreLimits (ns ++ n ∷ []) (limits ++ limit ∷ [])
-limits_more ns limits n limit a enough = record {
-  limited = omega (arith, a.limited, length-append ns (n ∷ []), length-append limits (limit ∷ []));
-  enough = λ k l h. elim (earlier_or_last ns n k h) [
-    | inl low ↦ omega (arith, get_or_append_left limits (limit ∷ []) 0 k (omega (arith, low, a.limited)), a.enough k l low, ap (λ (m : NormalConstraint). m.degree + coefficient_of m l) (earlier_is ns n k low))
-    | inr e ↦ omega (arith, get_or_push limits limit 0 k (omega (arith, e, a.limited)), enough l, ap (λ (m : NormalConstraint). m.degree + coefficient_of m l) (last_is ns n k e))
-  ];
+limits_more : (cs ns : List NormalConstraint) (limits : List ℕ) (n : NormalConstraint) (limit : ℕ) → AreLimits cs ns limits → length cs ≡ length ns → length limits ≡ length ns → ((l : Lit) → n.degree + coefficient_of n l ≤ limit) → AreLimits (cs ++ n ∷ []) (ns ++ n ∷ []) (limits ++ limit ∷ [])
+limits_more cs ns limits n limit a same all enough = λ k l is. elim (cases_lt k (length ns)) [
+  | inl low ↦
+      let here : constraint_at (cs ++ n ∷ []) k ≡ constraint_at cs k = earlier_is cs n k (omega (arith, low, same)) in
+      omega (arith, get_or_append_left limits (limit ∷ []) 0 k (omega (arith, low, all)), a k l (sym here ∙ is ∙ earlier_is ns n k low), ap (λ (m : NormalConstraint). m.degree + coefficient_of m l) here)
+  | inr high ↦ elim (cases_eq k (length ns)) [
+    | inl e ↦ omega (arith, get_or_push limits limit 0 k (omega (arith, e, all)), enough l, ap (λ (m : NormalConstraint). m.degree + coefficient_of m l) (last_is cs n k (omega (arith, e, same))))
+    | inr other ↦ omega (arith, ap (λ (m : NormalConstraint). m.degree + coefficient_of m l) (get_or_past (cs ++ n ∷ []) k nothing (omega (arith, high, other, same, length-append cs (n ∷ [])))))
+  ]
+]
+
+-- the same with one more that is not counted
+counters_beside : (ns : List NormalConstraint) (assigned : List Lit) (counters : List ℕ) → AreCounters ns assigned counters → AreCounters (ns ++ nothing ∷ []) assigned counters
+counters_beside ns assigned counters a = record {
+  few = omega (arith, a.few, length-append ns (nothing ∷ []));
+  beyond = λ k h. nothing_more ns k ∙ a.beyond k h;
+  open_sums = λ k. a.open_sums k ∙ ap (open_sum assigned) (sym (nothing_more ns k));
 }
+
+limits_beside : (cs ns : List NormalConstraint) (limits : List ℕ) (n : NormalConstraint) → AreLimits cs ns limits → length cs ≡ length ns → AreLimits (cs ++ n ∷ []) (ns ++ nothing ∷ []) limits
+limits_beside cs ns limits n a same = λ k l is. elim (cases_lt k (length ns)) [
+  | inl low ↦
+      let here : constraint_at (cs ++ n ∷ []) k ≡ constraint_at cs k = earlier_is cs n k (omega (arith, low, same)) in
+      omega (arith, a k l (sym here ∙ is ∙ nothing_more ns k), ap (λ (m : NormalConstraint). m.degree + coefficient_of m l) here)
+  | inr high ↦ omega (arith, ap (λ (m : NormalConstraint). m.degree + coefficient_of m l) (is ∙ nothing_more ns k ∙ get_or_past ns k nothing high))
+]
 
 -- what a place adds to what is counted and to what is watched: its constraint, where it has one, with two literals or without
 pub record IsPartOf (s : Option NormalConstraint) (counted watched : NormalConstraint) (o : Option Pair) : Type 0 where
@@ -132,42 +167,73 @@ below_more ws variables lists w b = record {
 }
 
 -- one place more
-pub attached : (slots : List (Option NormalConstraint)) (assigned : List Lit) (variables : ℕ) (table after : List (List Occurrence)) (clauses : Listed) (counters limits : List ℕ) (pairs : List (Option Pair)) (s : Option NormalConstraint) (c w : NormalConstraint) (o : Option Pair) (place opened limit : ℕ)
-    → IsLedger slots assigned variables table clauses counters limits pairs → IsPartOf s c w o → place ≡ length pairs → IsNormal c → IsNormal w → variable_bound c.terms ≤ variables → variable_bound w.terms ≤ variables
-    → HasMore (entries_of table) after place c.terms → length after ≡ length table → opened ≡ open_sum assigned c → ((l : Lit) → (constraint_in s).degree + coefficient_of (constraint_in s) l ≤ limit)
-    → IsLedger (slots ++ s ∷ []) assigned variables after clauses (counters ++ opened ∷ []) (limits ++ limit ∷ []) (pairs ++ o ∷ [])
-attached slots assigned variables table after clauses counters limits pairs s c w o place opened limit i part e normal_c normal_w within_c within_w more long is enough =
+attached : (slots : List (Option NormalConstraint)) (assigned : List Lit) (variables : ℕ) (table after : List (List Occurrence)) (clauses : Listed) (counters limits new_counters new_limits : List ℕ) (pairs : List (Option Pair)) (s : Option NormalConstraint) (c w : NormalConstraint) (o : Option Pair) (place : ℕ)
+    (i : IsLedger slots assigned variables table clauses counters limits pairs) → IsPartOf s c w o → place ≡ length pairs → IsNormal c → IsNormal w → variable_bound c.terms ≤ variables → variable_bound w.terms ≤ variables
+    → HasMore (entries_of table) after place c.terms → length after ≡ length table
+    → AreCounters (i.counted ++ c ∷ []) assigned new_counters → AreLimits (shown slots ++ constraint_in s ∷ []) (i.counted ++ c ∷ []) new_limits → length new_limits ≡ length new_counters
+    → IsLedger (slots ++ s ∷ []) assigned variables after clauses new_counters new_limits (pairs ++ o ∷ [])
+attached slots assigned variables table after clauses counters limits new_counters new_limits pairs s c w o place i part e normal_c normal_w within_c within_w more long counters_are limits_are limited =
     let x = i.slots_are in
     record {
       counted = i.counted ++ c ∷ [];
       watched = i.watched ++ w ∷ [];
       index = index_more i.counted variables place table after c i.index (omega (arith, e, x.count, x.pair_count)) more long;
       watched_index = below_more i.watched variables clauses w i.watched_index;
-      counters_are = counters_more i.counted assigned counters c opened i.counters_are is;
+      counters_are = counters_are;
       known = record { normal = All-push IsNormal i.counted c i.known.normal normal_c; within = All-push (λ (m : NormalConstraint). variable_bound m.terms ≤ variables) i.counted c i.known.within within_c };
       watched_known = record { normal = All-push IsNormal i.watched w i.watched_known.normal normal_w; within = All-push (λ (m : NormalConstraint). variable_bound m.terms ≤ variables) i.watched w i.watched_known.within within_w };
       slots_are = parted_more slots i.counted i.watched pairs s c w o x part;
-      limits_are = rw (shown_more slots s) (limits_more (shown slots) limits (constraint_in s) limit i.limits_are enough);
+      limits_are = rw (shown_more slots s) limits_are;
+      limited = limited;
     }
 
+-- as many constraints are shown as stand at places, counted or not
+as_many_shown : (slots : List (Option NormalConstraint)) (ns : List NormalConstraint) → length slots ≡ length ns → length (shown slots) ≡ length ns
+as_many_shown slots ns e = length-map slots constraint_in ∙ e
+
 pub attached_counted : (slots : List (Option NormalConstraint)) (assigned : List Lit) (variables : ℕ) (table after : List (List Occurrence)) (clauses : Listed) (counters limits : List ℕ) (pairs : List (Option Pair)) (n : NormalConstraint) (place opened limit : ℕ)
-    → IsLedger slots assigned variables table clauses counters limits pairs → place ≡ length pairs → IsNormal n → variable_bound n.terms ≤ variables
+    → IsLedger slots assigned variables table clauses counters limits pairs → length counters ≡ length slots → place ≡ length pairs → IsNormal n → variable_bound n.terms ≤ variables
     → HasMore (entries_of table) after place n.terms → length after ≡ length table → opened ≡ open_sum assigned n → ((l : Lit) → n.degree + coefficient_of n l ≤ limit)
     → IsLedger (slots ++ Some n ∷ []) assigned variables after clauses (counters ++ opened ∷ []) (limits ++ limit ∷ []) (pairs ++ None ∷ [])
-attached_counted slots assigned variables table after clauses counters limits pairs n place opened limit i e normal within more long is enough =
-    attached slots assigned variables table after clauses counters limits pairs (Some n) n nothing None place opened limit i (part_counted n) e normal nothing_normal within (omega arith) more long is enough
+attached_counted slots assigned variables table after clauses counters limits pairs n place opened limit i all e normal within more long is enough =
+    attached slots assigned variables table after clauses counters limits (counters ++ opened ∷ []) (limits ++ limit ∷ []) pairs (Some n) n nothing None place i (part_counted n) e normal nothing_normal within (omega arith) more long
+    (counters_more i.counted assigned counters n opened i.counters_are (omega (arith, all, i.slots_are.count)) is)
+    (limits_more (shown slots) i.counted limits n limit i.limits_are (as_many_shown slots i.counted i.slots_are.count) (omega (arith, i.limited, all, i.slots_are.count)) enough)
+    (omega (arith, i.limited, length-append counters (opened ∷ []), length-append limits (limit ∷ [])))
 
-pub attached_watched : (slots : List (Option NormalConstraint)) (assigned : List Lit) (variables : ℕ) (table : List (List Occurrence)) (clauses : Listed) (counters limits : List ℕ) (pairs : List (Option Pair)) (n : NormalConstraint) (p : Pair) (place opened limit : ℕ)
+pub attached_watched : (slots : List (Option NormalConstraint)) (assigned : List Lit) (variables : ℕ) (table : List (List Occurrence)) (clauses : Listed) (counters limits : List ℕ) (pairs : List (Option Pair)) (n : NormalConstraint) (p : Pair) (place : ℕ)
     → IsLedger slots assigned variables table clauses counters limits pairs → place ≡ length pairs → IsNormal n → variable_bound n.terms ≤ variables
-    → opened ≡ 0 → ((l : Lit) → n.degree + coefficient_of n l ≤ limit)
-    → IsLedger (slots ++ Some n ∷ []) assigned variables table clauses (counters ++ opened ∷ []) (limits ++ limit ∷ []) (pairs ++ Some p ∷ [])
-attached_watched slots assigned variables table clauses counters limits pairs n p place opened limit i e normal within is enough =
-    attached slots assigned variables table table clauses counters limits pairs (Some n) nothing n (Some p) place opened limit i (part_watched n p) e nothing_normal normal (omega arith) within (none_more table place) refl is enough
+    → IsLedger (slots ++ Some n ∷ []) assigned variables table clauses counters limits (pairs ++ Some p ∷ [])
+attached_watched slots assigned variables table clauses counters limits pairs n p place i e normal within =
+    attached slots assigned variables table table clauses counters limits counters limits pairs (Some n) nothing n (Some p) place i (part_watched n p) e nothing_normal normal (omega arith) within (none_more table place) refl
+    (counters_beside i.counted assigned counters i.counters_are) (limits_beside (shown slots) i.counted limits n i.limits_are (as_many_shown slots i.counted i.slots_are.count)) i.limited
 
 pub attached_empty : (slots : List (Option NormalConstraint)) (assigned : List Lit) (variables : ℕ) (table : List (List Occurrence)) (clauses : Listed) (counters limits : List ℕ) (pairs : List (Option Pair)) → IsLedger slots assigned variables table clauses counters limits pairs
-    → IsLedger (slots ++ None ∷ []) assigned variables table clauses (counters ++ 0 ∷ []) (limits ++ 0 ∷ []) (pairs ++ None ∷ [])
+    → IsLedger (slots ++ None ∷ []) assigned variables table clauses counters limits (pairs ++ None ∷ [])
 attached_empty slots assigned variables table clauses counters limits pairs i =
-    attached slots assigned variables table table clauses counters limits pairs None nothing nothing None (length pairs) 0 0 i part_empty refl nothing_normal nothing_normal (omega arith) (omega arith) (none_more table (length pairs)) refl refl (λ l. omega arith)
+    attached slots assigned variables table table clauses counters limits counters limits pairs None nothing nothing None (length pairs) i part_empty refl nothing_normal nothing_normal (omega arith) (omega arith) (none_more table (length pairs)) refl
+    (counters_beside i.counted assigned counters i.counters_are) (limits_beside (shown slots) i.counted limits nothing i.limits_are (as_many_shown slots i.counted i.slots_are.count)) i.limited
+
+-- more counters in memory, of places that are not counted
+pub filled_up : (slots : List (Option NormalConstraint)) (assigned : List Lit) (variables : ℕ) (table : List (List Occurrence)) (clauses : Listed) (counters limits new_counters new_limits : List ℕ) (pairs : List (Option Pair)) → IsLedger slots assigned variables table clauses counters limits pairs
+    → ((k : ℕ) → get_or new_counters k 0 ≡ get_or counters k 0) → ((k : ℕ) → get_or new_limits k 0 ≡ get_or limits k 0) → length new_limits ≡ length new_counters → length counters ≤ length new_counters → length new_counters ≤ length slots
+    → IsLedger slots assigned variables table clauses new_counters new_limits pairs
+filled_up slots assigned variables table clauses counters limits new_counters new_limits pairs i same_counters same_limits limited more few = record {
+  counted = i.counted;
+  watched = i.watched;
+  index = i.index;
+  watched_index = i.watched_index;
+  counters_are = record {
+    few = omega (arith, few, i.slots_are.count);
+    beyond = λ k h. i.counters_are.beyond k (omega (arith, more, h));
+    open_sums = λ k. same_counters k ∙ i.counters_are.open_sums k;
+  };
+  known = i.known;
+  watched_known = i.watched_known;
+  slots_are = i.slots_are;
+  limits_are = λ k l is. omega (arith, same_limits k, i.limits_are k l is);
+  limited = limited;
+}
 
 -- the reasons stand beside one place more
 pub reasons_beside : (slots : List (Option NormalConstraint)) (s : Option NormalConstraint) (xs : List Lit) (rs : List (Option ℕ)) → AreReasons (shown slots) xs rs → AreReasons (shown (slots ++ s ∷ [])) xs rs
@@ -190,6 +256,7 @@ unchanged slots assigned variables table after clauses counters limits pairs pla
   watched_known = i.watched_known;
   slots_are = i.slots_are;
   limits_are = i.limits_are;
+  limited = i.limited;
 }
 
 -- more room for literals and variables
@@ -218,6 +285,7 @@ widened slots assigned variables more table after clauses behind counters limits
   watched_known = known_wider i.watched variables more i.watched_known up;
   slots_are = i.slots_are;
   limits_are = i.limits_are;
+  limited = i.limited;
 }
 
 -- the last one fewer
@@ -327,10 +395,24 @@ parted_fewer slots rest ns ws pairs n e x =
       ];
     }
 
+-- the counters of the first places
+counters_fewer : (ns : List NormalConstraint) (assigned : List Lit) (counters : List ℕ) (m : ℕ) → AreCounters ns assigned counters → AreCounters (take m ns) assigned (take m counters)
+counters_fewer ns assigned counters m a = record {
+  few = omega (arith, a.few, length-take m ns, length-take m counters);
+  beyond = λ k h. elim (cases_lt k m) [
+    | inl low ↦ get_or-take m ns k nothing low ∙ a.beyond k (omega (arith, h, low, length-take m counters))
+    | inr high ↦ get_or_past (take m ns) k nothing (omega (arith, high, length-take m ns))
+  ];
+  open_sums = λ k. elim (cases_lt k m) [
+    | inl low ↦ get_or-take m counters k 0 low ∙ a.open_sums k ∙ ap (open_sum assigned) (sym (get_or-take m ns k nothing low))
+    | inr high ↦ get_or_past (take m counters) k 0 (omega (arith, high, length-take m counters)) ∙ ap (open_sum assigned) (sym (get_or_past (take m ns) k nothing (omega (arith, high, length-take m ns))))
+  ];
+}
+
 pub detached : (slots rest : List (Option NormalConstraint)) (assigned : List Lit) (variables : ℕ) (table after : List (List Occurrence)) (clauses behind : Listed) (counters limits : List ℕ) (pairs : List (Option Pair)) (n : NormalConstraint) (i : IsLedger slots assigned variables table clauses counters limits pairs) → slots ≡ rest ++ Some n ∷ []
     → length after ≡ length table → HasMore (λ l. occurrences_of l 0 (take (length rest) i.counted)) after (length rest) []
     → IsIndexBelow (take (length rest) i.watched) variables behind
-    → IsLedger rest assigned variables after behind (take (length counters - 1) counters) (take (length limits - 1) limits) (take (length pairs - 1) pairs)
+    → IsLedger rest assigned variables after behind (take (length rest) counters) (take (length rest) limits) (take (length pairs - 1) pairs)
 detached slots rest assigned variables table after clauses behind counters limits pairs n i e long none fewer =
     let m : ℕ = length rest in
     let ns : List NormalConstraint = i.counted in
@@ -338,30 +420,21 @@ detached slots rest assigned variables table after clauses behind counters limit
     let all : length ns ≡ m + 1 = omega (arith, count, i.slots_are.count) in
     let many : length (take m ns) ≡ m = length-take-le m ns (omega (arith, all)) in
     let shows : shown slots ≡ shown rest ++ n ∷ [] = fewer_shown slots rest n e in
-    let bound : length (shown rest) ≡ m = length-map rest constraint_in in
-    let limited : length limits ≡ m + 1 = omega (arith, i.limits_are.limited, length-map slots constraint_in, count) in
-    let counted : length counters ≡ m + 1 = omega (arith, i.counters_are.counted, all) in
+    let same : (k : ℕ) → k < m → constraint_at (shown slots) k ≡ constraint_at (shown rest) k = λ k low. ap (λ (cs : List NormalConstraint). constraint_at cs k) shows ∙ earlier_is (shown rest) n k (omega (arith, low, length-map rest constraint_in)) in
     record {
       counted = take m ns;
       watched = take m i.watched;
       index = index_fewer ns variables m table after i.index long none;
       watched_index = fewer;
-      counters_are = record {
-        counted = omega (arith, length-take-le (length counters - 1) counters (omega arith), counted, many);
-        open_sums = λ k h.
-            let low : k < m = omega (arith, h, many) in
-            get_or-take (length counters - 1) counters k 0 (omega (arith, low, counted)) ∙ i.counters_are.open_sums k (omega (arith, low, all)) ∙ ap (open_sum assigned) (sym (get_or-take m ns k nothing low));
-      };
+      counters_are = counters_fewer ns assigned counters m i.counters_are;
       known = known_fewer ns variables m i.known;
       watched_known = known_fewer i.watched variables m i.watched_known;
       slots_are = parted_fewer slots rest ns i.watched pairs n e i.slots_are;
-      limits_are = record {
-        limited = omega (arith, length-take-le (length limits - 1) limits (omega arith), limited, bound);
-        enough = λ k l h.
-            let low : k < m = omega (arith, h, bound) in
-            let same : constraint_at (shown slots) k ≡ constraint_at (shown rest) k = ap (λ (cs : List NormalConstraint). constraint_at cs k) shows ∙ earlier_is (shown rest) n k h in
-            omega (arith, get_or-take (length limits - 1) limits k 0 (omega (arith, low, limited)), i.limits_are.enough k l (omega (arith, low, count, length-map slots constraint_in)), ap (λ (c : NormalConstraint). c.degree + coefficient_of c l) same);
-      };
+      limits_are = λ k l is. elim (cases_lt k m) [
+        | inl low ↦ omega (arith, get_or-take m limits k 0 low, i.limits_are k l (same k low ∙ is ∙ get_or-take m ns k nothing low), ap (λ (c : NormalConstraint). c.degree + coefficient_of c l) (same k low))
+        | inr high ↦ omega (arith, ap (λ (c : NormalConstraint). c.degree + coefficient_of c l) (get_or_past (shown rest) k nothing (omega (arith, high, length-map rest constraint_in))))
+      ];
+      limited = length-take m limits ∙ ap (λ (k : ℕ). min m k) i.limited ∙ sym (length-take m counters);
     }
 
 none_is_no_pair : (p : Pair) → None ≡ Some p → ⊥
@@ -409,6 +482,7 @@ listed_on slots assigned variables table clauses after counters limits pairs n p
   watched_known = i.watched_known;
   slots_are = i.slots_are;
   limits_are = i.limits_are;
+  limited = i.limited;
 }
 
 -- nothing was listed, where memory ended
@@ -427,6 +501,7 @@ listed_kept slots assigned variables table clauses after counters limits pairs i
   watched_known = i.watched_known;
   slots_are = i.slots_are;
   limits_are = i.limits_are;
+  limited = i.limited;
 }
 
 known_emptied : (ws : List NormalConstraint) (variables place : ℕ) → AreKnown ws variables → AreKnown (set ws place nothing) variables
@@ -454,6 +529,7 @@ passed_over slots assigned variables table clauses after counters limits pairs i
       watched_known = known_emptied i.watched variables clauses.count i.watched_known;
       slots_are = emptied slots i.counted i.watched pairs clauses.count none inside i.slots_are;
       limits_are = i.limits_are;
+      limited = i.limited;
     })
 
 -- the reasons stand without the last constraint, where it is none of them
@@ -490,7 +566,6 @@ parted_without slots place ns ws pairs low x = record {
 pub taken_out : (slots : List (Option NormalConstraint)) (place : ℕ) (assigned : List Lit) (variables : ℕ) (table : List (List Occurrence)) (clauses : Listed) (counters limits : List ℕ) (pairs : List (Option Pair)) → IsLedger slots assigned variables table clauses counters limits pairs → place < length slots
     → IsLedger (set slots place None) assigned variables table clauses counters (set limits place 0) (set pairs place None)
 taken_out slots place assigned variables table clauses counters limits pairs i low =
-    let many : length limits ≡ length slots = i.limits_are.limited ∙ length-map slots constraint_in in
     record {
       counted = i.counted;
       watched = i.watched;
@@ -500,17 +575,14 @@ taken_out slots place assigned variables table clauses counters limits pairs i l
       known = i.known;
       watched_known = i.watched_known;
       slots_are = parted_without slots place i.counted i.watched pairs low i.slots_are;
-      limits_are = record {
-        limited = length-set limits place 0 ∙ many ∙ sym (length-map (set slots place None) constraint_in ∙ length-set slots place None);
-        enough = λ k l h. elim (cases_eq k place) [
-          | inl here ↦
-              let says : constraint_at (shown (set slots place None)) k ≡ nothing = shown_at (set slots place None) k ∙ ap constraint_in (none_there slots place k low here) in
-              omega (arith, ap (λ (n : NormalConstraint). n.degree + coefficient_of n l) says)
-          | inr other ↦
-              let below : k < length (shown slots) = omega (arith, h, length-map (set slots place None) constraint_in, length-set slots place None, length-map slots constraint_in) in
-              omega (arith, get_or-set_other limits place k 0 0 other, i.limits_are.enough k l below, ap (λ (n : NormalConstraint). n.degree + coefficient_of n l) (same_there slots place k other))
-        ];
-      };
+      limits_are = λ k l is. elim (cases_eq k place) [
+        | inl here ↦
+            let says : constraint_at (shown (set slots place None)) k ≡ nothing = shown_at (set slots place None) k ∙ ap constraint_in (none_there slots place k low here) in
+            omega (arith, ap (λ (n : NormalConstraint). n.degree + coefficient_of n l) says)
+        | inr other ↦
+            omega (arith, get_or-set_other limits place k 0 0 other, i.limits_are k l (sym (same_there slots place k other) ∙ is), ap (λ (n : NormalConstraint). n.degree + coefficient_of n l) (same_there slots place k other))
+      ];
+      limited = length-set limits place 0 ∙ i.limited;
     }
 
 pub reasons_apart : (slots : List (Option NormalConstraint)) (place : ℕ) (xs : List Lit) (rs : List (Option ℕ)) → AreReasons (shown slots) xs rs → ((k : ℕ) → k < length xs → get_or rs k None ≡ Some place → ⊥)

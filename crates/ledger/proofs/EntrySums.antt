@@ -1,5 +1,5 @@
 -- The entries of a literal, as constraints say them.
-use Rattle.std.proofs.Common.{◌≡◌, ℕ, zero, suc, ◌+◌, ◌<◌, ◌≤◌, Bool, true, false, cond, ◌==◌, All, List, [], ◌∷◌, ◌++◌, length, refl, ap, sym, ◌∙◌, append_assoc, append-nil, arith}
+use Rattle.std.proofs.Common.{◌≡◌, ℕ, zero, suc, ◌+◌, ◌<◌, ◌≤◌, Bool, true, false, cond, ◌==◌, All, List, [], ◌∷◌, ◌++◌, length, refl, ap, sym, subst, ◌∙◌, append_assoc, append-nil, arith}
 use Rattle.std.proofs.lemmas.Bool.Decides.{nat_tests}
 use Rattle.std.proofs.lemmas.List.Elements.{All-nil, All-cons, All-append}
 use Rattle.std.proofs.lemmas.List.Sums.{sum_by-append}
@@ -8,7 +8,7 @@ use Rattle.normal_form.specs.Normal.{NormalConstraint}
 use Rattle.propagate.specs.Literals.{coefficient_of}
 use Rattle.occurrences.specs.declared.occurrence.Occurrence.{Occurrence}
 use Rattle.occurrences.specs.Occurrences.{share, share_of, entry_of, occurrences_of}
-use Rattle.ledger.specs.Ledgers.{constraint_at}
+use Rattle.ledger.specs.Ledgers.{constraint_at, nothing}
 
 by_test : (b : Bool) (k p c : ℕ) → (c == 0) ≡ b → k ≡ p → share_of k (cond b [] (record { place = p; coef = c } ∷ [])) ≡ c
 by_test true k p c e h = grind (arith, nat_tests)
@@ -55,3 +55,17 @@ places_from l p bound (n ∷ ns) h =
     All-append (λ (o : Occurrence). o.place < bound) (entry_of l p n.terms) (occurrences_of l (p + 1) ns)
     (places_of p bound (coefficient_of n l) (coefficient_of n l == 0) (omega (arith, h)))
     (places_from l (p + 1) bound ns (omega (arith, h)))
+
+-- where nothing stands there are no entries
+none_listed : (l : Lit) (p : ℕ) (ns : List NormalConstraint) → ((k : ℕ) → constraint_at ns k ≡ nothing) → occurrences_of l p ns ≡ []
+none_listed l p [] none = refl
+none_listed l p (n ∷ ns) none = ap (λ (c : NormalConstraint). entry_of l p c.terms ++ occurrences_of l (p + 1) ns) (none 0) ∙ none_listed l (p + 1) ns (λ k. none (suc k))
+
+-- the entries' places are those of the first constraints, where nothing stands behind these
+pub places_below : (l : Lit) (p many bound : ℕ) (ns : List NormalConstraint) → ((k : ℕ) → many ≤ k → constraint_at ns k ≡ nothing) → p + many ≤ bound → All (λ (o : Occurrence). o.place < bound) (occurrences_of l p ns)
+places_below l p many bound [] none h = All-nil (λ (o : Occurrence). o.place < bound)
+places_below l p zero bound (n ∷ ns) none h = subst (λ (os : List Occurrence). All (λ (o : Occurrence). o.place < bound) os) (sym (none_listed l p (n ∷ ns) (λ k. none k (omega arith)))) (All-nil (λ (o : Occurrence). o.place < bound))
+places_below l p (suc many) bound (n ∷ ns) none h =
+    All-append (λ (o : Occurrence). o.place < bound) (entry_of l p n.terms) (occurrences_of l (p + 1) ns)
+    (places_of p bound (coefficient_of n l) (coefficient_of n l == 0) (omega (arith, h)))
+    (places_below l (p + 1) many bound ns (λ k high. none (suc k) (omega (arith, high))) (omega (arith, h)))

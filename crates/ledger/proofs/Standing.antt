@@ -2,7 +2,7 @@
 use Rattle.std.proofs.lemmas.Bool.{cases_lt}
 use Rattle.std.proofs.Common.{◌≡◌, ℕ, zero, suc, ◌+◌, ◌-◌, ◌<◌, ◌≤◌, ◌⊎◌, inl, inr, false, is_some, Option, None, Some, SomeIff, MatchOption, Contains, All, List, [], ◌∷◌, ◌++◌, length, get_or, refl, ap, sym, subst, ◌∙◌, arith}
 use Rattle.std.proofs.lemmas.Int.{ints}
-use Rattle.std.proofs.lemmas.List.{get_or_default, get_or_past, length-map}
+use Rattle.std.proofs.lemmas.List.{get_or_default, get_or_past}
 use Rattle.std.proofs.lemmas.List.Elements.{All-get_or, All-nil}
 use Rattle.linear.specs.declared.term.Lit.{Lit}
 use Rattle.normal_form.specs.Normal.{NormalConstraint, IsNormal, largest_sum, total, variable_bound}
@@ -22,7 +22,7 @@ use Rattle.ledger.specs.declared.pair.Pair.{Pair}
 use Rattle.ledger.specs.Falls.{IsAt}
 use Rattle.ledger.specs.Watched.{AreSameKinds, AreWatched, Watching}
 use Rattle.occurrences.proofs.Entering.{code_below}
-use Rattle.ledger.proofs.EntrySums.{shares_from, places_from}
+use Rattle.ledger.proofs.EntrySums.{places_below, places_from, shares_from}
 use Rattle.ledger.proofs.Opening.{open_less, quiet_at_limit}
 
 abbrev Slots : Type 0
@@ -74,26 +74,48 @@ entries ns count table l m number os x o named is =
 pub inside : (ns : List NormalConstraint) (count : ℕ) (table : List (List Occurrence)) (l m : Lit) (number : ℕ) → IsIndex ns count table → m ≡ opposite l → number ≡ code m → l.var.0 < count → number < length table
 inside ns count table l m number x o named h = omega (arith, named, ap code o, code_below (opposite l) count (length table) (omega (arith, h)) x.size)
 
+-- the entries' places have counters
+pub entries_counted : (ns : List NormalConstraint) (assigned : List Lit) (count : ℕ) (table : List (List Occurrence)) (counters : List ℕ) (l m : Lit) (number : ℕ) (os : List Occurrence) → IsIndex ns count table → AreCounters ns assigned counters → m ≡ l → number ≡ code m → os ≡ get_or table number []
+    → All (λ o. o.place < length counters) os
+entries_counted ns assigned count table counters l m number os x a o named is =
+    let there : os ≡ occurrences_of l 0 ns = is ∙ ap (λ (k : ℕ). get_or table k []) (named ∙ ap code o) ∙ x.entries l in
+    subst (λ (ys : List Occurrence). All (λ o. o.place < length counters) ys) (sym there) (places_below l 0 (length counters) (length counters) ns a.beyond (omega arith))
+
+-- a place that an entry adds to has a counter
+pub counter_of_share : (ns : List NormalConstraint) (assigned : List Lit) (counters : List ℕ) (l : Lit) (os : List Occurrence) (k : ℕ) → AreCounters ns assigned counters → AreEntries ns l os → k < length ns → 0 < share_of k os → k < length counters
+counter_of_share ns assigned counters l os k a x low some = elim (cases_lt k (length counters)) [
+  | inl there ↦ there
+  | inr high ↦ absurd (omega (arith, some, x.1 k low, ap (λ (n : NormalConstraint). coefficient_of n l) (a.beyond k high)))
+]
+
 -- no counter goes below 0
 pub enough : (ns : List NormalConstraint) (assigned : List Lit) (counters : List ℕ) (l : Lit) (os : List Occurrence) → AreCounters ns assigned counters → AreEntries ns (opposite l) os → lists assigned l ≡ false
     → (k : ℕ) → k < length counters → share_of k os ≤ get_or counters k 0
 enough ns assigned counters l os a x unset k h =
-    let low : k < length ns = omega (arith, h, a.counted) in
-    omega (arith, x.1 k low, a.open_sums k low, open_less assigned l (constraint_at ns k) unset)
+    let low : k < length ns = omega (arith, h, a.few) in
+    omega (arith, x.1 k low, a.open_sums k, open_less assigned l (constraint_at ns k) unset)
+
+-- what is open where nothing is counted
+pub nothing_open : (ns : List NormalConstraint) (before after : List Lit) (counters others : List ℕ) (k : ℕ) → AreCounters ns before counters → length others ≡ length counters → length counters ≤ k → get_or others k 0 ≡ open_sum after (constraint_at ns k)
+nothing_open ns before after counters others k a same high = get_or_past others k 0 (omega (arith, same, high)) ∙ ap (open_sum after) (sym (a.beyond k high))
 
 pub counted : (ns : List NormalConstraint) (assigned : List Lit) (before after : List ℕ) (l : Lit) (os : List Occurrence) → AreCounters ns assigned before → AreEntries ns (opposite l) os → lists assigned l ≡ false
     → length after ≡ length before → ((k : ℕ) → k < length before → get_or after k 0 + share_of k os ≡ get_or before k 0)
     → AreCounters ns (assigned ++ l ∷ []) after
 counted ns assigned before after l os a x unset same lowered = record {
-  counted = same ∙ a.counted;
-  open_sums = λ k low. omega (arith, lowered k (omega (arith, low, a.counted)), x.1 k low, a.open_sums k low, open_less assigned l (constraint_at ns k) unset);
+  few = omega (arith, same, a.few);
+  beyond = λ k h. a.beyond k (omega (arith, same, h));
+  open_sums = λ k. elim (cases_lt k (length before)) [
+    | inl low ↦ omega (arith, lowered k low, x.1 k (omega (arith, low, a.few)), a.open_sums k, open_less assigned l (constraint_at ns k) unset)
+    | inr high ↦ nothing_open ns assigned (assigned ++ l ∷ []) before after k a same high
+  ];
 }
 
 -- a counted constraint whose counter has not fallen below its limit is quiet
-pub quiet_counted : (slots : Slots) (ns : List NormalConstraint) (assigned : List Lit) (counters limits : List ℕ) (k : ℕ) → constraint_at (shown slots) k ≡ constraint_at ns k → length slots ≡ length ns → AreCounters ns assigned counters → AreLimits (shown slots) limits → k < length slots
+pub quiet_counted : (slots : Slots) (ns : List NormalConstraint) (assigned : List Lit) (counters limits : List ℕ) (k : ℕ) → constraint_at (shown slots) k ≡ constraint_at ns k → AreCounters ns assigned counters → AreLimits (shown slots) ns limits
     → get_or limits k 0 ≤ get_or counters k 0 → IsQuiet assigned (constraint_at (shown slots) k)
-quiet_counted slots ns assigned counters limits k e many a b low far =
-    quiet_at_limit assigned (constraint_at (shown slots) k) (get_or counters k 0) (get_or limits k 0) (a.open_sums k (omega (arith, low, many)) ∙ ap (open_sum assigned) (sym e)) (λ m. b.enough k m (omega (arith, low, length-map slots constraint_in))) far
+quiet_counted slots ns assigned counters limits k e a b far =
+    quiet_at_limit assigned (constraint_at (shown slots) k) (get_or counters k 0) (get_or limits k 0) (a.open_sums k ∙ ap (open_sum assigned) (sym e)) (λ m. b k m e) far
 
 pub nothing_there : (slots : List (Option NormalConstraint)) (k : ℕ) (l : Lit) → 0 < coefficient_of (constraint_at (shown slots) k) l → k < length slots
 nothing_there [] k l h = absurd (omega (arith, h))
@@ -101,7 +123,7 @@ nothing_there (o ∷ os) zero l h = omega arith
 nothing_there (o ∷ os) (suc k) l h = omega (arith, nothing_there os k l h)
 
 -- a place waits, or what is shown there is quiet, where that is so of what is counted and of what is watched
-pub each_kind : (slots : Slots) (ns ws : List NormalConstraint) (pairs : List (Option Pair)) (assigned : List Lit) (counters limits queue : List ℕ) (l : Lit) (os : List Occurrence) → AreParted slots ns ws pairs → AreCounters ns assigned counters → AreLimits (shown slots) limits → AreEntries ns l os
+pub each_kind : (slots : Slots) (ns ws : List NormalConstraint) (pairs : List (Option Pair)) (assigned : List Lit) (counters limits queue : List ℕ) (l : Lit) (os : List Occurrence) → AreParted slots ns ws pairs → AreCounters ns assigned counters → AreLimits (shown slots) ns limits → AreEntries ns l os
     → ((k : ℕ) → k < length ns → 0 < share_of k os → (get_or limits k 0 ≤ get_or counters k 0) ⊎ Contains queue k)
     → ((k : ℕ) (n : NormalConstraint) (p : Pair) → IsAt slots pairs k n p → 0 < coefficient_of n l → IsQuiet assigned n ⊎ Contains queue k)
     → (k : ℕ) → 0 < coefficient_of (constraint_at (shown slots) k) l → IsQuiet assigned (constraint_at (shown slots) k) ⊎ Contains queue k
@@ -111,7 +133,7 @@ each_kind slots ns ws pairs assigned counters limits queue l os x a b es counts 
       | inl e ↦ inl (subst (λ (n : NormalConstraint). IsQuiet assigned n) (sym e) (quiet_nothing assigned))
       | inr rest ↦ elim rest [
         | inl e ↦ elim (counts k (omega (arith, low, x.count)) (omega (arith, some, ap (λ (n : NormalConstraint). coefficient_of n l) e, es.1 k (omega (arith, low, x.count))))) [
-          | inl far ↦ inl (quiet_counted slots ns assigned counters limits k e x.count a b low far)
+          | inl far ↦ inl (quiet_counted slots ns assigned counters limits k e a b far)
           | inr waits ↦ inr waits
         ]
         | inr w ↦
@@ -144,8 +166,8 @@ parted_same slots ns ws pairs new x same = record {
 }
 
 pub recounted : (slots : Slots) (assigned new : List Lit) (variables same_variables : ℕ) (table : List (List Occurrence)) (clauses : Listed) (counters after limits : List ℕ) (pairs others : List (Option Pair)) (e : IsLedger slots assigned variables table clauses counters limits pairs)
-    → same_variables ≡ variables → AreCounters e.counted new after → AreSameKinds pairs others → IsLedger slots new same_variables table clauses after limits others
-recounted slots assigned new variables same_variables table clauses counters after limits pairs others e same a kinds = rw same (record {
+    → same_variables ≡ variables → AreCounters e.counted new after → length after ≡ length counters → AreSameKinds pairs others → IsLedger slots new same_variables table clauses after limits others
+recounted slots assigned new variables same_variables table clauses counters after limits pairs others e same a long kinds = rw same (record {
   counted = e.counted;
   watched = e.watched;
   index = e.index;
@@ -155,6 +177,7 @@ recounted slots assigned new variables same_variables table clauses counters aft
   watched_known = e.watched_known;
   slots_are = parted_same slots e.counted e.watched pairs others e.slots_are kinds;
   limits_are = e.limits_are;
+  limited = e.limited ∙ sym long;
 })
 
 -- the counters with the last literal backtracked
@@ -162,18 +185,22 @@ pub counted_back : (ns : List NormalConstraint) (assigned : List Lit) (before af
     → length after ≡ length before → ((k : ℕ) → k < length before → get_or after k 0 ≡ get_or before k 0 + share_of k os)
     → AreCounters ns assigned after
 counted_back ns assigned before after l os a x unset same raised = record {
-  counted = same ∙ a.counted;
-  open_sums = λ k low. omega (arith, raised k (omega (arith, low, a.counted)), x.1 k low, a.open_sums k low, open_less assigned l (constraint_at ns k) unset);
+  few = omega (arith, same, a.few);
+  beyond = λ k h. a.beyond k (omega (arith, same, h));
+  open_sums = λ k. elim (cases_lt k (length before)) [
+    | inl low ↦ omega (arith, raised k low, x.1 k (omega (arith, low, a.few)), a.open_sums k, open_less assigned l (constraint_at ns k) unset)
+    | inr high ↦ nothing_open ns (assigned ++ l ∷ []) assigned before after k a same high
+  ];
 }
 
 -- no counter goes above the sum of all coefficients
 pub room : (ns : List NormalConstraint) (count : ℕ) (assigned : List Lit) (counters : List ℕ) (l : Lit) (os : List Occurrence) → AreKnown ns count → AreCounters ns (assigned ++ l ∷ []) counters → AreEntries ns (opposite l) os → lists assigned l ≡ false
     → (k : ℕ) → k < length counters → get_or counters k 0 + share_of k os ≤ largest_sum
 room ns count assigned counters l os known a x unset k h =
-    let low : k < length ns = omega (arith, h, a.counted) in
+    let low : k < length ns = omega (arith, h, a.few) in
     let n : NormalConstraint = constraint_at ns k in
     let fits : total n.terms ≤ largest_sum = (All-get_or IsNormal ns k nothing low known.normal).fits.sum in
-    omega (arith, x.1 k low, a.open_sums k low, open_less assigned l n unset, sum_over_below (not_false assigned) n.terms, fits)
+    omega (arith, x.1 k low, a.open_sums k, open_less assigned l n unset, sum_over_below (not_false assigned) n.terms, fits)
 
 -- the constraint that stands at a place
 pub some_at : (slots : List (Option NormalConstraint)) (place : ℕ) (o : Option NormalConstraint) (n : NormalConstraint) → place < length slots → o ≡ get_or slots place o → o ≡ Some n → get_or slots place None ≡ Some n
@@ -184,10 +211,8 @@ none_at slots place o h is e = get_or_default slots place None o h ∙ sym is �
 
 -- its counter is what is open in it, where it is counted
 pub counter_there : (slots : Slots) (assigned : List Lit) (variables : ℕ) (table : List (List Occurrence)) (clauses : Listed) (counters limits : List ℕ) (pairs : List (Option Pair)) (place counter : ℕ) (n : NormalConstraint) → IsLedger slots assigned variables table clauses counters limits pairs
-    → place < length slots → get_or slots place None ≡ Some n → get_or pairs place None ≡ None → counter ≡ get_or counters place counter → counter ≡ open_sum assigned n
-counter_there slots assigned variables table clauses counters limits pairs place counter n i h e f is =
-    let low : place < length i.counted = omega (arith, h, i.slots_are.count) in
-    is ∙ get_or_default counters place counter 0 (omega (arith, low, i.counters_are.counted)) ∙ i.counters_are.open_sums place low ∙ ap (open_sum assigned) (i.slots_are.counts place n e f).0
+    → get_or slots place None ≡ Some n → get_or pairs place None ≡ None → counter ≡ get_or counters place 0 → counter ≡ open_sum assigned n
+counter_there slots assigned variables table clauses counters limits pairs place counter n i e f is = is ∙ i.counters_are.open_sums place ∙ ap (open_sum assigned) (i.slots_are.counts place n e f).0
 
 -- its variables are known, and it is normal
 known_by : (slots : Slots) (assigned : List Lit) (variables : ℕ) (table : List (List Occurrence)) (clauses : Listed) (counters limits : List ℕ) (pairs : List (Option Pair)) (place : ℕ) (n : NormalConstraint) (o : Option Pair) → IsLedger slots assigned variables table clauses counters limits pairs
@@ -231,11 +256,12 @@ nowhere = record {
   watched = [];
   index = record { size = omega arith; entries = λ l. refl };
   watched_index = record { low = omega arith; index = record { size = omega arith; entries = λ l. refl } };
-  counters_are = record { counted = refl; open_sums = λ k h. absurd (omega (arith, h)) };
+  counters_are = record { few = omega arith; beyond = λ k h. refl; open_sums = λ k. refl };
   known = record { normal = All-nil IsNormal; within = All-nil (λ (n : NormalConstraint). variable_bound n.terms ≤ 0) };
   watched_known = record { normal = All-nil IsNormal; within = All-nil (λ (n : NormalConstraint). variable_bound n.terms ≤ 0) };
   slots_are = record { count = refl; watched_count = refl; pair_count = refl; counts = λ k n e f. absurd (cc); watches = λ k n p e f. absurd (cc) };
-  limits_are = record { limited = refl; enough = λ k l h. absurd (omega (arith, h)) };
+  limits_are = λ k l e. omega arith;
+  limited = refl;
 }
 
 nobody : AreWatched [] [] 0 (record { rows = []; pairs = []; literals = [] })

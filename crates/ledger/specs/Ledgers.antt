@@ -62,15 +62,16 @@ pub record IsIndexBelow (constraints : List NormalConstraint) (variables : ℕ) 
   pub low : lists.count ≤ length constraints
   pub index : IsIndex (take lists.count constraints) variables lists.rows
 
--- each counter is what is open in its constraint
+-- each counter is what is open in its constraint; behind the last one nothing is counted
 pub record AreCounters (constraints : List NormalConstraint) (assigned : List Lit) (counters : List ℕ) : Type 0 where
-  pub counted : length counters ≡ length constraints
-  pub open_sums : (k : ℕ) → k < length constraints → slice_index_or counters k 0 ≡ open_sum assigned (constraint_at constraints k)
+  pub few : length counters ≤ length constraints
+  pub beyond : (k : ℕ) → length counters ≤ k → constraint_at constraints k ≡ nothing
+  pub open_sums : (k : ℕ) → slice_index_or counters k 0 ≡ open_sum assigned (constraint_at constraints k)
 
--- from its limit on, a constraint's open sum leaves it unbroken and forcing nothing
-pub record AreLimits (constraints : List NormalConstraint) (limits : List ℕ) : Type 0 where
-  pub limited : length limits ≡ length constraints
-  pub enough : (k : ℕ) (l : Lit) → k < length constraints → (constraint_at constraints k).degree + coefficient_of (constraint_at constraints k) l ≤ slice_index_or limits k 0
+-- from its limit on, the open sum of a constraint leaves it unbroken and forcing nothing, where it is the one that is counted at its place
+abbrev pub AreLimits : List NormalConstraint → List NormalConstraint → List ℕ → Type 0
+AreLimits constraints counted limits = (k : ℕ) (l : Lit) → constraint_at constraints k ≡ constraint_at counted k
+    → (constraint_at constraints k).degree + coefficient_of (constraint_at constraints k) l ≤ slice_index_or limits k 0
 
 -- the constraints are normal and of the variables
 pub record AreKnown (constraints : List NormalConstraint) (variables : ℕ) : Type 0 where
@@ -97,7 +98,8 @@ pub record IsLedger (slots : List (Option NormalConstraint)) (assigned : List Li
   pub known : AreKnown counted variables
   pub watched_known : AreKnown watched variables
   pub slots_are : AreParted slots counted watched pairs
-  pub limits_are : AreLimits (shown slots) limits
+  pub limits_are : AreLimits (shown slots) counted limits
+  pub limited : length limits ≡ length counters
 
 -- the constraint at the place of the reason forces the literal, where there is a reason
 abbrev pub IsReason : List NormalConstraint → List Lit → Lit → Option ℕ → Type 0

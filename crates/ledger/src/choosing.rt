@@ -32,10 +32,10 @@ fn outlasts(trail: &Assignment, literal: Lit, other: Lit) -> bool
     ensures yes { IsTrue result → Outlasts trail.now.0 literal other }
     ensures no { result ≡ false → Outlasts trail.now.0 other literal }
 {
-    if !trail.has(literal.opposite()) {
+    if !trail.has_propagated(literal.opposite()) {
         return true;
     }
-    if !trail.has(other.opposite()) {
+    if !trail.has_propagated(other.opposite()) {
         return false;
     }
     trail.position(other.var.0 as usize) <= trail.position(literal.var.0 as usize)
@@ -65,7 +65,7 @@ fn is_open_at(constraint: &Normal, trail: &Assignment, index: usize) -> bool
     requires index { index < length constraint.now.terms }
     ensures { IsTrue result → (k : ℕ) → OutlastsTerm trail.now.0 constraint.now.terms index k }
 {
-    !trail.has(constraint.term(index).literal().opposite())
+    !trail.has_propagated(constraint.term(index).literal().opposite())
 }
 
 /// Of the terms but for one, that whose literal stays open longest. Where one is open, the others behind it are not looked at.

@@ -1,6 +1,10 @@
-//! A constraint that is counted comes in: its entries stand in the lists of its literals, and no literals watch its place.
+//! What a constraint that is counted has: entries in the lists of its literals, and numbers at its place.
+//!
+//! Most constraints are clauses that two literals watch, and have no numbers. So a list of numbers ends with the last place that is counted:
+//! behind it each number is 0, and takes no memory.
 
-ghost use Rattle.std.specs.Prelude.{◌≡◌, ◌*◌, ◌<◌, ◌≤◌, ◌++◌, ◌∷◌, ℕ, [], None, OnOk, OnErr, length, slice_index_or};
+ghost use Rattle.std.specs.Prelude.{◌≡◌, ◌+◌, ◌*◌, ◌<◌, ◌≤◌, ◌++◌, ◌∷◌, ℕ, [], None, OnOk, OnErr, length, slice_index_or, slice_set};
+ghost use Rattle.std.specs.Prelude.{vec_capacity, vec_len};
 ghost use Rattle.normal_form.specs.Normal.{variable_bound};
 ghost use Rattle.occurrences.specs.Occurrences.{HasMore, entries_of};
 
@@ -34,4 +38,61 @@ pub(crate) fn enter_counted(
         }
         Ok(()) => Ok(()),
     }
+}
+
+/// The number at a place.
+pub(crate) fn number_at(numbers: &[u128], place: usize) -> u128
+    ensures { result ≡ slice_index_or numbers.now place 0 }
+{
+    if place < numbers.len() {
+        numbers[place]
+    } else {
+        0
+    }
+}
+
+/// Makes the number at a place 0.
+pub(crate) fn set_nought(numbers: &mut Vec<u128>, place: usize)
+    ensures { numbers.new.items ≡ slice_set numbers.old.items place 0 }
+{
+    if place < numbers.len() {
+        numbers[place] = 0;
+    }
+}
+
+/// Puts noughts at the end, as many as there is room for.
+fn push_noughts(numbers: &mut Vec<u128>, more: usize)
+    requires { vec_len numbers.old + more ≤ vec_capacity numbers.old }
+    ensures same { (k : ℕ) → slice_index_or numbers.new.items k 0 ≡ slice_index_or numbers.old.items k 0 }
+    ensures count { length numbers.new.items ≡ length numbers.old.items + more }
+{
+    for _ in 0..more {
+        numbers.push_reserved(0);
+    }
+}
+
+/// Brings the counters and the limits of the places below a number into memory, with room for one more of each.
+pub(crate) fn fill_up(
+    counters: &mut Vec<u128>,
+    limits: &mut Vec<u128>,
+    count: usize,
+) -> Result<(), AllocError>
+    requires few { length counters.old.items ≤ count }
+    requires as_many { length limits.old.items ≡ length counters.old.items }
+    ensures counters { (k : ℕ) → slice_index_or counters.new.items k 0 ≡ slice_index_or counters.old.items k 0 }
+    ensures limits { (k : ℕ) → slice_index_or limits.new.items k 0 ≡ slice_index_or limits.old.items k 0 }
+    ensures as_many { length limits.new.items ≡ length counters.new.items }
+    ensures more { length counters.old.items ≤ length counters.new.items }
+    ensures few { length counters.new.items ≤ count }
+    ensures all { OnOk result (length counters.new.items ≡ count) }
+    ensures counter { OnOk result (vec_len counters.new < vec_capacity counters.new) }
+    ensures limit { OnOk result (vec_len limits.new < vec_capacity limits.new) }
+{
+    let more = count - counters.len();
+    counters.reserve(more)?;
+    limits.reserve(more)?;
+    push_noughts(counters, more);
+    push_noughts(limits, more);
+    counters.reserve(1)?;
+    limits.reserve(1)
 }

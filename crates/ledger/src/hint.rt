@@ -22,11 +22,11 @@ pub(crate) fn hint_of(trail: &Assignment, pair: Pair) -> Hint
     ensures value { IsHintOf trail.now.0 pair result }
     ensures within { IsHintWithin trail.now.1 result }
 {
-    if trail.has(pair.first) || trail.has(pair.second) {
+    if trail.has_propagated(pair.first) || trail.has_propagated(pair.second) {
         return Hint::Quiet;
     }
-    let first_fell = trail.has(pair.first.opposite());
-    let second_fell = trail.has(pair.second.opposite());
+    let first_fell = trail.has_propagated(pair.first.opposite());
+    let second_fell = trail.has_propagated(pair.second.opposite());
     if first_fell && second_fell {
         Hint::Unknown
     } else if first_fell {

@@ -13,7 +13,7 @@
 ghost use Rattle.std.specs.Prelude.{◌≡◌, ◌+◌, ◌-◌, ◌<◌, ◌≤◌, ◌++◌, ◌∷◌};
 ghost use Rattle.std.specs.Prelude.{◌⊎◌, [], ℕ, List, false, true, All, Contains, IfOk, IfSome, IsSome};
 ghost use Rattle.std.specs.Prelude.{Some, None, IsTrue, MatchOption, OnOk, OnErr, ◌↔◌, length, take, slice_index_or};
-ghost use Rattle.std.specs.Prelude.{slice_set, vec_capacity, vec_len};
+ghost use Rattle.std.specs.Prelude.{slice_set};
 ghost use Rattle.std.specs.Option.{option_copied};
 ghost use Rattle.linear.specs.declared.term.Lit.{Lit};
 ghost use Rattle.linear.specs.Largest.{most_names};
@@ -29,7 +29,7 @@ ghost use Rattle.ledger.specs.Ledgers.{AreReasons, HasSlack, IsPropagation, IsRe
 ghost use Rattle.ledger.specs.Watched.{IsOpen, IsPairOf, Tell};
 
 use super::choosing::latest_pair;
-use super::counting::enter_counted;
+use super::counting::{enter_counted, fill_up, number_at, set_nought};
 use super::entries::Entries;
 use super::forcing::force_terms;
 use super::hint::{Hint, hint_of};
@@ -55,6 +55,7 @@ pub struct Ledger {
     orders: Orders,
     /// Where literals stand in constraints that are counted.
     table: EntryTable,
+    /// The counters of the places up to the last one that is counted, and their limits: a ledger of clauses alone has none.
     counters: Vec<u128>,
     limits: Vec<u128>,
     /// Where literals stand in clauses that are watched, as far as was asked for.
@@ -253,7 +254,7 @@ impl Ledger {
         ensures { result ≡ open_sum self.now.propagated constraint.now }
     {
         match self.watchers.pair(place) {
-            None => self.counters[place],
+            None => number_at(self.counters.as_slice(), place),
             Some(_) => open_sum(constraint, &self.trail),
         }
     }
@@ -342,7 +343,7 @@ impl Ledger {
     }
 
     /// Whether a literal is taken as true.
-    pub fn has(&self, literal: Lit) -> bool
+    pub fn assigns(&self, literal: Lit) -> bool
         requires { literal.var.0 < self.now.variables }
         ensures { result ≡ lists self.now.assigned literal }
     {
@@ -434,7 +435,7 @@ impl Ledger {
         ensures value { result ≡ slice_index_or self.old.slots place None }
         ensures slots { self.new ≡ record self.old { slots = slice_set self.old.slots place None } }
     {
-        self.limits[place] = 0;
+        set_nought(&mut self.limits, place);
         self.orders.take_out(place);
         self.watchers.forget(place);
         self.slots[place].take()
@@ -480,7 +481,8 @@ impl Ledger {
         let Some(constraint) = slot.as_ref() else {
             unreachable!()
         };
-        make_room(&mut self.slots, &mut self.counters, &mut self.limits)?;
+        self.slots.reserve(1)?;
+        fill_up(&mut self.counters, &mut self.limits, self.slots.len())?;
         self.orders.give(self.slots.len(), constraint)?;
         let open = open_sum(constraint, &self.trail);
         let limit = constraint.degree() + largest(constraint);
@@ -505,15 +507,11 @@ impl Ledger {
         let Some(constraint) = slot.as_ref() else {
             unreachable!()
         };
-        make_room(&mut self.slots, &mut self.counters, &mut self.limits)?;
+        self.slots.reserve(1)?;
         let place = self.slots.len();
         self.orders.give(place, constraint)?;
         self.starts.widen(place + 1)?;
-        // No counter is held against the limit of a clause that is watched, so the sum does in place of the largest coefficient.
-        let limit = constraint.degree() + constraint.sum();
         self.watchers.watch(constraint, pair)?;
-        self.counters.push_reserved(0);
-        self.limits.push_reserved(limit);
         self.slots.push_reserved(slot.take());
         Ok(())
     }
@@ -523,10 +521,8 @@ impl Ledger {
         ensures ok { OnOk result (self.new ≡ record self.old { slots = self.old.slots ++ None ∷ [] }) }
         ensures err { OnErr result (self.new ≡ self.old) }
     {
-        make_room(&mut self.slots, &mut self.counters, &mut self.limits)?;
+        self.slots.reserve(1)?;
         self.watchers.skip()?;
-        self.counters.push_reserved(0);
-        self.limits.push_reserved(0);
         self.slots.push_reserved(None);
         Ok(())
     }
@@ -568,28 +564,10 @@ impl Ledger {
                 }
                 self.watchers.detach();
                 self.orders.take_out(place);
-                self.counters.pop();
-                self.limits.pop();
+                self.counters.truncate(place);
+                self.limits.truncate(place);
             }
             _ => unreachable!(),
         }
     }
-}
-
-/// Makes room for one place more.
-fn make_room(
-    slots: &mut Vec<Option<Normal>>,
-    counters: &mut Vec<u128>,
-    limits: &mut Vec<u128>,
-) -> Result<(), AllocError>
-    ensures slots { slots.new.items ≡ slots.old.items }
-    ensures counters { counters.new.items ≡ counters.old.items }
-    ensures limits { limits.new.items ≡ limits.old.items }
-    ensures slot { OnOk result (vec_len slots.new < vec_capacity slots.new) }
-    ensures counter { OnOk result (vec_len counters.new < vec_capacity counters.new) }
-    ensures limit { OnOk result (vec_len limits.new < vec_capacity limits.new) }
-{
-    slots.reserve(1)?;
-    counters.reserve(1)?;
-    limits.reserve(1)
 }

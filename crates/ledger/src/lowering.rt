@@ -58,7 +58,7 @@ pub(crate) fn lower(
 )
     requires places { All (λ o. o.place < length counters.old.items) (all_in list) }
     requires limits { length limits.now ≡ length counters.old.items }
-    requires queue { queue.old.1 ≡ length counters.old.items }
+    requires queue { length counters.old.items ≤ queue.old.1 }
     requires enough { (k : ℕ) → k < length counters.old.items
         → share_of k (all_in list) ≤ slice_index_or counters.old.items k 0 }
     ensures length { length counters.new.items ≡ length counters.old.items }
@@ -111,7 +111,7 @@ pub(crate) fn raise(counters: &mut Vec<u128>, list: Row<'_>)
 pub(crate) fn queue_below(counters: &[u128], limits: &[u128], queue: &mut Queue, list: Row<'_>)
     requires places { All (λ o. o.place < length counters.now) (all_in list) }
     requires limits { length limits.now ≡ length counters.now }
-    requires queue { queue.old.1 ≡ length counters.now }
+    requires queue { length counters.now ≤ queue.old.1 }
     ensures queued { (k : ℕ) → 0 < share_of k (all_in list.entry)
         → (slice_index_or limits.now k 0 ≤ slice_index_or counters.now k 0) ⊎ Contains queue.new.0 k }
     ensures kept { (k : ℕ) → Contains queue.old.0 k → Contains queue.new.0 k }

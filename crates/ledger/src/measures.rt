@@ -19,7 +19,7 @@ fn counted(constraint: &Normal, trail: &Assignment, place: usize) -> u128
         ≡ sum_over (not_false trail.now.0) (take place constraint.now.terms) + result }
 {
     let term = constraint.term(place);
-    if trail.has(term.literal().opposite()) {
+    if trail.has_propagated(term.literal().opposite()) {
         0
     } else {
         term.coef

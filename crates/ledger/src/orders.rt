@@ -4,6 +4,7 @@
 //! is kept.
 
 ghost use Rattle.std.specs.Prelude.{◌≡◌, ◌≤◌, [], ℕ, OnOk, slice_index_or};
+ghost use Rattle.normal_form.specs.Normal.{IsNormal};
 ghost use Rattle.ledger.specs.Orders.{IsDecreasing, order_at};
 
 use super::order::order_of;
@@ -77,6 +78,7 @@ impl Orders {
         ensures others { (k : ℕ) → (k ≡ place → ⊥) → order_at self.new k ≡ order_at self.old k }
         ensures ok { OnOk result (IsDecreasing constraint.now.terms (order_at self.new place).places) }
         ensures none { OnOk result ((order_at self.new place).passed ≡ 0) }
+        ensures normal { OnOk result (IsNormal constraint.now) }
     {
         let order = order_of(self.alloc, constraint)?;
         self.rows.put(self.alloc, place, order)?;

@@ -26,7 +26,7 @@ fn is_open_at(literals: &[Lit], trail: &Assignment, index: usize, others: Pair) 
     ensures no { result ≡ false → (d : Lit) → IsFalseBeside trail.now.0 others (slice_index_or literals.now index d) }
 {
     let literal = literals[index];
-    !trail.has(literal.opposite()) && is_apart(literal, others)
+    !trail.has_propagated(literal.opposite()) && is_apart(literal, others)
 }
 
 /// Looks through the literals of a clause from an index to another for one that none makes false, beside two others; whether there is one. On the way the

@@ -7,7 +7,7 @@
 
 use std::alloc::{AllocError, Global};
 
-/// For the clause of each place the index at which the next search in it begins.
+/// For the clause of each place the index at which the next search in it begins, counted from behind the two literals that watch it.
 #[derive(Drop)]
 pub(crate) struct Starts {
     indices: Vec<u32>,
@@ -21,7 +21,7 @@ impl Starts {
         }
     }
 
-    /// Where a search in the clause of a place begins.
+    /// Where a search in the clause of a place begins, counted from behind the two that watch it.
     pub(crate) fn get(&self, place: usize) -> usize {
         match self.indices.get(place) {
             Some(index) => *index as usize,
@@ -29,7 +29,7 @@ impl Starts {
         }
     }
 
-    /// The next search in the clause of a place begins at an index.
+    /// The next search in the clause of a place begins at an index, counted from behind the two that watch it.
     pub(crate) fn set(&mut self, place: usize, index: usize) {
         if place < self.indices.len() {
             self.indices[place] = u32::try_from(index).unwrap_or(0);

@@ -217,7 +217,7 @@ impl Watchers {
         let Some(other) = self.beside(place, fallen) else {
             return Finding::Elsewhere;
         };
-        if trail.has(other) {
+        if trail.has_propagated(other) {
             return Finding::Satisfied;
         }
         let others = Pair {
@@ -382,7 +382,7 @@ impl Watchers {
         let Some(partner) = self.beside(place, literal) else {
             return;
         };
-        if trail.has(partner.opposite()) {
+        if trail.has_propagated(partner.opposite()) {
             queue.add(place);
         }
     }

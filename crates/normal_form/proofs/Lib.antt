@@ -14,3 +14,4 @@ pub mod Reorder
 pub mod Floors
 pub mod FormDegrees
 pub mod Coefficients
+mod PlainTerms

@@ -8,7 +8,7 @@ use Rattle.std.proofs.lemmas.List.Recursion.{is_sum_by}
 use Rattle.std.proofs.lemmas.List.Sorted.{sum_by-IsPermutation}
 use Rattle.linear.specs.declared.term.Term.{Term}
 use Rattle.normal_form.specs.declared.term.NormalTerm.{NormalTerm}
-use Rattle.normal_form.specs.NormalOf.{at_least_zero, slope, size_sum}
+use Rattle.normal_form.specs.NormalOf.{at_least_zero, negated_sum, slope, size_sum}
 use Rattle.normal_form.specs.Balance.{slopes, Balances}
 
 size_is : (ts : List Term) → size_sum ts ≡ sum_by (λ t. unsigned_abs t.coef) ts
@@ -54,3 +54,31 @@ same_slopes set ts us p = omega (arith, ints, slopes_apart set ts, slopes_apart 
 -- what balances terms balances them in every order
 pub same_balance : (ts us : List Term) (merged : List NormalTerm) → IsPermutation ts us → Balances us merged → Balances ts merged
 same_balance ts us merged p b set = b set ∙ same_slopes set ts us p
+
+-- what a negated term counts above 0, and below
+abbrev counted_above : Term → ℕ
+counted_above t = cond t.negated (at_least_zero t.coef) 0
+
+abbrev counted_below : Term → ℕ
+counted_below t = cond t.negated (at_least_zero (neg_ℤ t.coef)) 0
+
+abbrev all_above : List Term → ℕ
+all_above [] = 0
+all_above (t ∷ ts) = counted_above t + all_above ts
+
+abbrev all_below : List Term → ℕ
+all_below [] = 0
+all_below (t ∷ ts) = counted_below t + all_below ts
+
+negated_apart : (ts : List Term) → negated_sum ts +ℤ pos (all_below ts) ≡ pos (all_above ts)
+negated_apart [] = refl
+negated_apart (t ∷ ts) = omega (arith, ints, apart t.negated t.coef, negated_apart ts)
+
+same_above : (ts us : List Term) → IsPermutation ts us → all_above us ≡ all_above ts
+same_above ts us p = is_sum_by all_above counted_above refl (λ _ _. refl) us ∙ sum_by-IsPermutation counted_above ts us p ∙ sym (is_sum_by all_above counted_above refl (λ _ _. refl) ts)
+
+same_below : (ts us : List Term) → IsPermutation ts us → all_below us ≡ all_below ts
+same_below ts us p = is_sum_by all_below counted_below refl (λ _ _. refl) us ∙ sum_by-IsPermutation counted_below ts us p ∙ sym (is_sum_by all_below counted_below refl (λ _ _. refl) ts)
+
+pub same_negated : (ts us : List Term) → IsPermutation ts us → negated_sum us ≡ negated_sum ts
+same_negated ts us p = omega (arith, ints, negated_apart ts, negated_apart us, same_above ts us p, same_below ts us p)

@@ -3,5 +3,6 @@ pub mod Normal
 pub mod NormalOf
 pub mod Negation
 pub mod Balance
+pub mod Plain
 pub mod Cases
 pub mod Codes

@@ -4,7 +4,7 @@
 //! is normal by construction. Whoever makes one never sees how terms are kept. The coefficient sum is kept along the
 //! way and stops at the largest number of its type: that the limit is exceeded is asked once, at the end, and exactly.
 
-ghost use Rattle.std.specs.Prelude.{◌≡◌, ℕ, Bool, ◌+◌, ◌<◌, ◌≤◌, ◌↔◌, ◌++◌, ◌∷◌, [], pos, ◌+ℤ◌, unsigned_abs, IfOk, OnOk, OnErr, IsErrOf, if◌then◌else◌};
+ghost use Rattle.std.specs.Prelude.{◌≡◌, ℕ, Bool, ◌+◌, ◌-◌, ◌^◌, ◌<◌, ◌≤◌, ◌↔◌, ◌++◌, ◌∷◌, [], min, pos, ◌+ℤ◌, unsigned_abs, IfOk, OnOk, OnErr, IsErrOf, if◌then◌else◌};
 ghost use Rattle.normal_form.specs.Normal.{variable_bound, total, IsNormal, Rises, Fits};
 ghost use Rattle.normal_form.specs.Balance.{rises_of, net_term};
 
@@ -91,6 +91,13 @@ impl NormalBuilder {
             var,
             negated: net < 0,
         })
+    }
+
+    /// What the coefficients so far add up to, as far as a number of 128 bits can tell.
+    pub fn capped_sum(&self) -> u128
+        ensures { result ≡ min (total self.now) (2 ^ 128 - 1) }
+    {
+        self.capped_sum
     }
 
     /// The terms so far.

@@ -6,19 +6,21 @@
 //! itself read as `>=`, and the same with all signs changed, which is itself read as `<=`. The second has the first
 //! one's merged terms at the opposite literals, so terms are merged once.
 
-ghost use Rattle.std.specs.Prelude.{◌≡◌, ◌+◌, ◌≤◌, ◌↔◌, ◌⊎◌, map, IfOk, IsErrOf, OnOk, OnErr, unsigned_abs};
+ghost use Rattle.std.specs.Prelude.{◌≡◌, ◌+◌, ◌≤◌, ◌↔◌, ◌⊎◌, map, pos, IfOk, IsErrOf, OnOk, OnErr, unsigned_abs};
+ghost use Rattle.std.specs.List.Sorted.{IsNonDecreasingBy, IsPermutation};
 ghost use Rattle.linear.specs.Valuation.{Valuation};
 ghost use Rattle.linear.specs.Sum.{Meets};
-ghost use Rattle.normal_form.specs.Normal.{IsNormal, Holds, largest_sum};
-ghost use Rattle.normal_form.specs.NormalOf.{IsNormalOf, IsBothOf, IsTooLarge, signs_changed, sign_changed, size_sum};
+ghost use Rattle.normal_form.specs.Normal.{IsNormal, Holds, Rises, largest_sum, sum_over};
+ghost use Rattle.normal_form.specs.NormalOf.{IsNormalOf, IsBothOf, IsTooLarge, negated_sum, signs_changed, sign_changed, size_sum};
 ghost use Rattle.normal_form.specs.Balance.{Balances};
 
 use super::builder::NormalBuilder;
-use super::degrees::{at_least_degree, at_most_degree};
+use super::degrees::{at_least_degree, at_least_zero, at_most_degree};
 use super::fault::CutFault;
-use super::merging::{merge, sizes_fit};
+use super::merging::{are_in_order, merge, merge_runs, put_in_order, sizes_fit};
 use super::normal::Normal;
 use super::opposites::flip;
+use super::plain::{are_plain, plain_terms};
 use linear::{Relation, Signed, Term};
 use std::alloc::{AllocError, Global};
 
@@ -54,6 +56,40 @@ fn at_most(merged: NormalBuilder, constraint: &Signed) -> Result<Normal, CutFaul
         merged.terms(),
     );
     merged.finish(degree)
+}
+
+/// The form of a constraint read as `>=`, of merged terms that lift no degree: their negated literals count what the negated terms do.
+fn unlifted(merged: NormalBuilder, constraint: &Signed) -> Result<Normal, CutFault>
+    requires sizes { size_sum constraint.now.terms ≤ largest_sum }
+    requires balance { Balances constraint.now.terms merged }
+    requires rises { Rises 0 merged }
+    requires lift { negated_sum constraint.now.terms ≡ pos (sum_over (λ _ negated. negated) merged) }
+    ensures form { IfOk result (IsNormalOf constraint.now) }
+    ensures normal { IfOk result IsNormal }
+    ensures within { OnOk result (IsTooLarge constraint.now → ⊥) }
+    ensures too_large { OnErr result (IsTooLarge constraint.now × IsErrOf result CutFault.TooLarge) }
+{
+    merged.finish(at_least_zero(constraint.right))
+}
+
+/// The normal form of a constraint with `>=` whose sizes add up to no more than the limit, of its terms in order of their variables.
+fn form_of(alloc: Global, ordered: &[Term], constraint: &Signed) -> Result<Normal, CutFault>
+    requires relation { constraint.now.relation ≡ Relation.AtLeast }
+    requires sizes { size_sum constraint.now.terms ≤ largest_sum }
+    requires order { IsNonDecreasingBy (λ t. t.var.0) ordered.now }
+    requires same { IsPermutation constraint.now.terms ordered.now }
+    ensures form { IfOk result (IsNormalOf constraint.now) }
+    ensures normal { IfOk result IsNormal }
+    ensures same { IfOk result (λ n. (a : Valuation) → Holds a n ↔ Meets a constraint.now) }
+    ensures too_large { IsErrOf result CutFault.TooLarge → IsTooLarge constraint.now }
+    ensures within { OnOk result (IsTooLarge constraint.now → ⊥) }
+    ensures small { size_sum constraint.now.terms + unsigned_abs constraint.now.right ≤ largest_sum → IsErrOf result CutFault.TooLarge → ⊥ }
+    ensures factor { IsErrOf result CutFault.BadFactor → ⊥ }
+{
+    if are_plain(ordered) {
+        return unlifted(plain_terms(alloc, ordered)?, constraint);
+    }
+    at_least(merge_runs(alloc, ordered)?, constraint)
 }
 
 /// Makes normal forms. It keeps the list in which terms are put in order from one constraint to the next, so that whoever makes many
@@ -111,7 +147,11 @@ impl Normalizer {
         ensures factor { IsErrOf result CutFault.BadFactor → ⊥ }
     {
         let terms = constraint.terms.as_slice();
-        at_least(merge(self.allocator, &mut self.sorted, terms)?, constraint)
+        if are_in_order(terms) {
+            return form_of(self.allocator, terms, constraint);
+        }
+        put_in_order(&mut self.sorted, terms)?;
+        form_of(self.allocator, self.sorted.as_slice(), constraint)
     }
 
     /// The two normal forms of an equality: that of the constraint with `>=`, then that of the same with all

@@ -54,7 +54,7 @@ fn negated_total(terms: &Terms) -> i128
 }
 
 /// A number, or 0 where it is below.
-fn at_least_zero(number: i128) -> u128
+pub(crate) fn at_least_zero(number: i128) -> u128
     ensures { result ≡ at_least_zero number }
 {
     if number < 0 { 0 } else { number as u128 }

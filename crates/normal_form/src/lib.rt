@@ -13,6 +13,7 @@ mod merging;
 mod negation;
 mod normal;
 mod opposites;
+mod plain;
 mod term;
 mod terms;
 mod truth;

@@ -7,8 +7,8 @@
 //! before the sign of the rest decides between a literal and its opposite. That the sizes together are within the
 //! limit is asked before anything is added, so no sum on the way can leave its type.
 
-ghost use Rattle.std.specs.Prelude.{◌≡◌, ℕ, Bool, ◌+◌, ◌<◌, ◌≤◌, ◌≢◌, pos, ◌+ℤ◌, ◌↔◌, unsigned_abs, IsTrue, IfOk, length, take, slice_index_or, if◌then◌else◌};
-ghost use Rattle.std.specs.List.Sorted.{IsNonDecreasingBy};
+ghost use Rattle.std.specs.Prelude.{◌≡◌, ℕ, Bool, ◌+◌, ◌<◌, ◌≤◌, ◌≢◌, pos, ◌+ℤ◌, ◌↔◌, unsigned_abs, IsTrue, IfOk, OnOk, length, take, slice_index_or, if◌then◌else◌};
+ghost use Rattle.std.specs.List.Sorted.{IsNonDecreasingBy, IsPermutation};
 ghost use Rattle.normal_form.specs.Normal.{largest_sum};
 ghost use Rattle.normal_form.specs.NormalOf.{size_sum, slope};
 ghost use Rattle.normal_form.specs.Balance.{Balances, slopes};
@@ -65,7 +65,7 @@ fn run_from(sorted: &[Term], start: usize) -> Run
 }
 
 /// Merges terms that stand in order of their variables.
-fn merge_runs(alloc: Global, sorted: &[Term]) -> Result<NormalBuilder, AllocError>
+pub(crate) fn merge_runs(alloc: Global, sorted: &[Term]) -> Result<NormalBuilder, AllocError>
     requires order { IsNonDecreasingBy (λ t. t.var.0) sorted.now }
     requires sizes { size_sum sorted.now ≤ largest_sum }
     ensures { IfOk result (Balances sorted.now) }
@@ -81,7 +81,7 @@ fn merge_runs(alloc: Global, sorted: &[Term]) -> Result<NormalBuilder, AllocErro
 }
 
 /// Whether terms stand in order of their variables.
-fn are_in_order(terms: &[Term]) -> bool
+pub(crate) fn are_in_order(terms: &[Term]) -> bool
     ensures { IsTrue result → IsNonDecreasingBy (λ t. t.var.0) terms.now }
 {
     for place in 1..terms.len() {
@@ -92,19 +92,15 @@ fn are_in_order(terms: &[Term]) -> bool
     true
 }
 
-/// Merges terms that stand in any order, which are put in order in a list for that.
-fn sort_and_merge(
-    alloc: Global,
-    sorted: &mut Vec<Term>,
-    terms: &[Term],
-) -> Result<NormalBuilder, AllocError>
-    requires { size_sum terms.now ≤ largest_sum }
-    ensures { IfOk result (Balances terms.now) }
+/// Puts terms in order of their variables, in a list for that, whatever it holds.
+pub(crate) fn put_in_order(sorted: &mut Vec<Term>, terms: &[Term]) -> Result<(), AllocError>
+    ensures order { OnOk result (IsNonDecreasingBy (λ t. t.var.0) sorted.new.items) }
+    ensures same { OnOk result (IsPermutation terms.now sorted.new.items) }
 {
     sorted.clear();
     sorted.extend_from_slice(terms)?;
     sorted.sort_by_key(|term| term.var.0)?;
-    merge_runs(alloc, sorted.as_slice())
+    Ok(())
 }
 
 /// The merged terms, in order of their variables. Those that stand in order, as most do that are short, are merged where they stand,
@@ -120,5 +116,6 @@ pub(crate) fn merge(
     if are_in_order(terms) {
         return merge_runs(alloc, terms);
     }
-    sort_and_merge(alloc, sorted, terms)
+    put_in_order(sorted, terms)?;
+    merge_runs(alloc, sorted.as_slice())
 }

@@ -101,6 +101,23 @@ impl<'a> Tokens<'a> {
         Some(token)
     }
 
+    /// Whether a digit stands next, in front of which nothing is left to pass. It is a hint on what is to be asked first, so no clause speaks of it.
+    #[inline(always)]
+    pub fn begins_digit(&self) -> bool {
+        match self.at.rest {
+            [b, ..] => *b >= b'0' && *b <= b'9',
+            [] => false,
+        }
+    }
+
+    /// Passes what stands before the next token. The tokens are the same; where many things are asked of the next one, each finds it sooner.
+    #[inline(always)]
+    pub fn pass_gap(&mut self)
+        ensures { self.new ≡ self.old }
+    {
+        self.at = past_gaps(self.at);
+    }
+
     /// Passes the next token, if there is one.
     pub fn pass(&mut self)
         ensures { self.new ≡ drop 1 self.old }

@@ -265,6 +265,7 @@ leads_of p a b (x ∷ xs) count (between, first, inr (fewer, is, here, rest)) = 
 -- with the last lines, the text of a log spells its steps
 pub spells : (l : Logbook) (proof : List ℕ) → IsProof l → IsConclusionWritable (length l.problem.names) l.conclusion → proof ≡ l.text ++ last_lines l.problem.names l.conclusion → IsSpelledBy l proof
 spells l proof p writable is = record {
+  text = is;
   steps = p.steps;
   spelled = subst (λ t. SpellsProof t l.problem.names (pos (problem_ids l.problem.constraints)) p.steps l.conclusion) (sym is)
       (written_spells l.text l.problem.names (problem_ids l.problem.constraints) p.steps l.conclusion p.written writable);

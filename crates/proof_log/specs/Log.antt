@@ -19,7 +19,7 @@ use Rattle.proof_steps.specs.declared.step.Step.TheVariants as kinds
 use Rattle.proof_text.specs.ProofSpells.{SpellsProof}
 use Rattle.proof_text.specs.Steps.{IsProper}
 use Rattle.proof_text.specs.Writable.{IsStepWritable}
-use Rattle.proof_write.specs.Whole.{AreWritten, step_line}
+use Rattle.proof_write.specs.Whole.{AreWritten, last_lines, step_line}
 use Rattle.proof_rules.specs.declared.fault.StepFault.{StepFault}
 
 pub record Logbook : Type 0 where
@@ -155,8 +155,10 @@ pub record IsProof (l : Logbook) : Type 0 where
   pub bites : LeadsBiting l.problem start steps l.state l.biting
   pub entitled : IsEntitled l.problem l.state l.conclusion
 
--- A text spells a log as a whole proof: steps that lead from the file to the log's state, and its conclusion.
+-- A text is a log as a whole proof: the log's own text, and the lines behind its steps. So it spells steps that lead from the file to
+-- the log's state, and its conclusion.
 pub record IsSpelledBy (l : Logbook) (proof : List ℕ) : Type 0 where
+  pub text : proof ≡ l.text ++ last_lines l.problem.names l.conclusion
   pub steps : List Step
   pub spelled : SpellsProof proof l.problem.names (pos (problem_ids l.problem.constraints)) steps l.conclusion
   pub start : State

@@ -63,6 +63,20 @@ impl<'a> LineWords<'a> {
         Some(found.token)
     }
 
+    /// Whether a digit stands next. It is a hint on what is to be asked first, so no clause speaks of it.
+    #[inline(always)]
+    pub(crate) fn begins_digit(&self) -> bool {
+        self.left.begins_digit()
+    }
+
+    /// Passes what stands before the next word, so that all that is asked of it is asked sooner. The words are the same.
+    #[inline(always)]
+    pub(crate) fn pass_gap(&mut self)
+        ensures { self.new ≡ self.old }
+    {
+        self.left.pass_gap();
+    }
+
     /// Passes the next word where it is an integer of a few digits, and gives its number; where it gives none, the word can be taken.
     #[inline(always)]
     pub(crate) fn take_number(&mut self) -> Option<i64>

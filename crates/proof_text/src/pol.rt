@@ -75,6 +75,20 @@ fn item(token: Token<'_>, words: &mut LineWords<'_>, table: &mut LineNames<'_>) 
     }
 }
 
+/// The item that a number begins which stands next in plain digits, as most do.
+#[inline(always)]
+fn plain_number_item(words: &mut LineWords<'_>) -> Option<Item>
+    ensures takes { IfSome result (λ i. (k : NamesMet) → Takes are_items items_of k words.old i k words.new) }
+    ensures none { result ≡ None → words.new ≡ words.old }
+{
+    if !words.begins_digit() {
+        return None;
+    }
+    let number = words.take_number()?;
+    words.pass_gap();
+    Some(number_item(i128::from(number), words))
+}
+
 /// The item that stands next; none at the end.
 #[inline(always)]
 fn next_item(words: &mut LineWords<'_>, table: &mut LineNames<'_>) -> Reading<Option<Item>>
@@ -85,8 +99,9 @@ fn next_item(words: &mut LineWords<'_>, table: &mut LineNames<'_>) -> Reading<Op
     ensures kept { table.new.before ≡ table.old.before }
     ensures denies { IfErr result (λ f. Denies f (are_items words.old) words.old) }
 {
-    if let Some(number) = words.take_number() {
-        return Ok(Some(number_item(i128::from(number), words)));
+    words.pass_gap();
+    if let Some(item) = plain_number_item(words) {
+        return Ok(Some(item));
     }
     if let Some(item) = operation(words) {
         return Ok(Some(item));
@@ -101,6 +116,9 @@ fn next_item(words: &mut LineWords<'_>, table: &mut LineNames<'_>) -> Reading<Op
     Ok(Some(item(token, words, table)?))
 }
 
+/// Most lines have no more items.
+const FEW_ITEMS: usize = 8;
+
 /// The items up to the end of a line.
 pub(crate) fn items(
     alloc: Global,
@@ -111,7 +129,7 @@ pub(crate) fn items(
     ensures kept { table.new.before ≡ table.old.before }
     ensures denies { IfErr result (λ f. Denies f (are_items words.entry) words.entry) }
 {
-    let mut items = Vec::new(alloc);
+    let mut items = Vec::with_capacity(alloc, FEW_ITEMS)?;
     while let Some(item) = next_item(&mut words, table)? {
         items.push(item)?;
     }

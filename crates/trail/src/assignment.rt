@@ -119,7 +119,7 @@ impl Assignment {
     }
 
     /// Whether a literal is among those that were propagated.
-    pub fn has(&self, literal: Lit) -> bool
+    pub fn has_propagated(&self, literal: Lit) -> bool
         requires { literal.var.0 < self.now.1 }
         ensures { result ≡ lists self.now.0 literal }
     {

@@ -79,8 +79,8 @@ impl Closure {
         }
     }
 
-    /// Adds a constraint at the next place.
-    pub(crate) fn attach(&mut self, constraint: Normal) -> Result<(), AllocError>
+    /// Adds a constraint at the next place, where it waits until something is asked.
+    pub(crate) fn add(&mut self, constraint: Normal) -> Result<(), AllocError>
         ensures ok { OnOk result (self.new ≡ self.old ++ Some constraint ∷ []) }
         ensures err { OnErr result (self.new ≡ self.old) }
     {
@@ -124,6 +124,20 @@ impl Closure {
         ensures { result ≡ length (constraint_at (shown self.now) place).terms }
     {
         match self.get(place) {
+            Some(constraint) => constraint.len(),
+            None => 0,
+        }
+    }
+
+    /// How many entries the constraint of a place leaves behind in the lists of literals when it goes: none where no question has met it. It is
+    /// a measure for the order of work, so no clause speaks of it.
+    pub(crate) fn entry_count(&self, place: usize) -> usize {
+        if place >= self.ledger.count() {
+            return 0;
+        }
+        match self.ledger.get(place) {
+            // Two literals watch a clause.
+            Some(constraint) if constraint.degree() <= 1 => constraint.len().min(2),
             Some(constraint) => constraint.len(),
             None => 0,
         }

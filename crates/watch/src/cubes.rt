@@ -42,7 +42,7 @@ fn give_term(ledger: &mut Ledger, cube: &Normal, index: usize) -> bool
         ledger.assign(literal, None);
         return false;
     }
-    ledger.has(literal.opposite())
+    ledger.assigns(literal.opposite())
 }
 
 /// A literal whose opposite watches fewer clauses than this is given before the others.

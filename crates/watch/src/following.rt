@@ -135,7 +135,7 @@ fn assume(
     ensures end { IfOk result (IsAssumed (shown ledger.old.slots) (levels.old.0 ++ literal ∷ []) ledger.new.assigned) }
     ensures whole { IfOk result (λ a. a ≡ Assumed.Whole → levels.new.0 ≡ levels.old.0 ++ literal ∷ []) }
 {
-    if ledger.has(literal.opposite()) {
+    if ledger.assigns(literal.opposite()) {
         return Ok(Assumed::Clash);
     }
     open_level(ledger, queue, levels, literal)?;

@@ -20,7 +20,7 @@ pub(crate) fn give(ledger: &mut Ledger, literal: Lit)
     ensures there { lists ledger.new.assigned literal ≡ true }
     ensures pushed { lists ledger.old.assigned literal ≡ false → IsPushed ledger.old ledger.new literal }
 {
-    if ledger.has(literal) {
+    if ledger.assigns(literal) {
         return;
     }
     ledger.assign(literal, None);

@@ -5,7 +5,7 @@
 //! assignment goes on from where it parts from the last one, and costs the constraints that its literals touch.
 //!
 //! A place is a number from 0 on, and stays when its constraint goes, so that the lists of literals need no look-up
-//! by id; the id of a place names a reason when a chain is told. Where more stands empty than not, an insertion makes
+//! by id; the id of a place names a reason when a chain is told. Where more than twice as much stands empty as not, an insertion makes
 //! the places anew: it may fail, as a removal may not, and what it copies is paid for by the removals before it.
 
 ghost use Rattle.std.specs.Prelude.{◌≡◌, ◌↔◌, ◌++◌, ◌∷◌, [], IfOk, IsSome, IsTrue, MatchOption, OnErr, OnOk, None};
@@ -25,6 +25,9 @@ use propagate::{Decided, Id, Ids, Propagator, Reach, Retrace, Trace};
 use std::alloc::{AllocError, Global};
 use std::marker::Model;
 
+/// A place takes as much memory as so many terms, and is as dear to copy.
+const PLACE: usize = 8;
+
 /// Constraints by their ids, with what they force kept between calls.
 #[derive(Drop)]
 pub struct WatchPropagator {
@@ -33,7 +36,7 @@ pub struct WatchPropagator {
     closure: Closure,
     /// The terms and places of the constraints that are there.
     occupied: usize,
-    /// The terms and places of those that are gone.
+    /// The places of those that are gone, and the entries that they left behind.
     vacant: usize,
     alloc: Global,
 }
@@ -61,11 +64,11 @@ impl WatchPropagator {
         ensures ok { OnOk result (self.new ≡ map.insert self.old id constraint) }
         ensures err { OnErr result (self.new ≡ self.old) }
     {
-        let size = constraint.len().saturating_add(1);
+        let size = constraint.len().saturating_add(PLACE);
         self.ids.reserve(1)?;
         let place = self.ids.len();
         self.places.insert(id, place)?;
-        match self.closure.attach(constraint) {
+        match self.closure.add(constraint) {
             Err(_) => {
                 self.places.remove(id);
                 return Err(AllocError);
@@ -108,12 +111,12 @@ impl WatchPropagator {
         Ok(anew)
     }
 
-    /// Makes the places anew where more stands empty than not, the lists of literals and the rows of ids counted in.
+    /// Makes the places anew where more than twice as much stands empty as not, the lists of literals and the rows of ids counted in.
     fn close_gaps(&mut self) -> Result<(), AllocError>
         ensures { self.new ≡ self.old }
     {
         let lists = self.closure.variable_count().max(self.places.row_count());
-        if self.vacant > self.occupied.max(lists) {
+        if self.vacant / 2 > self.occupied.max(lists) {
             *self = self.made_anew()?;
         }
         Ok(())
@@ -141,9 +144,10 @@ impl Propagator for WatchPropagator {
 
     fn remove(&mut self, id: Id) -> Option<Normal> {
         let place = self.places.remove(id)?;
-        let size = self.closure.term_count(place).saturating_add(1);
+        let left_behind = self.closure.entry_count(place).saturating_add(PLACE);
+        let size = self.closure.term_count(place).saturating_add(PLACE);
         self.occupied = self.occupied.saturating_sub(size);
-        self.vacant = self.vacant.saturating_add(size);
+        self.vacant = self.vacant.saturating_add(left_behind);
         self.closure.remove(place)
     }
 

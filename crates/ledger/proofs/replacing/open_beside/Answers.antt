@@ -1,7 +1,6 @@
 -- The literal that was found, or else the one that was kept, is open.
-use Rattle.std.proofs.Common.{ℕ, List, sym, subst, ◌∙◌, ap, Option}
+use Rattle.std.proofs.Common.{ℕ, List, sym, subst, ◌∙◌}
 use Rattle.std.specs.Prelude.{IfSome}
-use Rattle.std.specs.Option.{option_or}
 use Rattle.linear.specs.declared.term.Lit.{Lit}
 use Rattle.trail.specs.Trails.{on_trail}
 use Rattle.ledger.specs.Watched.{IsOpenAt}

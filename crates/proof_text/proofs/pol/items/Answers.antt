@@ -11,7 +11,7 @@ pub returns-in_err-item-clause-denies : goal.returns-in_err-item-clause-denies
 returns-in_err-item-clause-denies c =
     let l = c.loop-items in
     let f = c.in_err-item.field-0.0 in
-    let p = err_from_is_err_and c.from_residual.result c.from_residual.ensures.1 in
+    let p = err_from_is_err_and c.from_residual-in_err-item.result c.from_residual-in_err-item.ensures.1 in
     rw (p.1, p.2) (denied_left are_items items_of c.args.table.now c.args.words l.items.items l.table l.words f l.invariant c.in_err-item.ensures.denies)
 
 pub loop-items-preserved : goal.loop-items-preserved

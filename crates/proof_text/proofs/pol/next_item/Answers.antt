@@ -1,27 +1,19 @@
-use Rattle.std.proofs.Common.{rules, ◌≡◌, sym, subst, ◌∙◌, FitsSigned, to_z, of_z}
-use mir.Syntax.{w64, w128}
-use Rattle.std.proofs.lemmas.Int.{to_z-of_z}
+use Rattle.std.proofs.Common.{◌≡◌, sym, subst, ◌∙◌}
 use Rattle.proof_text.specs.Forms.{are_items, items_of}
 use Rattle.proof_text.specs.Next.{IsMetLit}
 use Rattle.proof_text.specs.PartsRead.{Takes}
-use Rattle.proof_text.proofs.NextWord.{met_literal, same_number}
+use Rattle.proof_text.proofs.NextWord.{met_literal}
 use Rattle.proof_text.proofs.pol.next_item.Goals as goal
 
 pub returns-in-Some-clause-next : goal.returns-in-Some-clause-next
 returns-in-Some-clause-next c =
     let k = c.args.table.now in
-    let n = c.in-Some.number in
-    let f = c.in-Some.ensures in
-    let short : FitsSigned w64 n = search rules in
-    let fits : FitsSigned w128 c.from.result = search rules in
-    let same : to_z w128 (of_z w128 c.from.result) ≡ n = to_z-of_z w128 c.from.result fits ∙ c.from.ensures ∙ to_z-of_z w64 n short in
-    subst (λ ws. Takes are_items items_of k ws c.number_item.result k c.number_item.new.words) (sym f.first)
-    (c.number_item.ensures f.word k (same_number n (to_z w128 (of_z w128 c.from.result)) f.word same f.passed))
+    subst (λ ws. Takes are_items items_of k ws c.in-Some.item k c.plain_number_item.new.words) c.pass_gap.ensures (c.in-Some.ensures.takes k)
 
 pub returns-in-Some-operation-clause-next : goal.returns-in-Some-operation-clause-next
 returns-in-Some-operation-clause-next c =
     let k = c.args.table.now in
-    subst (λ ws. Takes are_items items_of k ws c.in-Some-operation.item k c.operation.new.words) c.in_default.ensures (c.in-Some-operation.ensures.takes k)
+    subst (λ ws. Takes are_items items_of k ws c.in-Some-operation.item k c.operation.new.words) (c.plain_number_item.ensures.none c.in_default.is ∙ c.pass_gap.ensures) (c.in-Some-operation.ensures.takes k)
 
 pub returns-in-Some-take_literal-clause-next : goal.returns-in-Some-take_literal-clause-next
 returns-in-Some-take_literal-clause-next c =
@@ -30,7 +22,7 @@ returns-in-Some-take_literal-clause-next c =
     let f = c.in-Some-take_literal.ensures in
     let e = c.in_ok-lit.ensures in
     let read = c.in-Some-take_literal.read in
-    let here = (c.operation.ensures.none c.in_default-operation.is).0 ∙ c.in_default.ensures in
+    let here = (c.operation.ensures.none c.in_default-operation.is).0 ∙ c.plain_number_item.ensures.none c.in_default.is ∙ c.pass_gap.ensures in
     let lit : IsMetLit k c.in_ok-lit.lit new f.word = met_literal k new c.in_ok-lit.lit read.literal.negated read.literal.name.now read.said f.word f.passed e.met e.variable e.sign in
     subst (λ ws. Takes are_items items_of k ws c.literal_item.result new c.literal_item.new.words) (sym f.first ∙ here)
     (c.literal_item.ensures f.word k new lit)

@@ -19,11 +19,11 @@ returns-then-leaves_free-clause-given c =
 pub returns-then-leaves_free-clause-end : goal.returns-then-leaves_free-clause-end
 returns-then-leaves_free-clause-end c = literal_assigned c.args.cube.now c.args.index c.term.result c.literal-literal.result c.args.ledger.now c.assign.new.self c.requires.index c.term.ensures.value c.literal-literal.ensures (ap (λ (s : State). s.assigned) c.assign.ensures)
 
-pub has-requires : goal.has-requires
-has-requires c =
+pub assigns-requires : goal.assigns-requires
+assigns-requires c =
     let below = variable_below c.args.cube.now c.args.index c.args.ledger.now.variables c.term.result c.requires.index c.term.ensures.value c.requires.variables in
     omega (arith, below, ap (λ (l : Lit). l.var.0) c.opposite.ensures, ap (λ (l : Lit). l.var.0) c.literal-literal.ensures)
 
 pub returns-clause-end : goal.returns-clause-end
 returns-clause-end c =
-    not_free c.args.cube.now c.args.index c.term.result c.literal-literal.result c.opposite.result c.args.ledger.now.assigned c.leaves_free.result c.has.result c.requires.cube c.requires.index c.term.ensures.value c.literal-literal.ensures c.opposite.ensures c.if-leaves_free.false c.leaves_free.ensures c.has.ensures
+    not_free c.args.cube.now c.args.index c.term.result c.literal-literal.result c.opposite.result c.args.ledger.now.assigned c.leaves_free.result c.assigns.result c.requires.cube c.requires.index c.term.ensures.value c.literal-literal.ensures c.opposite.ensures c.if-leaves_free.false c.leaves_free.ensures c.assigns.ensures

@@ -8,12 +8,12 @@ use Rattle.watch.specs.Keeping.{IsAssumed}
 use Rattle.propagate.proofs.Assignments.{among_head, among_right}
 use Rattle.watch.proofs.following.assume.Goals as goal
 
-pub returns-then-has-clause-end : goal.returns-then-has-clause-end
-returns-then-has-clause-end c =
+pub returns-then-assigns-clause-end : goal.returns-then-assigns-clause-end
+returns-then-assigns-clause-end c =
     let l = c.args.literal in (
       l,
       among_right c.args.levels.now.0 (l ∷ []) (l.var.0) l.negated (among_head l []),
-      ap (λ (m : Lit). lists c.args.ledger.now.assigned m) (sym c.opposite.ensures) ∙ sym c.has.ensures ∙ c.if-has.true,
+      ap (λ (m : Lit). lists c.args.ledger.now.assigned m) (sym c.opposite.ensures) ∙ sym c.assigns.ensures ∙ c.if-assigns.true,
     )
 
 pub returns-in_err-open_level-clause-kept : goal.returns-in_err-open_level-clause-kept

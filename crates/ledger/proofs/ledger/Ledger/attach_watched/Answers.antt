@@ -1,9 +1,6 @@
 -- One clause more at the end of all lists.
-use Rattle.std.proofs.Common.{◌≡◌, ◌+◌, ◌<◌, ◌≤◌, ℕ, List, Option, Some, [], ◌∷◌, ◌++◌, length, take, refl, ap, sym, subst, ◌∙◌, arith}
-use Rattle.linear.specs.declared.term.Lit.{Lit}
-use Rattle.normal_form.specs.Normal.{NormalConstraint, only, total, variable_bound}
-use Rattle.normal_form.proofs.Sums.{sum_over_below}
-use Rattle.propagate.specs.Literals.{coefficient_of}
+use Rattle.std.proofs.Common.{◌≡◌, ◌<◌, ◌≤◌, ℕ, List, Option, Some, [], ◌∷◌, ◌++◌, length, take, refl, ap, sym, subst, ◌∙◌, arith}
+use Rattle.normal_form.specs.Normal.{NormalConstraint, variable_bound}
 use Rattle.ledger.specs.declared.pair.Pair.{Pair}
 use Rattle.trail.specs.Trails.{on_trail}
 use Rattle.ledger.specs.Ledgers.{State}
@@ -13,9 +10,6 @@ use Rattle.ledger.proofs.FallingRows.{number_inside, variable_below}
 use Rattle.ledger.proofs.PlacedOrders.{its, orders_beside, orders_more, others}
 use Rattle.ledger.proofs.WatchedPlaces.{watched_kept, watched_more}
 use Rattle.ledger.proofs.ledger.Ledger.attach_watched.Goals as goal
-
-coefficient_below : (n : NormalConstraint) (l : Lit) → coefficient_of n l ≤ total n.terms
-coefficient_below n l = sum_over_below (only (l.var.0) l.negated) n.terms
 
 -- the literals of the pair are of the variables
 first_below : (n : NormalConstraint) (p : Pair) (variables : ℕ) → IsPairOf n p → variable_bound n.terms ≤ variables → p.first.var.0 < variables
@@ -43,43 +37,43 @@ watch-requires-clause-second c =
     number_inside c.args.pair.second e.trail.1 e.watchers.rows (second_below n c.args.pair e.trail.1 of_it within) c.self.invariant.3.size
 
 pub invariant_of-self : goal.invariant_of-self
-invariant_of-self c = rw (c.in_err-make_room.ensures.slots, c.in_err-make_room.ensures.counters, c.in_err-make_room.ensures.limits) c.self.invariant
+invariant_of-self c = rw c.reserve.ensures.items c.self.invariant
 
 pub invariant_of-self-in_err-give : goal.invariant_of-self-in_err-give
 invariant_of-self-in_err-give c =
     let e = c.self.inside in
-    let room = c.in_ok-make_room.ensures in
-    rw (room.slots, room.counters, room.limits) (
+    let room = c.reserve.ensures.items in
+    rw room (
       c.self.invariant.0,
       c.self.invariant.1,
       c.self.invariant.2,
       c.self.invariant.3,
-      orders_beside e.slots.items (on_trail e.trail) e.orders c.give.new.self c.self.invariant.4 (others e.slots.items c.make_room.new.slots.items e.orders c.give.new.self c.len-place.result room.slots (omega (arith, c.len-place.ensures, c.make_room.new.slots.ok)) c.give.ensures.others),
+      orders_beside e.slots.items (on_trail e.trail) e.orders c.give.new.self c.self.invariant.4 (others e.slots.items c.reserve.new.self.items e.orders c.give.new.self c.len-place.result room (omega (arith, c.len-place.ensures, c.reserve.new.self.ok)) c.give.ensures.others),
     )
 
 pub invariant_of-self-in_err-widen : goal.invariant_of-self-in_err-widen
 invariant_of-self-in_err-widen c =
     let e = c.self.inside in
-    let room = c.in_ok-make_room.ensures in
-    rw (room.slots, room.counters, room.limits) (
+    let room = c.reserve.ensures.items in
+    rw room (
       c.self.invariant.0,
       c.self.invariant.1,
       c.self.invariant.2,
       c.self.invariant.3,
-      orders_beside e.slots.items (on_trail e.trail) e.orders c.give.new.self c.self.invariant.4 (others e.slots.items c.make_room.new.slots.items e.orders c.give.new.self c.len-place.result room.slots (omega (arith, c.len-place.ensures, c.make_room.new.slots.ok)) c.give.ensures.others),
+      orders_beside e.slots.items (on_trail e.trail) e.orders c.give.new.self c.self.invariant.4 (others e.slots.items c.reserve.new.self.items e.orders c.give.new.self c.len-place.result room (omega (arith, c.len-place.ensures, c.reserve.new.self.ok)) c.give.ensures.others),
     )
 
 pub invariant_of-self-in_err-watch : goal.invariant_of-self-in_err-watch
 invariant_of-self-in_err-watch c =
     let e = c.self.inside in
-    let room = c.in_ok-make_room.ensures in
+    let room = c.reserve.ensures.items in
     let new = c.watch.new.self in
-    rw (room.slots, room.counters, room.limits) (
+    rw room (
       with_pairs e.slots.items e.trail.0 e.trail.1 e.table e.clauses e.counters.items e.limits.items e.watchers.pairs new.pairs c.self.invariant.0 c.in_err-watch.ensures.err,
       c.self.invariant.1,
       c.self.invariant.2,
       watched_kept e.slots.items e.trail.0 e.trail.1 e.watchers new c.self.invariant.3 c.in_err-watch.ensures.err (omega (arith, c.watch.ensures.length)) c.watch.ensures.kept c.watch.ensures.others,
-      orders_beside e.slots.items (on_trail e.trail) e.orders c.give.new.self c.self.invariant.4 (others e.slots.items c.make_room.new.slots.items e.orders c.give.new.self c.len-place.result room.slots (omega (arith, c.len-place.ensures, c.make_room.new.slots.ok)) c.give.ensures.others),
+      orders_beside e.slots.items (on_trail e.trail) e.orders c.give.new.self c.self.invariant.4 (others e.slots.items c.reserve.new.self.items e.orders c.give.new.self c.len-place.result room (omega (arith, c.len-place.ensures, c.reserve.new.self.ok)) c.give.ensures.others),
     )
 
 pub invariant_of-self-2 : goal.invariant_of-self-2
@@ -88,24 +82,20 @@ invariant_of-self-2 c =
     let n : NormalConstraint = c.in-Some.constraint.now in
     let there : c.args.slot.now ≡ Some n = sym c.in-Some.ensures.value in
     let p : Pair = c.args.pair in
-    let limit : ℕ = c.degree.result + c.sum.result in
-    let room = c.in_ok-make_room.ensures in
-    let slots : c.push_reserved-3.new.self.items ≡ e.slots.items ++ Some n ∷ [] = c.push_reserved-3.ensures.items ∙ ap (λ (o : Option NormalConstraint). c.make_room.new.slots.items ++ o ∷ []) (c.take.ensures.value ∙ there) ∙ ap (λ (os : List (Option NormalConstraint)). os ++ Some n ∷ []) room.slots in
+    let room = c.reserve.ensures.items in
+    let slots : c.push_reserved.new.self.items ≡ e.slots.items ++ Some n ∷ [] = c.push_reserved.ensures.items ∙ ap (λ (o : Option NormalConstraint). c.reserve.new.self.items ++ o ∷ []) (c.take.ensures.value ∙ there) ∙ ap (λ (os : List (Option NormalConstraint)). os ++ Some n ∷ []) room in
     let of_it : IsPairOf n p = of_slot (λ m. IsPairOf m p) c.args.slot.now n there c.requires.pair in
-    let counters : c.push_reserved.new.self.items ≡ e.counters.items ++ 0 ∷ [] = c.push_reserved.ensures.items ∙ ap (λ (os : List ℕ). os ++ 0 ∷ []) room.counters in
-    let limits : c.push_reserved-2.new.self.items ≡ e.limits.items ++ limit ∷ [] = c.push_reserved-2.ensures.items ∙ ap (λ (os : List ℕ). os ++ limit ∷ []) room.limits in
     let within : variable_bound n.terms ≤ e.trail.1 = omega (arith, of_slot (λ m. variable_bound m.terms ≤ c.args.self.now.variables) c.args.slot.now n there c.requires.variables, ap (λ (s : State). s.variables) c.self.view_is) in
     let tell : (h : ℕ) → Tell (take h e.trail.0) n p = subst (λ (s : State). (h : ℕ) → Tell (take h s.propagated) n p) (sym c.self.view_is) (of_slot (λ m. (h : ℕ) → Tell (take h c.args.self.now.propagated) m p) c.args.slot.now n there c.requires.tell) in
     let i = c.self.invariant.0 in
     let new = c.watch.new.self in
     let said = c.in_ok-watch.ensures in
-    let it = attached_watched e.slots.items e.trail.0 e.trail.1 e.table e.clauses e.counters.items e.limits.items e.watchers.pairs n p (length e.watchers.pairs) 0 limit i refl c.degree.ensures.normal within refl
-    (λ l. omega (arith, c.degree.ensures.value, c.sum.ensures.value, coefficient_below n l)) in
-    rw (slots, counters, limits) (
-      with_pairs (e.slots.items ++ Some n ∷ []) e.trail.0 e.trail.1 e.table e.clauses (e.counters.items ++ 0 ∷ []) (e.limits.items ++ limit ∷ []) (e.watchers.pairs ++ Some p ∷ []) new.pairs it said.ok,
+    let it = attached_watched e.slots.items e.trail.0 e.trail.1 e.table e.clauses e.counters.items e.limits.items e.watchers.pairs n p (length e.watchers.pairs) i refl c.in_ok-give.ensures.normal within in
+    rw slots (
+      with_pairs (e.slots.items ++ Some n ∷ []) e.trail.0 e.trail.1 e.table e.clauses e.counters.items e.limits.items (e.watchers.pairs ++ Some p ∷ []) new.pairs it said.ok,
       reasons_beside e.slots.items (Some n) (on_trail e.trail) e.reasons.items c.self.invariant.1,
       c.self.invariant.2,
       watched_more e.slots.items e.trail.0 e.trail.1 e.watchers new (Some n) (Some p) c.self.invariant.3 i.slots_are.pair_count said.ok (omega (arith, said.length)) said.kept said.others
           (of_it, (first_below n p e.trail.1 of_it within, second_below n p e.trail.1 of_it within), tell, said.first_there, said.second_there, said.listed),
-      orders_more e.slots.items (on_trail e.trail) e.orders c.give.new.self (Some n) c.self.invariant.4 (others e.slots.items c.make_room.new.slots.items e.orders c.give.new.self c.len-place.result room.slots (omega (arith, c.len-place.ensures, c.make_room.new.slots.ok)) c.give.ensures.others) (λ m same. its e.slots.items c.make_room.new.slots.items (on_trail e.trail) n m c.give.new.self c.len-place.result same room.slots (omega (arith, c.len-place.ensures, c.make_room.new.slots.ok)) c.in_ok-give.ensures.ok c.in_ok-give.ensures.none),
+      orders_more e.slots.items (on_trail e.trail) e.orders c.give.new.self (Some n) c.self.invariant.4 (others e.slots.items c.reserve.new.self.items e.orders c.give.new.self c.len-place.result room (omega (arith, c.len-place.ensures, c.reserve.new.self.ok)) c.give.ensures.others) (λ m same. its e.slots.items c.reserve.new.self.items (on_trail e.trail) n m c.give.new.self c.len-place.result same room (omega (arith, c.len-place.ensures, c.reserve.new.self.ok)) c.in_ok-give.ensures.ok c.in_ok-give.ensures.none),
     )

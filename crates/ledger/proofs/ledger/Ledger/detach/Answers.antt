@@ -1,5 +1,5 @@
 -- One constraint fewer at the end of all lists.
-use Rattle.std.proofs.Common.{◌≡◌, ◌-◌, ◌+◌, ◌<◌, ◌≤◌, ℕ, List, Option, Some, None, [], ◌∷◌, ◌++◌, length, take, get_or, vec_capacity, vec_len, refl, ap, sym, subst, ◌∙◌, arith}
+use Rattle.std.proofs.Common.{◌≡◌, ◌-◌, ◌+◌, ◌<◌, ◌≤◌, ℕ, List, Option, Some, None, [], ◌∷◌, ◌++◌, length, take, get_or, vec_capacity, refl, ap, sym, subst, ◌∙◌, arith}
 use Rattle.std.proofs.Math.Seq.{take-length}
 use Rattle.linear.specs.declared.term.Lit.{Lit}
 use Rattle.normal_form.specs.declared.term.NormalTerm.{NormalTerm}
@@ -37,7 +37,7 @@ all_terms c base table place m =
 -- what is left, where both tables are without the constraint
 abbrev Left : End → List (List Occurrence) → Listed → Type 0
 Left c after behind =
-    IsLedger c.pop.new.self.items c.self.inside.trail.0 c.self.inside.trail.1 after behind c.pop-in-Some-Some.new.self.items c.pop-in-Some-Some-2.new.self.items c.detach.new.self.pairs
+    IsLedger c.pop.new.self.items c.self.inside.trail.0 c.self.inside.trail.1 after behind c.truncate.new.self.items c.truncate-in-Some-Some.new.self.items c.detach.new.self.pairs
     × AreReasons (shown c.pop.new.self.items) (on_trail c.self.inside.trail) c.self.inside.reasons.items × (c.self.inside.trail.1 ≤ vec_capacity c.self.inside.reasons)
     × AreWatched c.pop.new.self.items c.self.inside.trail.0 c.self.inside.trail.1 c.detach.new.self × AreOrders c.pop.new.self.items (on_trail c.self.inside.trail) c.take_out.new.self
 
@@ -50,8 +50,9 @@ left c after behind long none fewer_w same_counters same_limits same_watchers sa
     let i = c.self.invariant.0 in
     let n : NormalConstraint = c.in-Some-Some.constraint in
     let rest : List (Option NormalConstraint) = c.pop.new.self.items in
-    let counters : c.pop-in-Some-Some.new.self.items ≡ take (length e.counters.items - 1) e.counters.items = c.pop-in-Some-Some.ensures.rest ∙ ap (λ v. take (vec_len v - 1) v.items) same_counters ∙ ap (λ (k : ℕ). take (k - 1) e.counters.items) (omega (arith, e.counters.ok)) in
-    let limits : c.pop-in-Some-Some-2.new.self.items ≡ take (length e.limits.items - 1) e.limits.items = c.pop-in-Some-Some-2.ensures.rest ∙ ap (λ v. take (vec_len v - 1) v.items) same_limits ∙ ap (λ (k : ℕ). take (k - 1) e.limits.items) (omega (arith, e.limits.ok)) in
+    let last : c.len-place.result ≡ length rest = omega (arith, c.len-place.ensures, c.pop.new.self.ok) in
+    let counters : c.truncate.new.self.items ≡ take (length rest) e.counters.items = c.truncate.ensures.items ∙ ap (λ v. take c.len-place.result v.items) same_counters ∙ ap (λ (k : ℕ). take k e.counters.items) last in
+    let limits : c.truncate-in-Some-Some.new.self.items ≡ take (length rest) e.limits.items = c.truncate-in-Some-Some.ensures.items ∙ ap (λ v. take c.len-place.result v.items) same_limits ∙ ap (λ (k : ℕ). take k e.limits.items) last in
     let pairs : c.detach.new.self.pairs ≡ take (length e.watchers.pairs - 1) e.watchers.pairs = c.detach.ensures.pairs ∙ ap (λ (w : Watching). take (length w.pairs - 1) w.pairs) same_watchers in
     let rows : c.detach.new.self.rows ≡ e.watchers.rows = c.detach.ensures.rows ∙ ap (λ (w : Watching). w.rows) same_watchers in
     let lists : (k : ℕ) → k + 1 < length e.watchers.pairs → get_or c.detach.new.self.literals k [] ≡ get_or e.watchers.literals k [] = subst (λ (w : Watching). (k : ℕ) → k + 1 < length w.pairs → get_or c.detach.new.self.literals k [] ≡ get_or w.literals k []) same_watchers c.detach.ensures.others in
@@ -59,7 +60,7 @@ left c after behind long none fewer_w same_counters same_limits same_watchers sa
     let below : (k place : ℕ) → k < length (on_trail e.trail) → get_or e.reasons.items k None ≡ Some place → place + 1 < length e.slots.items = subst (λ (s : State). (k place : ℕ) → k < length s.assigned → get_or s.reasons k None ≡ Some place → place + 1 < length s.slots) (sym c.self.view_is) c.requires.reasons in
     let fewer : (k : ℕ) → k < length rest → order_at c.take_out.new.self k ≡ order_at e.orders k = λ k low. c.take_out.ensures k (λ here. absurd (omega (arith, here, low, c.len-place.ensures, c.pop.new.self.ok))) ∙ ap (λ (o : Ordering). order_at o k) same_orders in
     rw (counters, limits) (
-      with_pairs rest e.trail.0 e.trail.1 after behind (take (length e.counters.items - 1) e.counters.items) (take (length e.limits.items - 1) e.limits.items) (take (length e.watchers.pairs - 1) e.watchers.pairs) c.detach.new.self.pairs it pairs,
+      with_pairs rest e.trail.0 e.trail.1 after behind (take (length rest) e.counters.items) (take (length rest) e.limits.items) (take (length e.watchers.pairs - 1) e.watchers.pairs) c.detach.new.self.pairs it pairs,
       reasons_without e.slots.items rest n (on_trail e.trail) e.reasons.items (split c) c.self.invariant.1 below,
       c.self.invariant.2,
       watched_fewer e.slots.items rest e.trail.0 e.trail.1 e.watchers c.detach.new.self n (split c) i.slots_are.pair_count pairs rows lists c.self.invariant.3,

@@ -12,7 +12,7 @@ use Rattle.ledger.specs.Ledgers.{AreReasons, State, shown}
 use Rattle.occurrences.specs.Occurrences.{share_of}
 use Rattle.ledger.specs.Orders.{AreOrders}
 use Rattle.occurrences.specs.Rows.{all_in}
-use Rattle.ledger.proofs.Standing.{all_within, each_kind, entries, enough, counted, parted_same, queued_there, recounted}
+use Rattle.ledger.proofs.Standing.{all_within, counter_of_share, each_kind, entries, entries_counted, enough, counted, parted_same, queued_there, recounted}
 use Rattle.ledger.proofs.WatchedQuiet.{fallen_queued, fallen_watched}
 use Rattle.trail.proofs.AssignedLiterals.{next_listed, next_open, same_assigned, whole_when}
 use Rattle.ledger.proofs.FalsifiedClauses.{falsified_there, none_case, some_case}
@@ -38,8 +38,7 @@ pub lower-requires-clause-places : goal.lower-requires-clause-places
 lower-requires-clause-places c =
     let e = c.self.inside in
     let i = c.self.invariant.0 in
-    let given = entries i.counted e.trail.1 e.table c.next.result c.opposite-fallen.result c.code.result (all_in c.row.result) i.index c.opposite-fallen.ensures c.code.ensures c.row.ensures in
-    λ k d h. omega (arith, given.0 k d h, i.counters_are.counted)
+    entries_counted i.counted e.trail.0 e.trail.1 e.table e.counters.items (opposite c.next.result) c.opposite-fallen.result c.code.result (all_in c.row.result) i.index i.counters_are c.opposite-fallen.ensures c.code.ensures c.row.ensures
 
 pub lower-requires-clause-enough : goal.lower-requires-clause-enough
 lower-requires-clause-enough c =
@@ -47,6 +46,17 @@ lower-requires-clause-enough c =
     let i = c.self.invariant.0 in
     let given = entries i.counted e.trail.1 e.table c.next.result c.opposite-fallen.result c.code.result (all_in c.row.result) i.index c.opposite-fallen.ensures c.code.ensures c.row.ensures in
     enough i.counted e.trail.0 e.counters.items c.next.result (all_in c.row.result) i.counters_are given c.next.ensures.unset
+
+pub invariant_of-self-then-is_some : goal.invariant_of-self-then-is_some
+invariant_of-self-then-is_some c =
+    let e = c.self.inside in
+    let i = c.self.invariant.0 in (
+      recounted e.slots.items e.trail.0 e.trail.0 e.trail.1 e.trail.1 e.table e.clauses e.counters.items e.counters.items e.limits.items e.watchers.pairs c.fall.new.self.pairs i refl i.counters_are refl c.fall.ensures.kinds,
+      c.self.invariant.1,
+      c.self.invariant.2,
+      rw c.as_slice.ensures.value at c.fall.ensures.watched,
+      c.self.invariant.4,
+    )
 
 abbrev Whole : Type 0
 Whole = List Lit × ℕ × List Lit
@@ -62,7 +72,7 @@ invariant_of-self-2 c =
     let after = counted i.counted e.trail.0 e.counters.items c.lower.new.counters.items l (all_in c.row.result) i.counters_are given c.next.ensures.unset c.lower.ensures.length c.lower.ensures.lowered in
     let watched = rw c.as_slice.ensures.value at c.fall.ensures.watched in
     let handled = rw c.as_slice.ensures.value at (none_case _ _ c.in_ok-falsified.falsified (sym c.is_some.ensures ∙ c.if-is_some.false) c.in_ok-falsified.ensures.end) in (
-      (rw next (recounted e.slots.items e.trail.0 (e.trail.0 ++ l ∷ []) e.trail.1 e.trail.1 e.table e.clauses e.counters.items c.lower.new.counters.items e.limits.items e.watchers.pairs c.fall.new.self.pairs i refl after c.fall.ensures.kinds)),
+      (rw next (recounted e.slots.items e.trail.0 (e.trail.0 ++ l ∷ []) e.trail.1 e.trail.1 e.table e.clauses e.counters.items c.lower.new.counters.items e.limits.items e.watchers.pairs c.fall.new.self.pairs i refl after c.lower.ensures.length c.fall.ensures.kinds)),
       subst (λ (xs : List Lit). AreReasons (shown e.slots.items) xs e.reasons.items) (sym same) c.self.invariant.1,
       omega (arith, c.self.invariant.2, ap (λ (w : Whole). w.1) next),
       (rw next (fallen_watched e.slots.items e.trail.0 e.trail.1 c.fall.new.self l c.opposite-fallen.result c.fall.new.queue.0 watched c.opposite-fallen.ensures handled)),
@@ -109,7 +119,7 @@ returns-clause-end c =
     let longer : c.advance.new.self.0 ≡ new = ap (λ (w : Whole). w.0) (c.advance.ensures l c.next.ensures.first) in
     let apart : IsConsistent new = subst IsConsistent longer c.reveal.ensures.consistent in
     let lowered = rw c.as_slice-3.ensures.value at c.lower.ensures.queued in
-    let counts : (k : ℕ) → k < length i.counted → 0 < share_of k (all_in c.row.result) → (get_or e.limits.items k 0 ≤ get_or c.lower.new.counters.items k 0) ⊎ Contains queue k = λ k low some. lowered k (omega (arith, low, i.counters_are.counted)) some in
+    let counts : (k : ℕ) → k < length i.counted → 0 < share_of k (all_in c.row.result) → (get_or e.limits.items k 0 ≤ get_or c.lower.new.counters.items k 0) ⊎ Contains queue k = λ k low some. lowered k (counter_of_share i.counted e.trail.0 e.counters.items (opposite l) (all_in c.row.result) k i.counters_are given low some) some in
     let watches : (k : ℕ) (n : NormalConstraint) (p : Pair) → IsAt e.slots.items c.fall.new.self.pairs k n p → 0 < coefficient_of n (opposite l) → IsQuiet new n ⊎ Contains queue k = λ k n p at some. elim (fallen_queued e.slots.items e.trail.0 e.trail.1 c.fall.new.self l c.opposite-fallen.result c.fall.new.queue.0 watched c.opposite-fallen.ensures handled apart unset k n p at some) [
       | inl quiet ↦ inl quiet
       | inr waits ↦ inr (c.lower.ensures.kept k waits)

@@ -1,5 +1,5 @@
 -- The entries of the literal say where it is counted, and its row where it watches.
-use Rattle.std.proofs.Common.{◌<◌, ◌≤◌, ℕ, ◌⊎◌, inl, inr, Contains, get_or, length, subst, ap, sym, arith}
+use Rattle.std.proofs.Common.{◌<◌, ◌≤◌, ℕ, ◌⊎◌, inl, inr, Contains, get_or, length, refl, subst, sym}
 use Rattle.propagate.specs.Literals.{coefficient_of}
 use Rattle.propagate.specs.Walk.{IsQuiet}
 use Rattle.ledger.specs.Ledgers.{State, constraint_at, shown}
@@ -7,7 +7,7 @@ use Rattle.occurrences.specs.Occurrences.{share_of}
 use Rattle.ledger.specs.Watched.{IsOpen}
 use Rattle.occurrences.specs.Rows.{all_in}
 use Rattle.ledger.proofs.EntryPlaces.{entries_at}
-use Rattle.ledger.proofs.Standing.{each_kind}
+use Rattle.ledger.proofs.Standing.{each_kind, entries_counted}
 use Rattle.ledger.proofs.WatchedQuiet.{last_queued}
 use Rattle.ledger.proofs.ledger.Ledger.queue_places.Goals as goal
 
@@ -15,8 +15,7 @@ pub queue_below-requires-clause-places : goal.queue_below-requires-clause-places
 queue_below-requires-clause-places c =
     let e = c.self.inside in
     let i = c.self.invariant.0 in
-    let es = entries_at i.counted e.trail.1 e.table c.args.literal c.code.result (all_in c.row.result) i.index c.code.ensures c.row.ensures in
-    λ k d h. omega (arith, es.0 k d h, i.counters_are.counted, ap length c.as_slice.ensures.value)
+    rw c.as_slice.ensures.value (entries_counted i.counted e.trail.0 e.trail.1 e.table e.counters.items c.args.literal c.args.literal c.code.result (all_in c.row.result) i.index i.counters_are refl c.code.ensures c.row.ensures)
 
 pub returns-clause-queued : goal.returns-clause-queued
 returns-clause-queued c =

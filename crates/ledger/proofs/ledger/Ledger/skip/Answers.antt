@@ -8,14 +8,14 @@ use Rattle.ledger.proofs.WatchedPlaces.{same_rows, watched_kept, watched_more}
 use Rattle.ledger.proofs.ledger.Ledger.skip.Goals as goal
 
 pub invariant_of-self : goal.invariant_of-self
-invariant_of-self c = rw (c.in_err-make_room.ensures.slots, c.in_err-make_room.ensures.counters, c.in_err-make_room.ensures.limits) c.self.invariant
+invariant_of-self c = rw c.reserve.ensures.items c.self.invariant
 
 pub invariant_of-self-in_err-skip : goal.invariant_of-self-in_err-skip
 invariant_of-self-in_err-skip c =
     let e = c.self.inside in
-    let room = c.in_ok-make_room.ensures in
+    let room = c.reserve.ensures.items in
     let new = c.skip.new.self in
-    rw (room.slots, room.counters, room.limits) (
+    rw room (
       with_pairs e.slots.items e.trail.0 e.trail.1 e.table e.clauses e.counters.items e.limits.items e.watchers.pairs new.pairs c.self.invariant.0 c.in_err-skip.ensures.err,
       c.self.invariant.1,
       c.self.invariant.2,
@@ -26,14 +26,12 @@ invariant_of-self-in_err-skip c =
 pub invariant_of-self-2 : goal.invariant_of-self-2
 invariant_of-self-2 c =
     let e = c.self.inside in
-    let room = c.in_ok-make_room.ensures in
-    let slots : c.push_reserved-3.new.self.items ≡ e.slots.items ++ None ∷ [] = c.push_reserved-3.ensures.items ∙ ap (λ (os : List (Option NormalConstraint)). os ++ None ∷ []) room.slots in
-    let counters : c.push_reserved.new.self.items ≡ e.counters.items ++ 0 ∷ [] = c.push_reserved.ensures.items ∙ ap (λ (os : List ℕ). os ++ 0 ∷ []) room.counters in
-    let limits : c.push_reserved-2.new.self.items ≡ e.limits.items ++ 0 ∷ [] = c.push_reserved-2.ensures.items ∙ ap (λ (os : List ℕ). os ++ 0 ∷ []) room.limits in
+    let room = c.reserve.ensures.items in
+    let slots : c.push_reserved.new.self.items ≡ e.slots.items ++ None ∷ [] = c.push_reserved.ensures.items ∙ ap (λ (os : List (Option NormalConstraint)). os ++ None ∷ []) room in
     let new = c.skip.new.self in
     let pairs = c.in_ok-skip.ensures.ok in
-    rw (slots, counters, limits) (
-      with_pairs (e.slots.items ++ None ∷ []) e.trail.0 e.trail.1 e.table e.clauses (e.counters.items ++ 0 ∷ []) (e.limits.items ++ 0 ∷ []) (e.watchers.pairs ++ None ∷ []) new.pairs
+    rw slots (
+      with_pairs (e.slots.items ++ None ∷ []) e.trail.0 e.trail.1 e.table e.clauses e.counters.items e.limits.items (e.watchers.pairs ++ None ∷ []) new.pairs
           (attached_empty e.slots.items e.trail.0 e.trail.1 e.table e.clauses e.counters.items e.limits.items e.watchers.pairs c.self.invariant.0) pairs,
       reasons_beside e.slots.items None (on_trail e.trail) e.reasons.items c.self.invariant.1,
       c.self.invariant.2,

@@ -13,7 +13,7 @@ invariant_of-self c =
     let low : c.args.place < length e.slots.items = omega (arith, c.requires.place, ap (λ (s : State). length s.slots) c.self.view_is) in
     let free : (k : ℕ) → k < length (on_trail e.trail) → get_or e.reasons.items k None ≡ Some c.args.place → ⊥ = subst (λ (s : State). (k : ℕ) → k < length s.assigned → get_or s.reasons k None ≡ Some c.args.place → ⊥) (sym c.self.view_is) c.requires.reasons in
     let gone : c.take.new.self ≡ None = c.take.ensures.after in
-    rw gone (
+    rw (gone, c.set_nought.ensures) (
       with_pairs (set e.slots.items c.args.place None) e.trail.0 e.trail.1 e.table e.clauses e.counters.items (set e.limits.items c.args.place 0) (set e.watchers.pairs c.args.place None) c.forget.new.self.pairs
           (taken_out e.slots.items c.args.place e.trail.0 e.trail.1 e.table e.clauses e.counters.items e.limits.items e.watchers.pairs c.self.invariant.0 low) c.forget.ensures.pairs,
       reasons_apart e.slots.items c.args.place (on_trail e.trail) e.reasons.items c.self.invariant.1 free,

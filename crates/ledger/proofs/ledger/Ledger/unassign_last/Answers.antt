@@ -2,11 +2,12 @@
 use Rattle.std.proofs.Common.{◌≡◌, ◌-◌, ℕ, Bool, true, false, List, length, take, refl, ap, sym, subst, ◌∙◌, arith}
 use Rattle.std.proofs.lemmas.Bool.{false≢true}
 use Rattle.linear.specs.declared.term.Lit.{Lit}
+use Rattle.linear.specs.Literal.{opposite}
 use Rattle.ledger.specs.Ledgers.{AreCounters, AreReasons, shown}
 use Rattle.trail.specs.Trails.{on_trail}
 use Rattle.occurrences.specs.Rows.{all_in}
 use Rattle.trail.proofs.AssignedLiterals.{last_counted, unset_first}
-use Rattle.ledger.proofs.Standing.{entries, room, counted_back, recounted}
+use Rattle.ledger.proofs.Standing.{entries, entries_counted, room, counted_back, recounted}
 use Rattle.ledger.proofs.FallingRows.{kinds_same}
 use Rattle.ledger.proofs.PlacedOrders.{orders_anew}
 use Rattle.ledger.proofs.Reasons.{reasons_pop}
@@ -17,8 +18,7 @@ pub raise-requires-clause-places : goal.raise-requires-clause-places
 raise-requires-clause-places c =
     let e = c.self.inside in
     let i = c.self.invariant.0 in
-    let given = entries i.counted e.trail.1 e.table c.in_ok-literal.literal c.opposite.result c.code.result (all_in c.row.result) i.index c.opposite.ensures c.code.ensures c.row.ensures in
-    λ k d h. omega (arith, given.0 k d h, i.counters_are.counted)
+    entries_counted i.counted e.trail.0 e.trail.1 e.table e.counters.items (opposite c.in_ok-literal.literal) c.opposite.result c.code.result (all_in c.row.result) i.index i.counters_are c.opposite.ensures c.code.ensures c.row.ensures
 
 pub raise-requires-clause-room : goal.raise-requires-clause-room
 raise-requires-clause-room c =
@@ -46,7 +46,7 @@ invariant_of-self-then-counted c =
     let reasons = reasons_pop (shown e.slots.items) (on_trail c.pop.new.self) e.reasons.items l (subst (λ (xs : List Lit). AreReasons (shown e.slots.items) xs e.reasons.items) c.in_ok-literal.ensures.value c.self.invariant.1) in
     let rest : c.pop-2.new.self.items ≡ take (length e.reasons.items - 1) e.reasons.items = c.pop-2.ensures.rest ∙ ap (λ (n : ℕ). take (n - 1) e.reasons.items) (omega (arith, e.reasons.ok)) in (
       recounted e.slots.items e.trail.0 c.pop.new.self.0 e.trail.1 c.pop.new.self.1 e.table e.clauses e.counters.items c.raise.new.counters.items e.limits.items e.watchers.pairs e.watchers.pairs i c.pop.ensures.count
-          (counted_back i.counted c.pop.new.self.0 e.counters.items c.raise.new.counters.items l (all_in c.row.result) a given (unset_first c.pop.new.self l c.in_ok-literal.ensures.unset) c.raise.ensures.length c.raise.ensures.raised) (kinds_same e.watchers.pairs e.watchers.pairs refl),
+          (counted_back i.counted c.pop.new.self.0 e.counters.items c.raise.new.counters.items l (all_in c.row.result) a given (unset_first c.pop.new.self l c.in_ok-literal.ensures.unset) c.raise.ensures.length c.raise.ensures.raised) c.raise.ensures.length (kinds_same e.watchers.pairs e.watchers.pairs refl),
       (rw rest reasons),
       omega (arith, c.self.invariant.2, c.pop-2.ensures.capacity, c.pop.ensures.count),
       (rw c.pop.ensures.count (watched_back e.slots.items e.trail.0 c.pop.new.self.0 e.trail.1 e.watchers l last c.self.invariant.3)),

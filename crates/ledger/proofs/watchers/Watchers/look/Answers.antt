@@ -69,7 +69,7 @@ returns-else-fell c =
       n,
       i.pair,
       i.at,
-      moved t.0 n i.pair c.args.fallen c.in-Some.other (get_or ls index d) i.of_it i.tell i.beside c.requires.unset (sym c.has.ensures ∙ c.if-has.false) (open_of_list t.0 n ls q index d i.listed unset),
+      moved t.0 n i.pair c.args.fallen c.in-Some.other (get_or ls index d) i.of_it i.tell i.beside c.requires.unset (sym c.has_propagated.ensures ∙ c.if-has_propagated.false) (open_of_list t.0 n ls q index d i.listed unset),
       subst (λ (xs : List Lit). IsMoveIn xs i.pair c.args.fallen m) i.same move,
     )
 

@@ -5,7 +5,7 @@ use Rattle.std.proofs.lemmas.Bool.Decides.{nat_tests}
 use Rattle.linear.specs.declared.term.Lit.{Lit}
 use Rattle.propagate.specs.Literals.{lists}
 use Rattle.trail.proofs.AssignedLiterals.{listed_before, not_before, not_listed_before}
-use Rattle.trail.proofs.assignment.Assignment.has.Goals as goal
+use Rattle.trail.proofs.assignment.Assignment.has_propagated.Goals as goal
 
 abbrev Whole : Type 0
 Whole = List Lit × ℕ × List Lit
