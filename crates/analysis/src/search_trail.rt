@@ -1,6 +1,6 @@
 //! The trail of a search: each literal with its reason and its level.
 //!
-//! The literals, their values and their places are a trail as a propagator has it (`trail`), so a variable stands once and is looked up, which is asked for
+//! The literals, their values and their places are a trail as a propagator has it (`Trail` of `propagate`), so a variable stands once and is looked up, which is asked for
 //! each term of each constraint that the walk comes by. What only a search knows stands beside, literal by literal. The trail is told what comes onto it
 //! and what goes, and is never made anew: a search that goes back by some decisions pays for what these brought. A literal whose variable stands
 //! already is refused, and levels rise along the trail, so that nobody has to promise either.

@@ -1,7 +1,8 @@
 //! The checker: the problem is read first, then the proof is judged line by line.
 //!
 //! The problem comes first since every line of a proof speaks of it: its names give literals their variables, and its
-//! constraints have the first ids. So a proof of a file that is no problem is never looked at.
+//! constraints have the first ids. So a proof of a file that is no problem is never looked at. Which propagator the live constraints are asked
+//! by is said here (`LiveConstraints`), and nowhere below.
 
 ghost use Rattle.std.specs.Prelude.{◌≡◌, ℕ, List};
 ghost use Rattle.opb_read.specs.Faults.{Denies};

@@ -1,5 +1,6 @@
 //! The live constraints of a proof by their ids, and the id that the next one takes. That every id is above 0 and below
-//! the next one is a fact of the type: so the next one is free, and a number beyond all ids names nothing.
+//! the next one is a fact of the type: so the next one is free, and a number beyond all ids names nothing. What is asked by propagation it hands
+//! on to the propagator in which the constraints stand.
 
 ghost use Rattle.std.specs.Prelude.{◌≡◌, ◌≤◌, MatchOption};
 ghost use Rattle.proof_rules.specs.State.{id_limit, id_of};
@@ -7,7 +8,7 @@ ghost use Rattle.proof_rules.specs.State.{id_limit, id_of};
 use super::duplicates::Duplicates;
 use linear::{Integer, Lit, Var};
 use normal_form::Normal;
-use propagate::{Decided, Id, Ids, Propagator, Reach, Retrace, Trace};
+use propagate::{Id, Ids, Propagator, Question};
 use std::alloc::{AllocError, Global};
 use std::marker::Model;
 use substitution::{Image, Substitution, apply, becomes_beyond, covers};
@@ -39,13 +40,11 @@ impl<P: Propagator> Model for Database<P> {
 
 impl<P: Propagator> Database<P> {
     ghost use Rattle.database.specs.Touched.{AddsTouched, IsTouched};
-    ghost use Rattle.std.specs.Prelude.{◌≡◌, ◌↔◌, ◌<◌, ◌≤◌, [], ◌∷◌, ◌++◌, ℕ, Any, IfOk, IsSome, IsSomeAnd, MatchOption, None, IsTrue, OnErr, OnOk};
+    ghost use Rattle.std.specs.Prelude.{◌≡◌, ◌↔◌, ◌<◌, ◌≤◌, ◌++◌, ℕ, Any, IfOk, IsSome, IsSomeAnd, MatchOption, None, IsTrue, OnErr, OnOk};
     ghost use Rattle.normal_form.specs.Normal.{NormalConstraint};
     ghost use Rattle.propagate.specs.Chain.{IsRefuted};
-    ghost use Rattle.propagate.specs.Content.{AreDecided, AreTaken, HasLiteral, IsTrace};
+    ghost use Rattle.propagate.specs.Content.{HasLiteral};
     ghost use Rattle.propagate.specs.Ids.{HasId};
-    ghost use Rattle.propagate.specs.Literals.{IsConsistent};
-    ghost use Rattle.propagate.specs.Reach.{IsReach, IsRetrace};
     ghost use Rattle.substitution.specs.Beyond.{BecomesBeyond};
     ghost use Rattle.substitution.specs.Covering.{Covers};
     ghost use Rattle.substitution.specs.Under.{IsUnder};
@@ -272,44 +271,13 @@ impl<P: Propagator> Database<P> {
         self.constraints.refute(beside)
     }
 
-    /// What an assignment extends to by propagation over the live constraints.
-    pub fn extend(&mut self, assigned: &[Lit]) -> Result<Reach, AllocError>
+    /// What follows from the live constraints by propagation, whatever is asked.
+    pub fn ask<Q: Question>(&mut self, question: Q) -> Result<Q::Answer, AllocError>
+        requires { Q.may_ask question }
         ensures same { self.new ≡ self.old }
-        ensures reach { IfOk result (IsReach (map.values self.old.live) assigned.now) }
+        ensures answer { IfOk result (Q.answers question self.old.live) }
     {
-        self.constraints.extend(assigned)
-    }
-
-    /// The same, told beside literals that are known.
-    pub fn retrace(&mut self, assigned: &[Lit], known: &[Lit]) -> Result<Retrace, AllocError>
-        ensures same { self.new ≡ self.old }
-        ensures value { IfOk result (IsRetrace (map.values self.old.live) assigned.now known.now) }
-    {
-        self.constraints.retrace(assigned, known)
-    }
-
-    /// A chain from an assignment without opposites over the live constraints, with its reasons.
-    pub fn trace(&mut self, assigned: &[Lit]) -> Result<Trace, AllocError>
-        requires { IsConsistent assigned.now }
-        ensures same { self.new ≡ self.old }
-        ensures trace { IfOk result (IsTrace self.old.live assigned.now) }
-    {
-        self.constraints.trace(assigned)
-    }
-
-    /// The same for literals that are decided one after another behind an assignment, where what follows from the assignment may be left out.
-    pub fn trace_each(
-        &mut self,
-        before: &[Lit],
-        first: Lit,
-        more: &[Lit],
-    ) -> Result<Vec<Decided>, AllocError>
-        requires { IsConsistent (before.now ++ first ∷ []) }
-        ensures same { self.new ≡ self.old }
-        ensures decided { IfOk result (λ v. AreDecided self.old.live before.now v.items) }
-        ensures taken { IfOk result (λ v. AreTaken first more.now v.items) }
-    {
-        self.constraints.trace_each(before, first, more)
+        question.ask(&mut self.constraints)
     }
 
     /// The live constraint that a number in a step means, if there is one: `-k` is the next id less `k`.

@@ -10,7 +10,7 @@ use pol_stack::Accumulator;
 use proof_rules::StepFault;
 use proof_steps::Step;
 use propagate::{Id, Propagator};
-use solutions::Log;
+use solutions::SolutionLog;
 use std::alloc::{AllocError, Global};
 use std::marker::Model;
 use substitution::NetObjective;
@@ -30,7 +30,7 @@ pub struct Kernel<'a, P: Propagator> {
     /// The objective by variable, so that a `red` step need not go through it.
     pub(crate) objective: NetObjective<'a>,
     pub(crate) database: Database<P>,
-    pub(crate) log: Log,
+    pub(crate) log: SolutionLog,
     pub(crate) problem_ids: u64,
     /// The block of a `red` step, while one is open.
     pub(crate) block: Option<OpenBlock>,
@@ -74,7 +74,7 @@ impl<'a, P: Propagator> Kernel<'a, P> {
             source: problem,
             objective,
             database,
-            log: Log::empty(alloc),
+            log: SolutionLog::empty(alloc),
             problem_ids,
             block: None,
             sum: Accumulator::new(alloc),

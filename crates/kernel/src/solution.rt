@@ -14,7 +14,7 @@ use super::objective::below;
 use linear::{Assignment, Integer, Lit};
 use normal_form::Normal;
 use proof_rules::StepFault;
-use propagate::{Propagator, Reach};
+use propagate::{Extending, Propagator, Reach};
 use solutions::{all_values, is_consistent, table_of, values};
 
 impl<'a, P: Propagator> Kernel<'a, P> {
@@ -110,7 +110,7 @@ impl<'a, P: Propagator> Kernel<'a, P> {
         if let Some(solution) = all_values(self.allocator, table.as_slice())? {
             return Ok(solution);
         }
-        let Reach::Closed(reached) = self.database.extend(assigned)? else {
+        let Reach::Closed(reached) = self.database.ask(Extending { given: assigned })? else {
             return Err(StepFault::SolutionConflict);
         };
         match values(self.allocator, count, reached.as_slice())? {

@@ -1,4 +1,4 @@
-//! Why a search does not go on: memory ran out. Each step that it takes is legal and can be written, and each of its conclusions is accepted,
+//! What a kernel's fault means to whoever logs steps that are known to be legal: memory ran out. Each step that a search takes is legal and can be written, and each of its conclusions is accepted,
 //! so the kernel refuses none of them but for want of memory.
 
 ghost use Rattle.std.specs.Prelude.{◌≡◌};

@@ -34,7 +34,7 @@ use normal_form::Normal;
 use proof_rules::StepFault;
 use proof_steps::{Conclusion, Step};
 use proof_write::{is_step_writable, write_end, write_start, write_step};
-use propagate::{Decided, Id, Ids, Propagator, Reach, Retrace, Trace};
+use propagate::{Id, Ids, Propagator, Question};
 use std::alloc::{AllocError, Global};
 use std::marker::Model;
 use std::mem;
@@ -150,9 +150,6 @@ impl<'a, P: Propagator> Log<'a, P> {
     ghost use Rattle.kernel.specs.Held.{HasAtLeast, given_id};
     ghost use Rattle.linear.specs.Limits.{IsWithin};
     ghost use Rattle.propagate.specs.Biting.{Bites};
-    ghost use Rattle.propagate.specs.Content.{AreDecided, AreTaken, IsTrace};
-    ghost use Rattle.propagate.specs.Literals.{IsConsistent};
-    ghost use Rattle.propagate.specs.Reach.{IsReach, IsRetrace};
     ghost use Rattle.proof_rules.specs.Claim.{IsSolution};
     ghost use Rattle.proof_rules.specs.Deletion.{AreDeletableAtOnce};
     ghost use Rattle.proof_rules.specs.Fault.{OrMemory, IsConclusionFault};
@@ -549,45 +546,13 @@ impl<'a, P: Propagator> Log<'a, P> {
         self.kernel.has_room()
     }
 
-    /// What an assignment extends to by propagation over the live constraints.
-    pub fn extend(&mut self, given: &[Lit]) -> Result<Reach, AllocError>
+    /// What follows from the live constraints by propagation, whatever is asked.
+    pub fn ask<Q: Question>(&mut self, question: Q) -> Result<Q::Answer, AllocError>
+        requires { Q.may_ask question }
         ensures same { self.new ≡ self.old }
-        ensures value { IfOk result (IsReach (constraints self.old.state) given.now) }
+        ensures answer { IfOk result (Q.answers question self.old.state.live) }
     {
-        self.kernel.extend(given)
-    }
-
-    /// The same, told by what is new beside literals that are known.
-    pub fn retrace(&mut self, given: &[Lit], known: &[Lit]) -> Result<Retrace, AllocError>
-        ensures same { self.new ≡ self.old }
-        ensures value { IfOk result (IsRetrace (constraints self.old.state) given.now known.now) }
-    {
-        self.kernel.retrace(given, known)
-    }
-
-    /// A chain from an assignment without opposites over the live constraints, with its reasons.
-    pub fn trace(&mut self, given: &[Lit]) -> Result<Trace, AllocError>
-        requires { IsConsistent given.now }
-        ensures same { self.new ≡ self.old }
-        ensures value { IfOk result (IsTrace self.old.state.live given.now) }
-    {
-        self.kernel.trace(given)
-    }
-
-    /// The same for literals that are decided one after another behind an assignment, where what follows from the assignment alone may be left
-    /// out. The first one is decided in any case; of the others some are.
-    pub fn trace_each(
-        &mut self,
-        before: &[Lit],
-        first: Lit,
-        more: &[Lit],
-    ) -> Result<Vec<Decided>, AllocError>
-        requires { IsConsistent (before.now ++ first ∷ []) }
-        ensures same { self.new ≡ self.old }
-        ensures decided { IfOk result (λ v. AreDecided self.old.state.live before.now v.items) }
-        ensures taken { IfOk result (λ v. AreTaken first more.now v.items) }
-    {
-        self.kernel.trace_each(before, first, more)
+        self.kernel.ask(question)
     }
 
     /// The kernel that the steps have led to its state.

@@ -3,7 +3,10 @@
 use super::support::{NOT, Written, X, at_least, not_x, x};
 use linear::Lit;
 use normal_form::{CutFault, Normal};
-use propagate::{Extent, Id, Propagator, Reach, Retrace, ScanPropagator, Trace};
+use propagate::{
+    Deciding, Extending, Extent, Id, Propagator, Question, Reach, Retrace, Retracing,
+    ScanPropagator, Trace, Tracing,
+};
 use std::alloc::{AllocError, Global};
 use watch::WatchPropagator;
 
@@ -118,7 +121,7 @@ fn reaches<P: Propagator>(
 
 /// Whether an assignment extends to a conflict.
 fn conflicts<P: Propagator>(live: &mut P, given: &[Lit]) -> Result<bool, AllocError> {
-    let reach = live.extend(given)?;
+    let reach = Extending { given }.ask(live)?;
     Ok(matches!(&reach, Reach::Conflict))
 }
 
@@ -149,7 +152,7 @@ fn traces<P: Propagator>(
     forced: &[(Lit, Id)],
     conflict: Option<Id>,
 ) -> Result<bool, AllocError> {
-    let trace = live.trace(&[])?;
+    let trace = Tracing { given: &[] }.ask(live)?;
     Ok(is_trace(&trace, forced, conflict))
 }
 
@@ -205,7 +208,7 @@ fn tells<P: Propagator>(
     known: &[Lit],
     told: &[Lit],
 ) -> Result<bool, AllocError> {
-    let retrace = live.retrace(given, known)?;
+    let retrace = Retracing { given, known }.ask(live)?;
     Ok(is_told(&retrace, known, told))
 }
 
@@ -259,4 +262,26 @@ fn tells_what_is_new<P: Propagator>(alloc: Global) -> Result<bool, CutFault> {
 fn retraced_with_reasons(rt: HostRuntime) {
     let told = tells_what_is_new::<WatchPropagator>(rt.alloc());
     assert!(&rt; told.expect(&rt, "memory"));
+}
+
+/// Whether a literal that is decided behind nothing is told as the one that is, with no conflict.
+fn decides<P: Propagator>(alloc: Global) -> Result<bool, CutFault> {
+    let mut live: P = three_clauses(alloc)?;
+    let question = Deciding {
+        before: &[],
+        first: not_x(4),
+        more: &[],
+    };
+    let decided = question.ask(&mut live)?;
+    Ok(match decided.as_slice() {
+        [one] => one.literal == not_x(4) && one.trace.conflict.is_none(),
+        _ => false,
+    })
+}
+
+#[test]
+fn decided(rt: HostRuntime) {
+    let alloc = rt.alloc();
+    assert!(&rt; decides::<ScanPropagator>(alloc).expect(&rt, "memory"));
+    assert!(&rt; decides::<WatchPropagator>(alloc).expect(&rt, "memory"));
 }

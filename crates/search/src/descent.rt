@@ -24,7 +24,7 @@ use super::retracing::{falsified, is_closed, stand};
 use super::standing::Standing;
 use linear::{Lit, Seq};
 use proof_log::Log;
-use propagate::{Decided, Id, Propagator};
+use propagate::{Decided, Deciding, Id, Propagator};
 use std::alloc::{AllocError, Global};
 
 /// A question is about one literal more for so many that were decided since the last conflict.
@@ -104,7 +104,11 @@ fn decide<'a, P: Propagator>(
     ensures end { IfOk result (λ falsified. MatchOption falsified (IsEnd log.old.state.live decisions.new.items standing.new.literals)
         (λ id. LeadsAtLast (constraints log.old.state) decisions.new.items)) }
 {
-    let decided = log.trace_each(decisions.as_slice(), first, more)?;
+    let decided = log.ask(Deciding {
+        before: decisions.as_slice(),
+        first,
+        more,
+    })?;
     for one in &decided {
         // What a propagator answers is looked up as what a brancher picks is.
         if !is_free(standing.values(), one.literal.var) {

@@ -14,7 +14,7 @@ ghost use Rattle.search.specs.Decisions.{AreDecisions};
 
 use linear::Lit;
 use proof_log::Log;
-use propagate::{Propagator, Reach};
+use propagate::{Extending, Propagator, Reach};
 use std::alloc::AllocError;
 
 /// Whether a literal is listed.
@@ -34,7 +34,7 @@ fn has_conflict<'a, P: Propagator>(log: &mut Log<'a, P>, given: &[Lit]) -> Resul
     ensures same { log.new ≡ log.old }
     ensures value { IfOk result (λ yes. IsTrue yes ↔ IsImpossible (constraints log.old.state) given.now) }
 {
-    match log.extend(given)? {
+    match log.ask(Extending { given })? {
         Reach::Conflict => Ok(true),
         Reach::Closed(_) => Ok(false),
     }
@@ -98,7 +98,8 @@ fn left_of<'a, P: Propagator>(
     }
     let before = count - 1;
     let last = decisions[before];
-    let Reach::Closed(closed) = log.extend(&decisions[..before])? else {
+    let given = &decisions[..before];
+    let Reach::Closed(closed) = log.ask(Extending { given })? else {
         unreachable!()
     };
     if is_listed(closed.as_slice(), last.opposite()) {

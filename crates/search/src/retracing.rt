@@ -15,7 +15,7 @@ use branching::Brancher;
 use linear::Lit;
 use normal_form::Normal;
 use proof_log::Log;
-use propagate::{Extent, Id, Propagator};
+use propagate::{Extent, Id, Propagator, Retracing};
 use std::alloc::AllocError;
 
 /// Whether an assignment extends to no conflict.
@@ -50,7 +50,10 @@ pub(crate) fn stand<'a, P: Propagator>(
 {
     // What came with more decisions goes by its level, since a literal that comes sooner now is to have its new reason.
     standing.go_back(decisions.len(), brancher);
-    let retrace = log.retrace(decisions, standing.literals())?;
+    let retrace = log.ask(Retracing {
+        given: decisions,
+        known: standing.literals(),
+    })?;
     standing.keep(retrace.kept, brancher);
     standing.extend(retrace.rest.as_slice(), decisions)?;
     // That none stands twice is known by the trail's type; this makes it known here.

@@ -32,8 +32,8 @@ impl<'a, P: Propagator> Run<'a, P> {
         ensures biting { OnOk result (self.new.log.biting ≡ self.old.log.biting) }
         ensures decisions { OnOk result (AreDecisions self.new.log self.new.decisions.items) }
     {
-        // The decisions stay: with the constraint that asks for a better solution they lead to a conflict, which teaches more than
-        // to begin anew.
+        // The decisions stay, unless the bound is near: with the constraint that asks for a better solution they lead to a conflict, which
+        // teaches more than to begin anew.
         self.advisers.brancher.solution(assigned.as_slice());
         let end = self.accept(assigned, limit)?;
         self.begin_anew_if_near_bound();

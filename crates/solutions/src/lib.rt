@@ -10,5 +10,5 @@ mod packed;
 mod value_table;
 
 pub use consistency::is_consistent;
-pub use log::{Log, is_better};
+pub use log::{SolutionLog, is_better};
 pub use value_table::{all_values, table_of, values};

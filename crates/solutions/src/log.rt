@@ -14,12 +14,12 @@ use std::marker::Model;
 
 /// What a proof has logged.
 #[derive(Drop)]
-pub struct Log {
+pub struct SolutionLog {
     solutions: Vec<PackedAssignment>,
     least: Option<Integer>,
 }
 
-impl Model for Log {
+impl Model for SolutionLog {
     ghost use Rattle.solutions.specs.Logged.{Logged, logged_code};
 
     ghost Value = { Logged };
@@ -29,12 +29,12 @@ impl Model for Log {
     ghost view = { λ l. record { logged = l.solutions.items; least = l.least } };
 }
 
-impl Log {
+impl SolutionLog {
     /// Nothing is logged.
     pub fn empty(alloc: Global) -> Self
         ensures { result ≡ unlogged }
     {
-        Log {
+        SolutionLog {
             solutions: Vec::new(alloc),
             least: None,
         }

@@ -32,7 +32,7 @@ ended g c =
     let items = c.deref-one-items.result.now in
     let d = c.one-item.result in
     let far = i.so_far in
-    let told = told_at l.state.live c.args.decisions.now.items c.as_slice.result.now c.loop-one.decisions.items c.in_ok-decided.decided.items items c.loop-one.one-index d c.as_slice.ensures.value c.deref-one-items.ensures.value far c.in_ok-decided.ensures.decided c.loop-one-test.true (sym c.one-item.is) in
+    let told = told_at l.state.live c.args.decisions.now.items c.as_slice.result.now c.loop-one.decisions.items c.in_ok-decided.decided.items items c.loop-one.one-index d c.as_slice.ensures.value c.deref-one-items.ensures.value far c.in_ok-decided.ensures.answer.0 c.loop-one-test.true (sym c.one-item.is) in
     let is = chosen l.state.live c.loop-one.decisions.items c.loop-one.standing.literals c.values.result.now d.literal (length l.problem.names) i.end c.values.ensures.exact
     (c.is_free.ensures.free.0 c.if-not-is_free.false) (c.is_free.ensures.inside c.if-not-is_free.false) (c.values.ensures.count ∙ i.count) i.named.consistent in
     noted l c.args.decisions.now.items c.loop-one.decisions.items c.note.new.decisions.items c.note.new.standing.literals items c.loop-one.one-index d.literal c.in_ok-conflict.conflict is i.named far i.fewer c.in_ok-conflict.ensures.decided
@@ -45,7 +45,7 @@ going g c =
     let items = c.deref-one-items.result.now in
     let d = c.one-item.result in
     let far = i.so_far in
-    let told = told_at l.state.live c.args.decisions.now.items c.as_slice.result.now c.loop-one.decisions.items c.in_ok-decided.decided.items items c.loop-one.one-index d c.as_slice.ensures.value c.deref-one-items.ensures.value far c.in_ok-decided.ensures.decided c.loop-one-test.true (sym c.one-item.is) in
+    let told = told_at l.state.live c.args.decisions.now.items c.as_slice.result.now c.loop-one.decisions.items c.in_ok-decided.decided.items items c.loop-one.one-index d c.as_slice.ensures.value c.deref-one-items.ensures.value far c.in_ok-decided.ensures.answer.0 c.loop-one-test.true (sym c.one-item.is) in
     let is = chosen l.state.live c.loop-one.decisions.items c.loop-one.standing.literals c.values.result.now d.literal (length l.problem.names) i.end c.values.ensures.exact
     (c.is_free.ensures.free.0 c.if-not-is_free.false) (c.is_free.ensures.inside c.if-not-is_free.false) (c.values.ensures.count ∙ i.count) i.named.consistent in
     noted l c.args.decisions.now.items c.loop-one.decisions.items c.note.new.decisions.items c.note.new.standing.literals items c.loop-one.one-index d.literal c.in_ok-conflict.conflict is i.named far i.fewer c.in_ok-conflict.ensures.decided
@@ -83,7 +83,7 @@ returns-then-not-is_free-clause-fewer g c =
     let l = c.args.log.now in
     later (length l.problem.names) c.loop-one.decisions.items c.args.decisions.now.items c.loop-one.one-index
     (λ start.
-    let same = first_taken c.args.first c.args.more.now c.in_ok-decided.decided.items c.deref-one-items.result.now c.loop-one.one-index c.one-item.result c.in_ok-decided.ensures.taken c.deref-one-items.ensures.value start (sym c.one-item.is) in
+    let same = first_taken c.args.first c.args.more.now c.in_ok-decided.decided.items c.deref-one-items.result.now c.loop-one.one-index c.one-item.result c.in_ok-decided.ensures.answer.1 c.deref-one-items.ensures.value start (sym c.one-item.is) in
     let unlisted : IsUnlisted c.loop-one.standing.literals c.args.first.var.0 = subst (λ (s : Assigned). IsUnlisted s.literals c.args.first.var.0) (sym (i.fresh start)) c.requires.free in
     let free : IsFree c.values.result.now c.one-item.result.literal.var.0 =
     subst (λ (x : Lit). IsFree c.values.result.now x.var.0) (sym same)

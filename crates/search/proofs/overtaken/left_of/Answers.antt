@@ -24,7 +24,7 @@ returns-then-is_listed-clause-enough g c =
     let decisions : List Lit = c.args.decisions.now in
     let before : ℕ = c.args.count - 1 in
     let last : Lit = get_or decisions before first in
-    let reach : IsReach live (take before decisions) (reaches.Closed c.in-Closed.closed) = subst (IsReach live (take before decisions)) c.in-Closed.is c.in_ok-closed.ensures.value in
+    let reach : IsReach live (take before decisions) (reaches.Closed c.in-Closed.closed) = subst (IsReach live (take before decisions)) c.in-Closed.is c.in_ok-closed.ensures.answer in
     let listed : lists c.in-Closed.closed (opposite last) ≡ true =
     subst (λ (xs : List Lit). lists xs (opposite last) ≡ true) c.as_slice.ensures
     (subst (λ (l : Lit). lists c.as_slice.result.now l ≡ true) c.opposite.ensures (sym c.is_listed.ensures ∙ c.if-is_listed.true)) in
@@ -39,7 +39,7 @@ returns-clause-takes g c all k is_last =
     let before : ℕ = c.args.count - 1 in
     let last : Lit = get_or decisions before first in
     let same : k ≡ before = omega (arith, all, is_last, c.if-count-eq0.false) in
-    let reach : IsReach live (take before decisions) (reaches.Closed c.in-Closed.closed) = subst (IsReach live (take before decisions)) c.in-Closed.is c.in_ok-closed.ensures.value in
+    let reach : IsReach live (take before decisions) (reaches.Closed c.in-Closed.closed) = subst (IsReach live (take before decisions)) c.in-Closed.is c.in_ok-closed.ensures.answer in
     let unlisted : lists c.in-Closed.closed (opposite last) ≡ false =
     subst (λ (xs : List Lit). lists xs (opposite last) ≡ false) c.as_slice.ensures
     (subst (λ (l : Lit). lists c.as_slice.result.now l ≡ false) c.opposite.ensures (sym c.is_listed.ensures ∙ c.if-is_listed.false)) in (

@@ -15,6 +15,6 @@ returns-clause-reach g c =
     let same : c.keep.new.self.literals ++ map (λ p. p.0) c.as_slice.result.now ≡ all =
     ap (λ ps. c.keep.new.self.literals ++ map (λ p. p.0) ps) c.as_slice.ensures
     ∙ ap (λ (xs : List Lit). xs ++ map (λ p. p.0) r.rest) (c.keep.ensures.literals ∙ ap (λ (xs : List Lit). take r.kept xs) (sym c.literals.ensures.value)) in
-    reach_of_told (constraints c.args.log.now.state) c.args.decisions.now all now r.extent c.in_ok-retrace.ensures.value
+    reach_of_told (constraints c.args.log.now.state) c.args.decisions.now all now r.extent c.in_ok-retrace.ensures.answer
     (subst (λ (xs : List Lit). IsConsistent xs → SameLiterals now xs) same c.in_ok-extend.ensures.more)
     (subst IsOnce c.literals-2.ensures.value c.literals-2.ensures.once)

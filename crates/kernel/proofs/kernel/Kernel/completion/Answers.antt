@@ -38,7 +38,7 @@ returns-in_default-2-clause-fault g c =
     let read = table_read c.len-count.result assigned table c.in_ok-solution.field-0 c.in_ok-table.ensures.length c.in_ok-table.ensures.table
     (subst (λ xs. MatchOption c.in_ok-solution.field-0 (HasGap xs) (λ h. map (λ b. Some b) h ≡ xs)) c.as_slice-2.ensures.value c.in_ok-solution.ensures) in
     let out : LeavesOut c.len-count.result assigned = subst (λ o. MatchOption o (LeavesOut c.len-count.result assigned) (GivesAll c.len-count.result assigned)) c.in_default.is read in
-    let impossible = not_closed (constraints s) assigned c.in_ok-reached.field-0 c.in_default-2.not-Closed c.in_ok-reached.ensures.reach in
+    let impossible = not_closed (constraints s) assigned c.in_ok-reached.field-0 c.in_default-2.not-Closed c.in_ok-reached.ensures.answer in
     subst (λ (x : Held). IsSolFault x.problem x.state assigned faults.SolutionConflict) c.self.view_is
     (conflicts k.source.now s assigned consistent (subst (λ n. LeavesOut n assigned) count out) impossible)
 
@@ -53,7 +53,7 @@ returns-in-Some-2-clause-completes g c =
     let read = table_read c.len-count.result assigned table c.in_ok-solution.field-0 c.in_ok-table.ensures.length c.in_ok-table.ensures.table
     (subst (λ xs. MatchOption c.in_ok-solution.field-0 (HasGap xs) (λ h. map (λ b. Some b) h ≡ xs)) c.as_slice-2.ensures.value c.in_ok-solution.ensures) in
     let out : LeavesOut c.len-count.result assigned = subst (λ o. MatchOption o (LeavesOut c.len-count.result assigned) (GivesAll c.len-count.result assigned)) c.in_default.is read in
-    let reach = subst (IsReach (constraints s) assigned) c.in-Closed.is c.in_ok-reached.ensures.reach in
+    let reach = subst (IsReach (constraints s) assigned) c.in-Closed.is c.in_ok-reached.ensures.answer in
     let closed : List Lit = c.in-Closed.reached in
     let gives : GivesAll c.len-count.result c.as_slice-3.result.now c.in-Some-2.solution =
     subst (λ o. MatchOption o (LeavesOut c.len-count.result c.as_slice-3.result.now) (GivesAll c.len-count.result c.as_slice-3.result.now)) c.in-Some-2.is c.in_ok-solution-2.ensures in
@@ -68,7 +68,7 @@ returns-clause-fault g c =
     let assigned : List Lit = c.args.assigned.now in
     let count : c.len-count.result ≡ length k.source.now.names = c.len-count.ensures.len ∙ ap length c.names.ensures.names in
     let consistent : IsConsistent assigned = c.in_ok-is_consistent.ensures.0 c.if-not-branch.false in
-    let reach = subst (IsReach (constraints s) assigned) c.in-Closed.is c.in_ok-reached.ensures.reach in
+    let reach = subst (IsReach (constraints s) assigned) c.in-Closed.is c.in_ok-reached.ensures.answer in
     let closed : List Lit = c.in-Closed.reached in
     let out : LeavesOut c.len-count.result c.as_slice-3.result.now =
     subst (λ o. MatchOption o (LeavesOut c.len-count.result c.as_slice-3.result.now) (GivesAll c.len-count.result c.as_slice-3.result.now)) c.in-None.is c.in_ok-solution-2.ensures in

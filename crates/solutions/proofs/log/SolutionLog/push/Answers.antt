@@ -1,6 +1,6 @@
 use Rattle.std.proofs.Common.{[], ◌∷◌, ◌++◌, ap, ◌∙◌}
 use Rattle.solutions.specs.Logged.{with_logged}
-use Rattle.solutions.proofs.log.Log.push.Goals as goal
+use Rattle.solutions.proofs.log.SolutionLog.push.Goals as goal
 
 pub returns-clause-ok : goal.returns-clause-ok
 returns-clause-ok c =

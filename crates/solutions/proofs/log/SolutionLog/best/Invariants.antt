@@ -1,7 +1,7 @@
 use Rattle.std.proofs.Common.{IfSome, take}
 use Rattle.proof_rules.specs.Claim.{IsSolution}
 use Rattle.proof_rules.specs.Justified.{IsBest}
-use Rattle.solutions.proofs.log.Log.best.Given as goal
+use Rattle.solutions.proofs.log.SolutionLog.best.Given as goal
 
 -- the best so far
 abbrev pub invariant-loop-packed : goal.invariant-loop-packed

@@ -5,8 +5,8 @@ use Rattle.proof_rules.specs.Claim.{IsSolution}
 use Rattle.proof_rules.specs.Justified.{IsBest}
 use Rattle.solutions.specs.Logged.{Logged}
 use Rattle.solutions.proofs.Best.{looked_at, best_stays, best_changes}
-use Rattle.solutions.proofs.log.Log.best.Goals as goal
-use Rattle.solutions.proofs.log.Log.best.Goals.{then-is_better, else-is_better}
+use Rattle.solutions.proofs.log.SolutionLog.best.Goals as goal
+use Rattle.solutions.proofs.log.SolutionLog.best.Goals.{then-is_better, else-is_better}
 
 pub loop-packed-preserved : goal.loop-packed-preserved
 loop-packed-preserved c =
